@@ -1,0 +1,39 @@
+//! Typed expressions (C11 6.5).
+
+use crate::place::Place;
+
+/// An expression at its place: that of its operator, or of its first token where it has none.
+#[cycle(expression)]
+#[derive(Drop)]
+pub struct Expr {
+    pub place: Place,
+    pub kind: ExprKind,
+}
+
+/// What an expression is.
+#[cycle(expression)]
+#[derive(Drop)]
+pub enum ExprKind {
+    /// An integer constant (C11 6.4.4.1).
+    Number(i128),
+    /// The object that a declaration of the running function names, by the declaration's number.
+    Local(u32),
+    /// The value that the object at a place holds (C11 6.3.2.1, paragraph 2).
+    Load(Box<Expr>),
+    /// An arithmetic operator on two integers.
+    Binary(BinOp, Box<Expr>, Box<Expr>),
+    /// A comparison of two integers, which gives 1 or 0 (C11 6.5.8, 6.5.9).
+    Compare(CmpOp, Box<Expr>, Box<Expr>),
+}
+
+/// The arithmetic operators of two integers.
+#[derive(Clone, Copy, PartialEq, Eq, Debug)]
+pub enum BinOp {
+    Div,
+}
+
+/// The comparisons.
+#[derive(Clone, Copy, PartialEq, Eq, Debug)]
+pub enum CmpOp {
+    Equal,
+}

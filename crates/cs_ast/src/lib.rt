@@ -1,0 +1,12 @@
+//! The syntax of an analyzed program: places in its text and its typed trees.
+#![tactic(auto)]
+
+pub mod expression;
+pub mod function;
+pub mod place;
+pub mod statement;
+
+pub use expression::{BinOp, CmpOp, Expr, ExprKind};
+pub use function::{Function, Local};
+pub use place::Place;
+pub use statement::{Stmt, StmtKind};

@@ -1,0 +1,62 @@
+-- What executing a statement does (C11 6.8).
+use Rattle.std.specs.Prelude.{ℤ, pos, Bool, true, false, List, [], ◌∷◌, not}
+use Rattle.std.specs.Ordering.{int_eq}
+use Rattle.cs_ast.specs.declared.place.Place.{Place}
+use Rattle.cs_ast.specs.Tree.{Expression, Statement, Block, If, Return, Statements, Empty, Then}
+use Rattle.cs_model.specs.declared.event.Label.TheVariants.{Branch}
+use Rattle.cs_model.specs.declared.outcome.Outcome.TheVariants.{Done}
+use Rattle.cs_model.specs.declared.outcome.Returned.{Returned}
+use Rattle.cs_model.specs.declared.outcome.Returned.TheVariants as returned
+use Rattle.cs_model.specs.declared.outcome.Budgets.{Budgets}
+use Rattle.cs_model.specs.Memory.{Cell, NumberCell, UnsetCell}
+use Rattle.cs_model.specs.Machine.{Machine, Operand, Value, At, Item, Evaluate, Act, Execute, Decide, Leave, Step, Goes, Stops, pass, newest, older_than_newest, number_of}
+use Rattle.cs_model.specs.Expressions.{evaluates, act}
+
+-- statements in their order, before what is to be done then
+abbrev pub executes : Statements → List Item → List Item
+executes Empty behind = behind
+executes (Then first others) behind = Execute first ∷ executes others behind
+
+-- how a statement begins, before what is to be done then
+abbrev pub begins : Statement → List Item → List Item
+begins (Block at statements) behind = executes statements behind
+begins (If at test body) behind = Evaluate test ∷ (Decide (If at test body) ∷ behind)
+begins (Return at value) behind = Evaluate value ∷ (Leave ∷ behind)
+
+-- what is to be done after a test: the body where it holds
+abbrev pub chosen : Bool → Statement → List Item → List Item
+chosen true body behind = Execute body ∷ behind
+chosen false body behind = behind
+
+-- a test of a statement: the way shows, and is taken where the number is not 0 (C11 6.8.4.1, paragraph 2)
+abbrev pub branch : Budgets → Place → Bool → Statement → Machine → Step
+branch budgets at holds body m =
+    pass budgets (record { place = at; label = Branch holds }) (record m { todo = chosen holds body m.todo; stack = older_than_newest m.stack })
+
+-- the way on after the test of a statement. Only an `if` has one
+abbrev pub decide : Budgets → Statement → Machine → Step
+decide budgets (If at test body) m = branch budgets at (not (int_eq (number_of (newest m.stack)) (pos 0))) body m
+decide budgets (Block at statements) m = Goes m
+decide budgets (Return at value) m = Goes m
+
+-- what an entry returns with this operand
+abbrev pub returned_of : Operand → Returned
+returned_of (Value (NumberCell n)) = returned.Number n
+returned_of (Value UnsetCell) = returned.Unset
+returned_of (At object offset) = returned.Unset
+
+-- what the first thing to be done does, with the other things left to be done
+abbrev pub perform : Budgets → Item → Machine → Step
+perform budgets (Evaluate e) m = Goes (record m { todo = evaluates e m.todo })
+perform budgets (Act e) m = act budgets e m
+perform budgets (Execute s) m = Goes (record m { todo = begins s m.todo })
+perform budgets (Decide s) m = decide budgets s m
+perform budgets Leave m = Stops (Done (returned_of (newest m.stack)))
+
+-- one step of the machine. Behind the last statement of its body a function gives an unset result
+abbrev pub step_with : Budgets → List Item → Machine → Step
+step_with budgets [] m = Stops (Done returned.Unset)
+step_with budgets (item ∷ behind) m = perform budgets item (record m { todo = behind })
+
+abbrev pub step : Budgets → Machine → Step
+step budgets m = step_with budgets m.todo m
