@@ -14,7 +14,7 @@ use Rattle.cs_model.specs.declared.kind.Kind.{Kind}
 use Rattle.cs_model.specs.declared.outcome.Budgets.{Budgets}
 use Rattle.cs_model.specs.declared.outcome.Outcome.{Outcome}
 use Rattle.cs_model.specs.declared.outcome.Outcome.TheVariants.{Done, Fault, Over}
-use Rattle.cs_model.specs.Kinds.{kind_number}
+use Rattle.cs_model.specs.Kinds.{kind_number, budget_number}
 use Rattle.cs_model.specs.Memory.{Inputs, listed, parameter_names}
 use Rattle.cs_model.specs.Runs.{RunEnds}
 
@@ -46,12 +46,13 @@ pub record IsGoodFinding (function : Definition) (budgets : Budgets) (finding : 
 abbrev pub IsBefore : Place → Place → Type 0
 IsBefore p q = (p.file < q.file) ⊎ ((p.file ≡ q.file) × ((p.line < q.line) ⊎ ((p.line ≡ q.line) × (p.column < q.column))))
 
--- one fault is told before another: by place, then by the number of its kind
+-- one finding is told before another: by place, then by the number of its kind or budget
 abbrev pub IsToldBefore : Outcome → Outcome → Type 0
 IsToldBefore (Fault kind at) (Fault kind' at') = IsBefore at at' ⊎ ((at ≡ at') × (kind_number kind < kind_number kind'))
+IsToldBefore (Over budget at) (Over budget' at') = IsBefore at at' ⊎ ((at ≡ at') × (budget_number budget < budget_number budget'))
 IsToldBefore (Fault kind at) (Over budget at') = ⊥
-IsToldBefore (Fault kind at) (Done returned) = ⊥
-IsToldBefore (Over budget at) outcome = ⊥
+IsToldBefore (Over budget at) (Fault kind at') = ⊥
+IsToldBefore outcome (Done returned) = ⊥
 IsToldBefore (Done returned) outcome = ⊥
 
 -- the verdict of a result: bounded where some run meets a budget, else complete
@@ -73,6 +74,7 @@ pub record IsGoodEntry (function : Definition) (budgets : Budgets) (result : Ent
   pub overs : All (IsGoodFinding function budgets) result.overs.items
   pub report_faults : All IsFault (outcomes_of result.reports.items)
   pub over_overs : All IsOver (outcomes_of result.overs.items)
-  pub told_in_order : AllPairs IsToldBefore (outcomes_of result.reports.items)
+  pub reports_in_order : AllPairs IsToldBefore (outcomes_of result.reports.items)
+  pub overs_in_order : AllPairs IsToldBefore (outcomes_of result.overs.items)
   pub verdict : result.verdict ≡ verdict_of result.overs.items
   pub covered : IsCovered function budgets (result.reports.items ++ result.overs.items)

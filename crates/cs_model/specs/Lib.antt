@@ -6,3 +6,4 @@ pub mod Expressions
 pub mod Statements
 pub mod Runs
 pub mod Findings
+pub mod Texts

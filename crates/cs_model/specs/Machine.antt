@@ -52,7 +52,7 @@ start function inputs = record {
   stack = [];
   frame = 0;
   memory = start_memory function inputs;
-  passed = 0
+  passed = 0;
 }
 
 -- passes an event, unless the budget of events is used up
