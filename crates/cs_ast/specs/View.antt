@@ -44,5 +44,5 @@ definition f = record {
   at = f.place;
   parameters = f.parameters;
   locals = map (λ (object : Object). object.name) f.locals.items;
-  body = statement f.body
+  body = statement f.body;
 }
