@@ -21,7 +21,7 @@ use Rattle.cs_model.proofs.RunLemmas.{leads_on, ends_after, left_after, one_end}
 use Rattle.std.proofs.lemmas.Bool.Decides.{Decides-int_eq}
 use Rattle.cs_ranges.specs.RangeSet.{contains, IsLeastAbs, IsNearest}
 use Rattle.cs_analysis.specs.Shape.{IsAtom, IsAnswer, IsTest, IsReturn, IsBody, LeavesRoom, IsCoverable, count_of, body_count}
-use Rattle.cs_analysis.specs.Paths.{Ranges, Fits, Comes, IsTold, ready, IsKnown, AreLeast, may_be_zero, number_in, range_of, test_events}
+use Rattle.cs_analysis.specs.Paths.{Ranges, Fits, Comes, IsTold, ready, IsKnown, AreLeast, may_be_zero, may_divide_by_zero, number_in, range_of, test_events}
 use Rattle.cs_analysis.specs.Reports.{Tells, Keeps}
 use Rattle.cs_analysis.proofs.Evaluation.{test_leads, test_holds, return_ends, answer_outcome, answer_events, atom_value}
 
@@ -51,11 +51,6 @@ pub told_at_return : (function : Definition) (ranges : Ranges) (events : List Ev
 told_at_return function ranges events at e behind reports alone shape room comes told inputs fits budgets passed outcome leaves ends bad =
     let same = one_end budgets (ends_at_return function ranges events at e behind alone shape room comes budgets inputs leaves fits) ends in
     subst (Tells reports) (sym same.1) (told inputs fits (subst (λ o. IsFault o ⊎ IsOver o) same.1 bad))
-
--- the divisor of an answer, if it has one, cannot be 0
-abbrev pub IsSafe : Ranges → Expression → Type 0
-IsSafe ranges (Binary at op l r) = may_be_zero ranges r ≡ false
-IsSafe ranges _ = Unit {0}
 
 -- inputs of least numbers fit
 pub least_fit : (function : Definition) (ranges : Ranges) (inputs : Inputs) → AreLeast function ranges inputs → Fits function ranges inputs
@@ -94,7 +89,7 @@ no_fault false at value e (inr bad) = bad
 no_fault true at value e bad = cc
 
 -- a safe answer ends in no fault and no budget
-pub safe_ends_well : (function : Definition) (ranges : Ranges) (e : Expression) → IsAnswer (length function.locals) e → IsSafe ranges e → (inputs : Inputs) → Fits function ranges inputs → IsFault (answer_outcome function inputs e) ⊎ IsOver (answer_outcome function inputs e) → ⊥
+pub safe_ends_well : (function : Definition) (ranges : Ranges) (e : Expression) → IsAnswer (length function.locals) e → may_divide_by_zero ranges e ≡ false → (inputs : Inputs) → Fits function ranges inputs → IsFault (answer_outcome function inputs e) ⊎ IsOver (answer_outcome function inputs e) → ⊥
 safe_ends_well function ranges (Binary at op l r) shape safe inputs fits bad =
     no_fault (int_eq (atom_value function inputs r) (pos 0)) at _ (not_zero function ranges r shape.1 safe inputs fits) bad
 safe_ends_well function ranges (Number at n) shape safe inputs fits (inl bad) = bad

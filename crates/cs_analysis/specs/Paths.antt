@@ -1,7 +1,7 @@
 -- What is known of a path through a function: the numbers that its parameters may have, and its events.
 use Rattle.std.specs.Prelude.{◌≡◌, ℕ, ◌+◌, ◌*◌, ◌<◌, ◌≤◌, ℤ, pos, Bool, false, IsTrue, List, [], ◌∷◌, length, slice_index_or, All, Any, ◌⊎◌}
 use Rattle.std.specs.Ordering.{int_eq}
-use Rattle.cs_ast.specs.Tree.{Definition, Expression, Number, Local, Load, Statement, Return, Statements}
+use Rattle.cs_ast.specs.Tree.{Definition, Expression, Number, Local, Load, Binary, Statement, Return, Statements}
 use Rattle.cs_ranges.specs.declared.range_set.Interval.{Interval}
 use Rattle.cs_ranges.specs.RangeSet.{contains, IsLeastAbs}
 use Rattle.cs_ast.specs.declared.place.Place.{Place}
@@ -33,6 +33,11 @@ abbrev pub may_be_zero : Ranges → Expression → Bool
 may_be_zero ranges (Number at n) = int_eq n (pos 0)
 may_be_zero ranges (Load at (Local at' declaration)) = contains (range_of ranges declaration) (pos 0)
 may_be_zero ranges _ = false
+
+-- whether an answer divides by 0 for some of these numbers
+abbrev pub may_divide_by_zero : Ranges → Expression → Bool
+may_divide_by_zero ranges (Binary at op l r) = may_be_zero ranges r
+may_divide_by_zero ranges _ = false
 
 -- the number that a run from these inputs has for a parameter
 abbrev pub number_in : Definition → Inputs → ℕ → ℤ

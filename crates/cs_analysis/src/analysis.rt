@@ -14,9 +14,9 @@ ghost use Rattle.cs_analysis.specs.Paths.{Fits, IsKnown, IsTold, AreGood, AreLea
 use crate::inputs::least_inputs;
 use crate::order::add_report;
 use crate::path::{Path, Test};
-use crate::ranges::{full_ranges, may_be_zero};
+use crate::ranges::{full_ranges, may_divide_by_zero};
 use crate::shape::{tested_literal, tested_parameter};
-use cs_ast::{Expr, ExprKind, Function, Place, Stmt, StmtKind};
+use cs_ast::{Expr, Function, Place, Stmt, StmtKind};
 use cs_model::{EntryResult, Finding, Kind, Outcome, Run, Verdict};
 use cs_ranges::RangeSet;
 use std::alloc::{AllocError, Global};
@@ -134,7 +134,8 @@ fn follow_test(
     let miss = path.ranges[parameter].minus(&literal)?;
     let taken = path.behind_test(alloc, tested, hit, true)?;
     report_taken(alloc, function, taken, body, reports)?;
-    path.behind_test(alloc, tested, miss, false)
+    let passed = path.behind_test(alloc, tested, miss, false)?;
+    Ok(passed)
 }
 
 /// Adds the reports of a test's body, if a path gets there.
@@ -178,14 +179,12 @@ fn report_return(
     ensures told { OnOk result ((inputs : Inputs) → Fits (definition function.now) path.now.ranges.items inputs
         → IsTold (definition function.now) reports.new.items inputs) }
 {
-    let ExprKind::Binary(_, _, divisor) = &value.kind else {
-        return Ok(());
-    };
-    if !may_be_zero(divisor, path.ranges.as_slice()) {
+    if !may_divide_by_zero(value, path.ranges.as_slice()) {
         return Ok(());
     }
     let finding = division(alloc, function, path, value.place)?;
-    add_report(reports, finding)
+    add_report(reports, finding)?;
+    Ok(())
 }
 
 /// The finding of a division by zero at a place that a path comes to with nothing more to show.

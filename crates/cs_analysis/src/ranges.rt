@@ -3,8 +3,8 @@ ghost use Rattle.std.specs.Prelude.{◌≡◌, ℕ, ◌<◌, ℤ, length, vec_le
 ghost use Rattle.cs_ast.specs.View.{expression};
 ghost use Rattle.cs_ranges.specs.RangeSet.{contains};
 ghost use Rattle.cs_model.specs.Integers.{is_int};
-ghost use Rattle.cs_analysis.specs.Shape.{IsAtom};
-ghost use Rattle.cs_analysis.specs.Paths.{range_of, may_be_zero};
+ghost use Rattle.cs_analysis.specs.Shape.{IsAtom, IsAnswer};
+ghost use Rattle.cs_analysis.specs.Paths.{range_of, may_be_zero, may_divide_by_zero};
 
 use cs_ast::{Expr, ExprKind};
 use cs_ranges::RangeSet;
@@ -29,8 +29,19 @@ pub fn full_ranges(alloc: Global, count: usize) -> Result<Vec<RangeSet>, AllocEr
     Ok(ranges)
 }
 
+/// Whether an answer divides by 0 for some numbers of its parameters.
+pub fn may_divide_by_zero(answer: &Expr, ranges: &[RangeSet]) -> bool
+    requires { IsAnswer (length ranges.now) (expression answer.now) }
+    ensures { result ≡ may_divide_by_zero ranges.now (expression answer.now) }
+{
+    match &answer.kind {
+        ExprKind::Binary(_, _, divisor) => may_be_zero(divisor, ranges),
+        _ => false,
+    }
+}
+
 /// Whether an operand is 0 for some numbers of its parameters.
-pub fn may_be_zero(operand: &Expr, ranges: &[RangeSet]) -> bool
+fn may_be_zero(operand: &Expr, ranges: &[RangeSet]) -> bool
     requires { IsAtom (length ranges.now) (expression operand.now) }
     ensures { result ≡ may_be_zero ranges.now (expression operand.now) }
 {
