@@ -1,7 +1,7 @@
 //! Where bytes come from and where they go.
-ghost use Rattle.std.specs.Prelude.{◌≡◌, ℕ, ◌<◌, ◌≤◌, ◌^◌, List, length, take, Option, IfOk, OnErr};
+ghost use Rattle.std.specs.Prelude.{◌≡◌, ℕ, ◌<◌, ◌≤◌, List, length, take, Option, IfOk, OnErr};
 ghost use Rattle.std.specs.Io.KnownBytes.{Appends, Consumes, IsAtEnd, Keeps};
-ghost use Rattle.cs_io.specs.Count.{Rose};
+ghost use Rattle.cs_io.specs.Count.{CountsUp, Rose};
 
 use std::error::Error;
 use std::fmt;
@@ -34,10 +34,9 @@ pub trait Source {
         ensures end { result ≡ Ok 0 → IsAtEnd (left self.new) }
         ensures takes_nothing { OnErr result (Keeps (left self.old) (left self.new)) }
 
-        // A call fails only where the count rose. The count never falls.
+        // A call fails only where the count rose.
         ensures fault { OnErr result (Rose (faults self.old) (faults self.new)) }
-        ensures never_falls { faults self.old ≤ faults self.new }
-        ensures in_range { faults self.new < 2 ^ 64 };
+        ensures faults { CountsUp (faults self.old) (faults self.new) };
 }
 
 /// Takes bytes, in order.
@@ -58,9 +57,9 @@ pub trait Sink {
         ensures appends { IfOk result (λ k. Appends (written self.old) (written self.new) (take k piece.now)) }
         ensures appends_nothing { OnErr result (Keeps (written self.old) (written self.new)) }
 
-        // A call fails, or takes nothing, only where that count rose. Neither count ever falls.
+        // A call fails, or takes no byte, only where that count rose.
         ensures fault { OnErr result (Rose (faults self.old) (faults self.new)) }
         ensures empty_take { result ≡ Ok 0 → Rose (empty_takes self.old) (empty_takes self.new) }
-        ensures never_fall { (faults self.old ≤ faults self.new) × (empty_takes self.old ≤ empty_takes self.new) }
-        ensures in_range { (faults self.new < 2 ^ 64) × (empty_takes self.new < 2 ^ 64) };
+        ensures faults { CountsUp (faults self.old) (faults self.new) }
+        ensures empty_takes { CountsUp (empty_takes self.old) (empty_takes self.new) };
 }
