@@ -1,5 +1,5 @@
 -- Serves the contract of `write_all_of`: piece after piece, the front of a text that was written grows.
-use Rattle.std.proofs.Common.{◌≡◌, ℕ, ◌+◌, List, take, drop, append_assoc}
+use Rattle.std.proofs.Common.{ℕ, ◌+◌, List, take, drop, append_assoc}
 use Rattle.std.proofs.Math.Seq.{take-add}
 use Rattle.std.specs.Prelude.{Option, Some, None}
 use Rattle.std.specs.Io.KnownBytes.{Appends}

@@ -1,8 +1,7 @@
 //! A sink over memory whose calls can be short and can fail.
 ghost use Rattle.std.specs.Prelude.{◌≡◌, ◌-◌, ◌<◌, ◌↔◌, ◌++◌, [], length, take, min, IsErr, IfOk, OnErr, Some};
-ghost use Rattle.cs_io.specs.Count.{CountsUp};
+ghost use Rattle.cs_io.specs.Count.{CountsUp, empty_takes_after};
 ghost use Rattle.cs_io.specs.FaultPlan.{FailsNext, after_call, after_fault};
-ghost use Rattle.cs_io.specs.SureSink.{empty_takes_after};
 
 use crate::fault_plan::FaultPlan;
 use crate::sure_sink::SureSink;
@@ -14,7 +13,7 @@ use std::marker::Model;
 /// that are listed.
 #[derive(Drop)]
 pub struct MemSink {
-    bytes: SureSink,
+    inner: SureSink,
     most: usize,
     plan: FaultPlan,
 }
@@ -26,14 +25,14 @@ impl Model for MemSink {
     ghost Value = { MemSinkState };
 
     ghost view = { λ s. record {
-      written = s.bytes.written;
-      room = s.bytes.room;
+      written = s.inner.written;
+      room = s.inner.room;
       most = s.most;
-      empty_takes = s.bytes.empty_takes;
+      empty_takes = s.inner.empty_takes;
       plan = s.plan;
     } };
 
-    ghost invariant = { λ s. (0 < s.most) × (s.bytes.empty_takes < 2 ^ 64) };
+    ghost invariant = { λ s. (0 < s.most) × (s.inner.empty_takes < 2 ^ 64) };
 }
 
 impl MemSink {
@@ -50,7 +49,7 @@ impl MemSink {
         }) }
     {
         Ok(MemSink {
-            bytes: SureSink::new(alloc, room)?,
+            inner: SureSink::new(alloc, room)?,
             most,
             plan: FaultPlan::new(fails),
         })
@@ -60,7 +59,7 @@ impl MemSink {
     pub fn written(&self) -> &[u8]
         ensures { result.now ≡ self.now.written }
     {
-        self.bytes.written()
+        self.inner.written()
     }
 }
 
@@ -87,6 +86,6 @@ impl Sink for MemSink {
     {
         self.plan.call()?;
         let most = piece.len().min(self.most);
-        self.bytes.write(&piece[..most])
+        self.inner.write(&piece[..most])
     }
 }

@@ -11,7 +11,7 @@ use std::marker::Model;
 /// Gives the bytes of a list, at most `most` a call, and fails at the calls that are listed.
 #[derive(Drop)]
 pub struct MemSource {
-    bytes: SureSource,
+    inner: SureSource,
     most: usize,
     plan: FaultPlan,
 }
@@ -22,7 +22,7 @@ impl Model for MemSource {
 
     ghost Value = { MemSourceState };
 
-    ghost view = { λ s. record { left = s.bytes; most = s.most; plan = s.plan } };
+    ghost view = { λ s. record { left = s.inner; most = s.most; plan = s.plan } };
 
     ghost invariant = { λ s. 0 < s.most };
 }
@@ -38,7 +38,7 @@ impl MemSource {
         } }
     {
         MemSource {
-            bytes: SureSource::new(bytes),
+            inner: SureSource::new(bytes),
             most,
             plan: FaultPlan::new(fails),
         }
@@ -65,6 +65,6 @@ impl Source for MemSource {
     {
         self.plan.call()?;
         let most = into.len().min(self.most);
-        self.bytes.read(&mut into[..most])
+        self.inner.read(&mut into[..most])
     }
 }

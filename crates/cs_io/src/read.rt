@@ -1,7 +1,8 @@
 //! All bytes of a source.
-ghost use Rattle.std.specs.Prelude.{◌≡◌, ◌+◌, ◌<◌, ◌≤◌, ◌++◌, length, take, vec_len, IfOk, OnOk, IfSome, IsOkUnless};
+ghost use Rattle.std.specs.Prelude.{◌≡◌, ◌+◌, ◌<◌, ◌≤◌, ◌++◌, length, take, vec_len, IfOk, OnOk, OnErr, IfSome, IsOkUnless};
 ghost use Rattle.std.specs.Io.KnownBytes.{Consumes, IsAtEnd};
 ghost use Rattle.cs_io.specs.Count.{Rose};
+ghost use Rattle.cs_io.specs.Told.{LosesFront};
 ghost use Rattle.cs_io.specs.declared.read.ReadRefusal.TheVariants.{ReadFault, Memory};
 
 use crate::traits::{Failed, Source};
@@ -68,6 +69,7 @@ fn read_more<S: Source>(
     ensures limit { OnOk result (vec_len bytes.new ≤ READ_LIMIT) }
     ensures end { result ≡ Ok 0 → IsAtEnd (S.left source.new) }
     ensures buffer { length buffer.new ≡ length buffer.old }
+    ensures loses_front { LosesFront (S.left source.old) (S.left source.new) }
     ensures too_long { result ≡ Err ReadRefusal.TooLong → IfSome (S.left source.old) (λ left.
         READ_LIMIT < length bytes.old.items + length left) }
     ensures fault { result ≡ Err ReadRefusal.ReadFault → Rose (S.faults source.old) (S.faults source.new) }
@@ -86,6 +88,7 @@ pub fn read_all<S: Source>(alloc: Global, source: &mut S) -> Result<Vec<u8>, Rea
     ensures all { IfOk result (λ bytes. IfSome (S.left source.old) (λ left. bytes.items ≡ left)) }
     ensures to_the_end { OnOk result (IsAtEnd (S.left source.new)) }
     ensures limit { IfOk result (λ bytes. vec_len bytes ≤ READ_LIMIT) }
+    ensures err { OnErr result (LosesFront (S.left source.old) (S.left source.new)) }
 
     // More than the limit were left where the source is refused as too long, and a read failed only
     // where the count rose.

@@ -1,6 +1,6 @@
 //! A sink over a writer of std, of whose bytes nothing is claimed.
-ghost use Rattle.std.specs.Prelude.{◌≡◌, ◌<◌, length, is_err, if◌then◌else◌, None};
-ghost use Rattle.cs_io.specs.Count.{next_count};
+ghost use Rattle.std.specs.Prelude.{◌≡◌, ◌<◌, ◌≤◌, length, IfOk, OnErr, None};
+ghost use Rattle.cs_io.specs.Count.{CountsUp, empty_takes_after, next_count};
 
 use crate::traits::{Failed, Sink};
 use std::io::Write;
@@ -45,7 +45,14 @@ impl<W: Write> Sink for StdSink<W> {
 
     ghost empty_takes = { λ s. s.empty_takes };
 
-    fn write(&mut self, piece: &[u8]) -> Result<usize, Failed> {
+    fn write(&mut self, piece: &[u8]) -> Result<usize, Failed>
+        requires nonempty { 0 < length piece.now }
+        ensures within { IfOk result (λ k. k ≤ length piece.now) }
+        ensures ok { IfOk result (λ k. self.new ≡ record self.old { empty_takes = empty_takes_after k self.old.empty_takes }) }
+        ensures err { OnErr result (self.new ≡ record self.old { faults = next_count self.old.faults }) }
+        ensures faults { CountsUp self.old.faults self.new.faults }
+        ensures empty_takes { CountsUp self.old.empty_takes self.new.empty_takes }
+    {
         match self.inner.write(piece) {
             Ok(count) => {
                 if count == 0 {

@@ -1,6 +1,6 @@
 //! A source over a reader of std, of whose bytes nothing is claimed.
-ghost use Rattle.std.specs.Prelude.{◌≡◌, ◌<◌, length, is_err, if◌then◌else◌, None};
-ghost use Rattle.cs_io.specs.Count.{next_count};
+ghost use Rattle.std.specs.Prelude.{◌≡◌, ◌<◌, ◌≤◌, length, IfOk, OnOk, OnErr, None};
+ghost use Rattle.cs_io.specs.Count.{CountsUp, next_count};
 
 use crate::traits::{Failed, Source};
 use std::io::Read;
@@ -36,7 +36,13 @@ impl<R: Read> Source for StdSource<R> {
 
     ghost faults = { λ s. s };
 
-    fn read(&mut self, into: &mut [u8]) -> Result<usize, Failed> {
+    fn read(&mut self, into: &mut [u8]) -> Result<usize, Failed>
+        requires nonempty { 0 < length into.old }
+        ensures within { IfOk result (λ k. k ≤ length into.new) }
+        ensures ok { OnOk result (self.new ≡ self.old) }
+        ensures err { OnErr result (self.new ≡ next_count self.old) }
+        ensures faults { CountsUp self.old self.new }
+    {
         match self.inner.read(into) {
             Ok(count) => Ok(count),
             Err(_) => {

@@ -1,7 +1,6 @@
 //! A sink over memory that never fails.
 ghost use Rattle.std.specs.Prelude.{◌≡◌, ◌-◌, ◌<◌, ◌↔◌, ◌++◌, [], length, take, min, IfOk, Some};
-ghost use Rattle.cs_io.specs.Count.{CountsUp};
-ghost use Rattle.cs_io.specs.SureSink.{empty_takes_after};
+ghost use Rattle.cs_io.specs.Count.{CountsUp, empty_takes_after};
 
 use crate::traits::{Failed, Sink};
 use std::alloc::{AllocError, Global};
