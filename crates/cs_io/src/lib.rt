@@ -9,6 +9,8 @@ mod std_sink;
 mod std_source;
 mod sure_sink;
 mod sure_source;
+#[cfg(test)]
+mod tests;
 mod traits;
 mod write;
 
