@@ -48,24 +48,23 @@ fn read_once(source: &mut MemSource, into: &mut [u8; 8]) -> usize
 #[test]
 fn reads_through_short_calls_up_to_a_fault(rt: HostRuntime) -> Result<(), Fail> {
     let alloc = rt.alloc();
-    let cases: [(&[u8], usize, &[u64], Result<(), ReadRefusal>); 7] = [
-        (b"", 1, &[], Ok(())),
-        (b"hello", 1, &[], Ok(())),
-        (b"hello", 2, &[0, 5], Ok(())),
-        (b"hello", 9, &[3], Ok(())),
-        (b"hello", 2, &[1], Err(ReadRefusal::ReadFault)),
-        (b"hello", 2, &[3, 2], Err(ReadRefusal::ReadFault)),
-        (b"hello", 2, &[4], Err(ReadRefusal::ReadFault)),
-    ];
-    for (text, most, fails, want) in cases {
-        assert!(rt; 0 < most);
-        let mut source = MemSource::new(text.to_vec(alloc)?, most, fails.to_vec(alloc)?);
+    let text = b"hello".as_slice();
+    // The most that a call gives, the number of the call that fails, and whether all is read.
+    for (most, fail, whole) in [
+        (1, 0, true),
+        (2, 1, false),
+        (2, 4, false),
+        (2, 5, true),
+        (9, 3, true),
+    ] {
+        let fails = vec![in alloc; fail]?;
+        let mut source = MemSource::new(text.to_vec(alloc)?, most, fails);
         match read_all(alloc, &mut source) {
-            Ok(bytes) => {
-                assert_eq!(rt; want, Ok(()), "at {most} {fails:?}");
-                assert_eq!(rt; bytes.as_slice(), text, "at {most} {fails:?}");
+            Ok(bytes) => assert!(rt; whole && bytes.as_slice() == text, "at {most} {fail}"),
+            Err(refusal) => {
+                assert_eq!(rt; refusal, ReadRefusal::ReadFault);
+                assert!(rt; !whole, "at {most} {fail}");
             }
-            Err(refusal) => assert_eq!(rt; want, Err(refusal), "at {most} {fails:?}"),
         }
     }
     Ok(())
@@ -92,27 +91,31 @@ fn reads_no_more_than_the_limit(rt: HostRuntime) -> Result<(), Fail> {
 #[test]
 fn writes_through_short_calls_up_to_a_fault(rt: HostRuntime) -> Result<(), Fail> {
     let alloc = rt.alloc();
-    let refused = Err(WriteRefusal::WriteFault);
-    let cases: [(&[u8], usize, usize, &[u64], Result<(), WriteRefusal>, &[u8]); 8] = [
-        (b"", 0, 1, &[1], Ok(()), b""),
-        (b"hello", 5, 1, &[], Ok(()), b"hello"),
-        (b"hello", 9, 9, &[2], Ok(()), b"hello"),
-        (b"hello", 5, 2, &[1], refused, b""),
-        (b"hello", 5, 2, &[2], refused, b"he"),
-        (b"hello", 5, 2, &[3, 2], refused, b"he"),
-        (b"hello", 3, 2, &[], refused, b"hel"),
-        (b"hello", 0, 2, &[], refused, b""),
+    let text = b"hello".as_slice();
+    // The room, the most that a call takes, the number of the call that fails, and what is written.
+    let cases = [
+        (5, 1, 0, b"hello".as_slice()),
+        (9, 9, 2, b"hello"),
+        (5, 2, 1, b""),
+        (5, 2, 2, b"he"),
+        (3, 2, 0, b"hel"),
+        (0, 2, 0, b""),
     ];
-    for (text, room, most, fails, want, written) in cases {
-        assert!(rt; 0 < most);
-        let mut sink = MemSink::new(alloc, room, most, fails.to_vec(alloc)?)?;
-        assert_eq!(rt;
-            write_all_of(&mut sink, text),
-            want,
-            "at {room} {most} {fails:?}"
-        );
-        assert_eq!(rt; sink.written(), written, "at {room} {most} {fails:?}");
+    for (room, most, fail, written) in cases {
+        let mut sink = MemSink::new(alloc, room, most, vec![in alloc; fail]?)?;
+        let whole = write_all_of(&mut sink, text).is_ok();
+        assert_eq!(rt; whole, written.len() == 5, "at {room} {most} {fail}");
+        assert_eq!(rt; sink.written(), written, "at {room} {most} {fail}");
     }
+    Ok(())
+}
+
+#[test]
+fn an_empty_text_needs_no_call(rt: HostRuntime) -> Result<(), Fail> {
+    let alloc = rt.alloc();
+    let mut sink = MemSink::new(alloc, 0, 1, vec![in alloc; 1]?)?;
+    assert_eq!(rt; write_all_of(&mut sink, b""), Ok(()));
+    assert_eq!(rt; sink.written().len(), 0);
     Ok(())
 }
 
