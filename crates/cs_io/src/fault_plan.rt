@@ -1,5 +1,5 @@
 //! Which calls of a source or a sink over memory fail.
-ghost use Rattle.std.specs.Prelude.{◌≡◌, ◌<◌, ◌^◌, ◌↔◌, [], IsErr, OnOk, OnErr};
+ghost use Rattle.std.specs.Prelude.{◌≡◌, ◌<◌, ◌^◌, ◌↔◌, IsErr, OnOk, OnErr};
 ghost use Rattle.cs_io.specs.FaultPlan.{FailsNext, after_call, after_fault};
 
 use crate::traits::Failed;
@@ -14,7 +14,7 @@ pub struct FaultPlan {
 }
 
 impl Model for FaultPlan {
-    ghost use Rattle.std.specs.Prelude.{ℕ, ◌≤◌, ◌<◌, ◌^◌, All};
+    ghost use Rattle.std.specs.Prelude.{◌<◌, ◌≤◌, ◌^◌, All};
     ghost use Rattle.cs_io.specs.FaultPlan.{Plan};
 
     ghost Value = { Plan };

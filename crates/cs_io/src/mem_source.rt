@@ -61,6 +61,7 @@ impl Source for MemSource {
           plan = after_call self.old.plan;
         }) }
         ensures err { OnErr result (self.new ≡ record self.old { plan = after_fault self.old.plan }) }
+        ensures untouched { OnErr result (into.new ≡ into.old) }
         ensures faults { CountsUp self.old.plan.faults self.new.plan.faults }
     {
         self.plan.call()?;

@@ -1,5 +1,5 @@
 //! All bytes of a source.
-ghost use Rattle.std.specs.Prelude.{◌≡◌, ◌+◌, ◌<◌, ◌≤◌, ◌++◌, length, take, vec_len, IfOk, OnOk, OnErr, IfSome, IsOkUnless};
+ghost use Rattle.std.specs.Prelude.{◌≡◌, ◌+◌, ◌<◌, ◌≤◌, ◌++◌, length, take, vec_len, IfOk, OnOk, OnErr, IfSome};
 ghost use Rattle.std.specs.Io.KnownBytes.{Consumes, IsAtEnd};
 ghost use Rattle.cs_io.specs.Count.{Rose};
 ghost use Rattle.cs_io.specs.Told.{LosesFront};
@@ -10,7 +10,7 @@ use std::alloc::{AllocError, Global};
 use std::error::Error;
 use std::fmt;
 
-/// The most bytes that `read_all` takes.
+/// The most bytes that `read_all` answers.
 pub const READ_LIMIT: usize = 4_194_304;
 
 /// How many bytes one call of a source is asked for.
@@ -90,8 +90,8 @@ pub fn read_all<S: Source>(alloc: Global, source: &mut S) -> Result<Vec<u8>, Rea
     ensures limit { IfOk result (λ bytes. vec_len bytes ≤ READ_LIMIT) }
     ensures err { OnErr result (LosesFront (S.left source.old) (S.left source.new)) }
 
-    // More than the limit were left where the source is refused as too long, and a read failed only
-    // where the count rose.
+    // A source is refused as too long only where more than the limit were left, and as faulty only
+    // where its count rose.
     ensures too_long { result ≡ Err ReadRefusal.TooLong → IfSome (S.left source.old) (λ left. READ_LIMIT < length left) }
     ensures fault { result ≡ Err ReadRefusal.ReadFault → Rose (S.faults source.old) (S.faults source.new) }
     ensures never_falls { S.faults source.old ≤ S.faults source.new }

@@ -1,5 +1,5 @@
 //! A whole text into a sink.
-ghost use Rattle.std.specs.Prelude.{◌≡◌, ◌≤◌, ◌⊎◌, OnOk, OnErr};
+ghost use Rattle.std.specs.Prelude.{◌≤◌, ◌⊎◌, OnOk, OnErr};
 ghost use Rattle.std.specs.Io.KnownBytes.{Appends};
 ghost use Rattle.cs_io.specs.Count.{Rose};
 ghost use Rattle.cs_io.specs.Told.{AppendsPart};
