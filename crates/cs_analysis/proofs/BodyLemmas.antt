@@ -13,7 +13,7 @@ use Rattle.cs_model.specs.Statements.{executes}
 use Rattle.cs_model.specs.Runs.{Leads, stays, goes}
 use Rattle.cs_analysis.specs.Shape.{IsCoverable, IsBody, IsBlock, IsStep, IsPassable, LeavesRoom, count_of, body_count}
 use Rattle.cs_analysis.specs.Reports.{Keeps}
-use Rattle.cs_analysis.specs.Paths.{Ranges, range_of, Fits, IsKnown, Comes, IsTold, Reaches, IsFollowed, PassesOn, ready, number_in}
+use Rattle.cs_analysis.specs.Paths.{Ranges, range_of, Fits, IsKnown, Comes, IsTold, AreGood, Reaches, IsFollowed, PassesOn, ready, number_in}
 
 -- a cell of int holds a number of int
 int_input_is_int : (z : ℤ) → is_int (int_input z) ≡ true
@@ -35,12 +35,12 @@ followed_at_start function ranges at body shape is each_one all =
       known = record {
         each_one = each_one;
         inhabited = λ k there. (pos 0, all k (pos 0) there);
-        of_int = λ k x there has. sym (all k x there) ∙ has
+        of_int = λ k x there has. sym (all k x there) ∙ has;
       };
       shape = subst (IsBlock (length function.locals)) is shape.body;
       room = let whole : body_count function.body ≡ count_of body = ap body_count is in omega arith;
       comes = λ budgets inputs leaves fits. begins_block budgets function inputs at body function.body is;
-      others = λ inputs. inl (λ k there. all k (number_in function inputs k) there ∙ int_input_is_int (inputs _))
+      others = λ inputs. inl (λ k there. all k (number_in function inputs k) there ∙ int_input_is_int (inputs _));
     }
 
 -- the path comes to its next statement
@@ -70,10 +70,18 @@ followed_on function ranges events first others old ranges' events' new followed
       shape = rest_of_body (length function.locals) first others passes.passable followed.shape;
       room = omega (arith, followed.room, passes.counted);
       comes = passes.comes (executes others []) followed.comes;
-      others = λ inputs. ⊎_elim (λ fits. passes.others inputs fits) (λ told. inr (told_still function old new inputs keeps told)) (followed.others inputs)
+      others = λ inputs. ⊎_elim (λ fits. passes.others inputs fits) (λ told. inr (told_still function old new inputs keeps told)) (followed.others inputs);
     }
 
 -- a path that ends here leaves nothing untold
 pub told_at_end : (function : Definition) (ranges : Ranges) (events : List Event) (rest : Statements) (old new : List Finding) → IsFollowed function ranges events rest old → Keeps old new → ((inputs : Inputs) → Fits function ranges inputs → IsTold function new inputs) → (inputs : Inputs) → IsTold function new inputs
 told_at_end function ranges events rest old new followed keeps told inputs =
     ⊎_elim (λ fits. told inputs fits) (λ is_told. told_still function old new inputs keeps is_told) (followed.others inputs)
+
+-- no path comes to the end of a body without a return
+pub no_end : (function : Definition) (ranges : Ranges) (events : List Event) (reports : List Finding) → IsFollowed function ranges events Empty reports → ⊥
+no_end function ranges events reports followed = followed.shape
+
+-- no report is told before any is made
+pub good_at_start : (function : Definition) → AreGood function []
+good_at_start function = record { divisions = λ k d there. absurd (omega arith); in_order = λ i j d below there. absurd (omega arith); good = λ k d there. absurd (omega arith) }

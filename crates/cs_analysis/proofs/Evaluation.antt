@@ -24,7 +24,6 @@ use Rattle.cs_model.proofs.RunLemmas.{leads_on, ends_after, left_after, one_end}
 use Rattle.cs_analysis.specs.Shape.{IsAtom, IsAnswer, IsTest, LeavesRoom, tested_parameter, tested_literal}
 use Rattle.cs_analysis.specs.Paths.{number_in, ready, test_events}
 
-
 -- an operand that is a number
 abbrev pub number : ℤ → Operand
 number n = Value (NumberCell n)
@@ -110,7 +109,7 @@ divide_ends budgets function inputs at l r x y false behind n zero within =
     record {
       last = ready function inputs (Leave ∷ behind) (number (int_quotient x y) ∷ []) (n + 1);
       leads = passes (simp zero (passes_event budgets event left within)) (stays refl);
-      stops = refl
+      stops = refl;
     }
 
 -- the end of a run that returns an operand
@@ -119,7 +118,7 @@ atom_ends budgets function inputs at e alone there behind n =
     record {
       last = ready function inputs (Leave ∷ behind) (number (atom_value function inputs e) ∷ []) n;
       leads = goes refl (atom_leads budgets function inputs e alone there (Leave ∷ behind) [] n);
-      stops = refl
+      stops = refl;
     }
 
 -- the end of a run that returns an answer

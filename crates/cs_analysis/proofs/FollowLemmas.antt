@@ -61,7 +61,7 @@ good_report function ranges events e finding shape answer reached zero what list
     let passed : events ++ answer_events function inputs e ≡ finding.events.items = ap (λ es. events ++ es) is.1 ∙ append-nil events ∙ sym shown in
     record {
       ends = subst (λ es. RunEnds function budgets inputs es finding.what) passed (subst (λ o. RunEnds function budgets inputs (events ++ answer_events function inputs e) o) (is.0 ∙ sym what) run);
-      inputs = lists
+      inputs = lists;
     }
 
 -- and tells what there is to tell
@@ -75,7 +75,7 @@ good_with function old new finding good divisions in_order takes one =
     record {
       divisions = divisions;
       in_order = in_order;
-      good = λ k d there. ⊎_elim (λ is_old. All-contains (IsGood function) old _ good.good is_old) (λ is_new. subst (IsGood function) (sym is_new) one) (takes k d there)
+      good = λ k d there. ⊎_elim (λ is_old. All-contains (IsGood function) old _ good.good is_old) (λ is_new. subst (IsGood function) (sym is_new) one) (takes k d there);
     }
 
 -- a body that returns comes to its return
@@ -116,7 +116,7 @@ passes_on function ranges events at test body ranges' events' reports behind tol
       known = behind.known;
       counted = behind.counted;
       comes = behind.comes;
-      others = λ inputs fits. by_test inputs fits (test_holds function inputs test) refl
+      others = λ inputs fits. by_test inputs fits (test_holds function inputs test) refl;
     }
   where
     by_test : (inputs : Inputs) → Fits function ranges inputs → (holds : Bool) → test_holds function inputs test ≡ holds → Fits function ranges' inputs ⊎ IsTold function reports inputs

@@ -109,13 +109,13 @@ give_more function ranges count inputs input there named least gives =
     record {
       names = map-append name inputs (input ∷ []) ∙ ap (λ xs. xs ++ (input.parameter ∷ [])) gives.names ∙ ap (λ x. take count function.locals ++ (x ∷ [])) named ∙ sym (take_more function.locals count [] there);
       least = λ k d below. ⊎_elim
-        (λ old. subst (λ x. IsLeastAbs (range_of ranges k) x.number) (sym (get_or_append_left inputs (input ∷ []) d k old)) (gives.least k d old))
-        (λ new.
-            let last : k ≡ length inputs = omega (arith, length-append inputs (input ∷ [])) in
-            let is : get_or (inputs ++ input ∷ []) k d ≡ input = ap (λ n. get_or (inputs ++ input ∷ []) n d) last ∙ get_or-append_seam inputs input [] d in
-            let at : IsLeastAbs (range_of ranges k) input.number = subst (λ n. IsLeastAbs (range_of ranges n) input.number) (sym (last ∙ counted)) least in
-            subst (λ x. IsLeastAbs (range_of ranges k) x.number) (sym is) at)
-        (cases_lt k (length inputs))
+          (λ old. subst (λ x. IsLeastAbs (range_of ranges k) x.number) (sym (get_or_append_left inputs (input ∷ []) d k old)) (gives.least k d old))
+          (λ new.
+          let last : k ≡ length inputs = omega (arith, length-append inputs (input ∷ [])) in
+          let is : get_or (inputs ++ input ∷ []) k d ≡ input = ap (λ n. get_or (inputs ++ input ∷ []) n d) last ∙ get_or-append_seam inputs input [] d in
+          let at : IsLeastAbs (range_of ranges k) input.number = subst (λ n. IsLeastAbs (range_of ranges n) input.number) (sym (last ∙ counted)) least in
+          subst (λ x. IsLeastAbs (range_of ranges k) x.number) (sym is) at)
+          (cases_lt k (length inputs));
     }
 
 -- all of them
@@ -132,5 +132,5 @@ lists_parameters function ranges inputs permuted alone gives moved ordered =
     let parameters : parameter_names function ≡ input_names inputs = ap (λ n. take n function.locals) alone ∙ take_all (length function.locals) function.locals (omega arith) ∙ sym gives.names in
     record {
       each_once = subst (λ xs. IsPermutation xs (input_names permuted)) (sym parameters) (IsPermutation-map (λ (x : Input). x.parameter) inputs permuted moved);
-      in_order = ordered
+      in_order = ordered;
     }

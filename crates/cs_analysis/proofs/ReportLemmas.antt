@@ -40,11 +40,11 @@ stands xs i y d k within there =
     (λ front. Front front (get_or-insert_below xs i y d k front within))
     (λ rest. ⊎_elim
     (λ behind.
-        let next : k - 1 + 1 ≡ k = omega arith in
-        Back (k - 1) (omega arith) (sym next) (omega (arith, length-insert xs i y within)) (ap (λ n. get_or (insert xs i y) n d) (sym next) ∙ get_or-insert_above xs i y d (k - 1) (omega arith) within))
+    let next : k - 1 + 1 ≡ k = omega arith in
+    Back (k - 1) (omega arith) (sym next) (omega (arith, length-insert xs i y within)) (ap (λ n. get_or (insert xs i y) n d) (sym next) ∙ get_or-insert_above xs i y d (k - 1) (omega arith) within))
     (λ up_to.
-        let at : k ≡ i = omega arith in
-        Middle at (ap (λ n. get_or (insert xs i y) n d) at ∙ get_or-insert_at xs i y d within))
+    let at : k ≡ i = omega arith in
+    Middle at (ap (λ n. get_or (insert xs i y) n d) at ∙ get_or-insert_at xs i y d within))
     (cases_lt i k))
     (cases_lt k i)
 

@@ -116,8 +116,8 @@ known_narrowed function ranges k part holds literal known there is inhabited =
       each_one = length-set ranges k part ∙ known.each_one;
       inhabited = λ j within. after_set IsInhabited ranges k j part there' (λ same. inhabited) (λ apart. known.inhabited j within);
       of_int = λ j x within has.
-        let P : List Interval → Type 0 = λ r. IsTrue (contains r x) → IsTrue (is_int x) in
-        after_set P ranges k j part there' (λ same h. known.of_int k x there (part_of (range_of ranges k) part holds literal x is h).0) (λ apart h. known.of_int j x within h) has
+          let P : List Interval → Type 0 = λ r. IsTrue (contains r x) → IsTrue (is_int x) in
+          after_set P ranges k j part there' (λ same h. known.of_int k x there (part_of (range_of ranges k) part holds literal x is h).0) (λ apart h. known.of_int j x within h) has;
     }
 
 -- the inputs that fit then are those for which the test comes out so
@@ -128,15 +128,16 @@ narrows function ranges (Compare at op (Load at1 (Local at2 k)) (Number at3 lite
     record {
       only = λ inputs fits. (
         λ j within. ⊎_elim
-          (λ same. subst (λ i. IsTrue (contains (range_of ranges i) (number_in function inputs i))) (sym same) (at_k inputs fits).0)
-          (λ apart. subst (λ r. IsTrue (contains r (number_in function inputs j))) (set_other ranges k j part apart) (fits j within))
-          (same_or_not j k),
-        (at_k inputs fits).1);
+            (λ same. subst (λ i. IsTrue (contains (range_of ranges i) (number_in function inputs i))) (sym same) (at_k inputs fits).0)
+            (λ apart. subst (λ r. IsTrue (contains r (number_in function inputs j))) (set_other ranges k j part apart) (fits j within))
+            (same_or_not j k),
+        (at_k inputs fits).1,
+      );
       all = λ inputs fits so j within.
-        let P : List Interval → Type 0 = λ r. IsTrue (contains r (number_in function inputs j)) in
-        after_set P ranges k j part there
+          let P : List Interval → Type 0 = λ r. IsTrue (contains r (number_in function inputs j)) in
+          after_set P ranges k j part there
           (λ same. subst (λ i. IsTrue (contains part (number_in function inputs i))) (sym same) (is (number_in function inputs k) ∙ both_true _ _ (fits k shape.0) (so_comes_out holds literal (number_in function inputs k) so)))
-          (λ apart. fits j within)
+          (λ apart. fits j within);
     }
 narrows function ranges _ part holds shape known is = absurd shape
 
@@ -168,7 +169,7 @@ behind_test function ranges events at test body holds tested part ranges' events
       known = subst (IsKnown function) (sym set) (known_narrowed function ranges (tested_parameter test) part holds (tested_literal test) known (tested_there (length function.locals) test shape) part_is behind.inhabited);
       counted = ap length shown ∙ length-append events (test_events (place_of test) at holds);
       narrows = narrowed;
-      comes = λ todo comes. subst (λ es. Comes function ranges' es (chosen holds body todo)) (sym shown) (comes_behind function ranges ranges' events at test body todo holds alone shape room narrowed comes)
+      comes = λ todo comes. subst (λ es. Comes function ranges' es (chosen holds body todo)) (sym shown) (comes_behind function ranges ranges' events at test body todo holds alone shape room narrowed comes);
     }
 
 -- inputs for which a test comes out so have a number in that part

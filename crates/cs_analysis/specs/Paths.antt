@@ -69,7 +69,7 @@ ready function inputs todo stack passed = record {
   stack = stack;
   frame = 0;
   memory = start_memory function inputs;
-  passed = passed
+  passed = passed;
 }
 
 -- the runs from all inputs that fit pass these events and come to where this is to be done

@@ -31,16 +31,25 @@ pub fn analyze(alloc: Global, entry: u32, function: &Function) -> Result<EntryRe
     ensures entry { IfOk result (λ told. told.entry ≡ entry) }
     ensures no_budget { IfOk result (λ told. told.overs.items ≡ []) }
 {
-    let reports = match &function.body.kind {
-        StmtKind::Block(body) => follow(alloc, function, body.as_slice())?,
-        _ => Vec::new(alloc),
-    };
+    let reports = reports_of(alloc, function)?;
     Ok(EntryResult {
         entry,
         verdict: Verdict::Complete,
         reports,
         overs: Vec::new(alloc),
     })
+}
+
+/// The reports of a function.
+fn reports_of(alloc: Global, function: &Function) -> Result<Vec<Finding>, AllocError>
+    requires { IsCoverable (definition function.now) }
+    ensures good { IfOk result (λ reports. AreGood (definition function.now) reports.items) }
+    ensures told { IfOk result (λ reports. (inputs : Inputs) → IsTold (definition function.now) reports.items inputs) }
+{
+    match &function.body.kind {
+        StmtKind::Block(body) => follow(alloc, function, body.as_slice()),
+        StmtKind::If(..) | StmtKind::Return(_) => Ok(Vec::new(alloc)),
+    }
 }
 
 /// The reports of a function with this body.
@@ -157,7 +166,9 @@ fn report_taken(
         → IsTold (definition function.now) reports.new.items inputs)) }
 {
     match (taken, &body.kind) {
-        (Some(path), StmtKind::Return(value)) => report_return(alloc, function, &path, value, reports),
+        (Some(path), StmtKind::Return(value)) => report_return(
+            alloc, function, &path, value, reports,
+        ),
         _ => Ok(()),
     }
 }
@@ -188,7 +199,12 @@ fn report_return(
 }
 
 /// The finding of a division by zero at a place that a path comes to with nothing more to show.
-fn division(alloc: Global, function: &Function, path: &Path, at: Place) -> Result<Finding, AllocError>
+fn division(
+    alloc: Global,
+    function: &Function,
+    path: &Path,
+    at: Place,
+) -> Result<Finding, AllocError>
     requires shape { IsCoverable (definition function.now) }
     requires known { IsKnown (definition function.now) path.now.ranges.items }
     ensures what { IfOk result (λ finding. finding.what ≡ divides at) }

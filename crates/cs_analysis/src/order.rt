@@ -33,7 +33,11 @@ fn place_of(finding: &Finding) -> Place
 {
     match finding.what {
         Outcome::Fault(_, place) | Outcome::Over(_, place) => place,
-        Outcome::Done(_) => Place { file: 0, line: 0, column: 0 },
+        Outcome::Done(_) => Place {
+            file: 0,
+            line: 0,
+            column: 0,
+        },
     }
 }
 

@@ -1,8 +1,7 @@
-use Rattle.cs_analysis.proofs.EntryLemmas.{good_entry, statements_of-items}
+use Rattle.std.proofs.Common.{refl}
+use Rattle.cs_ast.specs.View.{definition}
+use Rattle.cs_analysis.proofs.EntryLemmas.{good_entry}
 use Rattle.cs_analysis.proofs.analysis.analyze.Goals as goal
 
-pub follow-requires-clause-body : goal.follow-requires-clause-body
-follow-requires-clause-body c = ?
-
 pub returns-clause-good : goal.returns-clause-good
-returns-clause-good c = ?
+returns-clause-good c = good_entry (definition c.args.function.now) _ c.new.ensures.items refl c.in_ok-reports.ensures.good c.in_ok-reports.ensures.told

@@ -6,7 +6,7 @@ use Rattle.cs_analysis.proofs.analysis.follow.Given as goal
 abbrev pub invariant-loop-first : goal.invariant-loop-first
 invariant-loop-first l = record {
   followed : IsFollowed (definition l.function) l.path.ranges.items l.path.events.items (statements l.rest) l.reports.items;
-  good : AreGood (definition l.function) l.reports.items
+  good : AreGood (definition l.function) l.reports.items;
 }
 
 abbrev pub decreases-loop-first : goal.decreases-loop-first

@@ -7,7 +7,7 @@ use Rattle.cs_analysis.proofs.ranges.full_ranges.Given as goal
 abbrev pub invariant-loop-alloc : goal.invariant-loop-alloc
 invariant-loop-alloc l = record {
   few : vec_len l.ranges ≤ l.count;
-  all : (k : ℕ) (x : ℤ) → k < vec_len l.ranges → contains (range_of l.ranges.items k) x ≡ is_int x
+  all : (k : ℕ) (x : ℤ) → k < vec_len l.ranges → contains (range_of l.ranges.items k) x ≡ is_int x;
 }
 
 abbrev pub decreases-loop-alloc : goal.decreases-loop-alloc
