@@ -1,0 +1,130 @@
+//! What a run of the program has to write.
+ghost use Rattle.std.specs.Prelude.{◌≡◌, ℕ, ◌++◌, [], List, Err, None, Some, codes, IfOk, OnOk};
+ghost use Rattle.std.specs.Io.KnownBytes.{IsAtEnd};
+ghost use Rattle.std.specs.Fmt.{decimal};
+ghost use Rattle.cs_ast.specs.Tree.{Definition};
+ghost use Rattle.cs_ast.specs.View.{definition};
+ghost use Rattle.cs_io.specs.Count.{Rose};
+ghost use Rattle.cs_form.specs.Form.{IsOfForm};
+ghost use Rattle.cs_analysis.specs.Shape.{IsCoverable, LeavesRoom};
+ghost use Rattle.cs_app.specs.Words.{words_text, first_refused};
+ghost use Rattle.cs_app.specs.Answers.{IsWhole, IsFileAnswer, IsResultText, IsAnalyzed, DEFAULT_BUDGETS};
+
+use crate::status::Status;
+use crate::words::{Command, WordsRefusal, words_of};
+use cs_analysis::analyze;
+use cs_ast::Function;
+use cs_form::{FormRefusal, function_of};
+use cs_io::{ReadRefusal, Source, read_all};
+use cs_names::Name;
+use cs_report::append_entry;
+use std::alloc::{AllocError, Global};
+
+/// The text of a run, and the status that it has where the text is written whole.
+#[derive(Drop)]
+pub struct Answer {
+    pub status: Status,
+    pub text: Vec<u8>,
+}
+
+/// Why there is no text.
+#[derive(Clone, Copy, PartialEq, Eq, Debug)]
+pub enum Failure {
+    /// The source failed.
+    Read,
+    /// There was no memory left.
+    Memory,
+}
+
+impl From<AllocError> for Failure {
+    ghost from_gives = { λ _ failure. failure ≡ Failure.Memory };
+
+    fn from(_error: AllocError) -> Failure {
+        Failure::Memory
+    }
+}
+
+/// The answer to these words, for the file that the source has left. It reads nothing where the words
+/// are no command.
+pub fn answer<S: Source>(
+    alloc: Global,
+    words: &[String],
+    source: &mut S,
+) -> Result<Answer, Failure>
+    ensures whole { IfOk result (λ answer.
+        IsWhole (words_text words.now) (S.left source.old) answer.status answer.text.items) }
+    ensures read { IfOk result (λ answer. IsAnalyzed answer.status → IsAtEnd (S.left source.new)) }
+    ensures unread { (n : ℕ) → first_refused (words_text words.now) ≡ Some n → source.new ≡ source.old }
+    ensures fault { result ≡ Err Failure.Read → Rose (S.faults source.old) (S.faults source.new) }
+{
+    match words_of(words) {
+        Ok(Command::Analyze) => analysis(alloc, source),
+        Err(WordsRefusal::Words(number)) => Ok(refused_words(alloc, number)?),
+    }
+}
+
+/// The answer to refused words: the number of the first word that fits no command.
+fn refused_words(alloc: Global, number: u64) -> Result<Answer, AllocError>
+    ensures status { IfOk result (λ answer. answer.status ≡ Status.BadWords) }
+    ensures text { IfOk result (λ answer. answer.text.items ≡ codes "refused words " ++ (decimal number ++ codes "\n")) }
+{
+    let line = format!(in alloc; "refused words {number}\n")?;
+    Ok(Answer {
+        status: Status::BadWords,
+        text: line.into_bytes(),
+    })
+}
+
+/// The answer to the file that the source has left.
+fn analysis<S: Source>(alloc: Global, source: &mut S) -> Result<Answer, Failure>
+    ensures whole { IfOk result (λ answer. IsFileAnswer (S.left source.old) answer.status answer.text.items) }
+    ensures read { IfOk result (λ answer. IsAnalyzed answer.status → IsAtEnd (S.left source.new)) }
+    ensures fault { result ≡ Err Failure.Read → Rose (S.faults source.old) (S.faults source.new) }
+{
+    match read_all(alloc, source) {
+        Ok(file) => Ok(answer_to(alloc, file.as_slice())?),
+        Err(ReadRefusal::TooLong) => Ok(refused_form(alloc)?),
+        Err(ReadRefusal::ReadFault) => Err(Failure::Read),
+        Err(ReadRefusal::Memory) => Err(Failure::Memory),
+    }
+}
+
+/// The answer to a file.
+fn answer_to(alloc: Global, file: &[u8]) -> Result<Answer, AllocError>
+    ensures { IfOk result (λ answer. IsFileAnswer (Some file.now) answer.status answer.text.items) }
+{
+    match function_of(alloc, file) {
+        Ok(function) => analyzed(alloc, &function),
+        Err(FormRefusal::NotOfForm) => refused_form(alloc),
+        Err(FormRefusal::Memory) => Err(AllocError),
+    }
+}
+
+/// The answer to a file that is not of the form.
+fn refused_form(alloc: Global) -> Result<Answer, AllocError>
+    ensures status { IfOk result (λ answer. answer.status ≡ Status.BadFile) }
+    ensures text { IfOk result (λ answer. answer.text.items ≡ codes "refused form\n") }
+{
+    Ok(Answer {
+        status: Status::BadFile,
+        text: Vec::from_slice(alloc, b"refused form\n")?,
+    })
+}
+
+/// The answer to a function: its analysis.
+fn analyzed(alloc: Global, function: &Function) -> Result<Answer, AllocError>
+    requires shape { IsCoverable (definition function.now) }
+    requires room { LeavesRoom (definition function.now) DEFAULT_BUDGETS }
+    ensures { IfOk result (λ answer. IsResultText (definition function.now) answer.status answer.text.items) }
+{
+    let told = analyze(alloc, 0, function)?;
+    let files = [Name::from_slice(alloc, b"<input>")?];
+    let mut text = Vec::new(alloc);
+    append_entry(&mut text, &files, &function.name, &told)?;
+    let status = if told.reports.is_empty() {
+        Status::Clean
+    } else {
+        Status::Found
+    };
+    Ok(Answer { status, text })
+}
