@@ -8,13 +8,14 @@ ghost use Rattle.cs_io.specs.Count.{Rose};
 ghost use Rattle.cs_form.specs.Form.{IsOfForm};
 ghost use Rattle.cs_analysis.specs.Shape.{IsCoverable, LeavesRoom};
 ghost use Rattle.cs_app.specs.Words.{words_text, first_refused};
-ghost use Rattle.cs_app.specs.Answers.{IsWhole, IsFileAnswer, IsResultText, IsAnalyzed, DEFAULT_BUDGETS};
+ghost use Rattle.cs_app.specs.Answers.{IsWhole, IsFileAnswer, IsResultText, IsAnalyzed, DEFAULT_BUDGETS, status_of};
 
 use crate::status::Status;
 use crate::words::{Command, WordsRefusal, words_of};
 use cs_analysis::analyze;
 use cs_ast::Function;
 use cs_form::{FormRefusal, function_of};
+use cs_model::Finding;
 use cs_io::{ReadRefusal, Source, read_all};
 use cs_names::Name;
 use cs_report::append_entry;
@@ -37,7 +38,9 @@ pub enum Failure {
 }
 
 impl From<AllocError> for Failure {
-    ghost from_gives = { λ _ failure. failure ≡ Failure.Memory };
+    ghost use Rattle.cs_app.specs.declared.answer.Failure.TheVariants.{Memory};
+
+    ghost from_gives = { λ _ failure. failure ≡ Memory };
 
     fn from(_error: AllocError) -> Failure {
         Failure::Memory
@@ -46,7 +49,7 @@ impl From<AllocError> for Failure {
 
 /// The answer to these words, for the file that the source has left. It reads nothing where the words
 /// are no command.
-pub fn answer<S: Source>(
+pub fn answer_for<S: Source>(
     alloc: Global,
     words: &[String],
     source: &mut S,
@@ -59,7 +62,10 @@ pub fn answer<S: Source>(
 {
     match words_of(words) {
         Ok(Command::Analyze) => analysis(alloc, source),
-        Err(WordsRefusal::Words(number)) => Ok(refused_words(alloc, number)?),
+        Err(WordsRefusal::Words(number)) => {
+            let answer = refused_words(alloc, number)?;
+            Ok(answer)
+        }
     }
 }
 
@@ -82,8 +88,14 @@ fn analysis<S: Source>(alloc: Global, source: &mut S) -> Result<Answer, Failure>
     ensures fault { result ≡ Err Failure.Read → Rose (S.faults source.old) (S.faults source.new) }
 {
     match read_all(alloc, source) {
-        Ok(file) => Ok(answer_to(alloc, file.as_slice())?),
-        Err(ReadRefusal::TooLong) => Ok(refused_form(alloc)?),
+        Ok(file) => {
+            let answer = answer_to(alloc, file.as_slice())?;
+            Ok(answer)
+        }
+        Err(ReadRefusal::TooLong) => {
+            let answer = refused_form(alloc)?;
+            Ok(answer)
+        }
         Err(ReadRefusal::ReadFault) => Err(Failure::Read),
         Err(ReadRefusal::Memory) => Err(Failure::Memory),
     }
@@ -94,8 +106,14 @@ fn answer_to(alloc: Global, file: &[u8]) -> Result<Answer, AllocError>
     ensures { IfOk result (λ answer. IsFileAnswer (Some file.now) answer.status answer.text.items) }
 {
     match function_of(alloc, file) {
-        Ok(function) => analyzed(alloc, &function),
-        Err(FormRefusal::NotOfForm) => refused_form(alloc),
+        Ok(function) => {
+            let answer = analyzed(alloc, &function)?;
+            Ok(answer)
+        }
+        Err(FormRefusal::NotOfForm) => {
+            let answer = refused_form(alloc)?;
+            Ok(answer)
+        }
         Err(FormRefusal::Memory) => Err(AllocError),
     }
 }
@@ -121,10 +139,16 @@ fn analyzed(alloc: Global, function: &Function) -> Result<Answer, AllocError>
     let files = [Name::from_slice(alloc, b"<input>")?];
     let mut text = Vec::new(alloc);
     append_entry(&mut text, &files, &function.name, &told)?;
-    let status = if told.reports.is_empty() {
-        Status::Clean
-    } else {
-        Status::Found
-    };
+    let status = status_of(told.reports.as_slice());
     Ok(Answer { status, text })
+}
+
+/// Found where there is a report.
+fn status_of(reports: &[Finding]) -> Status
+    ensures { result ≡ status_of reports.now }
+{
+    match reports {
+        [] => Status::Clean,
+        [_, ..] => Status::Found,
+    }
 }

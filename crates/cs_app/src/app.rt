@@ -5,7 +5,7 @@ ghost use Rattle.cs_io.specs.Count.{Rose};
 ghost use Rattle.cs_app.specs.Words.{words_text, first_refused};
 ghost use Rattle.cs_app.specs.Answers.{IsWritten, IsPartWritten, IsDone, IsAnalyzed, IsAcceptable, SinkRose};
 
-use crate::answer::{Failure, answer};
+use crate::answer::{Failure, answer_for};
 use crate::status::Status;
 use cs_io::{Sink, Source, write_all_of};
 use std::alloc::Global;
@@ -39,7 +39,7 @@ pub fn csa<S: Source, K: Sink>(
         → (SinkRose (K.faults sink.old) (K.faults sink.new) (K.empty_takes sink.old) (K.empty_takes sink.new) → ⊥)
         → (result ≡ Status.Memory → ⊥) → IsAnalyzed result }
 {
-    match answer(alloc, words, source) {
+    match answer_for(alloc, words, source) {
         Ok(answer) => match write_all_of(sink, answer.text.as_slice()) {
             Ok(()) => answer.status,
             Err(_) => Status::WriteFault,

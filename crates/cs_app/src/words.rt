@@ -1,5 +1,5 @@
 //! The words of the command line.
-ghost use Rattle.std.specs.Prelude.{◌≡◌, ◌↔◌, Err, IsOk, map, Some, None};
+ghost use Rattle.std.specs.Prelude.{◌≡◌, ℕ, ◌↔◌, IsOk};
 ghost use Rattle.cs_app.specs.Words.{words_text, first_refused};
 
 /// What the words ask for.
@@ -24,8 +24,8 @@ pub fn words_of(words: &[String]) -> Result<Command, WordsRefusal>
 {
     match words {
         [] => Err(WordsRefusal::Words(1)),
-        [first] if first == "analyze" => Ok(Command::Analyze),
-        [first, ..] if first == "analyze" => Err(WordsRefusal::Words(2)),
+        [first] if first.as_str() == "analyze" => Ok(Command::Analyze),
+        [first, ..] if first.as_str() == "analyze" => Err(WordsRefusal::Words(2)),
         [_, ..] => Err(WordsRefusal::Words(1)),
     }
 }

@@ -1,0 +1,51 @@
+-- Functions of the form are such as the analysis covers: for `answer_to`.
+use Rattle.std.proofs.Common.{◌≡◌, ℕ, ◌+◌, ◌*◌, ◌<◌, ◌≤◌, ◌^◌, pos, IsTrue, List, [], ◌∷◌, length, refl, sym, ap, ◌∙◌, subst, arith, rules, tests, nat_lt, true}
+use Rattle.std.specs.Prelude.{All}
+use Rattle.std.proofs.lemmas.List.Elements.{All-head, All-tail}
+use Rattle.cs_ast.specs.declared.place.Place.{Place}
+use Rattle.cs_ast.specs.Tree.{Definition}
+use Rattle.cs_form.specs.Small.{Atom, Parameter, Literal, Answer, Single, Quotient, Guard, Small, atom_tree, answer_tree, guard_tree, body_trees, tree, IsAtomWithin, IsAnswerWithin, IsGuardWithin}
+use Rattle.cs_form.specs.Form.{IsOfForm, SpellsSmall}
+use Rattle.cs_analysis.specs.Shape.{IsAtom, IsAnswer, IsBody, IsCoverable, LeavesRoom, count_of}
+use Rattle.cs_app.specs.Answers.{DEFAULT_BUDGETS}
+
+literal_is_int : (value : ℕ) → value < 2 ^ 31 → nat_lt value (2 ^ 31) ≡ true
+literal_is_int value small = search (rules, tests)
+
+atom_is_covered : (count : ℕ) (atom : Atom) → IsAtomWithin count atom → IsAtom count (atom_tree atom)
+atom_is_covered count (Parameter at declaration) within = within
+atom_is_covered count (Literal at value) within = literal_is_int value within
+
+answer_is_covered : (count : ℕ) (answer : Answer) → IsAnswerWithin count answer → IsAnswer count (answer_tree answer)
+answer_is_covered count (Single (Parameter at declaration)) within = within
+answer_is_covered count (Single (Literal at value)) within = literal_is_int value within
+answer_is_covered count (Quotient at left right) within = (atom_is_covered count left within.0, atom_is_covered count right within.1)
+
+body_is_covered : (count : ℕ) (guards : List Guard) (at : Place) (answer : Answer) → All (IsGuardWithin count) guards → IsAnswerWithin count answer → IsBody count (body_trees guards at answer)
+body_is_covered count [] at answer guards_within within = answer_is_covered count answer within
+body_is_covered count (guard ∷ guards) at answer guards_within within =
+    let first = All-head (IsGuardWithin count) guard guards guards_within in
+    ((first.tested, literal_is_int guard.literal first.literal), answer_is_covered count guard.answer first.answer, body_is_covered count guards at answer (All-tail (IsGuardWithin count) guard guards guards_within) within)
+
+count_of-body_trees : (guards : List Guard) (at : Place) (answer : Answer) → count_of (body_trees guards at answer) ≡ length guards + 1
+count_of-body_trees [] at answer = refl
+count_of-body_trees (guard ∷ guards) at answer = omega (arith, count_of-body_trees guards at answer)
+
+-- a function of the form is of the shape that is analyzed
+pub form_is_coverable : (file : List ℕ) (function : Definition) → IsOfForm file function → IsCoverable function
+form_is_coverable file function form =
+    let small = form.small in
+    let within = form.spells.within in
+    subst IsCoverable (sym form.is) (record {
+      parameters_alone = refl;
+      different = within.different;
+      body = body_is_covered (length small.parameters) small.guards small.return_at small.answer within.guards within.answer
+    })
+
+-- and its runs stay within the budget of events
+pub form_leaves_room : (file : List ℕ) (function : Definition) → IsOfForm file function → LeavesRoom function DEFAULT_BUDGETS
+form_leaves_room file function form =
+    let small = form.small in
+    subst (λ f. LeavesRoom f DEFAULT_BUDGETS) (sym form.is) (record {
+      room = omega (arith, form.spells.within.few_guards, count_of-body_trees small.guards small.return_at small.answer)
+    })

@@ -1,0 +1,74 @@
+//! What `analyze` says of whole files.
+
+use cs_app::{Status, csa};
+use cs_io::{SureSink, SureSource};
+use std::alloc::Global;
+use std::test::Fail;
+
+/// Files with the status and the text of their analysis.
+const ANALYSES: [(&str, Status, &str); 9] = [
+    (
+        "int f(int x){if(x==0)return 0;return 10/x;}",
+        Status::Clean,
+        "entry f complete\n",
+    ),
+    (
+        "int f(int x){return 10/x;}",
+        Status::Found,
+        "entry f complete\nreport divide <input>:1:23 confirmed\n  input x = 0\n",
+    ),
+    (
+        "int f(int x,int y){if(x==3)return 10/y;return y/x;}",
+        Status::Found,
+        "entry f complete\nreport divide <input>:1:37 confirmed\n  input x = 3\n  input y = 0\n  step <input>:1:20 branch true\nreport divide <input>:1:48 confirmed\n  input x = 0\n  input y = 0\n  step <input>:1:20 branch false\n",
+    ),
+    (
+        "int f(int x){if(x==3)return 0;if(x==3)return 1/0;return x;}",
+        Status::Clean,
+        "entry f complete\n",
+    ),
+    (
+        "int f(int b,int a){return a/b;}",
+        Status::Found,
+        "entry f complete\nreport divide <input>:1:28 confirmed\n  input a = 0\n  input b = 0\n",
+    ),
+    (
+        "int f(int x){if(x==0)return 1/x;return 1/0;}",
+        Status::Found,
+        "entry f complete\nreport divide <input>:1:30 confirmed\n  input x = 0\n  step <input>:1:14 branch true\nreport divide <input>:1:41 confirmed\n  input x = 1\n  step <input>:1:14 branch false\n",
+    ),
+    (
+        "int f(int x){return 2147483647/1;}",
+        Status::Clean,
+        "entry f complete\n",
+    ),
+    (
+        "\n int  f ( int\nx ) { if ( x == 7 ) return x ;\n return x / 7 ; }\n\n",
+        Status::Clean,
+        "entry f complete\n",
+    ),
+    (
+        "int f(int f){return f/f;}",
+        Status::Found,
+        "entry f complete\nreport divide <input>:1:22 confirmed\n  input f = 0\n",
+    ),
+];
+
+/// The status and the text of `analyze` on a file, with ample memory.
+fn analysis(alloc: Global, file: &str) -> Result<(Status, Vec<u8>), Fail> {
+    let words = vec![in alloc; String::from_str(alloc, "analyze")?]?;
+    let mut source = SureSource::new(Vec::from_slice(alloc, file.as_bytes())?);
+    let mut sink = SureSink::new(alloc, 4096)?;
+    let status = csa(alloc, words.as_slice(), &mut source, &mut sink);
+    Ok((status, Vec::from_slice(alloc, sink.written())?))
+}
+
+#[test]
+fn analyzes_files_of_the_form(rt: HostRuntime) -> Result<(), Fail> {
+    for (file, status, text) in ANALYSES {
+        let (ended, written) = analysis(rt.alloc(), file)?;
+        assert_eq!(rt; written.as_slice(), text.as_bytes(), "{file}");
+        assert_eq!(rt; ended, status, "{file}");
+    }
+    Ok(())
+}

@@ -1,0 +1,9 @@
+//! Worked examples that cross crates: words and a file in, a text and a status out.
+#![tactic(auto)]
+
+#[cfg(test)]
+mod analyzed;
+#[cfg(test)]
+mod refused;
+#[cfg(test)]
+mod replayed;

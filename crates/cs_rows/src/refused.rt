@@ -1,0 +1,62 @@
+//! What comes of refused words and files, and of sources and sinks that fail.
+
+use cs_app::{Status, csa};
+use cs_io::{MemSink, MemSource, SureSink, SureSource};
+use std::alloc::{AllocError, Global};
+use std::test::Fail;
+
+/// A division by a parameter.
+const DIVISION: &str = "int f(int x){return 10/x;}";
+
+/// The words of a command line.
+fn words_of(alloc: Global, line: &str) -> Result<Vec<String>, AllocError> {
+    let mut words = Vec::new(alloc);
+    for word in line.split_ascii_whitespace() {
+        words.push(String::from_str(alloc, word)?)?;
+    }
+    Ok(words)
+}
+
+#[test]
+fn refuses_words_and_files_with_a_line(rt: HostRuntime) -> Result<(), Fail> {
+    let alloc = rt.alloc();
+    // The words, the file, the status and the line.
+    for (words, file, status, line) in [
+        ("", DIVISION, Status::BadWords, "refused words 1\n"),
+        ("replay f", DIVISION, Status::BadWords, "refused words 1\n"),
+        ("analyze f", DIVISION, Status::BadWords, "refused words 2\n"),
+        ("analyze", "", Status::BadFile, "refused form\n"),
+        ("analyze", "int f(void){return 0;}", Status::BadFile, "refused form\n"),
+        ("analyze", "int f(int x){return y;}", Status::BadFile, "refused form\n"),
+    ] {
+        let words = words_of(alloc, words)?;
+        let mut source = SureSource::new(Vec::from_slice(alloc, file.as_bytes())?);
+        let mut sink = SureSink::new(alloc, 64)?;
+        let ended = csa(alloc, words.as_slice(), &mut source, &mut sink);
+        assert_eq!(rt; sink.written(), line.as_bytes(), "{file}");
+        assert_eq!(rt; ended, status, "{file}");
+    }
+    Ok(())
+}
+
+#[test]
+fn tells_which_stream_failed(rt: HostRuntime) -> Result<(), Fail> {
+    let alloc = rt.alloc();
+    // The reads and the writes that fail, the room of the sink, the status, and what is written.
+    for (read, write, room, status, written) in [
+        (1, 0, 64, Status::ReadFault, ""),
+        (2, 0, 64, Status::ReadFault, ""),
+        (0, 1, 64, Status::WriteFault, ""),
+        (0, 2, 64, Status::WriteFault, "entry f complete"),
+        (0, 0, 20, Status::WriteFault, "entry f complete\nrep"),
+    ] {
+        let words = words_of(alloc, "analyze")?;
+        let bytes = Vec::from_slice(alloc, DIVISION.as_bytes())?;
+        let mut source = MemSource::new(bytes, 16, vec![in alloc; read]?);
+        let mut sink = MemSink::new(alloc, room, 16, vec![in alloc; write]?)?;
+        let ended = csa(alloc, words.as_slice(), &mut source, &mut sink);
+        assert_eq!(rt; ended, status, "{read} {write} {room}");
+        assert_eq!(rt; sink.written(), written.as_bytes(), "{read} {write} {room}");
+    }
+    Ok(())
+}
