@@ -1,0 +1,46 @@
+//! The memory that a run begins with.
+ghost use Rattle.std.specs.Prelude.{◌≡◌, IfOk, Some};
+ghost use Rattle.cs_ast.specs.View.{definition};
+ghost use Rattle.cs_model.specs.Memory.{listed, parameter_cell, start_memory};
+ghost use Rattle.cs_machine.specs.View.{cell_of, memory_of};
+
+use crate::integer::int_input;
+use crate::operand::Cell;
+use cs_ast::Function;
+use cs_model::Input;
+use cs_names::Name;
+use std::alloc::{AllocError, Global};
+
+/// The number that a list of inputs gives a parameter: 0 if the list does not name it.
+fn listed(inputs: &[Input], name: &Name) -> i128
+    ensures { result ≡ listed inputs.now name.now }
+{
+    for input in inputs {
+        if input.parameter == *name {
+            return input.number;
+        }
+    }
+    0
+}
+
+/// The cell that a parameter begins with.
+fn parameter_cell(inputs: &[Input], name: &Name) -> Cell
+    ensures { cell_of result ≡ parameter_cell (listed inputs.now) (Some name.now) }
+{
+    Cell::Number(int_input(listed(inputs, name)))
+}
+
+/// The cells of the parameters, in their order.
+pub fn parameter_cells(
+    alloc: Global,
+    function: &Function,
+    inputs: &[Input],
+) -> Result<Vec<Cell>, AllocError>
+    ensures { IfOk result (λ cells. memory_of cells.items ≡ start_memory (definition function.now) (listed inputs.now)) }
+{
+    let mut cells = Vec::new(alloc);
+    for local in function.locals.iter().take(function.parameters as usize) {
+        cells.push(parameter_cell(inputs, &local.name))?;
+    }
+    Ok(cells)
+}
