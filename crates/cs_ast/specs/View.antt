@@ -1,5 +1,5 @@
 -- The program's trees seen as plain data.
-use Rattle.std.specs.Prelude.{ℕ, List, map}
+use Rattle.std.specs.Prelude.{List, [], ◌∷◌, map}
 use Rattle.cs_ast.specs.declared.place.Place.{Place}
 use Rattle.cs_ast.specs.declared.expression.Expr.{Expr}
 use Rattle.cs_ast.specs.declared.expression.ExprKind.{ExprKind}
@@ -46,3 +46,8 @@ definition f = record {
   locals = map (λ (object : Object). object.name) f.locals.items;
   body = statement f.body;
 }
+
+-- the statements of a list
+abbrev pub statements : List Stmt → Statements
+statements [] = Empty
+statements (s ∷ rest) = Then (statement s) (statements rest)

@@ -60,9 +60,6 @@ abbrev pub verdict_of : List Finding → Verdict
 verdict_of [] = Complete
 verdict_of (over ∷ overs) = Bounded
 
-abbrev pub outcomes_of : List Finding → List Outcome
-outcomes_of findings = map (λ (finding : Finding). finding.what) findings
-
 -- each run of the function that ends in a fault or meets a budget has a finding of that outcome
 abbrev pub IsCovered : Definition → Budgets → List Finding → Type 0
 IsCovered function budgets findings =
@@ -72,9 +69,9 @@ IsCovered function budgets findings =
 pub record IsGoodEntry (function : Definition) (budgets : Budgets) (result : EntryResult) : Type 0 where
   pub reports : All (IsGoodFinding function budgets) result.reports.items
   pub overs : All (IsGoodFinding function budgets) result.overs.items
-  pub report_faults : All IsFault (outcomes_of result.reports.items)
-  pub over_overs : All IsOver (outcomes_of result.overs.items)
-  pub reports_in_order : AllPairs IsToldBefore (outcomes_of result.reports.items)
-  pub overs_in_order : AllPairs IsToldBefore (outcomes_of result.overs.items)
+  pub report_faults : All (λ report. IsFault report.what) result.reports.items
+  pub over_overs : All (λ over. IsOver over.what) result.overs.items
+  pub reports_in_order : AllPairs (λ one other. IsToldBefore one.what other.what) result.reports.items
+  pub overs_in_order : AllPairs (λ one other. IsToldBefore one.what other.what) result.overs.items
   pub verdict : result.verdict ≡ verdict_of result.overs.items
   pub covered : IsCovered function budgets (result.reports.items ++ result.overs.items)

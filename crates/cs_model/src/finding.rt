@@ -4,21 +4,21 @@ use crate::event::Event;
 use crate::outcome::Outcome;
 use cs_names::Name;
 
-/// The number that an entry's parameter receives.
-#[derive(Drop)]
+/// The number that an entry's parameter receives. Inputs are ordered by the parameters' names.
+#[derive(PartialEq, Eq, PartialOrd, Ord, Debug, Drop)]
 pub struct Input {
     pub parameter: Name,
     pub number: i128,
 }
 
 /// A run, by the inputs that it begins with. A parameter that is not listed receives 0.
-#[derive(Drop)]
+#[derive(Debug, Drop)]
 pub struct Run {
     pub inputs: Vec<Input>,
 }
 
 /// A finding: the outcome, a run that ends in it, and the events that this run passes.
-#[derive(Drop)]
+#[derive(Debug, Drop)]
 pub struct Finding {
     pub what: Outcome,
     pub run: Run,
@@ -37,7 +37,7 @@ pub enum Verdict {
 }
 
 /// What the analyzer says of one entry.
-#[derive(Drop)]
+#[derive(Debug, Drop)]
 pub struct EntryResult {
     /// The entry, by its number among the functions of the program.
     pub entry: u32,

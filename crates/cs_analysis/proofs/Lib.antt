@@ -1,0 +1,4 @@
+pub mod Evaluation
+pub mod ReportLemmas
+pub mod PathLemmas
+pub mod InputLemmas

@@ -1,0 +1,4 @@
+pub mod Shape
+pub mod Reports
+pub mod Paths
+pub mod Tests

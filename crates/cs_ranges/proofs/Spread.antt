@@ -1,0 +1,83 @@
+-- Lists of intervals in order and with gaps: serves the invariant of `RangeSet`.
+use Rattle.std.proofs.Common.{◌≡◌, ◌⊎◌, ◌+◌, ◌<◌, ◌^◌, ℕ, zero, suc, Bool, true, false, ◌||◌, ◌&&◌, not, ℤ, pos, neg_ℤ, ◌+ℤ◌, ◌<ℤ◌, ◌≤ℤ◌, List, [], ◌∷◌, ◌++◌, length, get_or, refl, ap, ◌∙◌, arith, not-suc-le-zero, le_of_suc-le-suc}
+use Rattle.std.proofs.lemmas.Int.{ints, by_lt_z}
+use Rattle.std.proofs.lemmas.Bool.{or_from, both_ways}
+use Rattle.cs_ranges.specs.declared.range_set.Interval.{Interval}
+use Rattle.cs_ranges.specs.Interval.{IsInside, in_interval}
+use Rattle.cs_ranges.specs.RangeSet.{contains, IsSpread, IsSpreadFrom, last_low_or}
+use Rattle.cs_ranges.proofs.Members.{in_interval_tells}
+
+pub IsSpreadFrom-weaker : (b c : ℤ) (s : List Interval) → c ≤ℤ b → IsSpreadFrom b s → IsSpreadFrom c s
+IsSpreadFrom-weaker b c [] le h = tt
+IsSpreadFrom-weaker b c (i ∷ s) le h = (omega (arith, ints, h.0), h.1, h.2, h.3)
+
+-- no number below the bound is there
+pub contains-below : (b : ℤ) (s : List Interval) (x : ℤ) → IsSpreadFrom b s → x <ℤ b → contains s x ≡ false
+unfolding contains
+contains-below b [] x h lt = refl
+contains-below b (i ∷ s) x h lt =
+    let out : in_interval i x ≡ false = grind (arith, ints, h.0, in_interval_tells i x) in
+    or_from _ _ out (contains-below (i.high +ℤ pos 2) s x h.3 (omega (arith, ints, h.0, h.1)))
+
+pub contains-from : (b : ℤ) (s : List Interval) (x : ℤ) → IsSpreadFrom b s → contains s x ≡ true → b ≤ℤ x
+contains-from b s x h t = by_lt_z x b (λ lt. absurd (both_ways _ (contains-below b s x h lt) t)) (λ ge. ge)
+
+-- no number above 2^126 is there
+pub contains-above : (b : ℤ) (s : List Interval) (x : ℤ) → IsSpreadFrom b s → pos (2 ^ 126) <ℤ x → contains s x ≡ false
+unfolding contains
+contains-above b [] x h lt = refl
+contains-above b (i ∷ s) x h lt =
+    let out : in_interval i x ≡ false = grind (arith, ints, h.2, in_interval_tells i x) in
+    or_from _ _ out (contains-above (i.high +ℤ pos 2) s x h.3 lt)
+
+-- the interval at an index has a number, and lies inside the bounds
+pub IsSpreadFrom-at : (b : ℤ) (s : List Interval) (k : ℕ) (d : Interval) → IsSpreadFrom b s → k < length s → (b ≤ℤ (get_or s k d).low) × ((get_or s k d).low ≤ℤ (get_or s k d).high) × ((get_or s k d).high ≤ℤ pos (2 ^ 126))
+IsSpreadFrom-at b [] k d h lt = absurd (not-suc-le-zero lt)
+IsSpreadFrom-at b (i ∷ s) zero d h lt = (h.0, h.1, h.2)
+IsSpreadFrom-at b (i ∷ s) (suc k) d h lt =
+    let at = IsSpreadFrom-at (i.high +ℤ pos 2) s k d h.3 (le_of_suc-le-suc lt) in
+    (omega (arith, ints, at.0, h.0, h.1), at.1, at.2)
+
+-- what is known of the last interval
+pub IsSpreadFrom-last : (b : ℤ) (s : List Interval) (i : Interval) → IsSpreadFrom b (s ++ i ∷ []) → IsSpreadFrom b s × (b ≤ℤ i.low) × (i.low ≤ℤ i.high) × (i.high ≤ℤ pos (2 ^ 126))
+IsSpreadFrom-last b [] i h = (tt, h.0, h.1, h.2)
+IsSpreadFrom-last b (j ∷ s) i h =
+    let rest = IsSpreadFrom-last (j.high +ℤ pos 2) s i h.3 in
+    ((h.0, h.1, h.2, rest.0), omega (arith, ints, h.0, h.1, rest.1), rest.2, rest.3)
+
+-- another last interval that begins at the same number
+pub IsSpreadFrom-replace_last : (b : ℤ) (s : List Interval) (i j : Interval) → IsSpreadFrom b (s ++ i ∷ []) → j.low ≡ i.low → j.low ≤ℤ j.high → j.high ≤ℤ pos (2 ^ 126) → IsSpreadFrom b (s ++ j ∷ [])
+IsSpreadFrom-replace_last b [] i j h e p q = (omega (arith, ints, h.0, e), p, q, tt)
+IsSpreadFrom-replace_last b (k ∷ s) i j h e p q =
+    (h.0, h.1, h.2, IsSpreadFrom-replace_last (k.high +ℤ pos 2) s i j h.3 e p q)
+
+-- an interval behind the last one, after a gap
+pub IsSpreadFrom-push : (b : ℤ) (s : List Interval) (i j : Interval) → IsSpreadFrom b (s ++ i ∷ []) → (i.high +ℤ pos 1) <ℤ j.low → j.low ≤ℤ j.high → j.high ≤ℤ pos (2 ^ 126) → IsSpreadFrom b ((s ++ i ∷ []) ++ j ∷ [])
+IsSpreadFrom-push b [] i j h gap p q = (h.0, h.1, h.2, (omega (arith, ints, gap), p, q, tt))
+IsSpreadFrom-push b (k ∷ s) i j h gap p q =
+    (h.0, h.1, h.2, IsSpreadFrom-push (k.high +ℤ pos 2) s i j h.3 gap p q)
+
+pub last_low_or-nil : (x : ℤ) → last_low_or x [] ≡ x
+unfolding last_low_or
+last_low_or-nil x = refl
+
+pub last_low_or-push : (x : ℤ) (s : List Interval) (i : Interval) → last_low_or x (s ++ i ∷ []) ≡ i.low
+unfolding last_low_or
+last_low_or-push x [] i = refl
+last_low_or-push x (j ∷ s) i = last_low_or-push j.low s i
+
+-- the numbers of a spread list lie inside the bounds
+pub IsInside-member : (s : List Interval) (x : ℤ) → IsSpread s → contains s x ≡ true → IsInside x
+IsInside-member s x h t = (
+  contains-from _ s x h t,
+  by_lt_z (pos (2 ^ 126)) x (λ lt. absurd (both_ways _ (contains-above _ s x h lt) t)) (λ ge. ge),
+)
+
+and_when : (a b c : Bool) → (a ≡ true → b ≡ c) → (a && b) ≡ (a && c)
+and_when true b c h = h refl
+and_when false b c h = refl
+
+-- a set without another one is what it has in common with the numbers inside the bounds that the other one hasn't
+pub minus-by_complement : (one other rest : List Interval) → IsSpread one → ((x : ℤ) → IsInside x → contains rest x ≡ not (contains other x)) → (x : ℤ) → (contains one x && contains rest x) ≡ (contains one x && not (contains other x))
+minus-by_complement one other rest h complement x =
+    and_when (contains one x) _ _ (λ t. complement x (IsInside-member one x h t))

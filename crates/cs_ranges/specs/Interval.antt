@@ -1,0 +1,10 @@
+use Rattle.std.specs.Prelude.{◌^◌, Bool, ◌&&◌, ℤ, pos, neg_ℤ, ◌≤ℤ◌, int_le}
+use Rattle.cs_ranges.specs.declared.range_set.Interval.{Interval}
+
+-- the number lies from -2^126 to 2^126
+abbrev pub IsInside : ℤ → Type 0
+IsInside x = (neg_ℤ (pos (2 ^ 126)) ≤ℤ x) × (x ≤ℤ pos (2 ^ 126))
+
+-- the number lies between the ends of the interval, or is one of them
+unfoldable pub in_interval : Interval → ℤ → Bool
+in_interval i x = int_le i.low x && int_le x i.high

@@ -1,0 +1,6 @@
+//! Range sets: which integers a symbol may stand for on a path.
+#![tactic(auto)]
+
+mod range_set;
+
+pub use range_set::{GREATEST, Interval, LEAST, RangeSet};

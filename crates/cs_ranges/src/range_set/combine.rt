@@ -1,0 +1,79 @@
+//! Sets made of other sets.
+ghost use Rattle.std.specs.Prelude.{◌≡◌, ℤ, ◌≤ℤ◌, ◌&&◌, ◌||◌, not, IfOk, OnOk};
+ghost use Rattle.std.specs.Int.{int_max};
+ghost use Rattle.cs_ranges.specs.Interval.{IsInside, in_interval};
+ghost use Rattle.cs_ranges.specs.RangeSet.{contains, last_low};
+
+use super::{GREATEST, Interval, LEAST, RangeSet};
+use std::alloc::{AllocError, Global};
+
+impl RangeSet {
+    /// The numbers that both sets have.
+    pub fn intersect(&self, other: &RangeSet) -> Result<RangeSet, AllocError>
+        ensures { IfOk result (λ s. (x : ℤ) → contains s x ≡ (contains self.now x && contains other.now x)) }
+    {
+        let mut common = RangeSet::empty(*self.intervals.allocator());
+        let mut left = self.intervals.as_slice();
+        let mut right = other.intervals.as_slice();
+        while let (Some((a, behind_a)), Some((b, behind_b))) = (
+            left.split_first(),
+            right.split_first(),
+        ) {
+            common.push_common(*a, *b)?;
+            if a.high < b.high {
+                left = behind_a;
+            } else {
+                right = behind_b;
+            }
+        }
+        Ok(common)
+    }
+
+    /// Adds the numbers that both intervals have.
+    fn push_common(&mut self, a: Interval, b: Interval) -> Result<(), AllocError>
+        requires a_inside { IsInside a.low × IsInside a.high }
+        requires b_inside { IsInside b.low × IsInside b.high }
+        requires behind { last_low self.old ≤ℤ int_max a.low b.low }
+        ensures members { OnOk result ((x : ℤ) → contains self.new x ≡ (contains self.old x || (in_interval a x && in_interval b x))) }
+        ensures last { OnOk result (last_low self.new ≤ℤ int_max a.low b.low) }
+    {
+        let low = a.low.max(b.low);
+        let high = a.high.min(b.high);
+        if low <= high {
+            self.push(Interval { low, high })?;
+        }
+        Ok(())
+    }
+
+    /// The numbers of this set that the other one hasn't.
+    pub fn minus(&self, other: &RangeSet) -> Result<RangeSet, AllocError>
+        ensures { IfOk result (λ s. (x : ℤ) → contains s x ≡ (contains self.now x && not (contains other.now x))) }
+    {
+        let others = other.complement(*self.intervals.allocator())?;
+        self.intersect(&others)
+    }
+
+    /// The numbers from `LEAST` to `GREATEST` that the set hasn't.
+    fn complement(&self, alloc: Global) -> Result<RangeSet, AllocError>
+        ensures { IfOk result (λ s. (x : ℤ) → IsInside x → contains s x ≡ not (contains self.now x)) }
+    {
+        let mut gaps = RangeSet::empty(alloc);
+        let mut next = LEAST;
+        for interval in &self.intervals {
+            if next < interval.low {
+                gaps.push(Interval {
+                    low: next,
+                    high: interval.low - 1,
+                })?;
+            }
+            next = interval.high + 1;
+        }
+        if next <= GREATEST {
+            gaps.push(Interval {
+                low: next,
+                high: GREATEST,
+            })?;
+        }
+        Ok(gaps)
+    }
+}
