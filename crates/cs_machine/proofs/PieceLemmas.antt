@@ -17,7 +17,7 @@ use Rattle.cs_machine.specs.View.{operand_of, machine_of}
 use Rattle.cs_machine.specs.Pieces.{Finishes, FinishesBy, EndsFrom, EndsBy, Follows, nothing_on, operand_on, puts}
 
 -- a run goes on by its next step
-finishes_by : (budgets : Budgets) (before : List Event) (m : Machine) (events : List Event) (outcome : Outcome) (s : Step) → step budgets m ≡ s → FinishesBy budgets before s events outcome → Finishes budgets before m events outcome
+pub finishes_by : (budgets : Budgets) (before : List Event) (m : Machine) (events : List Event) (outcome : Outcome) (s : Step) → step budgets m ≡ s → FinishesBy budgets before s events outcome → Finishes budgets before m events outcome
 finishes_by budgets before m events outcome (Goes next) e k = record {
   more = k.more;
   split = k.split;

@@ -1,9 +1,12 @@
 -- The interpreter's values and its state, seen as those of the plain machine.
-use Rattle.std.specs.Prelude.{ℕ, List, [], ◌∷◌, length, Option, Some, None, ◌==◌, ◌&&◌, if◌then◌else◌, slice_get}
+use Rattle.std.specs.Prelude.{ℕ, List, [], ◌∷◌, length, Option, Some, None, ◌==◌, ◌&&◌, if◌then◌else◌, slice_get, map, take}
 use Rattle.cs_ast.specs.declared.statement.Stmt.{Stmt}
+use Rattle.cs_ast.specs.declared.function.Function.{Function}
+use Rattle.cs_ast.specs.declared.function.Local.{Local as Object}
 use Rattle.cs_ast.specs.Tree.{Statements, Empty, Then}
 use Rattle.cs_ast.specs.View.{statement}
-use Rattle.cs_model.specs.Memory.{LocalObject, Cell, NumberCell, UnsetCell, Memory}
+use Rattle.cs_model.specs.Integers.{int_input}
+use Rattle.cs_model.specs.Memory.{LocalObject, Cell, NumberCell, UnsetCell, Memory, Inputs}
 use Rattle.cs_model.specs.Machine.{Machine, Operand, Value, At, Item}
 use Rattle.cs_machine.specs.declared.operand.Cell.{Cell as HeldCell}
 use Rattle.cs_machine.specs.declared.operand.Cell.TheVariants as held
@@ -45,3 +48,8 @@ machine_of state todo stack = record {
 abbrev pub statements_in : List Stmt → Statements
 statements_in [] = Empty
 statements_in (first ∷ others) = Then (statement first) (statements_in others)
+
+-- the cells that an entry's parameters begin with
+abbrev pub start_cells : Function → Inputs → List HeldCell
+start_cells function inputs =
+    map (λ (object : Object). held.Number (int_input (inputs object.name))) (take function.parameters function.locals.items)

@@ -1,8 +1,8 @@
 //! The memory that a run begins with.
-ghost use Rattle.std.specs.Prelude.{◌≡◌, IfOk, Some};
-ghost use Rattle.cs_ast.specs.View.{definition};
-ghost use Rattle.cs_model.specs.Memory.{listed, parameter_cell, start_memory};
-ghost use Rattle.cs_machine.specs.View.{cell_of, memory_of};
+ghost use Rattle.std.specs.Prelude.{◌≡◌, IfOk};
+ghost use Rattle.cs_model.specs.Integers.{int_input};
+ghost use Rattle.cs_model.specs.Memory.{listed};
+ghost use Rattle.cs_machine.specs.View.{start_cells};
 
 use crate::integer::int_input;
 use crate::operand::Cell;
@@ -25,7 +25,7 @@ fn listed(inputs: &[Input], name: &Name) -> i128
 
 /// The cell that a parameter begins with.
 fn parameter_cell(inputs: &[Input], name: &Name) -> Cell
-    ensures { cell_of result ≡ parameter_cell (listed inputs.now) (Some name.now) }
+    ensures { result ≡ Cell.Number (int_input (listed inputs.now name.now)) }
 {
     Cell::Number(int_input(listed(inputs, name)))
 }
@@ -36,11 +36,12 @@ pub fn parameter_cells(
     function: &Function,
     inputs: &[Input],
 ) -> Result<Vec<Cell>, AllocError>
-    ensures { IfOk result (λ cells. memory_of cells.items ≡ start_memory (definition function.now) (listed inputs.now)) }
+    ensures { IfOk result (λ cells. cells.items ≡ start_cells function.now (listed inputs.now)) }
 {
-    let mut cells = Vec::new(alloc);
-    for local in function.locals.iter().take(function.parameters as usize) {
-        cells.push(parameter_cell(inputs, &local.name))?;
-    }
-    Ok(cells)
+    function
+        .locals
+        .iter()
+        .take(function.parameters as usize)
+        .map(|local| parameter_cell(inputs, &local.name))
+        .collect(alloc)
 }

@@ -1,5 +1,6 @@
 //! Values on their way: what a cell holds, and what an evaluated expression gives.
-ghost use Rattle.std.specs.Prelude.{◌≡◌};
+ghost use Rattle.std.specs.Prelude.{◌≡◌, pos, not};
+ghost use Rattle.std.specs.Ordering.{int_eq};
 ghost use Rattle.cs_model.specs.Machine.{number_of};
 ghost use Rattle.cs_model.specs.Statements.{returned_of};
 ghost use Rattle.cs_machine.specs.View.{operand_of};
@@ -30,6 +31,13 @@ impl Operand {
             Operand::Value(Cell::Number(number)) => number,
             Operand::Value(Cell::Unset) | Operand::Local(_) => 0,
         }
+    }
+
+    /// Whether a test with this operand holds (C11 6.8.4.1, paragraph 2).
+    pub fn holds(self) -> bool
+        ensures { result ≡ not (int_eq (number_of (operand_of self)) (pos 0)) }
+    {
+        self.number() != 0
     }
 
     /// What a function returns with this operand.

@@ -17,7 +17,7 @@ impl Interpreter {
         match &stmt.kind {
             StmtKind::Block(statements) => self.execute_all(statements),
             StmtKind::If(test, body) => {
-                let holds = self.evaluate(test)?.number() != 0;
+                let holds = self.evaluate(test)?.holds();
                 self.pass(Event {
                     place: stmt.place,
                     label: Label::Branch(holds),
