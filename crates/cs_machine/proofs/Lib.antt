@@ -1,0 +1,5 @@
+pub mod PieceLemmas
+pub mod ExpressionLemmas
+pub mod RowLemmas
+pub mod StatementLemmas
+pub mod StartLemmas
