@@ -39,7 +39,7 @@ form_is_coverable file function form =
     subst IsCoverable (sym form.is) (record {
       parameters_alone = refl;
       different = within.different;
-      body = body_is_covered (length small.parameters) small.guards small.return_at small.answer within.guards within.answer
+      body = body_is_covered (length small.parameters) small.guards small.return_at small.answer within.guards within.answer;
     })
 
 -- and its runs stay within the budget of events
@@ -47,5 +47,5 @@ pub form_leaves_room : (file : List ℕ) (function : Definition) → IsOfForm fi
 form_leaves_room file function form =
     let small = form.small in
     subst (λ f. LeavesRoom f DEFAULT_BUDGETS) (sym form.is) (record {
-      room = omega (arith, form.spells.within.few_guards, count_of-body_trees small.guards small.return_at small.answer)
+      room = omega (arith, form.spells.within.few_guards, count_of-body_trees small.guards small.return_at small.answer);
     })

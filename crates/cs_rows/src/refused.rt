@@ -26,8 +26,18 @@ fn refuses_words_and_files_with_a_line(rt: HostRuntime) -> Result<(), Fail> {
         ("replay f", DIVISION, Status::BadWords, "refused words 1\n"),
         ("analyze f", DIVISION, Status::BadWords, "refused words 2\n"),
         ("analyze", "", Status::BadFile, "refused form\n"),
-        ("analyze", "int f(void){return 0;}", Status::BadFile, "refused form\n"),
-        ("analyze", "int f(int x){return y;}", Status::BadFile, "refused form\n"),
+        (
+            "analyze",
+            "int f(void){return 0;}",
+            Status::BadFile,
+            "refused form\n",
+        ),
+        (
+            "analyze",
+            "int f(int x){return y;}",
+            Status::BadFile,
+            "refused form\n",
+        ),
     ] {
         let words = words_of(alloc, words)?;
         let mut source = SureSource::new(Vec::from_slice(alloc, file.as_bytes())?);

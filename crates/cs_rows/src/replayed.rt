@@ -11,7 +11,10 @@ const REPORTED: [(&str, usize); 5] = [
     ("int f(int x){return 10/x;}", 1),
     ("int f(int x){if(x==0)return 0;return 10/x;}", 0),
     ("int f(int x,int y){if(x==3)return 10/y;return y/x;}", 2),
-    ("int f(int b,int a){if(a==5)return a/b;if(b==0)return 1/a;return b/a;}", 3),
+    (
+        "int f(int b,int a){if(a==5)return a/b;if(b==0)return 1/a;return b/a;}",
+        3,
+    ),
     ("int f(int x){if(x==0)return 1/x;return 1/0;}", 2),
 ];
 
@@ -25,7 +28,12 @@ fn each_report_replays_to_its_fault(rt: HostRuntime) -> Result<(), Fail> {
         let told = analyze(alloc, 0, &function)?;
         assert_eq!(rt; told.reports.len(), count, "{file}");
         for report in &told.reports {
-            let ended = run(alloc, &function, report.run.inputs.as_slice(), &Budgets::DEFAULT)?;
+            let ended = run(
+                alloc,
+                &function,
+                report.run.inputs.as_slice(),
+                &Budgets::DEFAULT,
+            )?;
             assert_eq!(rt; ended.outcome, report.what, "{file}");
             assert_eq!(rt; ended.events.as_slice(), report.events.as_slice(), "{file}");
         }
