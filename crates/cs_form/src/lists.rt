@@ -1,0 +1,50 @@
+//! The lists of the form: parameters and tests.
+use crate::phrase::{guard, next_parameter, parameter};
+use crate::piece::number_of;
+use crate::refusal::FormRefusal;
+use crate::small::Guard;
+use crate::token::Token;
+use cs_ast::Local;
+use cs_names::Name;
+use std::alloc::{AllocError, Global};
+
+/// `int PARAMETER , int PARAMETER ..`
+pub fn parameters<'a>(
+    alloc: Global,
+    tokens: &'a [Token<'a>],
+) -> Result<(Vec<Local>, &'a [Token<'a>]), FormRefusal> {
+    let Some((first, mut rest)) = parameter(tokens) else {
+        return Err(FormRefusal::NotOfForm);
+    };
+    let mut locals = Vec::new(alloc);
+    locals.push(Local { name: Name::from_slice(alloc, first)? })?;
+    for _ in 0..7 {
+        let Some((next, behind)) = next_parameter(rest) else {
+            break;
+        };
+        if number_of(&locals, next).is_some() {
+            return Err(FormRefusal::NotOfForm);
+        }
+        locals.push(Local { name: Name::from_slice(alloc, next)? })?;
+        rest = behind;
+    }
+    Ok((locals, rest))
+}
+
+/// The tests that tokens begin with, at most 100.
+pub fn guards<'a>(
+    alloc: Global,
+    parameters: &[Local],
+    tokens: &'a [Token<'a>],
+) -> Result<(Vec<Guard>, &'a [Token<'a>]), AllocError> {
+    let mut guards = Vec::new(alloc);
+    let mut rest = tokens;
+    for _ in 0..100 {
+        let Some((next, behind)) = guard(parameters, rest) else {
+            break;
+        };
+        guards.push(next)?;
+        rest = behind;
+    }
+    Ok((guards, rest))
+}
