@@ -1,5 +1,5 @@
 -- What the readers of phrases give: a phrase that tokens begin with, and the tokens behind it.
-use Rattle.std.specs.Prelude.{◌≡◌, ◌^◌, ℕ, Bool, ◌&&◌, ◌||◌, not, ◌==◌, List, [], ◌∷◌, map, length, Option, Some, None, option_and_then, option_map, nat_eq, nat_lt, nat_le, if◌then◌else◌, slice_index}
+use Rattle.std.specs.Prelude.{◌≡◌, ◌^◌, ℕ, Bool, false, ◌&&◌, ◌||◌, not, ◌==◌, List, [], ◌∷◌, map, length, Option, Some, None, option_and_then, option_map, nat_eq, nat_lt, if◌then◌else◌}
 use Rattle.std.specs.List.{position, list_all}
 use Rattle.std.specs.Cmp.Lexicographic.{pointwise}
 use Rattle.std.specs.Str.Parse.{digits_value}
@@ -36,13 +36,22 @@ abbrev pub name_at : List Token → Option (Token × List Token)
 name_at [] = None
 name_at (token ∷ tokens) = if is_name token.bytes.now then Some (token, tokens) else None
 
--- whether bytes are the decimal text, without leading zeros, of a number that int holds
-abbrev pub is_literal : List ℕ → Bool
-is_literal bytes =
-    list_all is_digit bytes && (nat_lt 0 (length bytes) && ((nat_le (length bytes) 1 || not (slice_index bytes 0 == 48)) && nat_lt (digits_value 10 bytes) (2 ^ 31)))
+-- whether bytes begin with no zero, or are one byte
+abbrev pub has_no_leading_zero : List ℕ → Bool
+has_no_leading_zero [] = false
+has_no_leading_zero (b ∷ bs) = not (b == 48) || (length bs == 0)
 
+-- whether bytes are digits without a leading zero, or the one digit zero
+abbrev pub is_numeral : List ℕ → Bool
+is_numeral bytes = list_all is_digit bytes && has_no_leading_zero bytes
+
+-- the value of digits, where it is below a bound
+abbrev pub value_below : ℕ → List ℕ → Option ℕ
+value_below bound bytes = if nat_lt (digits_value 10 bytes) bound then Some (digits_value 10 bytes) else None
+
+-- the number that bytes are the decimal text of, where it has no leading zero and int holds it
 abbrev pub literal_of : List ℕ → Option ℕ
-literal_of bytes = if is_literal bytes then Some (digits_value 10 bytes) else None
+literal_of bytes = if is_numeral bytes then value_below (2 ^ 31) bytes else None
 
 -- the number of the first parameter with this name
 abbrev pub number_of : List (List ℕ) → List ℕ → Option ℕ

@@ -45,10 +45,10 @@ abbrev pub IsNotCut : List ℕ → Type 0
 IsNotCut text = (pieces : List Piece) → ArePieces pieces → IsLaidOut [] pieces text → ⊥
 
 -- bytes begin with a token, which what is left behind it doesn't go on with
-pub record BeginsWith (bytes token left : List ℕ) : Type 0 where
-  pub whole : bytes ≡ token ++ left
-  pub token : IsTokenBytes token
-  pub longest : IsTrue (is_word token) → (b : ℕ) (others : List ℕ) → left ≡ b ∷ others → is_word_byte b ≡ false
+pub record BeginsWith (bytes first left : List ℕ) : Type 0 where
+  pub whole : bytes ≡ first ++ left
+  pub is_token : IsTokenBytes first
+  pub longest : IsTrue (is_word first) → (b : ℕ) (others : List ℕ) → left ≡ b ∷ others → is_word_byte b ≡ false
 
 -- no token begins bytes
 abbrev pub BeginsWithNone : List ℕ → Type 0

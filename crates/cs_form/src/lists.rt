@@ -40,11 +40,13 @@ pub fn guards<'a>(
     let mut guards = Vec::new(alloc);
     let mut rest = tokens;
     for _ in 0..100 {
-        let Some((next, behind)) = guard(parameters, rest) else {
-            break;
-        };
-        guards.push(next)?;
-        rest = behind;
+        match guard(parameters, rest) {
+            Some((next, behind)) => {
+                guards.push(next)?;
+                rest = behind;
+            }
+            None => break,
+        }
     }
     Ok((guards, rest))
 }

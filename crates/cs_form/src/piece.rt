@@ -1,5 +1,7 @@
 //! Single tokens that tokens begin with.
-ghost use Rattle.std.specs.Prelude.{◌≤◌, length};
+ghost use Rattle.std.specs.Prelude.{◌≡◌, ◌≤◌, length, nat_eq};
+ghost use Rattle.std.specs.List.{position};
+ghost use Rattle.std.specs.Cmp.Lexicographic.{pointwise};
 ghost use Rattle.cs_form.specs.Phrases as phrases;
 ghost use Rattle.cs_form.specs.Phrases.{Gives, names_of};
 
@@ -32,15 +34,25 @@ pub fn name<'a>(tokens: &'a [Token<'a>]) -> Option<(Token<'a>, &'a [Token<'a>])>
     }
 }
 
+/// The index of the first parameter with this name.
+fn index_of(parameters: &[Local], bytes: &[u8]) -> Option<usize>
+    ensures { result ≡ position (λ local. pointwise nat_eq local.name bytes.now) parameters.now }
+{
+    parameters
+        .iter()
+        .position(|local| local.name.as_bytes() == bytes)
+}
+
 /// The number of the first parameter with this name.
+#[tactic(auto, using(crate::proofs::Positions::position_of_names))]
 pub fn number_of(parameters: &[Local], bytes: &[u8]) -> Option<u32>
     requires { length parameters.now ≤ 8 }
     ensures { Gives (λ x. x) result (phrases.number_of (names_of parameters.now) bytes.now) }
 {
-    let number = parameters
-        .iter()
-        .position(|local| local.name.as_bytes() == bytes)?;
-    Some(number as u32)
+    match index_of(parameters, bytes) {
+        Some(index) => Some(index as u32),
+        None => None,
+    }
 }
 
 /// The place and the number of a parameter, and the tokens behind it.

@@ -1,5 +1,7 @@
 //! Bytes of words, and the words that are no names.
-ghost use Rattle.std.specs.Prelude.{◌≡◌};
+ghost use Rattle.std.specs.Prelude.{◌≡◌, nat_eq};
+ghost use Rattle.std.specs.List.{list_any, list_all};
+ghost use Rattle.std.specs.Cmp.Lexicographic.{pointwise};
 ghost use Rattle.cs_form.specs.Words as words;
 
 const RESERVED: [&[u8]; 62] = [
@@ -19,26 +21,55 @@ pub fn is_letter(byte: u8) -> bool
     matches!(byte, b'a'..=b'z' | b'A'..=b'Z' | b'_')
 }
 
+/// Whether a byte is a decimal digit.
+pub fn is_digit(byte: u8) -> bool
+    ensures { result ≡ words.is_digit byte }
+{
+    matches!(byte, b'0'..=b'9')
+}
+
 /// Whether a name or a number goes on with a byte.
 pub fn is_word_byte(byte: u8) -> bool
     ensures { result ≡ words.is_word_byte byte }
 {
-    is_letter(byte) || matches!(byte, b'0'..=b'9')
+    is_letter(byte) || is_digit(byte)
+}
+
+/// Whether bytes are one of these words.
+fn is_among(bytes: &[u8], words: &[&[u8]]) -> bool
+    ensures { result ≡ list_any (λ word. pointwise nat_eq bytes.now word.now) words.now }
+{
+    words.iter().any(|word| bytes == *word)
 }
 
 /// Whether bytes are a word of C that is no name.
-pub fn is_reserved(bytes: &[u8]) -> bool
+#[tactic(auto, unfolding(crate::specs::Words::reserved_words))]
+fn is_reserved(bytes: &[u8]) -> bool
     ensures { result ≡ words.is_reserved bytes.now }
 {
-    RESERVED.iter().any(|word| bytes == *word)
+    is_among(bytes, &RESERVED)
+}
+
+/// Whether each byte goes on with a name or a number.
+fn are_word_bytes(bytes: &[u8]) -> bool
+    ensures { result ≡ list_all words.is_word_byte bytes.now }
+{
+    bytes.iter().all(|byte| is_word_byte(*byte))
+}
+
+/// Whether bytes begin with a letter and go on with letters and digits.
+fn is_identifier(bytes: &[u8]) -> bool
+    ensures { result ≡ words.is_identifier bytes.now }
+{
+    match bytes.split_first() {
+        Some((first, rest)) => is_letter(*first) && are_word_bytes(rest),
+        None => false,
+    }
 }
 
 /// Whether bytes are a name that a function or a parameter may have (C11 6.4.2.1).
 pub fn is_name(bytes: &[u8]) -> bool
     ensures { result ≡ words.is_name bytes.now }
 {
-    match bytes {
-        [first, rest @ ..] => is_letter(*first) && rest.iter().all(|b| is_word_byte(*b)) && !is_reserved(bytes),
-        [] => false,
-    }
+    is_identifier(bytes) && !is_reserved(bytes)
 }

@@ -1,0 +1,5 @@
+pub mod Numerals
+pub mod Positions
+pub mod Readers
+pub mod Operands
+pub mod Guards
