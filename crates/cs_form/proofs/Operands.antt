@@ -114,10 +114,22 @@ answer_from_stands names answer behind atom tokens left None is found rest low =
     let last : AreTokens (somewhere (codes ";") ∷ behind) tokens = piece_stands (somewhere (codes ";")) behind tokens end.0 end.1 end_is tt (subst (AreTokens behind) (sym left_is) rest) in
     (somewhere (codes ";") ∷ behind, last, (λ first h. subst (λ a. AreTokens (answer_pieces names a (somewhere (codes ";") ∷ behind)) first) same h), subst (IsAnswerWithin (length names)) same low)
 
+-- tokens are pieces themselves
+themselves : (tokens : List Token) → (pieces : List Piece) × AreTokens pieces tokens
+themselves [] = ([], tt)
+themselves (token ∷ tokens) =
+    let (pieces, are) = themselves tokens in
+    (somewhere token.bytes.now ∷ pieces, ((refl, tt), are))
+
 -- what is read as returned stands first
 pub answer_stands : (names : List (List ℕ)) (answer : Answer) (behind : List Piece) (tokens left : List Token) → answer_at names tokens ≡ Some (answer, left) → AreTokens behind left → AreTokens (answer_pieces names answer (somewhere (codes ";") ∷ behind)) tokens × IsAnswerWithin (length names) answer
 unfolding answer_at
-answer_stands names answer behind tokens left found rest = ?
+answer_stands names answer behind tokens left found rest =
+    let (atom, atom_is, found) = bind_some (atom_at names tokens) _ _ found in
+    let (any, are) = themselves atom.1 in
+    let (unused, low) = atom_stands names atom.0 any tokens atom.1 atom_is are in
+    let (pieces, spelled, whole, within) = answer_from_stands names answer behind atom.0 atom.1 left (piece_at (codes "/") atom.1) refl found rest low in
+    (whole tokens (atom_stands names atom.0 pieces tokens atom.1 atom_is spelled).0, within)
 
 -- a return is read
 pub returned_read : (names : List (List ℕ)) (at : Place) (answer : Answer) (behind : List Piece) (tokens : List Token) → AreNames names → IsAnswerWithin (length names) answer → AreTokens (return_pieces names at answer behind) tokens → Reads (returned_at names tokens) (at, answer) behind

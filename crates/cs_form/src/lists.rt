@@ -1,4 +1,6 @@
 //! The lists of the form: parameters and tests.
+ghost use Rattle.std.specs.Prelude.{◌≤◌, length};
+
 use crate::phrase::{guard, next_parameter, parameter};
 use crate::piece::number_of;
 use crate::refusal::FormRefusal;
@@ -36,17 +38,17 @@ pub fn guards<'a>(
     alloc: Global,
     parameters: &[Local],
     tokens: &'a [Token<'a>],
-) -> Result<(Vec<Guard>, &'a [Token<'a>]), AllocError> {
+) -> Result<(Vec<Guard>, &'a [Token<'a>]), AllocError>
+    requires { length parameters.now ≤ 8 }
+{
     let mut guards = Vec::new(alloc);
-    let mut rest = tokens;
+    let (_, mut rest) = tokens.split_at(0);
     for _ in 0..100 {
-        match guard(parameters, rest) {
-            Some((next, behind)) => {
-                guards.push(next)?;
-                rest = behind;
-            }
-            None => break,
-        }
+        let Some((next, behind)) = guard(parameters, rest) else {
+            return Ok((guards, rest));
+        };
+        guards.push(next)?;
+        rest = behind;
     }
     Ok((guards, rest))
 }
