@@ -12,7 +12,8 @@ use Rattle.cs_form.specs.Spelling.{Piece, somewhere, standing, return_pieces, gu
 use Rattle.cs_form.specs.Tokens.{AreTokens}
 use Rattle.cs_form.specs.Phrases.{◌>>=◌, piece_at, name_at, used_at, constant_at}
 use Rattle.cs_form.specs.Parsing.{head_at, parameter_at, next_parameter_at, opening_at, returned_at, guard_at, if_last, ending_at}
-use Rattle.cs_form.proofs.Readers.{Reads, piece_read, standing_read, piece_stands, name_read, name_stands, used_read, used_stands, constant_read, constant_stands, AreNames}
+use Rattle.cs_form.specs.Lists.{AreNames}
+use Rattle.cs_form.proofs.Readers.{Reads, piece_read, standing_read, piece_stands, name_read, name_stands, used_read, used_stands, constant_read, constant_stands}
 use Rattle.cs_form.proofs.Operands.{bind_some, returned_read, returned_stands}
 
 -- the pieces of a test from its `)`, its literal, its `==`, its parameter and its `(` on

@@ -21,7 +21,8 @@ use Rattle.cs_form.specs.Tokens.{AreTokens}
 use Rattle.cs_form.specs.Phrases.{◌>>=◌, piece_at, number_of, used_at, constant_at}
 use Rattle.cs_form.specs.Parsing.{atom_from, atom_at, answer_from, answer_at, returned_at}
 use Rattle.cs_form.proofs.Numerals.{own, both}
-use Rattle.cs_form.proofs.Readers.{Reads, piece_read, standing_read, piece_stands, used_read, used_stands, constant_read, constant_stands, AreNames}
+use Rattle.cs_form.specs.Lists.{AreNames}
+use Rattle.cs_form.proofs.Readers.{Reads, piece_read, standing_read, piece_stands, used_read, used_stands, constant_read, constant_stands}
 
 -- a name has no digit in first place
 letter_first : (bs : List ℕ) → is_name bs ≡ true → list_all is_digit bs ≡ true → ⊥
@@ -115,7 +116,7 @@ answer_from_stands names answer behind atom tokens left None is found rest low =
     (somewhere (codes ";") ∷ behind, last, (λ first h. subst (λ a. AreTokens (answer_pieces names a (somewhere (codes ";") ∷ behind)) first) same h), subst (IsAnswerWithin (length names)) same low)
 
 -- tokens are pieces themselves
-themselves : (tokens : List Token) → (pieces : List Piece) × AreTokens pieces tokens
+pub themselves : (tokens : List Token) → (pieces : List Piece) × AreTokens pieces tokens
 themselves [] = ([], tt)
 themselves (token ∷ tokens) =
     let (pieces, are) = themselves tokens in

@@ -15,6 +15,7 @@ use Rattle.cs_form.specs.Spelling.{Piece, somewhere, standing}
 use Rattle.cs_form.specs.Form.{StandsAt}
 use Rattle.cs_form.specs.Tokens.{AreTokens}
 use Rattle.cs_form.specs.Phrases.{◌>>=◌, piece_at, name_at, number_of, used_at, literal_of, constant_at}
+use Rattle.cs_form.specs.Lists.{AreNames}
 use Rattle.cs_form.proofs.Numerals.{literal_text, decimal_literal}
 
 -- the reading gives this value, and what is left are the pieces behind it
@@ -60,11 +61,6 @@ name_stands piece behind (first ∷ tokens) token left is bytes at rest =
 
 differ : (xs ys : List ℕ) → (xs ≡ ys → ⊥) → pointwise nat_eq xs ys ≡ false
 differ xs ys h = elim (pointwise nat_eq xs ys) as (λ b. pointwise nat_eq xs ys ≡ b → b ≡ false) [ true ↦ λ e. absurd (h (same_bytes xs ys e)) | false ↦ λ e. refl ] refl
-
--- the names of parameters
-pub record AreNames (names : List (List ℕ)) : Type 0 where
-  pub all : All (λ name. IsTrue (is_name name)) names
-  pub different : AllPairs (λ one other. one ≢ other) names
 
 -- a parameter is the first with its name
 pub number_is : (names : List (List ℕ)) (number : ℕ) → AllPairs (λ one other. one ≢ other) names → number < length names → number_of names (get_or names number []) ≡ Some number

@@ -5,3 +5,4 @@ pub mod Form
 pub mod Tokens
 pub mod Phrases
 pub mod Parsing
+pub mod Lists

@@ -1,5 +1,7 @@
 //! The lists of the form: parameters and tests.
-ghost use Rattle.std.specs.Prelude.{◌≤◌, length};
+ghost use Rattle.std.specs.Prelude.{◌≡◌, ◌≤◌, length, IfOk, Err};
+ghost use Rattle.cs_form.specs.Phrases.{names_of};
+ghost use Rattle.cs_form.specs.Lists.{AreNames, BeginWithParameters, BeginWithNoParameters, BeginWithTests};
 
 use crate::phrase::{guard, next_parameter, parameter};
 use crate::piece::number_of;
@@ -14,7 +16,10 @@ use std::alloc::{AllocError, Global};
 pub fn parameters<'a>(
     alloc: Global,
     tokens: &'a [Token<'a>],
-) -> Result<(Vec<Local>, &'a [Token<'a>]), FormRefusal> {
+) -> Result<(Vec<Local>, &'a [Token<'a>]), FormRefusal>
+    ensures found { IfOk result (λ found. BeginWithParameters tokens.now (names_of found.0.items) found.1.now) }
+    ensures refused { result ≡ Err FormRefusal.NotOfForm → BeginWithNoParameters tokens.now }
+{
     let Some((first, mut rest)) = parameter(tokens) else {
         return Err(FormRefusal::NotOfForm);
     };
@@ -39,7 +44,9 @@ pub fn guards<'a>(
     parameters: &[Local],
     tokens: &'a [Token<'a>],
 ) -> Result<(Vec<Guard>, &'a [Token<'a>]), AllocError>
-    requires { length parameters.now ≤ 8 }
+    requires few { length parameters.now ≤ 8 }
+    requires names { AreNames (names_of parameters.now) }
+    ensures { IfOk result (λ found. BeginWithTests (names_of parameters.now) tokens.now found.0.items found.1.now) }
 {
     let mut guards = Vec::new(alloc);
     let (_, mut rest) = tokens.split_at(0);
