@@ -14,7 +14,7 @@ use Rattle.cs_form.specs.Phrases.{◌>>=◌, piece_at, name_at, used_at, constan
 use Rattle.cs_form.specs.Parsing.{head_at, parameter_at, next_parameter_at, opening_at, returned_at, guard_at, if_last, ending_at}
 use Rattle.cs_form.specs.Lists.{AreNames}
 use Rattle.cs_form.proofs.Readers.{Reads, piece_read, standing_read, piece_stands, name_read, name_stands, used_read, used_stands, constant_read, constant_stands}
-use Rattle.cs_form.proofs.Operands.{bind_some, returned_read, returned_stands}
+use Rattle.cs_form.proofs.Operands.{bind_some, themselves, returned_read, returned_stands}
 
 -- the pieces of a test from its `)`, its literal, its `==`, its parameter and its `(` on
 abbrev from_closing : List (List ℕ) → Guard → List Piece → List Piece
@@ -119,6 +119,13 @@ next_parameter_stands name behind tokens left found rest =
     let (comma, comma_is, found) = bind_some (piece_at (codes ",") tokens) _ _ found in
     let (spelled, named) = parameter_stands name behind comma.1 left found rest in
     (piece_stands (somewhere (codes ",")) (somewhere (codes "int") ∷ somewhere name ∷ behind) tokens comma.0 comma.1 comma_is tt spelled, named)
+
+-- what is read as a parameter is a name
+pub parameter_named : (name : List ℕ) (tokens left : List Token) → parameter_at tokens ≡ Some (name, left) → is_name name ≡ true
+parameter_named name tokens left found = (parameter_stands name (themselves left).0 tokens left found (themselves left).1).1
+
+pub next_parameter_named : (name : List ℕ) (tokens left : List Token) → next_parameter_at tokens ≡ Some (name, left) → is_name name ≡ true
+next_parameter_named name tokens left found = (next_parameter_stands name (themselves left).0 tokens left found (themselves left).1).1
 
 -- `) {` is read
 pub opening_read : (at : Place) (behind : List Piece) (tokens : List Token) → AreTokens (somewhere (codes ")") ∷ standing (codes "{") at ∷ behind) tokens → Reads (opening_at tokens) at behind

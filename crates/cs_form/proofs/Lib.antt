@@ -5,3 +5,5 @@ pub mod Operands
 pub mod Guards
 pub mod ParameterLists
 pub mod TestLists
+pub mod Bodies
+pub mod Places

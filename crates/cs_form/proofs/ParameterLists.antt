@@ -12,10 +12,11 @@ use Rattle.cs_form.specs.declared.token.Token.{Token}
 use Rattle.cs_form.specs.Words.{is_name}
 use Rattle.cs_form.specs.Spelling.{Piece, somewhere, more_parameters, parameters_pieces}
 use Rattle.cs_form.specs.Tokens.{AreTokens}
-use Rattle.cs_form.specs.Phrases.{piece_at, number_of}
+use Rattle.cs_ast.specs.declared.function.Local.{Local}
+use Rattle.cs_form.specs.Phrases.{piece_at, number_of, names_of}
 use Rattle.cs_form.specs.Parsing.{parameter_at, next_parameter_at}
 use Rattle.cs_form.specs.Lists.{AreNames, AreParameters, BeginWithParameters, BeginWithNoParameters}
-use Rattle.cs_form.proofs.Guards.{parameter_read, parameter_stands, next_parameter_read, next_parameter_stands}
+use Rattle.cs_form.proofs.Guards.{parameter_read, parameter_stands, next_parameter_read, next_parameter_stands, parameter_named, next_parameter_named}
 
 -- these parameters were read, and whatever the tokens begin with goes on from them
 pub record Grows (tokens : List Token) (names : List (List ℕ)) (rest : List Token) : Type 0 where
@@ -140,3 +141,32 @@ done_by_count tokens names rest grows full = record {
   spelled = λ behind h. subst (λ all. AreTokens (parameters_pieces all behind) tokens) (append-nil names) (grows.spelled [] behind h);
   only = λ others behind are h. (let before = grows.only others behind are h in ended names rest others before.0 behind before.1 before.2 (too_many names others before.0 before.1 are.few full));
 }
+
+-- as many locals as were counted, whose names were read
+pub record InLoop (tokens : List Token) (locals : List Local) (rest : List Token) (count : ℕ) : Type 0 where
+  pub long : length locals ≡ count
+  pub grows : Grows tokens (names_of locals) rest
+
+pub names_push : (locals : List Local) (local : Local) → names_of (locals ++ (local ∷ [])) ≡ names_of locals ++ (local.name ∷ [])
+names_push [] local = refl
+names_push (first ∷ locals) local = ap (λ names. first.name ∷ names) (names_push locals local)
+
+pub length-names : (locals : List Local) → length (names_of locals) ≡ length locals
+length-names [] = refl
+length-names (local ∷ locals) = ap suc (length-names locals)
+
+-- after the first parameter
+pub loop_begins : (tokens : List Token) (name made : List ℕ) (rest : List Token) (before locals : List Local) → parameter_at tokens ≡ Some (name, rest) → made ≡ name → before ≡ [] → locals ≡ before ++ (record { name = made } ∷ []) → InLoop tokens locals rest 1
+loop_begins tokens name made rest before locals is same none pushed =
+    let local : Local = record { name = name } in
+    let all : locals ≡ local ∷ [] = pushed ∙ ap (λ (ls : List Local). ls ++ (record { name = made } ∷ [])) none ∙ ap (λ (n : List ℕ). record { name = n } ∷ []) same in
+    subst (λ ls. InLoop tokens ls rest 1) (sym all) (record { long = refl; grows = first_grows tokens name rest is (parameter_named name tokens rest is) })
+
+-- after a further one
+pub loop_goes_on : (tokens : List Token) (name made : List ℕ) (rest left : List Token) (before locals : List Local) (count : ℕ) → InLoop tokens before rest count → next_parameter_at rest ≡ Some (name, left) → number_of (names_of before) name ≡ None → made ≡ name → locals ≡ before ++ (record { name = made } ∷ []) → InLoop tokens locals left (count + 1)
+loop_goes_on tokens name made rest left before locals count loop is new same pushed =
+    let local : Local = record { name = name } in
+    let all : locals ≡ before ++ (local ∷ []) = pushed ∙ ap (λ (n : List ℕ). before ++ (record { name = n } ∷ [])) same in
+    let grows = next_grows tokens (names_of before) rest name left loop.grows is (next_parameter_named name rest left is) new in
+    let next : InLoop tokens (before ++ (local ∷ [])) left (count + 1) = record { long = simp length-append (omega (arith, loop.long)); grows = subst (λ names. Grows tokens names left) (sym (names_push before local)) grows } in
+    subst (λ ls. InLoop tokens ls left (count + 1)) (sym all) next

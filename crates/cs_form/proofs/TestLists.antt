@@ -83,3 +83,8 @@ done_by_count names tokens guards rest grows full = record {
   spelled = λ behind h. subst (λ all. AreTokens (guards_pieces names all behind) tokens) (append-nil guards) (grows.spelled [] behind h);
   only = λ others at answer behind are h. (let before = grows.only others at answer behind are h in ended names guards rest others before.0 (return_pieces names at answer behind) before.1 before.2 (too_many guards others before.0 before.1 are.few full));
 }
+
+-- after a further test
+pub loop_goes_on : (names : List (List ℕ)) (tokens : List Token) (before guards : List Guard) (rest : List Token) (guard : Guard) (left : List Token) (count : ℕ) → AreNames names → length before ≡ count → Grows names tokens before rest → guard_at names rest ≡ Some (guard, left) → guards ≡ before ++ (guard ∷ []) → (length guards ≡ count + 1) × Grows names tokens guards left
+loop_goes_on names tokens before guards rest guard left count names_are long grows is pushed =
+    subst (λ gs. (length gs ≡ count + 1) × Grows names tokens gs left) (sym pushed) (simp length-append (omega (arith, long)), next_grows names tokens before rest guard left names_are grows is)

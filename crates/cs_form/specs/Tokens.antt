@@ -4,12 +4,9 @@ use Rattle.std.specs.List.{list_any, list_all}
 use Rattle.std.specs.Cmp.Lexicographic.{pointwise}
 use Rattle.cs_form.specs.declared.token.Token.{Token}
 use Rattle.cs_form.specs.Words.{is_word_byte}
+use Rattle.cs_form.specs.Marks.{marks}
 use Rattle.cs_form.specs.Spelling.{Piece}
 use Rattle.cs_form.specs.Form.{StandsAt, IsLaidOut}
-
--- the marks of the form
-abbrev pub marks : List (List ℕ)
-marks = codes "(" ∷ codes ")" ∷ codes "{" ∷ codes "}" ∷ codes "," ∷ codes ";" ∷ codes "/" ∷ codes "==" ∷ []
 
 -- whether bytes are a word, a name or a number
 abbrev pub is_word : List ℕ → Bool

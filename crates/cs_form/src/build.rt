@@ -1,20 +1,33 @@
 //! The trees of functions of the form.
+ghost use Rattle.std.specs.Prelude.{◌≡◌, ◌≤◌, pos, map, length, IfOk, vec_len};
+ghost use Rattle.cs_ast.specs.Tree as trees;
+ghost use Rattle.cs_ast.specs.View.{expression, statement, definition};
+ghost use Rattle.cs_form.specs.Small.{atom_tree, answer_tree, guard_tree, tree};
+ghost use Rattle.cs_form.specs.Plain.{plain};
+
 use crate::small::{Answer, Atom, Guard, SmallFunction};
 use cs_ast::{BinOp, CmpOp, Expr, ExprKind, Function, Place, Stmt, StmtKind};
 use std::alloc::{AllocError, Global};
 
 /// The value of the parameter with this number.
-fn loaded(alloc: Global, place: Place, number: u32) -> Result<Expr, AllocError> {
+fn loaded(alloc: Global, place: Place, number: u32) -> Result<Expr, AllocError>
+    ensures { IfOk result (λ made. expression made ≡ trees.Load place (trees.Local place number)) }
+{
     let object = Box::new(alloc, Expr { place, kind: ExprKind::Local(number) })?;
     Ok(Expr { place, kind: ExprKind::Load(object) })
 }
 
-fn number(place: Place, value: u32) -> Expr {
+/// A literal.
+fn number(place: Place, value: u32) -> Expr
+    ensures { expression result ≡ trees.Number place (pos value) }
+{
     Expr { place, kind: ExprKind::Number(i128::from(value)) }
 }
 
 /// The expression of an operand.
-fn operand(alloc: Global, atom: Atom) -> Result<Expr, AllocError> {
+fn operand(alloc: Global, atom: Atom) -> Result<Expr, AllocError>
+    ensures { IfOk result (λ made. expression made ≡ atom_tree atom) }
+{
     match atom {
         Atom::Parameter(place, declaration) => loaded(alloc, place, declaration),
         Atom::Literal(place, value) => Ok(number(place, value)),
@@ -22,7 +35,9 @@ fn operand(alloc: Global, atom: Atom) -> Result<Expr, AllocError> {
 }
 
 /// The expression of what is returned.
-fn value(alloc: Global, answer: Answer) -> Result<Expr, AllocError> {
+fn value(alloc: Global, answer: Answer) -> Result<Expr, AllocError>
+    ensures { IfOk result (λ made. expression made ≡ answer_tree answer) }
+{
     match answer {
         Answer::Single(atom) => operand(alloc, atom),
         Answer::Quotient(place, left, right) => {
@@ -34,7 +49,9 @@ fn value(alloc: Global, answer: Answer) -> Result<Expr, AllocError> {
 }
 
 /// The statement of a test.
-fn test(alloc: Global, guard: Guard) -> Result<Stmt, AllocError> {
+fn test(alloc: Global, guard: Guard) -> Result<Stmt, AllocError>
+    ensures { IfOk result (λ made. statement made ≡ guard_tree guard) }
+{
     let left = Box::new(alloc, loaded(alloc, guard.tested_at, guard.tested)?)?;
     let right = Box::new(alloc, number(guard.literal_at, guard.literal))?;
     let test = Expr { place: guard.equal_at, kind: ExprKind::Compare(CmpOp::Equal, left, right) };
@@ -44,7 +61,9 @@ fn test(alloc: Global, guard: Guard) -> Result<Stmt, AllocError> {
 }
 
 /// The statements of the tests, one after another.
-fn tests(alloc: Global, guards: &[Guard]) -> Result<Vec<Stmt>, AllocError> {
+fn tests(alloc: Global, guards: &[Guard]) -> Result<Vec<Stmt>, AllocError>
+    ensures { IfOk result (λ made. map statement made.items ≡ map guard_tree guards.now) }
+{
     let mut statements = Vec::new(alloc);
     for guard in guards {
         statements.push(test(alloc, *guard)?)?;
@@ -53,7 +72,10 @@ fn tests(alloc: Global, guards: &[Guard]) -> Result<Vec<Stmt>, AllocError> {
 }
 
 /// The tree of a function.
-pub fn function(alloc: Global, small: SmallFunction) -> Result<Function, AllocError> {
+pub fn function(alloc: Global, small: SmallFunction) -> Result<Function, AllocError>
+    requires { vec_len small.parameters ≤ 8 }
+    ensures { IfOk result (λ made. definition made ≡ tree (plain small)) }
+{
     let SmallFunction { name, at, parameters, block_at, guards, return_at, answer } = small;
     let mut statements = tests(alloc, guards.as_slice())?;
     statements.push(Stmt { place: return_at, kind: StmtKind::Return(value(alloc, answer)?) })?;

@@ -12,6 +12,12 @@ use cs_ast::Local;
 use cs_names::Name;
 use std::alloc::{AllocError, Global};
 
+/// The most parameters that a function of the form has.
+const MOST_PARAMETERS: usize = 8;
+
+/// The most tests that it has.
+const MOST_TESTS: usize = 100;
+
 /// `int PARAMETER , int PARAMETER ..`
 pub fn parameters<'a>(
     alloc: Global,
@@ -25,11 +31,11 @@ pub fn parameters<'a>(
     };
     let mut locals = Vec::new(alloc);
     locals.push(Local { name: Name::from_slice(alloc, first)? })?;
-    for _ in 0..7 {
+    for _ in 1..MOST_PARAMETERS {
         let Some((next, behind)) = next_parameter(rest) else {
             break;
         };
-        if number_of(&locals, next).is_some() {
+        if let Some(_) = number_of(&locals, next) {
             return Err(FormRefusal::NotOfForm);
         }
         locals.push(Local { name: Name::from_slice(alloc, next)? })?;
@@ -50,7 +56,7 @@ pub fn guards<'a>(
 {
     let mut guards = Vec::new(alloc);
     let (_, mut rest) = tokens.split_at(0);
-    for _ in 0..100 {
+    for _ in 0..MOST_TESTS {
         let Some((next, behind)) = guard(parameters, rest) else {
             return Ok((guards, rest));
         };
