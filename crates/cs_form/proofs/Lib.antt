@@ -7,3 +7,6 @@ pub mod ParameterLists
 pub mod TestLists
 pub mod Bodies
 pub mod Places
+pub mod TokenBytes
+pub mod MarkBytes
+pub mod LaidOut

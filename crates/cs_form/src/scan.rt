@@ -57,14 +57,15 @@ fn mark_length(bytes: &[u8]) -> usize
 fn split_token(bytes: &[u8]) -> Option<(&[u8], &[u8])>
     ensures { MatchOption result (BeginsWithNone bytes.now) (λ found. BeginsWith bytes.now found.0.now found.1.now) }
 {
-    let length = match word_length(bytes) {
-        0 => mark_length(bytes),
-        length => length,
-    };
-    if length == 0 {
-        return None;
+    let word = word_length(bytes);
+    if word > 0 {
+        return Some(bytes.split_at(word));
     }
-    Some(bytes.split_at(length))
+    let mark = mark_length(bytes);
+    if mark > 0 {
+        return Some(bytes.split_at(mark));
+    }
+    None
 }
 
 /// The tokens of a text.

@@ -23,3 +23,7 @@ returns-clause-found c =
       else-loop-test w ↦ done_by_count c.args.tokens.now names c.loop.rest.now c.loop.invariant.grows (omega (arith, c.loop.auto.counter-end (omega arith)))
     | then-loop-test+in_default-next_parameter w ↦ done_by_none c.args.tokens.now names c.loop.rest.now c.loop.invariant.grows (omega arith) w.in_default-next_parameter.ensures
     ]
+
+pub returns-in-Some-number_of-clause-refused : goal.returns-in-Some-number_of-clause-refused
+returns-in-Some-number_of-clause-refused c =
+    λ _. refused_twice c.args.tokens.now (names_of c.loop.locals.items) c.loop.rest.now c.in-Some-next_parameter.next.now c.in-Some-next_parameter.behind.now _ c.loop.invariant.grows c.in-Some-next_parameter.ensures (rw c.deref.ensures.value at c.in-Some-number_of.ensures)
