@@ -15,7 +15,7 @@ use Rattle.cs_form.proofs.MarkBytes.{one_token}
 pub gap_no_word : (b : ℕ) → is_gap b ≡ true → is_word_byte b ≡ false
 gap_no_word b h = grind (arith, tests)
 
-no_end : (xs : List ℕ) (b : ℕ) → [] ≡ xs ++ (b ∷ []) → ⊥
+pub no_end : (xs : List ℕ) (b : ℕ) → [] ≡ xs ++ (b ∷ []) → ⊥
 no_end [] b h = cc
 no_end (x ∷ xs) b h = cc
 

@@ -10,3 +10,5 @@ pub mod Places
 pub mod TokenBytes
 pub mod MarkBytes
 pub mod LaidOut
+pub mod Scanning
+pub mod WholeForm

@@ -8,3 +8,4 @@ pub mod Phrases
 pub mod Parsing
 pub mod Lists
 pub mod Plain
+pub mod Spelled
