@@ -12,3 +12,4 @@ pub mod MarkBytes
 pub mod LaidOut
 pub mod Scanning
 pub mod WholeForm
+pub mod Refusals
