@@ -2,3 +2,10 @@ pub mod Words
 pub mod Small
 pub mod Spelling
 pub mod Form
+pub mod Marks
+pub mod Tokens
+pub mod Phrases
+pub mod Parsing
+pub mod Lists
+pub mod Plain
+pub mod Spelled

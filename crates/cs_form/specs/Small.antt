@@ -4,28 +4,12 @@ use Rattle.cs_ast.specs.declared.place.Place.{Place}
 use Rattle.cs_ast.specs.declared.expression.BinOp.TheVariants.{Div}
 use Rattle.cs_ast.specs.declared.expression.CmpOp.TheVariants.{Equal}
 use Rattle.cs_ast.specs.Tree.{Expression, Number, Local, Load, Binary, Compare, Statement, Block, If, Return, Statements, Empty, Then, Definition}
+use Rattle.cs_form.specs.declared.small.Atom.{Atom}
+use Rattle.cs_form.specs.declared.small.Atom.TheVariants.{Parameter, Literal}
+use Rattle.cs_form.specs.declared.small.Answer.{Answer}
+use Rattle.cs_form.specs.declared.small.Answer.TheVariants.{Single, Quotient}
+use Rattle.cs_form.specs.declared.small.Guard.{Guard}
 use Rattle.cs_form.specs.Words.{is_name}
-
--- an operand: a parameter, by its number, or a decimal literal
-pub data Atom : Type 0 where
-  Parameter : (at : Place) (declaration : ℕ) → Atom
-  Literal : (at : Place) (value : ℕ) → Atom
-
--- what is returned: an operand, or the quotient of two, at the place of its `/`
-pub data Answer : Type 0 where
-  Single : (atom : Atom) → Answer
-  Quotient : (at : Place) (left right : Atom) → Answer
-
--- `if (PARAMETER == LITERAL) return ANSWER;`, with the places of `if`, PARAMETER, `==`, LITERAL and `return`
-pub record Guard : Type 0 where
-  pub at : Place
-  pub tested_at : Place
-  pub tested : ℕ
-  pub equal_at : Place
-  pub literal_at : Place
-  pub literal : ℕ
-  pub return_at : Place
-  pub answer : Answer
 
 -- `int NAME(int PARAMETER, ..) { GUARD .. return ANSWER; }`, with the places of NAME, `{` and `return`
 pub record Small : Type 0 where

@@ -2,7 +2,12 @@
 use Rattle.std.specs.Prelude.{ℕ, List, [], ◌∷◌, ◌++◌, Option, Some, None, codes, slice_index_or}
 use Rattle.std.specs.Fmt.{decimal}
 use Rattle.cs_ast.specs.declared.place.Place.{Place}
-use Rattle.cs_form.specs.Small.{Atom, Parameter, Literal, Answer, Single, Quotient, Guard, Small}
+use Rattle.cs_form.specs.declared.small.Atom.{Atom}
+use Rattle.cs_form.specs.declared.small.Atom.TheVariants.{Parameter, Literal}
+use Rattle.cs_form.specs.declared.small.Answer.{Answer}
+use Rattle.cs_form.specs.declared.small.Answer.TheVariants.{Single, Quotient}
+use Rattle.cs_form.specs.declared.small.Guard.{Guard}
+use Rattle.cs_form.specs.Small.{Small}
 
 -- a piece of a text: its bytes, and the place where it stands, if that is in the tree
 pub record Piece : Type 0 where

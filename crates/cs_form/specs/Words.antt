@@ -16,7 +16,7 @@ is_word_byte b = is_letter b || is_digit b
 
 -- the keywords (C11 6.4.1, those of this language), the words that are dropped from every text, the words
 -- of C that this language leaves out, and the functions that are declared before a file begins
-abbrev pub reserved_words : List (List ℕ)
+unfoldable pub reserved_words : List (List ℕ)
 reserved_words =
     codes "break" ∷ codes "case" ∷ codes "char" ∷ codes "const" ∷ codes "continue" ∷ codes "default" ∷
     codes "do" ∷ codes "else" ∷ codes "enum" ∷ codes "for" ∷ codes "goto" ∷ codes "if" ∷ codes "int" ∷

@@ -1,0 +1,15 @@
+pub mod Numerals
+pub mod Positions
+pub mod Readers
+pub mod Operands
+pub mod Guards
+pub mod ParameterLists
+pub mod TestLists
+pub mod Bodies
+pub mod Places
+pub mod TokenBytes
+pub mod MarkBytes
+pub mod LaidOut
+pub mod Scanning
+pub mod WholeForm
+pub mod Refusals
