@@ -1,5 +1,5 @@
 -- How pieces of a run make larger ones: for the contracts of `evaluate`, `execute` and what they call.
-use Rattle.std.proofs.Common.{◌≡◌, List, [], ◌∷◌, ◌++◌, Result, Ok, Err, refl, sym, ap, subst, ◌∙◌, append_assoc}
+use Rattle.std.proofs.Common.{◌≡◌, List, [], ◌∷◌, Result, Ok, Err, refl, sym, ap, subst, ◌∙◌, append_assoc}
 use Rattle.std.proofs.lemmas.List.{append-nil}
 use Rattle.cs_ast.specs.Tree.{Expression}
 use Rattle.cs_model.specs.declared.event.Event.{Event}
@@ -8,7 +8,7 @@ use Rattle.cs_model.specs.declared.outcome.Outcome.{Outcome}
 use Rattle.cs_model.specs.Machine.{Machine, Operand, Item, Evaluate, Act, Step, Goes, Passes, Stops}
 use Rattle.cs_model.specs.Expressions.{evaluates, act}
 use Rattle.cs_model.specs.Statements.{step, perform}
-use Rattle.cs_model.specs.Runs.{stays, goes, passes, Ends}
+use Rattle.cs_model.specs.Runs.{stays, goes, passes}
 use Rattle.cs_machine.specs.declared.interpreter.Interpreter.{Interpreter}
 use Rattle.cs_machine.specs.declared.interpreter.Stop.{Stop}
 use Rattle.cs_machine.specs.declared.interpreter.Stop.TheVariants as stop
@@ -51,8 +51,8 @@ pub by_stop : {A B : Type 0} {leaves : A → List Operand → List Operand} {lea
 by_stop {e = e} h here there todo_of stack_of back = record {
   goes_on = λ value other. absurd (no_value there other);
   ends = λ outcome other todo stack.
-    let same : e ≡ stop.Outcome outcome = cc in
-    back todo stack _ outcome (h.ends outcome (here ∙ ap Err same) (todo_of todo) (stack_of stack));
+      let same : e ≡ stop.Outcome outcome = cc in
+      back todo stack _ outcome (h.ends outcome (here ∙ ap Err same) (todo_of todo) (stack_of stack));
 }
   where
     no_value : {B : Type 0} {result : Result B Stop} {e : Stop} {value : B} → result ≡ Err e → result ≡ Ok value → ⊥
@@ -62,9 +62,9 @@ by_stop {e = e} h here there todo_of stack_of back = record {
 pub by_event : {step part : Machine → Step} {old new : Interpreter} {passed : Result (Unit {0}) Stop} {done : Unit {0}} (given : HeldOperand) (operand : Operand) → Follows nothing_on part old new passed → passed ≡ Ok done → operand_of given ≡ operand → ((todo : List Item) (stack : List Operand) (events : List Event) (outcome : Outcome) → EndsBy part old todo (operand ∷ stack) events outcome → EndsBy step old todo stack events outcome) → Follows operand_on step old new (Ok given)
 by_event {new = new} given operand h here same back = record {
   goes_on = λ value e todo stack events outcome k.
-    let given_same : given ≡ value = cc in
-    let value_same : operand_of value ≡ operand = ap operand_of (sym given_same) ∙ same in
-    back todo stack events outcome (h.goes_on _ here todo (operand ∷ stack) events outcome (subst (λ x. EndsFrom new todo (x ∷ stack) events outcome) value_same k));
+      let given_same : given ≡ value = cc in
+      let value_same : operand_of value ≡ operand = ap operand_of (sym given_same) ∙ same in
+      back todo stack events outcome (h.goes_on _ here todo (operand ∷ stack) events outcome (subst (λ x. EndsFrom new todo (x ∷ stack) events outcome) value_same k));
   ends = λ outcome e. cc;
 }
 
@@ -72,7 +72,7 @@ by_event {new = new} given operand h here same back = record {
 pub by_act : (old : Interpreter) (e : Expression) (given : HeldOperand) → ((behind : List Item) → evaluates e behind ≡ Act e ∷ behind) → ((todo : List Item) (stack : List Operand) → act old.budgets e (machine_of old todo stack) ≡ Goes (machine_of old todo (operand_of given ∷ stack))) → Follows operand_on (puts (Evaluate e)) old old (Ok given)
 by_act old e given begins acts = record {
   goes_on = λ value is todo stack events outcome k.
-    let same : given ≡ value = cc in
-    performed old (Evaluate e) todo stack events outcome (rw begins (performed old (Act e) todo stack events outcome (rw (acts, same) k)));
+      let same : given ≡ value = cc in
+      performed old (Evaluate e) todo stack events outcome (rw begins (performed old (Act e) todo stack events outcome (rw (acts, same) k)));
   ends = λ outcome other. cc;
 }

@@ -1,12 +1,12 @@
 -- The statements of a block as a list: for the contracts of `execute` and `execute_all`.
-use Rattle.std.proofs.Common.{◌≡◌, ℕ, suc, ◌+◌, ◌<◌, length, get_or, drop, add-one, List, [], ◌∷◌, refl, sym, ap, ◌∙◌, Vec, Global}
+use Rattle.std.proofs.Common.{◌≡◌, ℕ, ◌+◌, ◌<◌, length, get_or, drop, add-one, List, refl, sym, ap, ◌∙◌, Vec, Global}
 use Rattle.std.proofs.Math.Seq.{drop-cons}
 use mathlib.Core.Former.{Count}
 use Rattle.cs_ast.specs.declared.statement.Stmt.{Stmt}
 use Rattle.cs_ast.specs.declared.statement.StmtKind.{StmtKind, Row_of-Stmt, end_of-Stmt, more_of-Stmt, items-the_row-Stmt, items_hidden-the_row-Stmt-0}
 use Rattle.cs_ast.specs.declared.statement.StmtKind.TheVariants as form
 use Rattle.cs_ast.specs.declared.place.Place.{Place}
-use Rattle.cs_ast.specs.Tree.{Statements, Empty, Then, Block}
+use Rattle.cs_ast.specs.Tree.{Then, Block}
 use Rattle.cs_ast.specs.View.{statement, statement_at, statements_of}
 use Rattle.cs_machine.specs.View.{statements_in}
 

@@ -1,5 +1,5 @@
 -- The interpreter begins as the plain machine does: for the contract of `run`.
-use Rattle.std.proofs.Common.{◌≡◌, ℕ, zero, suc, ◌==◌, List, [], ◌∷◌, map, take, cond, ◌++◌, ◌&&◌, Result, Ok, Err, refl, sym, ap, ◌∙◌}
+use Rattle.std.proofs.Common.{◌≡◌, ℕ, zero, suc, ◌==◌, List, [], ◌∷◌, map, take, ◌++◌, ◌&&◌, Result, Ok, Err, refl, sym, ap, ◌∙◌}
 use Rattle.std.specs.Prelude.{slice_get, if◌then◌else◌}
 use Rattle.std.proofs.lemmas.List.{take-map}
 use mathlib.Core.Path.{fun_ext}
@@ -7,7 +7,7 @@ use Rattle.cs_ast.specs.declared.function.Function.{Function}
 use Rattle.cs_ast.specs.declared.function.Local.{Local}
 use Rattle.cs_ast.specs.View.{definition}
 use Rattle.cs_model.specs.Integers.{int_input}
-use Rattle.cs_model.specs.Memory.{Object, LocalObject, Cell, UnsetCell, Inputs, parameter_cell, start_memory}
+use Rattle.cs_model.specs.Memory.{Object, LocalObject, UnsetCell, Inputs, parameter_cell, start_memory}
 use Rattle.cs_model.specs.declared.event.Event.{Event}
 use Rattle.cs_model.specs.declared.outcome.Outcome.{Outcome}
 use Rattle.cs_model.specs.declared.outcome.Outcome.TheVariants.{Done}

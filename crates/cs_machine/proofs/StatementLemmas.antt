@@ -56,6 +56,6 @@ pub leaves_with : {old middle : Interpreter} {s : Statement} {at : Place} {value
 leaves_with {old = old} {middle = middle} {operand = operand} is given was = record {
   goes_on = λ done other. cc;
   ends = λ outcome other todo stack.
-    let same : outcome ≡ Done (returned_of (operand_of operand)) = cc in
-    to_value old is todo stack _ outcome (given.goes_on operand was (Leave ∷ todo) stack _ outcome (performed middle Leave todo (operand_of operand ∷ stack) _ outcome (refl, same)));
+      let same : outcome ≡ Done (returned_of (operand_of operand)) = cc in
+      to_value old is todo stack _ outcome (given.goes_on operand was (Leave ∷ todo) stack _ outcome (performed middle Leave todo (operand_of operand ∷ stack) _ outcome (refl, same)));
 }

@@ -1,5 +1,5 @@
 -- The interpreter's values and its state, seen as those of the plain machine.
-use Rattle.std.specs.Prelude.{ℕ, List, [], ◌∷◌, length, Option, Some, None, ◌==◌, ◌&&◌, if◌then◌else◌, slice_get, map, take}
+use Rattle.std.specs.Prelude.{List, [], ◌∷◌, length, Option, Some, None, ◌==◌, ◌&&◌, if◌then◌else◌, slice_get, map, take}
 use Rattle.cs_ast.specs.declared.statement.Stmt.{Stmt}
 use Rattle.cs_ast.specs.declared.function.Function.{Function}
 use Rattle.cs_ast.specs.declared.function.Local.{Local as Object}

@@ -63,9 +63,7 @@ impl Interpreter {
             place,
             label: Label::Wrap(quotient_wrap(dividend, divisor)),
         })?;
-        Ok(Operand::Value(Cell::Number(int_quotient(
-            dividend, divisor,
-        ))))
+        Ok(Operand::Value(Cell::Number(int_quotient(dividend, divisor))))
     }
 
     /// A comparison: its result shows, and is 1 or 0 (C11 6.5.9, paragraph 3).

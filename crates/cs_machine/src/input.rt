@@ -12,7 +12,7 @@ use cs_names::Name;
 use std::alloc::{AllocError, Global};
 
 /// The number that a list of inputs gives a parameter: 0 if the list does not name it.
-fn listed(inputs: &[Input], name: &Name) -> i128
+fn listed_number(inputs: &[Input], name: &Name) -> i128
     ensures { result ≡ listed inputs.now name.now }
 {
     for input in inputs {
@@ -27,7 +27,7 @@ fn listed(inputs: &[Input], name: &Name) -> i128
 fn parameter_cell(inputs: &[Input], name: &Name) -> Cell
     ensures { result ≡ Cell.Number (int_input (listed inputs.now name.now)) }
 {
-    Cell::Number(int_input(listed(inputs, name)))
+    Cell::Number(int_input(listed_number(inputs, name)))
 }
 
 /// The cells of the parameters, in their order.

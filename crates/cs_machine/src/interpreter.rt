@@ -25,7 +25,7 @@ pub struct Interpreter {
 }
 
 /// Why a piece of the program does not go on.
-#[derive(Clone, Copy, PartialEq, Eq, Debug)]
+#[derive(Clone, Copy)]
 pub enum Stop {
     /// The run ended so.
     Outcome(Outcome),

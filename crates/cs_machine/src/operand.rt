@@ -8,14 +8,14 @@ ghost use Rattle.cs_machine.specs.View.{operand_of};
 use cs_model::Returned;
 
 /// What a cell of memory holds.
-#[derive(Clone, Copy, PartialEq, Eq, Debug)]
+#[derive(Clone, Copy)]
 pub enum Cell {
     Number(i128),
     Unset,
 }
 
 /// What an evaluated expression gives: a value, or the place of an object.
-#[derive(Clone, Copy, PartialEq, Eq, Debug)]
+#[derive(Clone, Copy)]
 pub enum Operand {
     Value(Cell),
     /// The object of a declaration of the running function, by the declaration's number.

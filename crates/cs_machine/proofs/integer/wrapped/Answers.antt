@@ -1,4 +1,4 @@
-use Rattle.std.proofs.Common.{◌≡◌, ◌^◌, ℤ, pos, FitsSigned, refl, arith, rules}
+use Rattle.std.proofs.Common.{◌≡◌, ◌^◌, ℤ, pos, FitsSigned, refl, rules}
 use Rattle.std.proofs.lemmas.Int.{to_z-of_z}
 use Rattle.std.specs.Int.{int_wrap, w32, w128, int_rem_euclid, cast_signed, cast_unsigned}
 use Rattle.std.specs.Int.RustNames.{unsigned_abs}

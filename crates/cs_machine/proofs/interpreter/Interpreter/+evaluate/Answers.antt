@@ -1,4 +1,4 @@
-use Rattle.std.proofs.Common.{◌≡◌, ℤ, ap, ◌∙◌, ◌∷◌, Result, Ok, Err, FitsSigned, rules, refl}
+use Rattle.std.proofs.Common.{◌≡◌, ℤ, ap, ◌∙◌, ◌∷◌, Err, FitsSigned, rules, refl}
 use Rattle.std.proofs.lemmas.Int.{to_z-of_z}
 use Rattle.std.specs.Int.{w128, cast_signed, cast_unsigned}
 use Rattle.cs_ast.specs.View.{expression_at, expression}

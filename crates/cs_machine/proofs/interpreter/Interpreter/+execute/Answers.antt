@@ -1,12 +1,12 @@
-use Rattle.std.proofs.Common.{◌≡◌, ◌+◌, [], drop, arith, ap, ◌∙◌, ◌∷◌, Ok, Err, rules}
+use Rattle.std.proofs.Common.{◌≡◌, ◌+◌, [], drop, arith, ap, ◌∙◌, ◌∷◌, Err, rules}
 use Rattle.std.proofs.lemmas.List.{drop_all}
-use Rattle.cs_ast.specs.View.{expression, statement_at, statement}
+use Rattle.cs_ast.specs.View.{statement_at, statement}
 use Rattle.cs_model.specs.Machine.{Decide, Leave}
 use Rattle.cs_model.specs.Statements.{chosen, executes}
 use Rattle.cs_machine.specs.View.{statements_in}
 use Rattle.cs_machine.proofs.PieceLemmas.{by_stop, by_last}
 use Rattle.cs_machine.proofs.RowLemmas.{statement_at-Block, statements_in-drop}
-use Rattle.cs_machine.proofs.StatementLemmas.{to_statements, to_test, holds_with, to_way, to_body, past_body, to_value, leaves_with}
+use Rattle.cs_machine.proofs.StatementLemmas.{to_statements, to_test, to_way, to_body, past_body, to_value, leaves_with}
 use Rattle.cs_machine.proofs.interpreter.Interpreter.+execute.Goals as goal
 
 pub execute-returns-in-Block : goal.execute-returns-in-Block

@@ -1,4 +1,4 @@
-use Rattle.std.proofs.Common.{◌≡◌, ℤ, pos, false, List, ◌∷◌, Ok, Err, FitsSigned, refl, ap, arith, rules}
+use Rattle.std.proofs.Common.{◌≡◌, ℤ, pos, false, List, ◌∷◌, Err, FitsSigned, refl, ap, arith, rules}
 use Rattle.std.proofs.lemmas.Int.{ints, to_z-of_z}
 use Rattle.std.specs.Int.{w128, cast_signed, cast_unsigned}
 use Rattle.std.specs.Ordering.{int_eq}

@@ -1,4 +1,4 @@
-use Rattle.std.proofs.Common.{◌≡◌, ℤ, Result, FitsSigned}
+use Rattle.std.proofs.Common.{ℤ, Result, FitsSigned}
 use Rattle.std.proofs.lemmas.Int.{to_z-of_z}
 use Rattle.std.specs.Int.{w128, cast_signed, cast_unsigned}
 use Rattle.cs_ast.specs.declared.place.Place.{Place}
