@@ -38,15 +38,17 @@ mark_ends_no_word before bytes ends front b h =
 pub skip_from : (g : ℕ) → is_gap g ≡ true → (before : List ℕ) (pieces : List Piece) (left : List ℕ) → IsLaidOut (before ++ (g ∷ [])) pieces left → IsLaidOut before pieces (g ∷ left)
 skip_from g gap before [] left h = and_true (is_gap g) (list_all is_gap left) gap h
 skip_from g gap before (piece ∷ pieces) left h =
-    let moved = append_assoc before (g ∷ []) h.0.gap in
-    (record {
-      gap = g ∷ h.0.gap;
-      behind = h.0.behind;
-      cut = ap (λ xs. g ∷ xs) h.0.cut;
-      white = and_true (is_gap g) (list_all is_gap h.0.gap) gap h.0.white;
-      place = subst (λ xs. StandsAt piece.at (place_after xs)) moved h.0.place;
-      apart = subst (λ xs. IsApart xs piece.bytes) moved h.0.apart;
-    }, subst (λ xs. IsLaidOut xs pieces h.0.behind) (append_assoc before (g ∷ []) (h.0.gap ++ piece.bytes)) h.1)
+    let moved = append_assoc before (g ∷ []) h.0.gap in (
+      record {
+        gap = g ∷ h.0.gap;
+        behind = h.0.behind;
+        cut = ap (λ xs. g ∷ xs) h.0.cut;
+        white = and_true (is_gap g) (list_all is_gap h.0.gap) gap h.0.white;
+        place = subst (λ xs. StandsAt piece.at (place_after xs)) moved h.0.place;
+        apart = subst (λ xs. IsApart xs piece.bytes) moved h.0.apart;
+      },
+      subst (λ xs. IsLaidOut xs pieces h.0.behind) (append_assoc before (g ∷ []) (h.0.gap ++ piece.bytes)) h.1,
+    )
 
 -- a token begins with no gap
 pub gap_no_token : (g : ℕ) (bytes behind left : List ℕ) → is_gap g ≡ true → IsTokenBytes bytes → g ∷ left ≡ bytes ++ behind → ⊥
@@ -62,15 +64,17 @@ skip_first g is before piece pieces left [] behind cut white place apart is_toke
 skip_first g is before piece pieces left (w ∷ gap) behind cut white place apart is_token rest =
     let same : g ≡ w = cc in
     let tail : left ≡ gap ++ (piece.bytes ++ behind) = cc in
-    let moved : before ++ (w ∷ gap) ≡ (before ++ (g ∷ [])) ++ gap = ap (λ b. before ++ (b ∷ gap)) (sym same) ∙ sym (append_assoc before (g ∷ []) gap) in
-    (record {
-      gap = gap;
-      behind = behind;
-      cut = tail;
-      white = (both (is_gap w) (list_all is_gap gap) white).1;
-      place = subst (λ xs. StandsAt piece.at (place_after xs)) moved place;
-      apart = subst (λ xs. IsApart xs piece.bytes) moved apart;
-    }, subst (λ xs. IsLaidOut xs pieces behind) (ap (λ b. before ++ (b ∷ (gap ++ piece.bytes))) (sym same) ∙ sym (append_assoc before (g ∷ []) (gap ++ piece.bytes))) rest)
+    let moved : before ++ (w ∷ gap) ≡ (before ++ (g ∷ [])) ++ gap = ap (λ b. before ++ (b ∷ gap)) (sym same) ∙ sym (append_assoc before (g ∷ []) gap) in (
+      record {
+        gap = gap;
+        behind = behind;
+        cut = tail;
+        white = (both (is_gap w) (list_all is_gap gap) white).1;
+        place = subst (λ xs. StandsAt piece.at (place_after xs)) moved place;
+        apart = subst (λ xs. IsApart xs piece.bytes) moved apart;
+      },
+      subst (λ xs. IsLaidOut xs pieces behind) (ap (λ b. before ++ (b ∷ (gap ++ piece.bytes))) (sym same) ∙ sym (append_assoc before (g ∷ []) (gap ++ piece.bytes))) rest,
+    )
 
 pub skip_to : (g : ℕ) → is_gap g ≡ true → (before : List ℕ) (pieces : List Piece) (left : List ℕ) → ArePieces pieces → IsLaidOut before pieces (g ∷ left) → IsLaidOut (before ++ (g ∷ [])) pieces left
 skip_to g gap before [] left are h = (both (is_gap g) (list_all is_gap left) h).1
@@ -79,15 +83,17 @@ skip_to g gap before (piece ∷ pieces) left are h =
 
 -- a token in front
 pub token_from : (before bytes behind left : List ℕ) → left ≡ bytes ++ behind → IsApart before bytes → (piece : Piece) (pieces : List Piece) → piece.bytes ≡ bytes → StandsAt piece.at (place_after before) → IsLaidOut (before ++ bytes) pieces behind → IsLaidOut before (piece ∷ pieces) left
-token_from before bytes behind left cut apart piece pieces same place rest =
-    (record {
-      gap = [];
-      behind = behind;
-      cut = cut ∙ ap (λ bs. bs ++ behind) (sym same);
-      white = refl;
-      place = subst (λ xs. StandsAt piece.at (place_after xs)) (sym (append-nil before)) place;
-      apart = subst (λ xs. IsApart xs piece.bytes) (sym (append-nil before)) (subst (IsApart before) (sym same) apart);
-    }, subst (λ bs. IsLaidOut (before ++ bs) pieces behind) (sym same) rest)
+token_from before bytes behind left cut apart piece pieces same place rest = (
+  record {
+    gap = [];
+    behind = behind;
+    cut = cut ∙ ap (λ bs. bs ++ behind) (sym same);
+    white = refl;
+    place = subst (λ xs. StandsAt piece.at (place_after xs)) (sym (append-nil before)) place;
+    apart = subst (λ xs. IsApart xs piece.bytes) (sym (append-nil before)) (subst (IsApart before) (sym same) apart);
+  },
+  subst (λ bs. IsLaidOut (before ++ bs) pieces behind) (sym same) rest,
+)
 
 -- bytes that end in one of a word
 record EndsWord (bytes : List ℕ) : Type 0 where

@@ -67,8 +67,8 @@ word_counted (b ∷ bs) left h =
 pub none_begins : (bs : List ℕ) → length (take_while is_word_byte bs) ≡ 0 → mark_length bs ≡ 0 → BeginsWithNone bs
 none_begins bs no_words no_marks token left is_token whole =
     elim (word_or_mark token is_token) [
-      inl word ↦ (let some = word_counted token left word in let size : length (take_while is_word_byte (token ++ left)) ≡ 0 = subst (λ xs. length (take_while is_word_byte xs) ≡ 0) whole no_words in omega arith)
-    | inr mark ↦ (let some = some_mark token mark in let size : length token ≡ 0 = sym (mark_counted token mark left) ∙ ap mark_length (sym whole) ∙ no_marks in omega arith)
+      | inl word ↦ (let some = word_counted token left word in let size : length (take_while is_word_byte (token ++ left)) ≡ 0 = subst (λ xs. length (take_while is_word_byte xs) ≡ 0) whole no_words in omega arith)
+      | inr mark ↦ (let some = some_mark token mark in let size : length token ≡ 0 = sym (mark_counted token mark left) ∙ ap mark_length (sym whole) ∙ no_marks in omega arith)
     ]
 
 -- words that begin the same bytes, and go on with no word, are the same
@@ -113,10 +113,12 @@ pub one_token : (bs a x b y : List ℕ) → BeginsWith bs a x → BeginsWith bs 
 one_token bs a x b y one two =
     let same : a ++ x ≡ b ++ y = sym one.whole ∙ two.whole in
     elim (word_or_mark a one.is_token) [
-      inl word ↦ elim (word_or_mark b two.is_token) [
-        inl other ↦ one_run a b x y (all_of_word a word) (all_of_word b other) (one.longest word) (two.longest other) same
-      | inr mark ↦ absurd (apart b mark a x y word same) ]
-    | inr mark ↦ elim (word_or_mark b two.is_token) [
-        inl other ↦ absurd (apart a mark b y x other (sym same))
-      | inr other ↦ one_mark_begins a b x y mark other same ]
+      | inl word ↦ elim (word_or_mark b two.is_token) [
+        | inl other ↦ one_run a b x y (all_of_word a word) (all_of_word b other) (one.longest word) (two.longest other) same
+        | inr mark ↦ absurd (apart b mark a x y word same)
+      ]
+      | inr mark ↦ elim (word_or_mark b two.is_token) [
+        | inl other ↦ absurd (apart a mark b y x other (sym same))
+        | inr other ↦ one_mark_begins a b x y mark other same
+      ]
     ]

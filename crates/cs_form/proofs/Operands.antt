@@ -40,10 +40,10 @@ none_from (Some x) h = absurd (h x refl)
 number_no_name : (names : List (List ℕ)) (value : ℕ) → AreNames names → value < 2 ^ 31 → number_of names (decimal value) ≡ None
 number_no_name names value are low =
     none_from _ (λ number found.
-      let at = position-Some (λ name. pointwise nat_eq name (decimal value)) names number [] found in
-      let same = same_bytes (get_or names number []) (decimal value) at.1 in
-      let wide : value < 2 ^ 64 = omega arith in
-      letter_first (decimal value) (subst (λ bytes. is_name bytes ≡ true) same (are.all number [] at.0)) (digits_decimal own value wide))
+    let at = position-Some (λ name. pointwise nat_eq name (decimal value)) names number [] found in
+    let same = same_bytes (get_or names number []) (decimal value) at.1 in
+    let wide : value < 2 ^ 64 = omega arith in
+    letter_first (decimal value) (subst (λ bytes. is_name bytes ≡ true) same (are.all number [] at.0)) (digits_decimal own value wide))
 
 used_none : (names : List (List ℕ)) (at : Place) (value : ℕ) (behind : List Piece) (tokens : List Token) → AreNames names → value < 2 ^ 31 → AreTokens (standing (decimal value) at ∷ behind) tokens → used_at names tokens ≡ None
 used_none names at value behind [] are low h = absurd h

@@ -107,8 +107,8 @@ token_apart : (before first back : List ℕ) → BeginsWith (first ++ back) firs
 token_apart before first [] begins = tt
 token_apart before first (b ∷ bs) begins = λ word.
     elim (word_or_mark first begins.is_token) [
-      inl is ↦ absurd (let e = sym word ∙ begins.longest is b bs refl in cc)
-    | inr mark ↦ mark_ends_no_word before first (mark_ends first mark)
+      | inl is ↦ absurd (let e = sym word ∙ begins.longest is b bs refl in cc)
+      | inr mark ↦ mark_ends_no_word before first (mark_ends first mark)
     ]
 
 apart_token : (before first back : List ℕ) → IsApart before (first ++ back) → IsApart before first
@@ -136,22 +136,22 @@ scan_token text tokens rest back token place at begins scanned =
       place_is = ap step scanned.place_is ∙ sym (place_bytes scanned.before first (inside first (token_no_gap first begins.is_token)));
       apart = token_apart scanned.before first back whole;
       laid_out = λ pieces more read h.
-        (let parts = last_piece tokens token pieces read in
-         let apart = apart_token scanned.before first back (subst (IsApart scanned.before) begins.whole scanned.apart) in
-         let rest_laid = token_from scanned.before first back rest begins.whole apart parts.last more parts.at.0 (subst (StandsAt parts.last.at) (at ∙ scanned.place_is) parts.at.1) h in
-         let laid = scanned.laid_out parts.front (parts.last ∷ more) parts.read rest_laid in
-         subst (λ ps. IsLaidOut [] ps text) (sym (append_assoc parts.front (parts.last ∷ []) more) ∙ ap (λ ps. ps ++ more) (sym parts.is)) laid);
+          (let parts = last_piece tokens token pieces read in
+          let apart = apart_token scanned.before first back (subst (IsApart scanned.before) begins.whole scanned.apart) in
+          let rest_laid = token_from scanned.before first back rest begins.whole apart parts.last more parts.at.0 (subst (StandsAt parts.last.at) (at ∙ scanned.place_is) parts.at.1) h in
+          let laid = scanned.laid_out parts.front (parts.last ∷ more) parts.read rest_laid in
+          subst (λ ps. IsLaidOut [] ps text) (sym (append_assoc parts.front (parts.last ∷ []) more) ∙ ap (λ ps. ps ++ more) (sym parts.is)) laid);
       only = λ pieces are h.
-        (let parts = scanned.only pieces are h in
-         let next = token_to scanned.before rest first back parts.more begins parts.are parts.laid_out in
-         record {
-           front = parts.front ++ (next.piece ∷ []);
-           more = next.more;
-           is = parts.is ∙ ap (λ ps. parts.front ++ ps) next.is ∙ sym (append_assoc parts.front (next.piece ∷ []) next.more);
-           read = read_push parts.front tokens next.piece token parts.read (next.bytes, subst (StandsAt next.piece.at) (sym (at ∙ scanned.place_is)) next.place);
-           are = next.are;
-           laid_out = next.rest;
-         });
+          (let parts = scanned.only pieces are h in
+          let next = token_to scanned.before rest first back parts.more begins parts.are parts.laid_out in
+          record {
+            front = parts.front ++ (next.piece ∷ []);
+            more = next.more;
+            is = parts.is ∙ ap (λ ps. parts.front ++ ps) next.is ∙ sym (append_assoc parts.front (next.piece ∷ []) next.more);
+            read = read_push parts.front tokens next.piece token parts.read (next.bytes, subst (StandsAt next.piece.at) (sym (at ∙ scanned.place_is)) next.place);
+            are = next.are;
+            laid_out = next.rest;
+          });
     }
 
 ended : (tokens : List Token) (front more pieces : List Piece) → pieces ≡ front ++ more → more ≡ [] → AreTokens front tokens → AreTokens pieces tokens

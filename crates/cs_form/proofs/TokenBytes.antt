@@ -102,8 +102,8 @@ word_begins bs front back some front_is back_is =
       whole = sym (take-append-drop n bs) ∙ ap (λ xs. xs ++ drop n bs) (sym front_is) ∙ ap (λ xs. front ++ xs) (sym back_is);
       is_token = rw word refl;
       longest = λ _ b others h.
-        (let first = first_left bs n b others (sym back_is ∙ h) in
-         let size = length-prefix_len is_word_byte bs in
-         let at : is_word_byte (get_or bs (prefix_len is_word_byte bs) 0) ≡ false = prefix_len_stops is_word_byte bs 0 (omega (arith, size, first.0)) in
-         ap is_word_byte (sym first.1 ∙ ap (λ k. get_or bs k 0) size) ∙ at);
+          (let first = first_left bs n b others (sym back_is ∙ h) in
+          let size = length-prefix_len is_word_byte bs in
+          let at : is_word_byte (get_or bs (prefix_len is_word_byte bs) 0) ≡ false = prefix_len_stops is_word_byte bs 0 (omega (arith, size, first.0)) in
+          ap is_word_byte (sym first.1 ∙ ap (λ k. get_or bs k 0) size) ∙ at);
     }

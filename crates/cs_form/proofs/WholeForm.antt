@@ -222,11 +222,11 @@ spell_only tokens token r1 names r2 block_at r3 guards r4 return_at answer head 
         answer = last.1;
       };
       only = λ other within h.
-        (let start = after_head tokens token r1 head other within h in
-         let after = after_tests tokens token r1 names r2 block_at r3 guards r4 head begin opening tests other within h in
-         let read = ending_read names other.return_at other.answer r4 begin.are_parameters.are_names after.answer after.rest in
-         let (return, answer_is) = some_pair_parts other.return_at return_at other.answer answer (sym read ∙ ending) in
-         same_small other.name token.bytes.now other.at token.place other.parameters names other.block_at block_at other.guards guards other.return_at return_at other.answer answer start.name start.at after.parameters after.block after.tests return answer_is);
+          (let start = after_head tokens token r1 head other within h in
+          let after = after_tests tokens token r1 names r2 block_at r3 guards r4 head begin opening tests other within h in
+          let read = ending_read names other.return_at other.answer r4 begin.are_parameters.are_names after.answer after.rest in
+          let (return, answer_is) = some_pair_parts other.return_at return_at other.answer answer (sym read ∙ ending) in
+          same_small other.name token.bytes.now other.at token.place other.parameters names other.block_at block_at other.guards guards other.return_at return_at other.answer answer start.name start.at after.parameters after.block after.tests return answer_is);
     }
 
 -- a text spells what its tokens spell

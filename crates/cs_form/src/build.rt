@@ -13,15 +13,27 @@ use std::alloc::{AllocError, Global};
 fn loaded(alloc: Global, place: Place, number: u32) -> Result<Expr, AllocError>
     ensures { IfOk result (λ made. expression made ≡ trees.Load place (trees.Local place number)) }
 {
-    let object = Box::new(alloc, Expr { place, kind: ExprKind::Local(number) })?;
-    Ok(Expr { place, kind: ExprKind::Load(object) })
+    let object = Box::new(
+        alloc,
+        Expr {
+            place,
+            kind: ExprKind::Local(number),
+        },
+    )?;
+    Ok(Expr {
+        place,
+        kind: ExprKind::Load(object),
+    })
 }
 
 /// A literal.
 fn number(place: Place, value: u32) -> Expr
     ensures { expression result ≡ trees.Number place (pos value) }
 {
-    Expr { place, kind: ExprKind::Number(i128::from(value)) }
+    Expr {
+        place,
+        kind: ExprKind::Number(i128::from(value)),
+    }
 }
 
 /// The expression of an operand.
@@ -43,7 +55,10 @@ fn value(alloc: Global, answer: Answer) -> Result<Expr, AllocError>
         Answer::Quotient(place, left, right) => {
             let left = Box::new(alloc, operand(alloc, left)?)?;
             let right = Box::new(alloc, operand(alloc, right)?)?;
-            Ok(Expr { place, kind: ExprKind::Binary(BinOp::Div, left, right) })
+            Ok(Expr {
+                place,
+                kind: ExprKind::Binary(BinOp::Div, left, right),
+            })
         }
     }
 }
@@ -54,10 +69,19 @@ fn test(alloc: Global, guard: Guard) -> Result<Stmt, AllocError>
 {
     let left = Box::new(alloc, loaded(alloc, guard.tested_at, guard.tested)?)?;
     let right = Box::new(alloc, number(guard.literal_at, guard.literal))?;
-    let test = Expr { place: guard.equal_at, kind: ExprKind::Compare(CmpOp::Equal, left, right) };
-    let body = Stmt { place: guard.return_at, kind: StmtKind::Return(value(alloc, guard.answer)?) };
+    let test = Expr {
+        place: guard.equal_at,
+        kind: ExprKind::Compare(CmpOp::Equal, left, right),
+    };
+    let body = Stmt {
+        place: guard.return_at,
+        kind: StmtKind::Return(value(alloc, guard.answer)?),
+    };
     let body = Box::new(alloc, body)?;
-    Ok(Stmt { place: guard.at, kind: StmtKind::If(test, body) })
+    Ok(Stmt {
+        place: guard.at,
+        kind: StmtKind::If(test, body),
+    })
 }
 
 /// The statements of the tests, one after another.
@@ -76,14 +100,28 @@ pub fn function(alloc: Global, small: SmallFunction) -> Result<Function, AllocEr
     requires { vec_len small.parameters ≤ 8 }
     ensures { IfOk result (λ made. definition made ≡ tree (plain small)) }
 {
-    let SmallFunction { name, at, parameters, block_at, guards, return_at, answer } = small;
+    let SmallFunction {
+        name,
+        at,
+        parameters,
+        block_at,
+        guards,
+        return_at,
+        answer,
+    } = small;
     let mut statements = tests(alloc, guards.as_slice())?;
-    statements.push(Stmt { place: return_at, kind: StmtKind::Return(value(alloc, answer)?) })?;
+    statements.push(Stmt {
+        place: return_at,
+        kind: StmtKind::Return(value(alloc, answer)?),
+    })?;
     Ok(Function {
         name,
         place: at,
         parameters: parameters.len() as u32,
         locals: parameters,
-        body: Stmt { place: block_at, kind: StmtKind::Block(statements) },
+        body: Stmt {
+            place: block_at,
+            kind: StmtKind::Block(statements),
+        },
     })
 }

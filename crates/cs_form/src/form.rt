@@ -5,6 +5,7 @@ ghost use Rattle.cs_ast.specs.View.{definition};
 ghost use Rattle.cs_form.specs.Form.{IsOfForm};
 ghost use Rattle.cs_form.specs.Plain.{plain};
 ghost use Rattle.cs_form.specs.Spelled.{SpellOnly, SpellNone};
+
 use crate::build::function;
 use crate::lists::{guards, parameters};
 use crate::phrase::{ending, head, opening};
@@ -37,7 +38,15 @@ fn small_of<'a>(alloc: Global, tokens: &'a [Token<'a>]) -> Result<SmallFunction,
         return Err(FormRefusal::NotOfForm);
     };
     let name = Name::from_slice(alloc, found.bytes)?;
-    Ok(SmallFunction { name, at: found.place, parameters, block_at, guards, return_at, answer })
+    Ok(SmallFunction {
+        name,
+        at: found.place,
+        parameters,
+        block_at,
+        guards,
+        return_at,
+        answer,
+    })
 }
 
 /// The function that a text of the form spells.

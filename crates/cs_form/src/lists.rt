@@ -30,7 +30,9 @@ pub fn parameters<'a>(
         return Err(FormRefusal::NotOfForm);
     };
     let mut locals = Vec::new(alloc);
-    locals.push(Local { name: Name::from_slice(alloc, first)? })?;
+    locals.push(Local {
+        name: Name::from_slice(alloc, first)?,
+    })?;
     for _ in 1..MOST_PARAMETERS {
         let Some((next, behind)) = next_parameter(rest) else {
             break;
@@ -38,7 +40,9 @@ pub fn parameters<'a>(
         if let Some(_) = number_of(&locals, next) {
             return Err(FormRefusal::NotOfForm);
         }
-        locals.push(Local { name: Name::from_slice(alloc, next)? })?;
+        locals.push(Local {
+            name: Name::from_slice(alloc, next)?,
+        })?;
         rest = behind;
     }
     Ok((locals, rest))

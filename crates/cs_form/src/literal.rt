@@ -57,9 +57,5 @@ pub fn literal(bytes: &[u8]) -> Option<u32>
         return None;
     }
     let value = value_of(bytes)?;
-    if value <= MOST {
-        Some(value)
-    } else {
-        None
-    }
+    if value <= MOST { Some(value) } else { None }
 }

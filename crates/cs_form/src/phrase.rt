@@ -98,10 +98,7 @@ fn returned<'a>(
 
 /// `if ( PARAMETER == LITERAL ) return ANSWER ;`
 #[tactic(auto, unfolding(crate::specs::Parsing::guard_at))]
-pub fn guard<'a>(
-    parameters: &[Local],
-    tokens: &'a [Token<'a>],
-) -> Option<(Guard, &'a [Token<'a>])>
+pub fn guard<'a>(parameters: &[Local], tokens: &'a [Token<'a>]) -> Option<(Guard, &'a [Token<'a>])>
     requires { length parameters.now ≤ 8 }
     ensures { Gives (λ x. (x.0, x.1.now)) result (phrases.guard_at (names_of parameters.now) tokens.now) }
 {
@@ -133,9 +130,5 @@ pub fn ending<'a>(parameters: &[Local], tokens: &'a [Token<'a>]) -> Option<(Plac
 {
     let (found, rest) = returned(parameters, tokens)?;
     let (_, rest) = piece(rest, b"}")?;
-    if rest.is_empty() {
-        Some(found)
-    } else {
-        None
-    }
+    if rest.is_empty() { Some(found) } else { None }
 }

@@ -5,6 +5,7 @@ ghost use Rattle.cs_form.specs.Words as words;
 ghost use Rattle.cs_form.specs.Form.{MOST_BYTES};
 ghost use Rattle.cs_form.specs.Marks as marks;
 ghost use Rattle.cs_form.specs.Tokens.{IsCutInto, IsNotCut, BeginsWith, BeginsWithNone};
+
 use crate::refusal::FormRefusal;
 use crate::token::Token;
 use crate::word::is_word_byte;
@@ -76,7 +77,11 @@ pub fn tokens<'a>(alloc: Global, text: &'a [u8]) -> Result<Vec<Token<'a>>, FormR
 {
     let mut tokens = Vec::new(alloc);
     let mut rest = text;
-    let mut place = Place { file: 0, line: 1, column: 1 };
+    let mut place = Place {
+        file: 0,
+        line: 1,
+        column: 1,
+    };
     while let Some((first, behind)) = rest.split_first() {
         match *first {
             b' ' => {
@@ -84,7 +89,11 @@ pub fn tokens<'a>(alloc: Global, text: &'a [u8]) -> Result<Vec<Token<'a>>, FormR
                 rest = behind;
             }
             b'\n' => {
-                place = Place { file: 0, line: place.line + 1, column: 1 };
+                place = Place {
+                    file: 0,
+                    line: place.line + 1,
+                    column: 1,
+                };
                 rest = behind;
             }
             _ => {

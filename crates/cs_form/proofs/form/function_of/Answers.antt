@@ -15,10 +15,10 @@ returns-in_err-tokens-clause-refused c =
 pub returns-in_err-small-clause-refused : goal.returns-in_err-small-clause-refused
 returns-in_err-small-clause-refused c =
     λ h.
-      (let r = c.from_residual-in_err-small in
-       let p = err_from_is_err_and r.result r.ensures.1 in
-       let none : SpellNone c.in_ok-tokens.tokens.items = rw c.as_slice.ensures.value at (c.in_err-small.ensures.refused (passed_on r.result p.0 c.in_err-small.field-0.0 NotOfForm p.1 p.2 h)) in
-       refused_tokens c.args.text.now c.in_ok-tokens.tokens.items c.in_ok-tokens.ensures.cut none)
+    (let r = c.from_residual-in_err-small in
+    let p = err_from_is_err_and r.result r.ensures.1 in
+    let none : SpellNone c.in_ok-tokens.tokens.items = rw c.as_slice.ensures.value at (c.in_err-small.ensures.refused (passed_on r.result p.0 c.in_err-small.field-0.0 NotOfForm p.1 p.2 h)) in
+    refused_tokens c.args.text.now c.in_ok-tokens.tokens.items c.in_ok-tokens.ensures.cut none)
 
 pub returns-clause-spelled : goal.returns-clause-spelled
 returns-clause-spelled c =

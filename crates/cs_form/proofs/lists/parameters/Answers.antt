@@ -20,8 +20,8 @@ returns-clause-found c =
     let names = names_of c.loop.locals.items in
     let long : length names ≡ c.loop.counter = length-names c.loop.locals.items ∙ c.loop.invariant.long in
     elim c.loop-test.branch [
-      else-loop-test w ↦ done_by_count c.args.tokens.now names c.loop.rest.now c.loop.invariant.grows (omega (arith, c.loop.auto.counter-end (omega arith)))
-    | then-loop-test+in_default-next_parameter w ↦ done_by_none c.args.tokens.now names c.loop.rest.now c.loop.invariant.grows (omega arith) w.in_default-next_parameter.ensures
+      | else-loop-test w ↦ done_by_count c.args.tokens.now names c.loop.rest.now c.loop.invariant.grows (omega (arith, c.loop.auto.counter-end (omega arith)))
+      | then-loop-test+in_default-next_parameter w ↦ done_by_none c.args.tokens.now names c.loop.rest.now c.loop.invariant.grows (omega arith) w.in_default-next_parameter.ensures
     ]
 
 pub returns-in-Some-number_of-clause-refused : goal.returns-in-Some-number_of-clause-refused
