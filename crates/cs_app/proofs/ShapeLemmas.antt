@@ -4,8 +4,13 @@ use Rattle.std.specs.Prelude.{All}
 use Rattle.std.proofs.lemmas.List.Elements.{All-head, All-tail}
 use Rattle.cs_ast.specs.declared.place.Place.{Place}
 use Rattle.cs_ast.specs.Tree.{Definition}
-use Rattle.cs_form.specs.Small.{Atom, Parameter, Literal, Answer, Single, Quotient, Guard, Small, atom_tree, answer_tree, guard_tree, body_trees, tree, IsAtomWithin, IsAnswerWithin, IsGuardWithin}
-use Rattle.cs_form.specs.Form.{IsOfForm, SpellsSmall}
+use Rattle.cs_form.specs.declared.small.Atom.{Atom}
+use Rattle.cs_form.specs.declared.small.Atom.TheVariants.{Parameter, Literal}
+use Rattle.cs_form.specs.declared.small.Answer.{Answer}
+use Rattle.cs_form.specs.declared.small.Answer.TheVariants.{Single, Quotient}
+use Rattle.cs_form.specs.declared.small.Guard.{Guard}
+use Rattle.cs_form.specs.Small.{atom_tree, answer_tree, body_trees, IsAtomWithin, IsAnswerWithin, IsGuardWithin}
+use Rattle.cs_form.specs.Form.{IsOfForm}
 use Rattle.cs_analysis.specs.Shape.{IsAtom, IsAnswer, IsBody, IsCoverable, LeavesRoom, count_of}
 use Rattle.cs_app.specs.Answers.{DEFAULT_BUDGETS}
 
