@@ -1,0 +1,5 @@
+pub mod SortedEntries
+pub mod AtBranch
+pub mod Rotated
+pub mod Stack
+pub mod FiniteMap

@@ -1,0 +1,4 @@
+pub mod Keys
+pub mod Tree
+pub mod Update
+pub mod Pending

@@ -1,0 +1,14 @@
+//! A finite map from pairs of numbers, kept as a balanced tree whose parts are shared between copies.
+#![tactic(auto)]
+
+mod balance;
+mod entries;
+mod map;
+mod tree;
+mod update;
+
+pub use entries::Entries;
+pub use map::PMap;
+
+#[cfg(test)]
+mod tests;

@@ -1,0 +1,10 @@
+pub mod FloorDivision
+pub mod Wrapping
+pub mod Products
+pub mod StructTables
+pub mod Leaves
+pub mod Nesting
+pub mod MemberSearch
+pub mod Arrays
+pub mod Entering
+pub mod Descent

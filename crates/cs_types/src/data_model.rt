@@ -1,0 +1,64 @@
+//! The two data models, and what else of the analyzed machine they fix.
+ghost use Rattle.std.specs.Prelude.{◌≡◌, ◌^◌, ◌≤◌, pos};
+ghost use Rattle.cs_types.specs.DataModel.{size_type_of, difference_type_of, offset_bound_of, product_bound_of, start_extent_of};
+
+use crate::int_type::IntType;
+
+/// Which sizes `long` and pointers have: 8 bytes in LP64, 4 in ILP32.
+#[derive(Clone, Copy, Debug, PartialEq, Eq)]
+pub enum DataModel {
+    Lp64,
+    Ilp32,
+}
+
+/// The type of `sizeof` (C11 6.5.3.4).
+pub fn size_type(model: DataModel) -> IntType
+    ensures { result ≡ size_type_of model }
+{
+    match model {
+        DataModel::Lp64 => IntType::ULong,
+        DataModel::Ilp32 => IntType::UInt,
+    }
+}
+
+/// The type of the difference of two pointers (C11 6.5.6).
+pub fn difference_type(model: DataModel) -> IntType
+    ensures { result ≡ difference_type_of model }
+{
+    match model {
+        DataModel::Lp64 => IntType::Long,
+        DataModel::Ilp32 => IntType::Int,
+    }
+}
+
+/// The greatest size of a pointer's byte offset, in bytes below and above its object's start.
+pub fn offset_bound(model: DataModel) -> i128
+    ensures { result ≡ pos (offset_bound_of model) }
+{
+    match model {
+        DataModel::Lp64 => 1 << 40,
+        DataModel::Ilp32 => 1 << 29,
+    }
+}
+
+/// The greatest size in bytes that `calloc` may be asked for.
+pub fn product_bound(model: DataModel) -> u64
+    ensures { result ≡ product_bound_of model }
+{
+    match model {
+        DataModel::Lp64 => u64::MAX,
+        DataModel::Ilp32 => 0xffff_ffff,
+    }
+}
+
+/// The bytes of the block that an unknown pointer to a type of `size` bytes names.
+pub fn start_extent(model: DataModel, size: u64) -> u64
+    requires { size ≤ 2 ^ 20 }
+    ensures { result ≡ start_extent_of model size }
+{
+    let extent = size << 20;
+    match model {
+        DataModel::Ilp32 if extent > 1 << 28 => (1 << 28) / size * size,
+        DataModel::Lp64 | DataModel::Ilp32 => extent,
+    }
+}

@@ -1,0 +1,131 @@
+//! The structs of a program: their members, laid out, and the table that numbers them.
+ghost use Rattle.std.specs.Prelude.{◌≡◌, ◌<◌, ◌++◌, [], ◌∷◌, OnOk, OnErr, length, slice_set};
+
+use crate::ctype::CType;
+use cs_names::Name;
+use std::alloc::{AllocError, Global};
+use std::marker::Model;
+
+/// A member of a struct, with its offset in bytes from the struct's start.
+#[derive(Debug, Drop)]
+pub struct Member {
+    pub name: Name,
+    pub ty: CType,
+    pub offset: u64,
+}
+
+/// The members of a struct in their order. A contract sees them as a list.
+#[derive(Debug, Drop)]
+pub struct Members {
+    list: Vec<Member>,
+}
+
+impl Model for Members {
+    ghost use Rattle.std.specs.Prelude.{List};
+    ghost use Rattle.std.specs.Coded.{codes};
+    ghost use Rattle.cs_types.specs.declared.structs.Member.{Member};
+    ghost use Rattle.cs_types.specs.contracts.ctype.CType as ctype;
+
+    ghost Value = { List Member };
+
+    ghost coded = { Prim.hlevel (codes, ctype.the_row.coded) };
+
+    ghost view = { λ m. m.list.items };
+}
+
+impl Members {
+    /// No members.
+    pub fn new(alloc: Global) -> Members
+        ensures { result ≡ [] }
+    {
+        Members {
+            list: Vec::new(alloc),
+        }
+    }
+
+    /// Adds a member behind the others.
+    pub fn push(&mut self, member: Member) -> Result<(), AllocError>
+        ensures ok { OnOk result (self.new ≡ self.old ++ member ∷ []) }
+        ensures err { OnErr result (self.new ≡ self.old) }
+    {
+        self.list.push(member)?;
+        Ok(())
+    }
+
+    /// The members in order.
+    pub fn as_slice(&self) -> &[Member]
+        ensures { result.now ≡ self.now }
+    {
+        self.list.as_slice()
+    }
+}
+
+/// A struct by its tag, with its size and alignment in bytes. An incomplete one has no members yet, and its size and
+/// alignment mean nothing.
+#[derive(Debug, Drop)]
+pub struct StructType {
+    pub tag: Name,
+    pub members: Option<Members>,
+    pub size: u64,
+    pub align: u64,
+}
+
+/// Structs by number. A contract sees them as a list.
+#[derive(Debug, Drop)]
+pub struct Structs {
+    list: Vec<StructType>,
+}
+
+impl Model for Structs {
+    ghost use Rattle.std.specs.Prelude.{List};
+    ghost use Rattle.std.specs.Coded.{codes};
+    ghost use Rattle.cs_types.specs.declared.structs.StructType.{StructType};
+    ghost use Rattle.cs_types.specs.contracts.ctype.CType as ctype;
+
+    ghost Value = { List StructType };
+
+    ghost coded = { Prim.hlevel (codes, ctype.the_row.coded) };
+
+    ghost view = { λ s. s.list.items };
+}
+
+impl Structs {
+    /// No structs.
+    pub fn new(alloc: Global) -> Structs
+        ensures { result ≡ [] }
+    {
+        Structs {
+            list: Vec::new(alloc),
+        }
+    }
+
+    /// Adds a struct, whose number is the length before.
+    pub fn push(&mut self, added: StructType) -> Result<(), AllocError>
+        ensures ok { OnOk result (self.new ≡ self.old ++ added ∷ []) }
+        ensures err { OnErr result (self.new ≡ self.old) }
+    {
+        self.list.push(added)?;
+        Ok(())
+    }
+
+    /// Puts a struct in place of the one with this number, as where the body of a declared tag is met.
+    pub fn set(&mut self, number: usize, changed: StructType)
+        requires { number < length self.old }
+        ensures { self.new ≡ slice_set self.old number changed }
+    {
+        self.list[number] = changed;
+    }
+
+    /// The structs in order of number.
+    pub fn as_slice(&self) -> &[StructType]
+        ensures { result.now ≡ self.now }
+    {
+        self.list.as_slice()
+    }
+}
+
+/// The structs of a program: a struct's number is its place in the list.
+#[derive(Debug, Drop)]
+pub struct StructTable {
+    pub list: Structs,
+}
