@@ -1,5 +1,5 @@
 -- The number nearest to zero, interval by interval: serves `least_abs`.
-use Rattle.std.proofs.Common.{◌≡◌, ◌⊎◌, true, ◌||◌, inl, inr, ℤ, List, [], ◌∷◌, ◌++◌, refl, sym, ap, ◌∙◌, arith}
+use Rattle.std.proofs.Common.{◌≡◌, ◌⊎◌, true, inl, inr, ℤ, List, [], ◌∷◌, ◌++◌, sym, ap, ◌∙◌, arith}
 use Rattle.std.proofs.lemmas.Int.{ints}
 use Rattle.std.proofs.lemmas.Bool.{or_cases, or_left, or_right}
 use Rattle.cs_ranges.specs.declared.range_set.Interval.{Interval}

@@ -1,7 +1,14 @@
+pub mod AffineLaws
+pub mod Counting
+pub mod Drawing
+pub mod Ends
 pub mod Gaps
+pub mod Joining
 pub mod LastItem
 pub mod LeastAbs
+pub mod Lines
 pub mod Meeting
 pub mod Members
+pub mod Negatives
 pub mod Search
 pub mod Spread

@@ -1,5 +1,5 @@
 -- Which numbers the intervals of a list have: serves every clause that names `contains`.
-use Rattle.std.proofs.Common.{◌≡◌, ◌⊎◌, ◌+◌, ◌<◌, ℕ, Bool, true, false, ◌&&◌, ◌||◌, ℤ, ◌<ℤ◌, ◌≤ℤ◌, List, [], ◌∷◌, ◌++◌, length, take, get_or, refl, ap, ◌∙◌, arith}
+use Rattle.std.proofs.Common.{◌≡◌, ◌⊎◌, ◌+◌, ◌<◌, ℕ, Bool, true, false, ◌||◌, ℤ, ◌<ℤ◌, ◌≤ℤ◌, List, [], ◌∷◌, ◌++◌, length, take, get_or, refl, ap, ◌∙◌, arith}
 use Rattle.std.proofs.lemmas.Int.{ints}
 use Rattle.std.proofs.lemmas.List.{take_more}
 use Rattle.cs_ranges.specs.declared.range_set.Interval.{Interval}
@@ -17,6 +17,10 @@ in_interval-low i h = grind (arith, ints, in_interval_tells i i.low)
 
 pub in_interval-high : (i : Interval) → i.low ≤ℤ i.high → in_interval i i.high ≡ true
 in_interval-high i h = grind (arith, ints, in_interval_tells i i.high)
+
+-- an interval whose ends are turned round has no number
+pub in_interval-none : (i : Interval) (x : ℤ) → i.high <ℤ i.low → in_interval i x ≡ false
+in_interval-none i x h = grind (arith, ints, in_interval_tells i x)
 
 pub or_assoc : (x y z : Bool) → (x || (y || z)) ≡ ((x || y) || z)
 or_assoc true y z = refl

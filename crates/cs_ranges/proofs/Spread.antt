@@ -1,15 +1,18 @@
 -- Lists of intervals in order and with gaps: serves the invariant of `RangeSet`.
-use Rattle.std.proofs.Common.{◌≡◌, ◌⊎◌, ◌+◌, ◌<◌, ◌^◌, ℕ, zero, suc, Bool, true, false, ◌||◌, ◌&&◌, not, ℤ, pos, neg_ℤ, ◌+ℤ◌, ◌<ℤ◌, ◌≤ℤ◌, List, [], ◌∷◌, ◌++◌, length, get_or, refl, ap, ◌∙◌, arith, not-suc-le-zero, le_of_suc-le-suc}
+use Rattle.std.proofs.Common.{◌≡◌, ◌<◌, ◌^◌, ℕ, zero, suc, Bool, true, false, ◌&&◌, not, ℤ, pos, ◌+ℤ◌, ◌<ℤ◌, ◌≤ℤ◌, List, [], ◌∷◌, ◌++◌, length, get_or, inl, inr, refl, sym, ◌∙◌, arith, not-suc-le-zero, le_of_suc-le-suc}
 use Rattle.std.proofs.lemmas.Int.{ints, by_lt_z}
-use Rattle.std.proofs.lemmas.Bool.{or_from, both_ways}
+use Rattle.std.proofs.lemmas.Bool.{or_from, or_cases, both_ways}
 use Rattle.cs_ranges.specs.declared.range_set.Interval.{Interval}
-use Rattle.cs_ranges.specs.Interval.{IsInside, in_interval}
+use Rattle.cs_ranges.specs.Interval.{IsInside, IsProper, in_interval}
 use Rattle.cs_ranges.specs.RangeSet.{contains, IsSpread, IsSpreadFrom, last_low_or}
-use Rattle.cs_ranges.proofs.Members.{in_interval_tells}
+use Rattle.cs_ranges.proofs.Members.{in_interval_tells, contains-nil, contains-cons}
 
 pub IsSpreadFrom-weaker : (b c : ℤ) (s : List Interval) → c ≤ℤ b → IsSpreadFrom b s → IsSpreadFrom c s
 IsSpreadFrom-weaker b c [] le h = tt
 IsSpreadFrom-weaker b c (i ∷ s) le h = (omega (arith, ints, h.0), h.1, h.2, h.3)
+
+pub IsProper-first : (i : Interval) (s : List Interval) → IsSpread (i ∷ s) → IsProper i
+IsProper-first i s h = record { from = h.0; ordered = h.1; upto = h.2 }
 
 -- no number below the bound is there
 pub contains-below : (b : ℤ) (s : List Interval) (x : ℤ) → IsSpreadFrom b s → x <ℤ b → contains s x ≡ false
@@ -44,6 +47,23 @@ IsSpreadFrom-last b [] i h = (tt, h.0, h.1, h.2)
 IsSpreadFrom-last b (j ∷ s) i h =
     let rest = IsSpreadFrom-last (j.high +ℤ pos 2) s i h.3 in
     ((h.0, h.1, h.2, rest.0), omega (arith, ints, h.0, h.1, rest.1), rest.2, rest.3)
+
+pub IsProper-last : (s : List Interval) (i : Interval) → IsSpread (s ++ i ∷ []) → IsProper i
+IsProper-last s i h =
+    let last = IsSpreadFrom-last _ s i h in
+    record { from = last.1; ordered = last.2; upto = last.3 }
+
+-- the numbers before the last interval lie below it, with a gap
+pub contains-before_last : (b : ℤ) (s : List Interval) (i : Interval) (x : ℤ) → IsSpreadFrom b (s ++ i ∷ []) → contains s x ≡ true → (x +ℤ pos 2) ≤ℤ i.low
+contains-before_last b [] i x h t = absurd (both_ways _ (contains-nil x) t)
+contains-before_last b (j ∷ s) i x h t =
+    let last = IsSpreadFrom-last (j.high +ℤ pos 2) s i h.3 in
+    let P : Type 0 = (x +ℤ pos 2) ≤ℤ i.low in
+    let in_first : in_interval j x ≡ true → P = λ in_j. grind (arith, ints, in_interval_tells j x, last.1) in
+    elim (or_cases _ _ (sym (contains-cons j s x) ∙ t)) [
+      | inl in_j ↦ in_first in_j
+      | inr in_s ↦ contains-before_last (j.high +ℤ pos 2) s i x h.3 in_s
+    ]
 
 -- another last interval that begins at the same number
 pub IsSpreadFrom-replace_last : (b : ℤ) (s : List Interval) (i j : Interval) → IsSpreadFrom b (s ++ i ∷ []) → j.low ≡ i.low → j.low ≤ℤ j.high → j.high ≤ℤ pos (2 ^ 126) → IsSpreadFrom b (s ++ j ∷ [])

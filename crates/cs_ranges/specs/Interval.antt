@@ -8,3 +8,9 @@ IsInside x = (neg_ℤ (pos (2 ^ 126)) ≤ℤ x) × (x ≤ℤ pos (2 ^ 126))
 -- the number lies between the ends of the interval, or is one of them
 unfoldable pub in_interval : Interval → ℤ → Bool
 in_interval i x = int_le i.low x && int_le x i.high
+
+-- the interval has a number and lies inside -2^126..2^126
+pub record IsProper (i : Interval) : Type 0 where
+  pub from : neg_ℤ (pos (2 ^ 126)) ≤ℤ i.low
+  pub ordered : i.low ≤ℤ i.high
+  pub upto : i.high ≤ℤ pos (2 ^ 126)

@@ -1,2 +1,4 @@
+pub mod Affine
 pub mod Interval
+pub mod Line
 pub mod RangeSet

@@ -1,4 +1,5 @@
-use Rattle.std.specs.Prelude.{◌≡◌, ◌≢◌, ◌⊎◌, ◌^◌, ◌<◌, ◌≤◌, Bool, false, ◌||◌, IsTrue, IsFalse, ℤ, pos, neg_ℤ, ◌+ℤ◌, ◌≤ℤ◌, unsigned_abs, List, [], ◌∷◌}
+use Rattle.std.specs.Prelude.{◌≡◌, ◌≢◌, ◌⊎◌, ◌↔◌, ℕ, ◌^◌, ◌<◌, Bool, false, ◌||◌, IsTrue, IsFalse, ℤ, pos, neg_ℤ, ◌+ℤ◌, ◌≤ℤ◌, unsigned_abs, List, [], ◌∷◌, length, slice_index_or}
+use Rattle.std.specs.List.{Contains}
 use Rattle.cs_ranges.specs.declared.range_set.Interval.{Interval}
 use Rattle.cs_ranges.specs.Interval.{in_interval}
 
@@ -27,6 +28,23 @@ pub record HasTwo (s : List Interval) : Type 0 where
   pub differ : one ≢ another
   pub one_is_member : IsTrue (contains s one)
   pub another_is_member : IsTrue (contains s another)
+
+-- the number is the set's least one
+pub record IsLeast (s : List Interval) (x : ℤ) : Type 0 where
+  pub member : IsTrue (contains s x)
+  pub least : (y : ℤ) → IsTrue (contains s y) → x ≤ℤ y
+
+-- the number is the set's greatest one
+pub record IsGreatest (s : List Interval) (x : ℤ) : Type 0 where
+  pub member : IsTrue (contains s x)
+  pub greatest : (y : ℤ) → IsTrue (contains s y) → y ≤ℤ x
+
+-- so many different numbers are in the set: some list has each of them once and has no other
+pub record IsCount (s : List Interval) (n : ℕ) : Type 0 where
+  pub numbers : List ℤ
+  pub members : (x : ℤ) → IsTrue (contains s x) ↔ Contains numbers x
+  pub differ : (j k : ℕ) (d : ℤ) → j < k → k < length numbers → slice_index_or numbers j d ≢ slice_index_or numbers k d
+  pub count : length numbers ≡ n
 
 -- the first number is no farther from zero than the second, and where both are as far, it is no less
 abbrev pub IsNearest : ℤ → ℤ → Type 0

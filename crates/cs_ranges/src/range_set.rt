@@ -1,18 +1,20 @@
 //! `RangeSet`, the set of integers that a symbol may stand for on a path, in the sense of the range
 //! sets of Clang's `RangeConstraintManager`: a finite union of closed ranges. The empty set says that
 //! the path is infeasible.
-ghost use Rattle.std.specs.Prelude.{◌≡◌, ℤ, [], ◌⊎◌, ◌&&◌, ◌||◌, int_le, ◌≤ℤ◌, IsTrue, IfOk, OnOk, MatchOption};
-ghost use Rattle.std.specs.Bool.{MatchBool};
-ghost use Rattle.cs_ranges.specs.Interval.{IsInside, in_interval};
-ghost use Rattle.cs_ranges.specs.RangeSet.{contains, IsEmpty, IsInhabited, IsOnly, HasTwo, IsNearest, IsLeastAbs, last_low};
+ghost use Rattle.std.specs.Prelude.{◌≡◌, ℤ, neg_ℤ, [], ◌&&◌, ◌||◌, int_le, ◌≤ℤ◌, IfOk, OnOk};
+ghost use Rattle.cs_ranges.specs.Interval.{IsInside, IsProper, in_interval};
+ghost use Rattle.cs_ranges.specs.RangeSet.{contains, IsSpread, last_low};
 
 use std::alloc::{AllocError, Global};
-use std::cmp::Ordering;
 use std::marker::Model;
 
+mod affine;
 mod combine;
+mod query;
 #[cfg(test)]
 mod tests;
+
+pub use affine::affine_preimage;
 
 /// The closed range from `low` to `high`: both ends belong to it, and it has no number where `low`
 /// is above `high`.
@@ -20,6 +22,21 @@ mod tests;
 pub struct Interval {
     pub low: i128,
     pub high: i128,
+}
+
+impl Interval {
+    /// The negatives of the numbers.
+    fn negated(self) -> Interval
+        requires { IsProper self }
+        ensures proper { IsProper result }
+        ensures low { result.low ≡ neg_ℤ self.high }
+        ensures high { result.high ≡ neg_ℤ self.low }
+    {
+        Interval {
+            low: -self.high,
+            high: -self.low,
+        }
+    }
 }
 
 /// The least number that a range set can have.
@@ -78,56 +95,22 @@ impl RangeSet {
     pub fn copy(&self) -> Result<RangeSet, AllocError>
         ensures { IfOk result (λ s. s ≡ self.now) }
     {
-        let intervals = Vec::from_slice(*self.intervals.allocator(), self.intervals.as_slice())?;
+        let intervals = Vec::from_slice(*self.intervals.allocator(), &self.intervals)?;
         Ok(RangeSet { intervals })
     }
 
-    /// Whether the set has the number.
-    pub fn contains(&self, number: i128) -> bool
-        ensures { result ≡ contains self.now number }
+    /// The intervals in ascending order.
+    pub fn intervals(&self) -> &[Interval]
+        ensures same { result.now ≡ self.now }
+        ensures spread { IsSpread self.now }
     {
-        let at = self.intervals.partition_point(|i| i.high < number);
-        at < self.intervals.len() && self.intervals[at].low <= number
-    }
-
-    /// Whether the set has no number.
-    pub fn is_empty(&self) -> bool
-        ensures { MatchBool result (IsEmpty self.now) (IsInhabited self.now) }
-    {
-        self.intervals.is_empty()
-    }
-
-    /// The set's number, where it has exactly one.
-    pub fn is_single(&self) -> Option<i128>
-        ensures { MatchOption result (IsEmpty self.now ⊎ HasTwo self.now) (IsOnly self.now) }
-    {
-        match self.intervals.as_slice() {
-            [only] if only.low == only.high => Some(only.low),
-            _ => None,
-        }
-    }
-
-    /// The number of least absolute value, the positive one of two.
-    pub fn least_abs(&self) -> Option<i128>
-        ensures { MatchOption result (IsEmpty self.now) (IsLeastAbs self.now) }
-    {
-        let mut least = None;
-        for interval in &self.intervals {
-            let nearest = nearest_to_zero(*interval);
-            least = Some(match least {
-                None => nearest,
-                Some(found) => nearer(found, nearest),
-            });
-        }
-        least
+        &self.intervals
     }
 
     /// Adds an interval that begins no earlier than the last one, and joins the two where they
     /// overlap or touch.
     fn push(&mut self, interval: Interval) -> Result<(), AllocError>
-        requires ordered { interval.low ≤ℤ interval.high }
-        requires low_inside { IsInside interval.low }
-        requires high_inside { IsInside interval.high }
+        requires proper { IsProper interval }
         requires behind { last_low self.old ≤ℤ interval.low }
         ensures members { OnOk result ((x : ℤ) → contains self.new x ≡ (contains self.old x || in_interval interval x)) }
         ensures last { OnOk result (last_low self.new ≤ℤ interval.low) }
@@ -146,27 +129,5 @@ impl RangeSet {
         }
         self.intervals.push(interval)?;
         Ok(())
-    }
-}
-
-/// The number of an interval that is nearest to zero.
-fn nearest_to_zero(interval: Interval) -> i128
-    requires { interval.low ≤ℤ interval.high }
-    ensures member { IsTrue (in_interval interval result) }
-    ensures nearest { (y : ℤ) → IsTrue (in_interval interval y) → IsNearest result y }
-{
-    0i128.clamp(interval.low, interval.high)
-}
-
-/// The one of two numbers that is nearer to zero, the positive one where both are as near.
-fn nearer(a: i128, b: i128) -> i128
-    ensures one { (result ≡ a) ⊎ (result ≡ b) }
-    ensures not_behind_a { IsNearest result a }
-    ensures not_behind_b { IsNearest result b }
-{
-    match a.unsigned_abs().cmp(&b.unsigned_abs()) {
-        Ordering::Less => a,
-        Ordering::Equal => a.max(b),
-        Ordering::Greater => b,
     }
 }

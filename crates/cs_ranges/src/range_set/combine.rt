@@ -1,8 +1,8 @@
 //! Sets made of other sets.
-ghost use Rattle.std.specs.Prelude.{◌≡◌, ℤ, ◌≤ℤ◌, ◌&&◌, ◌||◌, not, IfOk, OnOk};
+ghost use Rattle.std.specs.Prelude.{◌≡◌, ℤ, neg_ℤ, ◌≤ℤ◌, [], ◌&&◌, ◌||◌, not, IfOk, OnOk};
 ghost use Rattle.std.specs.Int.{int_max};
-ghost use Rattle.cs_ranges.specs.Interval.{IsInside, in_interval};
-ghost use Rattle.cs_ranges.specs.RangeSet.{contains, last_low};
+ghost use Rattle.cs_ranges.specs.Interval.{IsInside, IsProper, in_interval};
+ghost use Rattle.cs_ranges.specs.RangeSet.{contains, IsSpread, IsSpreadFrom, last_low};
 
 use super::{GREATEST, Interval, LEAST, RangeSet};
 use std::alloc::{AllocError, Global};
@@ -31,8 +31,8 @@ impl RangeSet {
 
     /// Adds the numbers that both intervals have.
     fn push_common(&mut self, a: Interval, b: Interval) -> Result<(), AllocError>
-        requires a_inside { IsInside a.low × IsInside a.high }
-        requires b_inside { IsInside b.low × IsInside b.high }
+        requires a_proper { IsProper a }
+        requires b_proper { IsProper b }
         requires behind { last_low self.old ≤ℤ int_max a.low b.low }
         ensures members { OnOk result ((x : ℤ) → contains self.new x ≡ (contains self.old x || (in_interval a x && in_interval b x))) }
         ensures last { OnOk result (last_low self.new ≤ℤ int_max a.low b.low) }
@@ -41,6 +41,43 @@ impl RangeSet {
         let high = a.high.min(b.high);
         if low <= high {
             self.push(Interval { low, high })?;
+        }
+        Ok(())
+    }
+
+    /// The numbers that either set has.
+    pub fn union(&self, other: &RangeSet) -> Result<RangeSet, AllocError>
+        ensures { IfOk result (λ s. (x : ℤ) → contains s x ≡ (contains self.now x || contains other.now x)) }
+    {
+        let mut joined = RangeSet::empty(*self.intervals.allocator());
+        let mut left = self.intervals.as_slice();
+        let mut right = other.intervals.as_slice();
+        while let (Some((a, behind_a)), Some((b, behind_b))) = (
+            left.split_first(),
+            right.split_first(),
+        ) {
+            if a.low < b.low {
+                joined.push(*a)?;
+                left = behind_a;
+            } else {
+                joined.push(*b)?;
+                right = behind_b;
+            }
+        }
+        joined.push_all(left)?;
+        joined.push_all(right)?;
+        Ok(joined)
+    }
+
+    /// Adds intervals, of which the first begins no earlier than the last one of the set.
+    fn push_all(&mut self, intervals: &[Interval]) -> Result<(), AllocError>
+        requires spread { IsSpread intervals.now }
+        requires behind { IsSpreadFrom (last_low self.old) intervals.now }
+        ensures members { OnOk result ((x : ℤ) → contains self.new x ≡ (contains self.old x || contains intervals.now x)) }
+        ensures none { OnOk result (intervals.now ≡ [] → self.new ≡ self.old) }
+    {
+        for interval in intervals {
+            self.push(*interval)?;
         }
         Ok(())
     }
@@ -75,5 +112,18 @@ impl RangeSet {
             })?;
         }
         Ok(gaps)
+    }
+
+    /// The numbers whose negatives the set has.
+    pub(super) fn negated(&self, alloc: Global) -> Result<RangeSet, AllocError>
+        ensures { IfOk result (λ s. (x : ℤ) → contains s x ≡ contains self.now (neg_ℤ x)) }
+    {
+        let mut negatives = RangeSet::empty(alloc);
+        let mut rest = self.intervals.as_slice();
+        while let Some((last, before)) = rest.split_last() {
+            negatives.push(last.negated())?;
+            rest = before;
+        }
+        Ok(negatives)
     }
 }

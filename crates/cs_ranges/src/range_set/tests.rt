@@ -37,3 +37,39 @@ fn tells_numbers(rt: HostRuntime) -> Result<(), Fail> {
     );
     Ok(())
 }
+
+#[test]
+fn joins_and_counts(rt: HostRuntime) -> Result<(), Fail> {
+    let minus_three = RangeSet::of(rt.alloc(), -3, -3)?;
+    let three = RangeSet::of(rt.alloc(), 3, 3)?;
+    let two = minus_three.union(&three)?;
+    assert_eq!(rt; two.least_abs(), Some(3));
+    assert_eq!(rt;
+        (two.least(), two.greatest(), two.count()),
+        (Some(-3), Some(3), 2)
+    );
+    let joined = two.union(&RangeSet::of(rt.alloc(), -2, 2)?)?;
+    assert_eq!(rt; joined.copy()?.intervals(), [interval(-3, 3)].as_slice());
+    assert_eq!(rt;
+        RangeSet::of(rt.alloc(), LEAST, GREATEST)?.count(),
+        (1 << 127) + 1
+    );
+    Ok(())
+}
+
+#[test]
+fn takes_affine_preimages(rt: HostRuntime) -> Result<(), Fail> {
+    let within = RangeSet::of(rt.alloc(), -10, 10)?;
+    let five_to_nine = RangeSet::of(rt.alloc(), 5, 9)?;
+    let rising = affine_preimage(rt.alloc(), 2, 0, 1, &five_to_nine, &within)?;
+    assert_eq!(rt; rising.intervals(), [interval(2, 4)].as_slice());
+    let falling = affine_preimage(rt.alloc(), -2, 0, 1, &five_to_nine, &within)?;
+    assert_eq!(rt; falling.intervals(), [interval(-4, -2)].as_slice());
+    let constant = affine_preimage(rt.alloc(), 0, 0, 7, &five_to_nine, &within)?;
+    assert_eq!(rt; constant.intervals(), within.intervals());
+    let ends = RangeSet::of(rt.alloc(), 0, 1)?;
+    let all = RangeSet::of(rt.alloc(), LEAST, GREATEST)?;
+    let steepest = affine_preimage(rt.alloc(), i128::MIN, 0, GREATEST, &all, &ends)?;
+    assert_eq!(rt; steepest.intervals(), ends.intervals());
+    Ok(())
+}

@@ -1,10 +1,8 @@
-use Rattle.std.proofs.Common.{◌≡◌, ◌+◌, ◌^◌, ◌<◌, ◌≤◌, ℤ, pos, ◌+ℤ◌, ◌-ℤ◌, ◌<ℤ◌, ◌≤ℤ◌, List, [], ◌∷◌, length, get_or, drop, sym, ap, ◌∙◌, subst, arith}
+use Rattle.std.proofs.Common.{◌≡◌, ◌+◌, pos, ◌∷◌, get_or, drop, arith}
 use Rattle.std.proofs.lemmas.Int.{ints}
 use Rattle.std.proofs.lemmas.List.{drop_more, drop_all}
 use Rattle.cs_ranges.specs.declared.range_set.Interval.{Interval}
-use Rattle.cs_ranges.specs.RangeSet.{contains, IsSpread}
-use Rattle.cs_ranges.proofs.Gaps.{Splits, Splits-start, Splits-gap, Splits-no_gap, Splits-last_gap, Splits-no_last_gap}
-use Rattle.cs_ranges.proofs.Spread.{IsSpreadFrom-at}
+use Rattle.cs_ranges.proofs.Gaps.{Splits-start, Splits-gap, Splits-no_gap, Splits-last_gap, Splits-no_last_gap}
 use Rattle.cs_ranges.proofs.range_set.RangeSet.complement.Goals.{then-next-interval+in_ok-push, else-next-interval, then-next-le-GREATEST+in_ok-push-2, else-next-le-GREATEST}
 use Rattle.cs_ranges.proofs.range_set.RangeSet.complement.Goals as goal
 
@@ -12,15 +10,19 @@ pub loop-interval-init : goal.loop-interval-init
 loop-interval-init c =
     rw (c.empty-gaps.ensures, ← c.self.view_is, c.deref-interval-items.ensures.value) (Splits-start _ c.self.invariant)
 
-pub push-requires-clause-high_inside : goal.push-requires-clause-high_inside
-push-requires-clause-high_inside c =
+pub push-requires-clause-proper : goal.push-requires-clause-proper
+push-requires-clause-proper c =
     let s = c.deref-interval-items.result.now in
     let k = c.loop-interval.interval-index in
     let zero : Interval = record { low = pos 0; high = pos 0 } in
     let split : drop k s ≡ get_or s k zero ∷ drop (k + 1) s = drop_more s k zero c.loop-interval-test.true in
     let h = rw split at c.loop-interval.invariant in
     let spread = h.spread in
-    (omega (arith, ints, h.from, spread.0, spread.1, spread.2), omega (arith, ints, h.from, spread.0, spread.1, spread.2))
+    record {
+      from = omega (arith, ints, h.from);
+      ordered = omega (arith, ints, h.from, spread.0, spread.1, spread.2);
+      upto = omega (arith, ints, h.from, spread.0, spread.1, spread.2);
+    }
 
 pub loop-interval-preserved : goal.loop-interval-preserved
 loop-interval-preserved c =

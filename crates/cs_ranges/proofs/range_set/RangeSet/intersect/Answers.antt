@@ -1,7 +1,7 @@
-use Rattle.std.proofs.Common.{◌≡◌, ◌⊎◌, inl, inr, List, [], ◌∷◌, sym, ap, ◌∙◌, subst, arith}
+use Rattle.std.proofs.Common.{inl, inr, arith}
 use Rattle.std.proofs.lemmas.Int.{ints}
 use Rattle.std.proofs.lemmas.List.{nil_from_length}
-use Rattle.cs_ranges.proofs.Meeting.{Meets, Meets-start, Meets-left, Meets-right, Meets-end}
+use Rattle.cs_ranges.proofs.Meeting.{Meets-start, Meets-left, Meets-right, Meets-end}
 use Rattle.cs_ranges.proofs.range_set.RangeSet.intersect.Goals.{then-a-b, else-a-b, in_default, in_default-2}
 use Rattle.cs_ranges.proofs.range_set.RangeSet.intersect.Goals as goal
 

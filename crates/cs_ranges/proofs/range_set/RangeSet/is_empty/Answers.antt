@@ -1,8 +1,8 @@
-use Rattle.std.proofs.Common.{◌≡◌, Bool, true, false, ◌==◌, List, [], ◌∷◌, length, ap, ◌∙◌, arith}
+use Rattle.std.proofs.Common.{◌≡◌, Bool, false, ◌==◌, List, [], ◌∷◌, length, ap, ◌∙◌, arith}
 use Rattle.std.specs.Bool.{MatchBool}
 use Rattle.std.proofs.lemmas.Bool.{or_left, ne_eqb}
 use Rattle.cs_ranges.specs.declared.range_set.Interval.{Interval}
-use Rattle.cs_ranges.specs.RangeSet.{contains, IsEmpty, IsInhabited, IsSpread}
+use Rattle.cs_ranges.specs.RangeSet.{IsEmpty, IsInhabited, IsSpread}
 use Rattle.cs_ranges.proofs.Members.{contains-nil, contains-cons, in_interval-low}
 use Rattle.cs_ranges.proofs.range_set.RangeSet.is_empty.Goals as goal
 

@@ -1,10 +1,10 @@
-use Rattle.std.proofs.Common.{◌≡◌, ◌≢◌, ◌⊎◌, ◌≤◌, ℤ, true, inl, inr, pos, List, [], ◌∷◌, length, get_or, sym, ap, ◌∙◌, subst, arith, rules, FitsSigned, of_z}
+use Rattle.std.proofs.Common.{◌≡◌, ◌≢◌, ◌⊎◌, true, inl, inr, pos, List, [], ◌∷◌, length, get_or, sym, ap, ◌∙◌, subst, arith, FitsSigned, of_z}
 use Rattle.std.specs.Int.{w128}
 use Rattle.std.proofs.lemmas.Bool.{or_left, or_right}
 use Rattle.std.proofs.lemmas.Int.{ints, to_z-of_z}
 use Rattle.cs_ranges.specs.declared.range_set.Interval.{Interval}
 use Rattle.cs_ranges.specs.Interval.{in_interval}
-use Rattle.cs_ranges.specs.RangeSet.{contains, IsEmpty, IsSpread, IsOnly, HasTwo}
+use Rattle.cs_ranges.specs.RangeSet.{IsEmpty, IsSpread, IsOnly, HasTwo}
 use Rattle.cs_ranges.proofs.Members.{contains-nil, contains-cons, contains-single, in_interval_tells, in_interval-low, in_interval-high}
 use Rattle.cs_ranges.proofs.Spread.{IsSpreadFrom-at}
 use Rattle.cs_ranges.proofs.range_set.RangeSet.is_single.Goals as goal

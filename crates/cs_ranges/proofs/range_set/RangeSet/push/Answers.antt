@@ -1,10 +1,10 @@
-use Rattle.std.proofs.Common.{◌≡◌, ◌⊎◌, ◌<◌, ◌-◌, ◌+◌, Bool, true, false, ◌||◌, cond, ℕ, ℤ, ◌<ℤ◌, ◌≤ℤ◌, ◌+ℤ◌, pos, List, [], ◌∷◌, ◌++◌, length, take, refl, sym, ap, ◌∙◌, subst, arith, is_ok}
+use Rattle.std.proofs.Common.{◌≡◌, Bool, true, false, ◌||◌, cond, ℤ, ◌≤ℤ◌, ◌+ℤ◌, pos, List, [], ◌∷◌, ◌++◌, refl, sym, ap, ◌∙◌, subst, arith}
 use Rattle.std.specs.Int.{int_max}
 use Rattle.std.proofs.lemmas.Int.{ints, clamps}
 use Rattle.std.proofs.lemmas.List.{nil_from_length}
 use Rattle.cs_ranges.specs.declared.range_set.Interval.{Interval}
-use Rattle.cs_ranges.specs.Interval.{IsInside, in_interval}
-use Rattle.cs_ranges.specs.RangeSet.{contains, IsSpread, IsSpreadFrom, last_low}
+use Rattle.cs_ranges.specs.Interval.{in_interval}
+use Rattle.cs_ranges.specs.RangeSet.{contains, IsSpread, last_low}
 use Rattle.cs_ranges.proofs.LastItem.{front_last, front_new}
 use Rattle.cs_ranges.proofs.Members.{contains-push, in_interval_tells}
 use Rattle.cs_ranges.proofs.Spread.{IsSpreadFrom-last, IsSpreadFrom-replace_last, IsSpreadFrom-push, last_low_or-push}
@@ -75,9 +75,9 @@ invariant_of-self-2 c =
           let split = front_last v.items _ _ len w.if-len-gt0.true w.index-last.ensures in
           let old = subst IsSpread split c.self.invariant in
           let h = IsSpreadFrom-last _ _ _ old in
-          subst P (sym split) (IsSpreadFrom-push _ _ _ _ old (omega (arith, ints, h.1, h.2, h.3)) c.requires.ordered c.requires.high_inside.1)
+          subst P (sym split) (IsSpreadFrom-push _ _ _ _ old (omega (arith, ints, h.1, h.2, h.3)) c.requires.proper.ordered c.requires.proper.upto)
       | else-len-gt0 w ↦
-          subst P (sym (nil_from_length v.items (omega arith))) (c.requires.low_inside.0, c.requires.ordered, c.requires.high_inside.1, tt)
+          subst P (sym (nil_from_length v.items (omega arith))) (c.requires.proper.from, c.requires.proper.ordered, c.requires.proper.upto, tt)
     ])
 
 pub returns-clause-members : goal.returns-clause-members

@@ -5,7 +5,7 @@ use Rattle.cs_ranges.specs.declared.range_set.Interval.{Interval}
 use Rattle.cs_ranges.specs.Interval.{in_interval}
 use Rattle.cs_ranges.specs.RangeSet.{IsNearest}
 use Rattle.cs_ranges.proofs.Members.{in_interval_tells}
-use Rattle.cs_ranges.proofs.range_set.nearest_to_zero.Goals as goal
+use Rattle.cs_ranges.proofs.range_set.query.nearest_to_zero.Goals as goal
 
 in_interval-clamp : (i : Interval) (x : ℤ) → i.low ≤ℤ i.high → x ≡ int_max i.low (int_min (pos 0) i.high) → in_interval i x ≡ true
 in_interval-clamp i x h e = grind (arith, ints, clamps, in_interval_tells i x)

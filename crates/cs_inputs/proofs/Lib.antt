@@ -1,0 +1,4 @@
+pub mod CellsText
+pub mod PathOrderLaws
+pub mod SortedEntries
+pub mod InputNumbers

@@ -1,0 +1,105 @@
+//! What is asked of a set: none of these questions takes memory.
+ghost use Rattle.std.specs.Prelude.{◌≡◌, ℤ, ◌⊎◌, ◌≤ℤ◌, IsTrue, IfSome, MatchOption};
+ghost use Rattle.std.specs.Bool.{MatchBool};
+ghost use Rattle.cs_ranges.specs.Interval.{IsInside, in_interval};
+ghost use Rattle.cs_ranges.specs.RangeSet.{contains, IsEmpty, IsInhabited, IsOnly, HasTwo, IsLeast, IsGreatest, IsNearest, IsLeastAbs, IsCount};
+
+use super::{Interval, RangeSet};
+use std::cmp::Ordering;
+
+impl RangeSet {
+    /// Whether the set has the number.
+    pub fn contains(&self, number: i128) -> bool
+        ensures { result ≡ contains self.now number }
+    {
+        let at = self.intervals.partition_point(|i| i.high < number);
+        at < self.intervals.len() && self.intervals[at].low <= number
+    }
+
+    /// Whether the set has no number.
+    pub fn is_empty(&self) -> bool
+        ensures { MatchBool result (IsEmpty self.now) (IsInhabited self.now) }
+    {
+        self.intervals.is_empty()
+    }
+
+    /// The set's number, where it has exactly one.
+    pub fn is_single(&self) -> Option<i128>
+        ensures { MatchOption result (IsEmpty self.now ⊎ HasTwo self.now) (IsOnly self.now) }
+    {
+        match self.intervals.as_slice() {
+            [only] if only.low == only.high => Some(only.low),
+            _ => None,
+        }
+    }
+
+    /// The number of least absolute value, the positive one of two.
+    pub fn least_abs(&self) -> Option<i128>
+        ensures { MatchOption result (IsEmpty self.now) (IsLeastAbs self.now) }
+    {
+        let mut least = None;
+        for interval in &self.intervals {
+            let nearest = nearest_to_zero(*interval);
+            least = Some(match least {
+                None => nearest,
+                Some(found) => nearer(found, nearest),
+            });
+        }
+        least
+    }
+
+    /// The least number.
+    pub fn least(&self) -> Option<i128>
+        ensures least { MatchOption result (IsEmpty self.now) (IsLeast self.now) }
+        ensures inside { IfSome result IsInside }
+    {
+        match self.intervals.as_slice() {
+            [first, ..] => Some(first.low),
+            [] => None,
+        }
+    }
+
+    /// The greatest number.
+    pub fn greatest(&self) -> Option<i128>
+        ensures greatest { MatchOption result (IsEmpty self.now) (IsGreatest self.now) }
+        ensures inside { IfSome result IsInside }
+    {
+        match self.intervals.as_slice() {
+            [.., last] => Some(last.high),
+            [] => None,
+        }
+    }
+
+    /// How many numbers the set has.
+    pub fn count(&self) -> u128
+        ensures { IsCount self.now result }
+    {
+        let mut count = 0;
+        for interval in &self.intervals {
+            count += interval.high.abs_diff(interval.low) + 1;
+        }
+        count
+    }
+}
+
+/// The number of an interval that is nearest to zero.
+fn nearest_to_zero(interval: Interval) -> i128
+    requires { interval.low ≤ℤ interval.high }
+    ensures member { IsTrue (in_interval interval result) }
+    ensures nearest { (y : ℤ) → IsTrue (in_interval interval y) → IsNearest result y }
+{
+    0i128.clamp(interval.low, interval.high)
+}
+
+/// The one of two numbers that is nearer to zero, the positive one where both are as near.
+fn nearer(a: i128, b: i128) -> i128
+    ensures one { (result ≡ a) ⊎ (result ≡ b) }
+    ensures not_behind_a { IsNearest result a }
+    ensures not_behind_b { IsNearest result b }
+{
+    match a.unsigned_abs().cmp(&b.unsigned_abs()) {
+        Ordering::Less => a,
+        Ordering::Equal => a.max(b),
+        Ordering::Greater => b,
+    }
+}
