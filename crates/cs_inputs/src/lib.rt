@@ -4,6 +4,8 @@
 mod cells;
 mod inputs;
 mod path;
+#[cfg(test)]
+mod tests;
 mod text;
 
 pub use cells::Cells;
