@@ -1,3 +1,5 @@
 pub mod PathOrder
 pub mod PathText
 pub mod Inputs
+pub mod InputText
+pub mod Reading

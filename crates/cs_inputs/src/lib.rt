@@ -2,13 +2,21 @@
 #![tactic(auto)]
 
 mod cells;
+mod decimals;
+mod input_text;
 mod inputs;
+mod number;
 mod path;
+mod refusal;
+mod root_text;
+mod split;
 #[cfg(test)]
 mod tests;
 mod text;
 
 pub use cells::Cells;
+pub use input_text::parse;
 pub use inputs::Inputs;
 pub use path::{Path, Root};
+pub use refusal::PathRefusal;
 pub use text::print;

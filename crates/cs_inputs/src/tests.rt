@@ -56,3 +56,89 @@ fn inputs_stand_in_the_order_of_their_paths(rt: HostRuntime) -> Result<(), Fail>
     assert!(rt; inputs.list()[0].0 == first && inputs.list()[1].0 == third);
     Ok(())
 }
+
+#[test]
+fn reads_inputs_from_their_text(rt: HostRuntime) -> Result<(), Fail> {
+    let alloc = rt.alloc();
+    for (text, number) in [
+        ("p@8@0=-1", -1),
+        ("int=007", 7),
+        ("call=-0", 0),
+        ("$g@0=18446744073709551615", 18_446_744_073_709_551_615),
+        (
+            "call#18446744073709551615=-9223372036854775808",
+            -9_223_372_036_854_775_808,
+        ),
+        ("call#1@4=000000000000000000000000000000000000001", 1),
+        ("call#2.400000@18446744073709551615=3", 3),
+        ("call#1.0@0@16=4", 4),
+        ("malloc#2=1", 1),
+    ] {
+        let (path, read) = parse(alloc, text.as_bytes())?;
+        assert_eq!(rt; read, number, "{text}");
+        let mut again = print(alloc, &path)?.as_bytes().to_vec(alloc)?;
+        again.push(b'=')?;
+        assert!(rt; text.as_bytes().starts_with(again.as_slice()), "{text}");
+    }
+    Ok(())
+}
+
+#[test]
+fn refuses_what_is_no_input(rt: HostRuntime) -> Result<(), Fail> {
+    let alloc = rt.alloc();
+    for (text, refusal) in [
+        ("", PathRefusal::BadPath),
+        ("=1", PathRefusal::BadPath),
+        ("p", PathRefusal::BadPath),
+        ("p@8", PathRefusal::BadPath),
+        ("1p=1", PathRefusal::BadPath),
+        (" p=1", PathRefusal::BadPath),
+        ("p@=1", PathRefusal::BadPath),
+        ("p@08=1", PathRefusal::BadPath),
+        ("p@+8=1", PathRefusal::BadPath),
+        ("p@-8=1", PathRefusal::BadPath),
+        ("p@18446744073709551616=1", PathRefusal::BadPath),
+        ("p@@0=1", PathRefusal::BadPath),
+        ("$g=1", PathRefusal::BadPath),
+        ("$@0=1", PathRefusal::BadPath),
+        ("$1@0=1", PathRefusal::BadPath),
+        ("$call#1@0=1", PathRefusal::BadPath),
+        ("call#0=1", PathRefusal::BadPath),
+        ("call#01=1", PathRefusal::BadPath),
+        ("call#=1", PathRefusal::BadPath),
+        ("call#1.=1", PathRefusal::BadPath),
+        ("call#1.0=1", PathRefusal::BadPath),
+        ("call#1.00@0=1", PathRefusal::BadPath),
+        ("call#1.400001@0=1", PathRefusal::BadPath),
+        ("call#1.0.0@0=1", PathRefusal::BadPath),
+        ("malloc#0=1", PathRefusal::BadPath),
+        ("malloc#1@0=1", PathRefusal::BadPath),
+        ("malloc#1.0@0=1", PathRefusal::BadPath),
+        ("p$=x", PathRefusal::BadPath),
+        ("p=", PathRefusal::BadNumber),
+        ("p=-", PathRefusal::BadNumber),
+        ("p=+1", PathRefusal::BadNumber),
+        ("p=--1", PathRefusal::BadNumber),
+        ("p= 1", PathRefusal::BadNumber),
+        ("p=1 ", PathRefusal::BadNumber),
+        ("p=0x1", PathRefusal::BadNumber),
+        ("p=q=1", PathRefusal::BadNumber),
+        (
+            "p=0000000000000000000000000000000000000001",
+            PathRefusal::BadNumber,
+        ),
+        ("p=18446744073709551616", PathRefusal::TooWide),
+        ("p=-9223372036854775809", PathRefusal::TooWide),
+        ("p=-18446744073709551616", PathRefusal::TooWide),
+        (
+            "p=999999999999999999999999999999999999999",
+            PathRefusal::TooWide,
+        ),
+    ] {
+        match parse(alloc, text.as_bytes()) {
+            Ok(_) => assert!(rt; false, "{text}"),
+            Err(found) => assert_eq!(rt; found, refusal, "{text}"),
+        }
+    }
+    Ok(())
+}

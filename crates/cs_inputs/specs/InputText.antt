@@ -1,0 +1,64 @@
+-- The text of an input, which is a path's, an `=` and a number's; and why another text is refused.
+use Rattle.std.specs.Prelude.{◌≡◌, ℕ, ◌<◌, ◌≤◌, ◌-◌, ◌^◌, ℤ, pos, ◌-ℤ◌, ◌≤ℤ◌, Bool, ◌&&◌, ◌==◌, not, nat_le, IsTrue, ◌⊎◌, List, ◌++◌, length, codes}
+use Rattle.std.specs.List.{list_all}
+use Rattle.std.specs.Str.Parse.{digits_value}
+use Rattle.cs_inputs.specs.declared.path.Path.{Path}
+use Rattle.cs_inputs.specs.declared.refusal.PathRefusal.{PathRefusal}
+use Rattle.cs_inputs.specs.declared.refusal.PathRefusal.TheVariants.{BadPath, BadNumber, TooWide, Memory}
+use Rattle.cs_inputs.specs.PathText.{path_text, HasText}
+
+-- a decimal digit
+abbrev pub is_digit : ℕ → Bool
+is_digit b = nat_le 48 b && nat_le b 57
+
+-- one to 39 digits, of which zeros may be the first
+pub record AreDigits (digits : List ℕ) : Type 0 where
+  pub all : IsTrue (list_all is_digit digits)
+  pub some : 0 < length digits
+  pub few : length digits ≤ 39
+
+-- digits that have the number as their value in base ten
+pub record AreDigitsOf (digits : List ℕ) (number : ℤ) : Type 0 where
+  pub are_digits : AreDigits digits
+  pub value : number ≡ pos (digits_value 10 digits)
+
+-- the digits of the number, or a `-` and the digits of its opposite
+abbrev pub SpellsNumber : List ℕ → ℤ → Type 0
+SpellsNumber text number = AreDigitsOf text number ⊎ ((digits : List ℕ) × (text ≡ codes "-" ++ digits) × AreDigitsOf digits (pos 0 -ℤ number))
+
+-- a number that an input may have: some integer type of C holds it
+pub record IsInputNumber (number : ℤ) : Type 0 where
+  pub from_least : (pos 0 -ℤ pos (2 ^ 63)) ≤ℤ number
+  pub to_greatest : number ≤ℤ pos (2 ^ 64 - 1)
+
+-- the path has this text
+pub record IsTextOf (text : List ℕ) (path : Path) : Type 0 where
+  pub has_text : HasText path
+  pub is : path_text path ≡ text
+
+-- the first `=` of a text has these bytes before it and those behind it
+pub record IsCutAtFirst (text before behind : List ℕ) : Type 0 where
+  pub whole : text ≡ before ++ codes "=" ++ behind
+  pub first : IsTrue (list_all (λ b. not (b == 61)) before)
+
+-- the path's text stands before the first `=`, and these bytes behind it
+pub record NamesPath (text : List ℕ) (path : Path) (behind : List ℕ) : Type 0 where
+  pub before : List ℕ
+  pub cut : IsCutAtFirst text before behind
+  pub names : IsTextOf before path
+
+-- the text is the path's, an `=` and the number's
+pub record SpellsInput (text : List ℕ) (path : Path) (number : ℤ) : Type 0 where
+  pub spelling : List ℕ
+  pub has_text : HasText path
+  pub is : text ≡ path_text path ++ codes "=" ++ spelling
+  pub spells : SpellsNumber spelling number
+  pub within : IsInputNumber number
+
+-- why a text is refused: no path's text stands before the first `=`, or there is no `=`; the path is one, but what stands
+-- behind the `=` is no number; the number is outside. No text is refused for want of memory.
+abbrev pub IsRefusedFor : PathRefusal → List ℕ → Type 0
+IsRefusedFor BadPath text = (path : Path) (behind : List ℕ) → NamesPath text path behind → ⊥
+IsRefusedFor BadNumber text = (path : Path) × (behind : List ℕ) × NamesPath text path behind × ((number : ℤ) → SpellsNumber behind number → ⊥)
+IsRefusedFor TooWide text = (path : Path) × (behind : List ℕ) × (number : ℤ) × NamesPath text path behind × SpellsNumber behind number × (IsInputNumber number → ⊥)
+IsRefusedFor Memory text = ⊥

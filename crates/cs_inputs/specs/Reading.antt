@@ -1,0 +1,70 @@
+-- What the readers of parts of an input's text give: the contracts of `parse`'s own functions cite it.
+use Rattle.std.specs.Prelude.{◌≡◌, ℕ, ◌<◌, ◌≤◌, ◌^◌, ℤ, Bool, ◌==◌, not, IsTrue, List, [], ◌∷◌, ◌++◌, Option, Result, Ok, Err, MatchOption, codes}
+use Rattle.std.specs.List.{All, list_all}
+use Rattle.std.specs.Fmt.{decimal}
+use Rattle.std.specs.Str.Parse.{digits_value}
+use Rattle.cs_inputs.specs.declared.path.Root.{Root}
+use Rattle.cs_inputs.specs.declared.refusal.PathRefusal.{PathRefusal}
+use Rattle.cs_inputs.specs.declared.refusal.PathRefusal.TheVariants.{BadPath, BadNumber, TooWide, Memory}
+use Rattle.cs_inputs.specs.PathText.{root_text, cells_text, HasRootText}
+use Rattle.cs_inputs.specs.InputText.{AreDigits, SpellsNumber, IsInputNumber}
+
+-- a text is empty or begins with the mark
+abbrev pub IsEmptyOrAt : ℕ → List ℕ → Type 0
+IsEmptyOrAt mark [] = Unit {0}
+IsEmptyOrAt mark (b ∷ bs) = b ≡ mark
+
+-- a text in two, before its first mark; the second part is empty where there is none
+pub record SplitsBefore (mark : ℕ) (text before behind : List ℕ) : Type 0 where
+  pub whole : text ≡ before ++ behind
+  pub none : IsTrue (list_all (λ b. not (b == mark)) before)
+  pub at : IsEmptyOrAt mark behind
+
+-- a thing of the kind is found, or there is none
+abbrev pub Finds : {X : Type 0} → (X → Type 0) → Option X → Type 0
+Finds P found = MatchOption found ((x : _) → P x → ⊥) P
+
+-- a thing of the kind is read; or there is none, and the path is bad; or there was no memory for it
+abbrev pub Reads : {X : Type 0} → (X → Type 0) → Result X PathRefusal → Type 0
+Reads P (Ok x) = P x
+Reads P (Err BadPath) = (x : _) → P x → ⊥
+Reads P (Err BadNumber) = ⊥
+Reads P (Err TooWide) = ⊥
+Reads P (Err Memory) = Unit {0}
+
+-- a number of 64 bits with its text
+pub record IsDecimalOf (text : List ℕ) (number : ℕ) : Type 0 where
+  pub fits : number < 2 ^ 64
+  pub is : decimal number ≡ text
+
+-- the root has this text
+pub record IsRootOf (text : List ℕ) (root : Root) : Type 0 where
+  pub has_text : HasRootText root
+  pub is : root_text root ≡ text
+
+-- the cells have this text
+pub record AreCellsOf (text : List ℕ) (cells : List ℕ) : Type 0 where
+  pub fit : All (λ offset. offset < 2 ^ 64) cells
+  pub is : cells_text cells ≡ text
+
+-- a text begins with a cell
+pub record BeginsWithCell (text : List ℕ) (offset : ℕ) (behind : List ℕ) : Type 0 where
+  pub fits : offset < 2 ^ 64
+  pub whole : text ≡ codes "@" ++ decimal offset ++ behind
+  pub at : IsEmptyOrAt 64 behind
+
+-- what a text says of a number, or why it says none
+abbrev pub IsNumberRead : List ℕ → Result ℤ PathRefusal → Type 0
+IsNumberRead text (Ok number) = SpellsNumber text number × IsInputNumber number
+IsNumberRead text (Err BadPath) = ⊥
+IsNumberRead text (Err BadNumber) = (number : ℤ) → SpellsNumber text number → ⊥
+IsNumberRead text (Err TooWide) = (number : ℤ) × SpellsNumber text number × (IsInputNumber number → ⊥)
+IsNumberRead text (Err Memory) = ⊥
+
+-- the value of digits, or why they have none of 64 bits
+abbrev pub IsMagnitudeRead : List ℕ → Result ℕ PathRefusal → Type 0
+IsMagnitudeRead text (Ok magnitude) = AreDigits text × (magnitude ≡ digits_value 10 text) × (magnitude < 2 ^ 64)
+IsMagnitudeRead text (Err BadPath) = ⊥
+IsMagnitudeRead text (Err BadNumber) = AreDigits text → ⊥
+IsMagnitudeRead text (Err TooWide) = AreDigits text × (2 ^ 64 ≤ digits_value 10 text)
+IsMagnitudeRead text (Err Memory) = ⊥

@@ -1,0 +1,38 @@
+//! Decimal digits and the numbers that they spell.
+ghost use Rattle.std.specs.Prelude.{◌≡◌, ◌<◌, ◌^◌, IsTrue, SomeIff, length};
+ghost use Rattle.std.specs.List.{list_all};
+ghost use Rattle.std.specs.Str.Parse.{digits_value};
+ghost use Rattle.cs_inputs.specs.InputText.{is_digit};
+ghost use Rattle.cs_inputs.specs.Reading.{Finds, IsDecimalOf};
+
+use std::str;
+
+/// Whether each byte is a decimal digit.
+pub fn are_digits(bytes: &[u8]) -> bool
+    ensures { result ≡ list_all is_digit bytes.now }
+{
+    bytes.iter().all(|byte| matches!(*byte, b'0'..=b'9'))
+}
+
+/// The value of digits in base ten, where 64 bits hold it.
+pub fn value_of(digits: &[u8]) -> Option<u64>
+    requires all { IsTrue (list_all is_digit digits.now) }
+    requires some { 0 < length digits.now }
+    ensures { SomeIff result (digits_value 10 digits.now < 2 ^ 64) (digits_value 10 digits.now) }
+{
+    match str::from_utf8(digits) {
+        Ok(text) => text.parse::<u64>().ok(),
+        Err(_) => None,
+    }
+}
+
+/// The number of 64 bits whose text this is: digits of which the first is no zero, or one zero.
+pub fn number_with_text(text: &[u8]) -> Option<u64>
+    ensures { Finds (IsDecimalOf text.now) result }
+{
+    let (first, rest) = text.split_first()?;
+    if !are_digits(text) || (*first == b'0' && !rest.is_empty()) {
+        return None;
+    }
+    value_of(text)
+}

@@ -1,0 +1,39 @@
+//! The number of an input.
+ghost use Rattle.cs_inputs.specs.Reading.{IsMagnitudeRead, IsNumberRead};
+
+use crate::decimals::{are_digits, value_of};
+use crate::refusal::PathRefusal;
+
+/// The most digits of a number.
+const MOST_DIGITS: usize = 39;
+
+/// The number that a text spells: one to 39 digits, which may begin with zeros, behind a `-` or not.
+///
+/// It is `BadNumber` where the text spells none, and `TooWide` where the number is outside -2^63 to 2^64-1.
+pub fn number_of(text: &[u8]) -> Result<i128, PathRefusal>
+    ensures { IsNumberRead text.now result }
+{
+    match text.strip_prefix(b"-") {
+        Some(digits) => {
+            let number = -i128::from(magnitude_of(digits)?);
+            if number < i128::from(i64::MIN) {
+                return Err(PathRefusal::TooWide);
+            }
+            Ok(number)
+        }
+        None => Ok(i128::from(magnitude_of(text)?)),
+    }
+}
+
+// The value of one to 39 digits.
+fn magnitude_of(digits: &[u8]) -> Result<u64, PathRefusal>
+    ensures { IsMagnitudeRead digits.now result }
+{
+    if digits.is_empty() || MOST_DIGITS < digits.len() || !are_digits(digits) {
+        return Err(PathRefusal::BadNumber);
+    }
+    match value_of(digits) {
+        Some(magnitude) => Ok(magnitude),
+        None => Err(PathRefusal::TooWide),
+    }
+}
