@@ -8,7 +8,7 @@ append-nil : (xs : List ℕ) → xs ++ [] ≡ xs
 append-nil [] = refl
 append-nil (x ∷ xs) = ap (λ ys. x ∷ ys) (append-nil xs)
 
-cells_text-push : (cells : List ℕ) (cell : ℕ) → cells_text (cells ++ cell ∷ []) ≡ cells_text cells ++ 64 ∷ decimal cell
+pub cells_text-push : (cells : List ℕ) (cell : ℕ) → cells_text (cells ++ cell ∷ []) ≡ cells_text cells ++ 64 ∷ decimal cell
 cells_text-push [] cell = ap (λ ds. 64 ∷ ds) (append-nil (decimal cell))
 cells_text-push (c ∷ cs) cell = ap (λ rest. 64 ∷ (decimal c ++ rest)) (cells_text-push cs cell) ∙ ap (λ rest. 64 ∷ rest) (sym (append_assoc (decimal c) (cells_text cs) (64 ∷ decimal cell)))
 

@@ -2,3 +2,8 @@ pub mod CellsText
 pub mod PathOrderLaws
 pub mod SortedEntries
 pub mod InputNumbers
+pub mod Splits
+pub mod DecimalTexts
+pub mod RootTexts
+pub mod CellCuts
+pub mod PathTexts

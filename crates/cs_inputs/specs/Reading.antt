@@ -1,5 +1,5 @@
 -- What the readers of parts of an input's text give: the contracts of `parse`'s own functions cite it.
-use Rattle.std.specs.Prelude.{◌≡◌, ℕ, ◌<◌, ◌≤◌, ◌^◌, ℤ, Bool, ◌==◌, not, IsTrue, List, [], ◌∷◌, ◌++◌, Option, Result, Ok, Err, MatchOption, codes}
+use Rattle.std.specs.Prelude.{◌≡◌, ℕ, ◌<◌, ◌≤◌, ◌^◌, ℤ, Bool, false, ◌||◌, ◌==◌, not, IsTrue, List, [], ◌∷◌, ◌++◌, Option, Result, Ok, Err, MatchOption, codes, length}
 use Rattle.std.specs.List.{All, list_all}
 use Rattle.std.specs.Fmt.{decimal}
 use Rattle.std.specs.Str.Parse.{digits_value}
@@ -31,6 +31,11 @@ Reads P (Err BadPath) = (x : _) → P x → ⊥
 Reads P (Err BadNumber) = ⊥
 Reads P (Err TooWide) = ⊥
 Reads P (Err Memory) = Unit {0}
+
+-- whether bytes begin with no zero, or are one byte
+abbrev pub has_no_leading_zero : List ℕ → Bool
+has_no_leading_zero [] = false
+has_no_leading_zero (b ∷ bs) = not (b == 48) || (length bs == 0)
 
 -- a number of 64 bits with its text
 pub record IsDecimalOf (text : List ℕ) (number : ℕ) : Type 0 where

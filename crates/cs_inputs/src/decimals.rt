@@ -1,8 +1,9 @@
 //! Decimal digits and the numbers that they spell.
-ghost use Rattle.std.specs.Prelude.{◌≡◌, ◌<◌, ◌^◌, IsTrue, SomeIff, length};
+ghost use Rattle.std.specs.Prelude.{◌≡◌, ◌<◌, ◌^◌, ◌&&◌, IsTrue, SomeIff, length};
 ghost use Rattle.std.specs.List.{list_all};
 ghost use Rattle.std.specs.Str.Parse.{digits_value};
 ghost use Rattle.cs_inputs.specs.InputText.{is_digit};
+ghost use Rattle.cs_inputs.specs.Reading as reading;
 ghost use Rattle.cs_inputs.specs.Reading.{Finds, IsDecimalOf};
 
 use std::str;
@@ -30,9 +31,22 @@ pub fn value_of(digits: &[u8]) -> Option<u64>
 pub fn number_with_text(text: &[u8]) -> Option<u64>
     ensures { Finds (IsDecimalOf text.now) result }
 {
-    let (first, rest) = text.split_first()?;
-    if !are_digits(text) || (*first == b'0' && !rest.is_empty()) {
-        return None;
+    if is_plain(text) { value_of(text) } else { None }
+}
+
+// Whether bytes are digits of which the first is no zero, or one digit.
+fn is_plain(bytes: &[u8]) -> bool
+    ensures { result ≡ (list_all is_digit bytes.now && reading.has_no_leading_zero bytes.now) }
+{
+    are_digits(bytes) && has_no_leading_zero(bytes)
+}
+
+// Whether bytes begin with no zero, or are one byte.
+fn has_no_leading_zero(bytes: &[u8]) -> bool
+    ensures { result ≡ reading.has_no_leading_zero bytes.now }
+{
+    match bytes.split_first() {
+        Some((first, rest)) => *first != b'0' || rest.is_empty(),
+        None => false,
     }
-    value_of(text)
 }

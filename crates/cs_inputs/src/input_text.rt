@@ -68,7 +68,9 @@ fn cells_of(alloc: Global, text: &[u8]) -> Result<Cells, PathRefusal>
     let mut cells = Cells::new(alloc);
     let mut rest = text;
     while !rest.is_empty() {
-        let (offset, behind) = first_cell(rest).ok_or(PathRefusal::BadPath)?;
+        let Some((offset, behind)) = first_cell(rest) else {
+            return Err(PathRefusal::BadPath);
+        };
         cells.push(offset)?;
         rest = behind;
     }
