@@ -1,12 +1,11 @@
 -- The cells that a text begins with, one after the other, and that there is one list of them: for `first_cell` and
 -- `cells_of`.
-use Rattle.std.proofs.Common.{◌≡◌, ℕ, ◌+◌, ◌<◌, ◌≤◌, ◌^◌, zero, suc, Bool, true, false, not, List, [], ◌∷◌, ◌++◌, length, drop, ap, sym, ◌∙◌, refl, subst, append_assoc, length-append, arith}
+use Rattle.std.proofs.Common.{◌≡◌, ℕ, ◌<◌, ◌^◌, true, not, List, [], ◌∷◌, ◌++◌, length, drop, ap, sym, ◌∙◌, refl, append_assoc, arith}
 use Rattle.std.specs.Prelude.{◌==◌}
 use Rattle.std.specs.List.{All, list_all}
 use Rattle.std.specs.Fmt.{decimal}
 use Rattle.std.proofs.lemmas.Fmt.{decimal_injective, digits_decimal}
-use Rattle.std.proofs.lemmas.List.{append-nil}
-use Rattle.std.proofs.lemmas.List.Elements.{All-nil, All-head, All-tail, All-push}
+use Rattle.std.proofs.lemmas.List.Elements.{All-head, All-tail, All-push}
 use Rattle.cs_inputs.specs.InputText.{is_digit}
 use Rattle.cs_inputs.specs.PathText.{cells_text}
 use Rattle.cs_inputs.specs.Reading.{SplitsBefore, IsEmptyOrAt, AreCellsOf, BeginsWithCell, IsDecimalOf}
@@ -48,9 +47,6 @@ pub record AreReadTo (text cells rest : List ℕ) : Type 0 where
   pub fit : All (λ offset. offset < 2 ^ 64) cells
   pub only : (others : List ℕ) → AreCellsOf text others → (more : List ℕ) × AreCellsOf rest more
 
-pub none_read : (text : List ℕ) → AreReadTo text [] text
-none_read text = record { whole = refl; fit = All-nil (λ o. o < 2 ^ 64); only = λ others cells. (others, cells) }
-
 behind_cell : (rest : List ℕ) (offset : ℕ) (behind : List ℕ) → BeginsWithCell rest offset behind → (more : List ℕ) → AreCellsOf rest more → (others : List ℕ) × AreCellsOf behind others
 behind_cell rest offset behind begins [] cells = absurd (no_tail 64 (decimal offset ++ behind) (sym begins.whole ∙ sym cells.is))
 behind_cell rest offset behind begins (c ∷ cs) cells =
@@ -64,19 +60,12 @@ one_more text cells rest offset behind read begins = record {
   only = λ others are. let more = read.only others are in behind_cell rest offset behind begins more.0 more.1;
 }
 
-pub all_read : (text cells rest : List ℕ) → AreReadTo text cells rest → length rest ≡ 0 → AreCellsOf text cells
-all_read text cells [] read empty = record { fit = read.fit; is = sym (append-nil (cells_text cells)) ∙ sym read.whole }
-all_read text cells (r ∷ rs) read empty = absurd (omega arith)
-
 pub not_read : (text cells rest : List ℕ) → AreReadTo text cells rest → 0 < length rest → ((offset : ℕ) (behind : List ℕ) → BeginsWithCell rest offset behind → ⊥) → (others : List ℕ) → AreCellsOf text others → ⊥
 not_read text cells rest read some none others are = let more = read.only others are in at more.0 more.1
   where
     at : (more : List ℕ) → AreCellsOf rest more → ⊥
     at [] h = omega (arith, ap length h.is)
     at (c ∷ cs) h = none c (cells_text cs) (begins_with_first rest c cs h)
-
-pub shorter : (rest : List ℕ) (offset : ℕ) (behind : List ℕ) → BeginsWithCell rest offset behind → length behind < length rest
-shorter rest offset behind begins = omega (arith, ap length begins.whole, length-append (64 ∷ decimal offset) behind)
 
 -- ---- one list of cells has a text
 pub same_cells : (text : List ℕ) (one other : List ℕ) → AreCellsOf text one → AreCellsOf text other → one ≡ other

@@ -1,5 +1,5 @@
 -- Which texts are the decimal text of a number of 64 bits, and of which: for `value_of` and `number_with_text`.
-use Rattle.std.proofs.Common.{◌≡◌, ℕ, ◌+◌, ◌<◌, ◌≤◌, ◌^◌, zero, suc, Bool, true, false, not, ◌&&◌, ◌||◌, eqb-true, List, [], ◌∷◌, length, get_or, IsTrue, Option, Some, None, Result, Ok, Err, ap, sym, ◌∙◌, refl, subst, arith, rules}
+use Rattle.std.proofs.Common.{◌≡◌, ℕ, ◌<◌, ◌^◌, zero, suc, Bool, true, false, not, ◌&&◌, ◌||◌, eqb-true, List, [], ◌∷◌, length, get_or, Option, Some, None, Result, Ok, Err, ap, sym, ◌∙◌, refl, subst, arith, rules}
 use Rattle.std.specs.Prelude.{◌==◌, SomeIff}
 use Rattle.std.specs.List.{list_all}
 use Rattle.std.specs.Result.{result_ok, OkIff}

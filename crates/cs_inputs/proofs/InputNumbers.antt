@@ -1,8 +1,7 @@
 -- The numbers of paths before and after one is set: for the contract of `Inputs::set`.
-use Rattle.std.proofs.Common.{◌≡◌, ◌≢◌, ℕ, List, subst, sym, ◌∙◌, ap, refl, true, false}
-use Rattle.std.specs.Prelude.{ℤ, pos, Some, None, Option, unwrap_or, Result, Ok, Err, OnOk, OnErr, MatchResult}
-use Rattle.std.specs.Map.{lookup}
-use Rattle.std.specs.BTreeMap.{is_at, insert_entry}
+use Rattle.std.proofs.Common.{◌≡◌, ◌≢◌, ℕ, List, subst, sym, ap, refl, false}
+use Rattle.std.specs.Prelude.{ℤ, pos, Option, unwrap_or, Result, Ok, Err, OnOk, OnErr, MatchResult}
+use Rattle.std.specs.BTreeMap.{insert_entry}
 use Rattle.std.specs.Ordering.{is_eq}
 use Rattle.std.specs.declared.cmp.Ordering.{Ordering}
 use Rattle.std.specs.declared.cmp.Ordering.TheVariants.{Less, Equal, Greater}

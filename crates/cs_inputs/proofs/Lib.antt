@@ -7,3 +7,5 @@ pub mod DecimalTexts
 pub mod RootTexts
 pub mod CellCuts
 pub mod PathTexts
+pub mod NumberTexts
+pub mod InputTexts

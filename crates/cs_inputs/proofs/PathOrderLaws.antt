@@ -1,16 +1,15 @@
 -- Path order is a total order that tells all paths apart: for the contracts of `Inputs`.
-use Rattle.std.proofs.Common.{◌≡◌, ℕ, zero, suc, List, [], ◌∷◌, sym, ◌∙◌, ap, refl, subst, true}
-use Rattle.std.specs.Prelude.{nat_eq}
+use Rattle.std.proofs.Common.{◌≡◌, ℕ, zero, suc, List, [], ◌∷◌, sym, ◌∙◌, ap, refl, subst}
 use Rattle.std.specs.Cmp.{IsTotalOrder, on_total, then_total}
 use Rattle.std.specs.Cmp.Lexicographic.{slice_cmp, nat_list_cmp_total}
-use Rattle.std.specs.Ordering.{nat_cmp, ordering_then, on, then_cmp}
+use Rattle.std.specs.Ordering.{nat_cmp, ordering_then}
 use Rattle.std.specs.declared.cmp.Ordering.{Ordering}
 use Rattle.std.specs.declared.cmp.Ordering.TheVariants.{Less, Equal, Greater}
 use Rattle.cs_names.proofs.Comparisons.{tied_bytes}
 use Rattle.cs_inputs.specs.declared.path.Root.{Root}
 use Rattle.cs_inputs.specs.declared.path.Root.TheVariants.{Param, Global, Call, Wrote, Malloc}
 use Rattle.cs_inputs.specs.declared.path.Path.{Path}
-use Rattle.cs_inputs.specs.PathOrder.{root_order, path_order, kind_of}
+use Rattle.cs_inputs.specs.PathOrder.{root_order, path_order}
 
 -- a root as a list of numbers whose order is the root's
 root_key : Root → List ℕ

@@ -1,20 +1,18 @@
 -- The path of a text, and that there is one: for `path_of` and `parse`.
-use Rattle.std.proofs.Common.{◌≡◌, ℕ, ◌<◌, ◌^◌, Bool, true, false, not, ◌&&◌, ◌||◌, List, [], ◌∷◌, ◌++◌, IsTrue, ap, sym, ◌∙◌, refl, subst}
+use Rattle.std.proofs.Common.{◌≡◌, ℕ, ◌<◌, ◌^◌, Bool, true, not, ◌&&◌, ◌||◌, List, [], ◌∷◌, ◌++◌, ap, sym, ◌∙◌, refl, subst}
 use Rattle.std.specs.Prelude.{◌==◌, Result, Ok, Err, IsErrAnd}
 use Rattle.std.specs.List.{All, list_all}
 use Rattle.std.specs.Fmt.{decimal}
-use Rattle.std.proofs.lemmas.Fmt.{digits_decimal}
 use Rattle.std.proofs.lemmas.List.Elements.{All-head, All-tail}
 use Rattle.std.proofs.lemmas.List.Folds.{list_all-append}
 use Rattle.cs_inputs.specs.declared.path.Root.{Root}
 use Rattle.cs_inputs.specs.declared.path.Path.{Path}
 use Rattle.cs_inputs.specs.declared.refusal.PathRefusal.{PathRefusal}
 use Rattle.cs_inputs.specs.declared.refusal.PathRefusal.TheVariants.{BadPath, BadNumber, TooWide, Memory}
-use Rattle.cs_inputs.specs.InputText.{is_digit, IsTextOf}
+use Rattle.cs_inputs.specs.InputText.{IsTextOf}
 use Rattle.cs_inputs.specs.PathText.{root_text, cells_text, path_text, HasText, TakesCells}
 use Rattle.cs_inputs.specs.Reading.{SplitsBefore, IsRootOf, AreCellsOf, Reads}
 use Rattle.cs_inputs.proofs.CellCuts.{cells_at, same_cells}
-use Rattle.cs_inputs.proofs.DecimalTexts.{own}
 use Rattle.cs_inputs.proofs.RootTexts.{is_root_byte, root_bytes, decimal_bytes, same_root}
 use Rattle.cs_inputs.proofs.Splits.{all_weaker, all_without, same_cut}
 
@@ -45,13 +43,6 @@ not_taken text root cells cut r cs is are none path t =
     let roots = same_root root path.root r (root_is text root cells cut path t) is in
     let lists = same_cells cells path.cells cs (cells_are text root cells cut path t) are in
     none (subst (λ (q : Root). TakesCells q cs) roots (subst (λ (os : List ℕ). TakesCells path.root os) lists t.has_text.takes))
-
--- a root and the cells that it takes are the path
-pub path_is : (text root cells : List ℕ) → SplitsBefore 64 text root cells → (r : Root) (cs : List ℕ) → IsRootOf root r → AreCellsOf cells cs → TakesCells r cs → IsTextOf text (record { root = r; cells = cs })
-path_is text root cells cut r cs is are takes = record {
-  has_text = record { root = is.has_text; takes = takes; cells = are.fit };
-  is = ap (λ t. t ++ cells_text cs) is.is ∙ ap (λ t. root ++ t) are.is ∙ sym cut.whole;
-}
 
 -- ---- one path has a text
 pub same_path : (text : List ℕ) (one other : Path) → IsTextOf text one → IsTextOf text other → one ≡ other

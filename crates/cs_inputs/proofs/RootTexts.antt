@@ -1,10 +1,9 @@
 -- The root of a text, by the text's first bytes, and that there is one: for `root_of` and its parts.
-use Rattle.std.proofs.Common.{◌≡◌, ℕ, ◌+◌, ◌<◌, ◌≤◌, ◌^◌, Bool, true, false, not, ◌&&◌, ◌||◌, eqb, eq-eqb, List, [], ◌∷◌, ◌++◌, length, drop, get_or, IsTrue, ap, sym, ◌∙◌, refl, subst, append_assoc, arith, rules, inl, inr}
+use Rattle.std.proofs.Common.{◌≡◌, ℕ, ◌<◌, ◌≤◌, ◌^◌, Bool, true, false, not, ◌&&◌, ◌||◌, eqb, eq-eqb, List, [], ◌∷◌, ◌++◌, length, drop, get_or, ap, sym, ◌∙◌, refl, subst, append_assoc, arith, inl, inr}
 use Rattle.std.specs.Prelude.{◌==◌, ◌⊎◌, codes, nat_le}
 use Rattle.std.specs.List.{list_all}
 use Rattle.std.specs.Fmt.{decimal}
 use Rattle.std.proofs.lemmas.Bool.{false≢true}
-use Rattle.std.proofs.lemmas.Bool.Decides.{nat_tests}
 use Rattle.std.proofs.lemmas.Fmt.{decimal_injective, digits_decimal}
 use Rattle.std.proofs.lemmas.List.{append-nil}
 use Rattle.std.proofs.lemmas.List.Folds.{list_all-append}
@@ -67,14 +66,6 @@ behind_malloc rest (Call k) r = absurd (apart _ _ r.is refl)
 behind_malloc rest (Wrote k a) r = absurd (apart _ _ r.is refl)
 behind_malloc rest (Malloc k) r = (k, refl, r.has_text, ap (drop 7) r.is)
 
--- everything else is a parameter
-pub with_no_mark : (text : List ℕ) (root : Root) → ((rest : List ℕ) → text ≡ codes "$" ++ rest → ⊥) → ((rest : List ℕ) → text ≡ codes "call#" ++ rest → ⊥) → ((rest : List ℕ) → text ≡ codes "malloc#" ++ rest → ⊥) → IsRootOf text root → (root ≡ Param text) × (is_name text ≡ true)
-with_no_mark text (Param name) dollar call malloc r = (ap Param r.is, subst (λ n. is_name n ≡ true) r.is r.has_text)
-with_no_mark text (Global name) dollar call malloc r = absurd (dollar name (sym r.is))
-with_no_mark text (Call k) dollar call malloc r = absurd (call (decimal k) (sym r.is))
-with_no_mark text (Wrote k a) dollar call malloc r = absurd (call ((decimal k ++ 46 ∷ []) ++ decimal a) (sym r.is))
-with_no_mark text (Malloc k) dollar call malloc r = absurd (malloc (decimal k) (sym r.is))
-
 -- ---- a call's numbers are cut at the `.`
 digits_without_dot : (n : ℕ) → n < 2 ^ 64 → list_all (λ b. not (b == 46)) (decimal n) ≡ true
 digits_without_dot n fits = all_without is_digit 46 refl (decimal n) (digits_decimal own n fits)
@@ -125,6 +116,7 @@ call_root k counts root r = either (behind_call (decimal k) root r)
   where
     cut : SplitsBefore 46 (decimal k) (decimal k) []
     cut = record { whole = sym (append-nil (decimal k)); none = digits_without_dot k counts.fits; at = tt }
+
     either : ((m : ℕ) × IsCallWith (decimal k) root m) ⊎ ((m : ℕ) × (a : ℕ) × IsWroteWith (decimal k) root m a) → root ≡ Call k
     either (inl (m, call)) = call.is ∙ ap Call (decimal_injective m k call.counts.fits counts.fits call.text)
     either (inr (m, a, wrote)) = absurd (no_tail 46 (decimal a) (sym (cut_at_call (decimal k) (decimal k) [] m wrote.counts.fits (46 ∷ decimal a) refl wrote.text cut).1))
@@ -134,6 +126,7 @@ wrote_root k a counts few text is root r = either (behind_call text root r)
   where
     cut : SplitsBefore 46 text (decimal k) (46 ∷ decimal a)
     cut = record { whole = is; none = digits_without_dot k counts.fits; at = refl }
+
     either : ((m : ℕ) × IsCallWith text root m) ⊎ ((m : ℕ) × (b : ℕ) × IsWroteWith text root m b) → root ≡ Wrote k a
     either (inl (m, call)) = absurd (no_tail 46 (decimal a) (cut_at_call text (decimal k) (46 ∷ decimal a) m call.counts.fits [] tt (append-nil (decimal m) ∙ call.text) cut).1)
     either (inr (m, b, wrote)) =

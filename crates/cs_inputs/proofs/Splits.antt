@@ -1,7 +1,6 @@
 -- A text is cut before its first mark in one way: for `split_before` and all that reads parts of a text.
-use Rattle.std.proofs.Common.{◌≡◌, ℕ, ◌+◌, ◌<◌, ◌≤◌, Bool, true, false, not, ◌&&◌, eqb, eqb-true, List, [], ◌∷◌, ◌++◌, length, take, drop, get_or, IsTrue, ap, sym, ◌∙◌, refl, subst, arith, rules}
-use Rattle.std.specs.Prelude.{◌==◌, ◌⊎◌}
-use Rattle.std.proofs.Common.{inl, inr}
+use Rattle.std.proofs.Common.{◌≡◌, ℕ, ◌+◌, ◌<◌, Bool, true, false, not, ◌&&◌, eqb, eqb-true, List, [], ◌∷◌, ◌++◌, length, take, drop, get_or, ap, sym, ◌∙◌, refl, arith}
+use Rattle.std.specs.Prelude.{◌==◌}
 use Rattle.std.specs.List.{list_all, position_or_len}
 use Rattle.std.proofs.lemmas.Bool.Decides.{nat_tests}
 use Rattle.std.proofs.lemmas.List.{get_or-take, drop_more, length-take, length-drop}
@@ -32,8 +31,8 @@ pub none_before : (mark : ℕ) (xs : List ℕ) → list_all (λ b. not (b == mar
 none_before mark xs =
     list_all-from_AllPass (λ b. not (b == mark)) (take (position_or_len (λ b. b == mark) xs) xs)
     (λ k d low.
-        let here : k < position_or_len (λ b. b == mark) xs = omega (arith, length-take (position_or_len (λ b. b == mark) xs) xs) in
-        ap (λ b. not (b == mark)) (get_or-take (position_or_len (λ b. b == mark) xs) xs k d here) ∙ ap not (fails_before_first (λ b. b == mark) xs k d here))
+    let here : k < position_or_len (λ b. b == mark) xs = omega (arith, length-take (position_or_len (λ b. b == mark) xs) xs) in
+    ap (λ b. not (b == mark)) (get_or-take (position_or_len (λ b. b == mark) xs) xs k d here) ∙ ap not (fails_before_first (λ b. b == mark) xs k d here))
 
 at_rest : (mark : ℕ) (xs rest : List ℕ) (i : ℕ) → rest ≡ drop i xs → (i < length xs → eqb (get_or xs i 0) mark ≡ true) → IsEmptyOrAt mark rest
 at_rest mark xs [] i e h = tt

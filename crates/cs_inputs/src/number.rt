@@ -7,6 +7,9 @@ use crate::refusal::PathRefusal;
 /// The most digits of a number.
 const MOST_DIGITS: usize = 39;
 
+/// How far a number may be below zero.
+const MOST_BELOW_ZERO: u64 = 1 << 63;
+
 /// The number that a text spells: one to 39 digits, which may begin with zeros, behind a `-` or not.
 ///
 /// It is `BadNumber` where the text spells none, and `TooWide` where the number is outside -2^63 to 2^64-1.
@@ -15,11 +18,11 @@ pub fn number_of(text: &[u8]) -> Result<i128, PathRefusal>
 {
     match text.strip_prefix(b"-") {
         Some(digits) => {
-            let number = -i128::from(magnitude_of(digits)?);
-            if number < i128::from(i64::MIN) {
+            let magnitude = magnitude_of(digits)?;
+            if magnitude > MOST_BELOW_ZERO {
                 return Err(PathRefusal::TooWide);
             }
-            Ok(number)
+            Ok(-i128::from(magnitude))
         }
         None => Ok(i128::from(magnitude_of(text)?)),
     }

@@ -1,5 +1,4 @@
-use Rattle.std.proofs.Common.{◌≡◌, ◌==◌, not, ap, ◌∙◌, take, drop, arith}
-use Rattle.std.specs.List.{position_or_len}
+use Rattle.std.proofs.Common.{◌==◌, not, ap, ◌∙◌, take, drop, arith}
 use Rattle.std.proofs.lemmas.List.Sums.{prefix_len-le-length}
 use Rattle.cs_inputs.proofs.Splits.{splits_at_first}
 use Rattle.cs_inputs.proofs.split.split_before.Goals as goal

@@ -1,6 +1,5 @@
-use Rattle.std.proofs.Common.{rules, ◌≡◌, ◌++◌, ◌∷◌, [], get_or, take, append_assoc, ap, ◌∙◌}
+use Rattle.std.proofs.Common.{rules, ◌≡◌, ◌++◌, ◌∷◌, [], get_or, append_assoc, ap, ◌∙◌}
 use Rattle.std.specs.Fmt.{decimal}
-use Rattle.cs_inputs.specs.PathText.{cells_text}
 use Rattle.cs_inputs.proofs.CellsText.{cells_text_more}
 use Rattle.cs_inputs.proofs.text.print_cells.Goals as goal
 

@@ -1,5 +1,5 @@
 use Rattle.std.proofs.Common.{◌≡◌, ◌<◌, length, ap, sym, ◌∙◌, rules, get_or}
-use Rattle.std.specs.Prelude.{ℤ, pos, Option, Some, unwrap_or, FitsSigned}
+use Rattle.std.specs.Prelude.{ℤ, pos, Option, unwrap_or, FitsSigned}
 use Rattle.std.specs.Int.{w128}
 use Rattle.std.specs.List.Sorted.{IsPartitionPoint}
 use Rattle.std.specs.declared.cmp.Ordering.TheVariants.{Less, Equal, Greater}

@@ -1,9 +1,8 @@
-use Rattle.std.proofs.Common.{◌≡◌, ◌≢◌, ap, ◌∙◌}
-use Rattle.std.specs.Prelude.{ℤ, FitsSigned, OnOk}
+use Rattle.std.proofs.Common.{◌≡◌, ap, ◌∙◌}
+use Rattle.std.specs.Prelude.{FitsSigned, OnOk}
 use Rattle.std.specs.Int.{w128}
 use Rattle.std.specs.BTreeMap.{insert_entry}
 use Rattle.std.proofs.lemmas.Int.{to_z-of_z}
-use Rattle.cs_inputs.specs.declared.path.Path.{Path}
 use Rattle.cs_inputs.specs.PathOrder.{path_order}
 use Rattle.cs_inputs.specs.Inputs.{number_at}
 use Rattle.cs_inputs.proofs.InputNumbers.{in_order_either, then_OnOk, number_at-here, number_at-elsewhere}
