@@ -8,3 +8,5 @@ pub mod MemberSearch
 pub mod Arrays
 pub mod Entering
 pub mod Descent
+pub mod TableTests
+pub mod GccLayouts
