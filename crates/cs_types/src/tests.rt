@@ -1,9 +1,8 @@
 //! Values of C's arithmetic from gcc and from the ranges of its types.
-ghost use Rattle.std.specs.Prelude.{◌≡◌, ◌∷◌, [], IfOk};
+ghost use Rattle.std.specs.Prelude.{◌≡◌, ◌∷◌, [], IfOk, Some};
 ghost use Rattle.cs_types.specs.Shape.{array, struct};
 ghost use Rattle.cs_types.specs.Layout.{Fits};
 ghost use Rattle.cs_types.specs.declared.data_model.DataModel.TheVariants.{Lp64, Ilp32};
-ghost use Rattle.cs_types.proofs.GccLayouts.{laid, member};
 
 use super::*;
 use DataModel::{Ilp32, Lp64};
@@ -334,7 +333,7 @@ fn struct_of(
     second: CType,
     offset: u64,
 ) -> Result<StructType, AllocError>
-    ensures { IfOk result (λ made. made ≡ laid size align (member first 0 ∷ member second offset ∷ [])) }
+    ensures { IfOk result (λ made. made ≡ record { tag = []; members = Some (record { name = []; ty = first; offset = 0 } ∷ record { name = []; ty = second; offset = offset } ∷ []); size = size; align = align }) }
 {
     let mut members = Members::new(alloc);
     members.push(member_of(alloc, first, 0)?)?;
@@ -348,7 +347,7 @@ fn struct_of(
 }
 
 fn member_of(alloc: Global, ty: CType, offset: u64) -> Result<Member, AllocError>
-    ensures { IfOk result (λ made. made ≡ member ty offset) }
+    ensures { IfOk result (λ made. made ≡ record { name = []; ty = ty; offset = offset }) }
 {
     Ok(Member {
         name: Name::from_slice(alloc, b"")?,
