@@ -1,7 +1,21 @@
 -- Twelve structs as gcc lays them out (12.2, under -m64, and under -m32 -malign-double, in which `long long` is aligned to
 -- its eight bytes): a test of the layout that `size`, `align` and `leaf_at` give.
-use Rattle.std.proofs.Common.{◌≡◌, ℕ, List, [], ◌∷◌, refl, Box, Global}
-use Rattle.std.specs.Prelude.{Some, codes}
+--
+-- The structs, by number:
+--  0  struct pair { char c; int i; }
+--  1  struct tail { int i; char c; }
+--  2  struct bytes { char a; char b[2]; }
+--  3  struct wide { char c; long long w; }
+--  4  struct plain { short s; long l; char c; }
+--  5  struct node { int value; struct node *next; }
+--  6  struct nested { char c; struct pair p; short s; }
+--  7  struct rows { struct tail t[3]; unsigned char end; }
+--  8  struct pointers { char c; char *p; short s; void *q[2]; }
+--  9  struct deep { struct nested n[2]; struct wide w; char c; }
+-- 10  struct grid { short m[2][3]; unsigned long long last; }
+-- 11  struct many { unsigned char a; unsigned short b; unsigned d; unsigned long e; unsigned long long f; signed char g; }
+use Rattle.std.proofs.Common.{ℕ, List, [], ◌∷◌, refl, Box, Global}
+use Rattle.std.specs.Prelude.{Some}
 use Rattle.cs_types.specs.declared.ctype.CType.{CType, Void, Int, Pointer', Array', Struct}
 use Rattle.cs_types.specs.declared.data_model.DataModel.TheVariants.{Lp64, Ilp32}
 use Rattle.cs_types.specs.declared.int_type.IntType.TheVariants.{Char, SChar, UChar, Short, UShort, Int as PlainInt, UInt, Long, ULong, LLong, ULLong}
@@ -11,10 +25,10 @@ use Rattle.cs_types.specs.Layout.{IsLaidOut}
 use Rattle.cs_types.proofs.TableTests.{laid_out_by_test}
 
 -- a member without its name, which layout doesn't read
-abbrev pub member : CType → ℕ → Member
+abbrev member : CType → ℕ → Member
 member ty offset = record { name = []; ty = ty; offset = offset }
 
-abbrev pub laid : ℕ → ℕ → List Member → StructType
+abbrev laid : ℕ → ℕ → List Member → StructType
 laid size align members = record { tag = []; members = Some members; size = size; align = align }
 
 -- wherever the boxes of pointers and arrays stand

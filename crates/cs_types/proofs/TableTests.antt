@@ -1,9 +1,9 @@
 -- A test of whether a table of structs is laid out, which computes: so that the condition of `size`, `align` and `leaf_at`
 -- can be shown of a table that is written down.
-use Rattle.std.proofs.Common.{◌≡◌, ℕ, ◌+◌, ◌≤◌, ◌^◌, zero, suc, Bool, true, false, ◌&&◌, List, [], ◌∷◌, map, nat_eq, nat_le, sym, ◌∙◌, ap, refl, subst, eqb-true, arith}
-use Rattle.std.specs.Prelude.{Option, Some, None, IfSome, slice_get, IsTrue}
+use Rattle.std.proofs.Common.{◌≡◌, ℕ, ◌+◌, ◌≤◌, ◌^◌, zero, suc, Bool, true, false, ◌&&◌, List, [], ◌∷◌, map, nat_eq, nat_le, sym, ap, refl, subst, eqb-true, arith}
+use Rattle.std.specs.Prelude.{Option, Some, None, IfSome, slice_get}
 use Rattle.std.specs.Option.{option_map}
-use Rattle.std.specs.List.{All, list_all}
+use Rattle.std.specs.List.{All}
 use Rattle.std.specs.Cmp.Lexicographic.{pointwise}
 use Rattle.std.proofs.lemmas.Bool.Decides.{nat_tests}
 use Rattle.std.proofs.lemmas.List.Elements.{All-nil, All-cons}
@@ -12,7 +12,7 @@ use Rattle.cs_types.specs.declared.data_model.DataModel.{DataModel}
 use Rattle.cs_types.specs.declared.structs.Member.{Member}
 use Rattle.cs_types.specs.declared.structs.StructType.{StructType}
 use Rattle.cs_types.specs.Shape.{Shape, void, integer, pointer, array, struct, shape_of}
-use Rattle.cs_types.specs.Layout.{Layout, layout_of, member_layouts, offsets, IsSmall, HasSmallSizes, IsLaid, IsLaidOut, Fits}
+use Rattle.cs_types.specs.Layout.{Layout, layout_of, member_layouts, offsets, HasSmallSizes, IsLaid, IsLaidOut, Fits}
 
 both : (a b : Bool) → (a && b) ≡ true → (a ≡ true) × (b ≡ true)
 both true b h = (refl, h)
@@ -79,13 +79,15 @@ is_laid-true model table number laid members h =
     let one = both (has_small_sizes model table (struct number)) _ h in
     let two = both (is_number (option_map (λ (layout : Layout). layout.size) (layout_of model table (struct number))) laid.size) _ one.1 in
     let three = both (is_number (option_map (λ (layout : Layout). layout.align) (layout_of model table (struct number))) laid.align) _ two.1 in
-    let four = both (are_numbers (option_map (offsets 0) (member_layouts (layout_of model table) members)) (map (λ (m : Member). m.offset) members)) (are_small model table members) three.1 in
-    (has_small_sizes-true model table (struct number) one.0, record {
-      size = is_number-true (option_map (λ (layout : Layout). layout.size) (layout_of model table (struct number))) laid.size two.0;
-      align = is_number-true (option_map (λ (layout : Layout). layout.align) (layout_of model table (struct number))) laid.align three.0;
-      offsets = are_numbers-true (option_map (offsets 0) (member_layouts (layout_of model table) members)) (map (λ (m : Member). m.offset) members) four.0;
-      small = are_small-true model table members four.1;
-    })
+    let four = both (are_numbers (option_map (offsets 0) (member_layouts (layout_of model table) members)) (map (λ (m : Member). m.offset) members)) (are_small model table members) three.1 in (
+      has_small_sizes-true model table (struct number) one.0,
+      record {
+        size = is_number-true (option_map (λ (layout : Layout). layout.size) (layout_of model table (struct number))) laid.size two.0;
+        align = is_number-true (option_map (λ (layout : Layout). layout.align) (layout_of model table (struct number))) laid.align three.0;
+        offsets = are_numbers-true (option_map (offsets 0) (member_layouts (layout_of model table) members)) (map (λ (m : Member). m.offset) members) four.0;
+        small = are_small-true model table members four.1;
+      },
+    )
 
 abbrev is_laid_if : DataModel → List StructType → ℕ → StructType → Option (List Member) → Bool
 is_laid_if model table number laid None = true
