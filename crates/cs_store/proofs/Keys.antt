@@ -1,6 +1,6 @@
 -- Keys that are a number beside a zero: for the contracts of `Region` and of `Store`.
 use Rattle.std.proofs.Common.{◌≡◌, ℕ, Bool, true, false, cond, refl, sym, ap, ◌∙◌, true≢false}
-use Rattle.std.specs.Prelude.{Option, None, Some, is_some, IsTrue, ◌≢◌}
+use Rattle.std.specs.Prelude.{Some, is_some, IsTrue, ◌≢◌}
 use Rattle.std.specs.Ordering.{eq_by_cmp, is_eq}
 use Rattle.std.specs.declared.cmp.Ordering.{Ordering}
 use Rattle.std.specs.declared.cmp.Ordering.TheVariants.{Less, Equal, Greater}

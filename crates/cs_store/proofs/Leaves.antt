@@ -1,6 +1,6 @@
 -- Leaves that are bound one by one, base regions that are taken out one by one, writes that are done one by one: for the contracts of
 -- `with_leaves`, `without` and `replayed`.
-use Rattle.std.proofs.Common.{◌≡◌, ℕ, Bool, true, false, cond, nat_eq, ◌||◌, ◌+◌, ◌<◌, List, drop, get_or, length, [], ◌∷◌, refl, sym, ap, ◌∙◌}
+use Rattle.std.proofs.Common.{◌≡◌, ℕ, Bool, true, false, cond, nat_eq, ◌||◌, ◌+◌, ◌<◌, List, drop, get_or, length, ◌∷◌, refl, sym, ap, ◌∙◌}
 use Rattle.std.specs.Prelude.{Option, None, Some}
 use Rattle.std.specs.Option.{unwrap_or, option_map_or, option_or}
 use Rattle.std.proofs.lemmas.Bool.Decides.{eqb_tells}

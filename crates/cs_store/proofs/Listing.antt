@@ -1,8 +1,8 @@
 -- The direct bindings of a region, listed in order of offset: for the contract of `bindings`.
-use Rattle.std.proofs.Common.{◌≡◌, ℕ, Bool, true, false, cond, ◌&&◌, List, [], ◌∷◌, ◌++◌, length, get_or, take, drop, map, T, refl, sym, ap, ◌∙◌, subst, ◌<◌, ◌+◌, arith}
-use Rattle.std.specs.Prelude.{◌↔◌, Option, None, Some, is_some, IsTrue}
-use Rattle.std.specs.Option.{unwrap_or, option_map_or}
-use Rattle.std.specs.Ordering.{eq_by_cmp, is_eq, is_lt, nat_cmp, ordering_then}
+use Rattle.std.proofs.Common.{◌≡◌, ℕ, Bool, true, false, cond, ◌&&◌, [], ◌∷◌, ◌++◌, length, get_or, take, drop, map, T, refl, sym, ap, ◌∙◌, subst, ◌<◌, ◌+◌, arith}
+use Rattle.std.specs.Prelude.{Option, None, Some, is_some, IsTrue}
+use Rattle.std.specs.Option.{option_map_or}
+use Rattle.std.specs.Ordering.{eq_by_cmp, is_lt, nat_cmp, ordering_then}
 use Rattle.std.specs.declared.cmp.Ordering.{Ordering}
 use Rattle.std.specs.declared.cmp.Ordering.TheVariants.{Less, Equal, Greater}
 use Rattle.std.specs.FinMap as finite
@@ -19,9 +19,8 @@ use Rattle.cs_pmap.proofs.SortedEntries.{Sorted, IsTrue-T, find_middle}
 use Rattle.cs_pmap.proofs.AtBranch.{key_cmp_total}
 use Rattle.cs_store.specs.declared.value.Value.{Value}
 use Rattle.cs_store.specs.declared.value.Fill.{Fill}
-use Rattle.cs_store.specs.declared.value.Found.{Found}
 use Rattle.cs_store.specs.declared.value.Found.TheVariants as found
-use Rattle.cs_store.specs.Contents.{Contents, HasOffsets, held_in, by_offset, listed}
+use Rattle.cs_store.specs.Contents.{HasOffsets, by_offset, listed}
 use Rattle.cs_store.specs.Held.{Regions, contents_of, IsListing}
 use Rattle.cs_store.proofs.Keys.{same_key, key_itself, equal_from_eq}
 

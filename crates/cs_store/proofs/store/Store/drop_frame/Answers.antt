@@ -1,5 +1,5 @@
 use Rattle.std.proofs.Common.{◌∙◌, ap, cond}
-use Rattle.std.specs.Prelude.{None, nat_eq}
+use Rattle.std.specs.Prelude.{None}
 use Rattle.std.specs.FinMap.{get}
 use Rattle.cs_store.proofs.Regions.{same_lookup, no_lookup, found_in, absent_from}
 use Rattle.cs_store.proofs.store.Store.drop_frame.Goals as goal
