@@ -7,8 +7,10 @@ pub mod event;
 pub mod finding;
 pub mod kind;
 pub mod outcome;
+pub mod standing;
 
 pub use event::{Event, Label, Wrap};
 pub use finding::{EntryResult, Finding, Input, Run, Verdict};
 pub use kind::Kind;
 pub use outcome::{Budget, Budgets, Outcome, Returned};
+pub use standing::{Freeable, Standing};

@@ -1,0 +1,13 @@
+//! Checkers: who says under which conditions an operation is a fault of a kind. The engine holds them boxed, so that a new kind of
+//! fault is one more box.
+#![tactic(auto)]
+
+mod answer;
+mod checker;
+mod subject;
+#[cfg(test)]
+mod tests;
+
+pub use answer::{Answer, Cond, NO_NUMBER};
+pub use checker::{Checker, add, ask_each};
+pub use subject::Subject;

@@ -1,0 +1,2 @@
+pub mod SameBase
+pub mod Places

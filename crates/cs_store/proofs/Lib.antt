@@ -1,0 +1,4 @@
+pub mod Keys
+pub mod Regions
+pub mod Leaves
+pub mod Listing

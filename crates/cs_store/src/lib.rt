@@ -1,0 +1,14 @@
+//! The store of a state: what the cells of base regions hold, shared between the states that hold the same.
+#![tactic(auto)]
+
+mod region;
+mod store;
+#[cfg(test)]
+mod tests;
+mod value;
+mod write;
+
+pub use region::Bindings;
+pub use store::Store;
+pub use value::{Fill, Found, Value};
+pub use write::{Write, replayed};

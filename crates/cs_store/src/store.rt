@@ -1,0 +1,148 @@
+//! The store: which base region holds what.
+ghost use Rattle.std.specs.Prelude.{◌≡◌, ◌≢◌, ◌⊎◌, ℕ, nat_eq, if◌then◌else◌, IfOk, OnOk, OnErr};
+ghost use Rattle.std.specs.FinMap.{get};
+ghost use Rattle.std.specs.List.{Contains, list_any};
+ghost use Rattle.cs_store.specs.Contents.{after_leaves};
+ghost use Rattle.cs_store.specs.Held.{contents_of, held, IsListing};
+
+use crate::region::{Bindings, Region};
+use crate::value::{Fill, Found, Value};
+use cs_pmap::PMap;
+use std::alloc::{AllocError, Global};
+use std::marker::Model;
+
+/// What the cells of base regions hold: for each base region a fill, and the values that were bound at offsets since. A base region
+/// that was never written holds unset cells.
+///
+/// Copies share what they have in common, and a write to one is not seen through another.
+#[derive(Drop)]
+pub struct Store {
+    alloc: Global,
+    // Keyed by the region's number beside a zero. Each region has a map of its own, so that a fill drops its direct bindings at once.
+    regions: PMap<Region>,
+    // What stands for each region that is not among the keys.
+    unwritten: Region,
+}
+
+impl Model for Store {
+    ghost use Rattle.std.specs.Prelude.{◌≡◌};
+    ghost use Rattle.std.specs.Coded.{coded×, coded_ℕ};
+    ghost use Rattle.std.specs.FinMap.{code};
+    ghost use Rattle.cs_store.specs.Contents.{contents_code};
+    ghost use Rattle.cs_store.specs.Held.{Regions};
+    ghost use Rattle.cs_store.specs.contracts.value.Fill.{the_row as fill_row};
+    ghost use Rattle.cs_store.specs.contracts.value.Value.{the_row as value_row};
+
+    ghost Value = { Regions };
+
+    ghost coded = { code (coded× coded_ℕ coded_ℕ) (contents_code fill_row.coded value_row.coded) };
+
+    ghost use Rattle.cs_store.specs.declared.value.Fill.TheVariants.{Unset};
+    ghost use Rattle.cs_store.specs.Contents.{filled};
+
+    ghost view = { λ s. s.regions };
+
+    ghost invariant = { λ s. s.unwritten ≡ filled Unset };
+}
+
+impl Store {
+    /// Nothing is written.
+    pub fn new(alloc: Global) -> Store
+        ensures { (base offset : ℕ) → held result base offset ≡ Found.Fill Fill.Unset }
+    {
+        Store {
+            alloc,
+            regions: PMap::new(alloc),
+            unwritten: Region::filled(alloc, Fill::Unset),
+        }
+    }
+
+    /// The value that was last bound at the offset since the region's last fill or drop, or else its fill.
+    pub fn load(&self, base: u64, offset: u64) -> Found
+        ensures { result ≡ held self.now base offset }
+    {
+        self.region(base).at(offset)
+    }
+
+    /// The same store.
+    pub fn copy(&self) -> Result<Store, AllocError>
+        ensures { IfOk result (λ copy. copy ≡ self.now) }
+    {
+        Ok(Store {
+            alloc: self.alloc,
+            regions: self.regions.copy()?,
+            unwritten: self.unwritten.clone()?,
+        })
+    }
+
+    /// Binds a value at an offset.
+    pub fn bind(&mut self, base: u64, offset: u64, value: Value) -> Result<(), AllocError>
+        ensures here { OnOk result (held self.new base offset ≡ Found.Direct value) }
+        ensures elsewhere { OnOk result ((b o : ℕ) → (b ≢ base) ⊎ (o ≢ offset) → held self.new b o ≡ held self.old b o) }
+        ensures err { OnErr result (self.new ≡ self.old) }
+    {
+        let mut region = self.region(base).clone()?;
+        region.bind(offset, value)?;
+        self.regions.insert((base, 0), region)?;
+        Ok(())
+    }
+
+    /// Fills a base region, whose direct bindings are dropped.
+    pub fn bind_default(&mut self, base: u64, fill: Fill) -> Result<(), AllocError>
+        ensures here { OnOk result ((o : ℕ) → held self.new base o ≡ Found.Fill fill) }
+        ensures elsewhere { OnOk result ((b o : ℕ) → b ≢ base → held self.new b o ≡ held self.old b o) }
+        ensures err { OnErr result (self.new ≡ self.old) }
+    {
+        let region = Region::filled(self.alloc, fill);
+        self.regions.insert((base, 0), region)?;
+        Ok(())
+    }
+
+    /// Binds the leaves of a struct, in order. Where memory is refused, none is bound.
+    pub fn copy_leaves(&mut self, leaves: &[(u64, Value)], base: u64) -> Result<(), AllocError>
+        ensures here { OnOk result ((o : ℕ) → held self.new base o ≡ after_leaves leaves.now o (held self.old base o)) }
+        ensures elsewhere { OnOk result ((b o : ℕ) → b ≢ base → held self.new b o ≡ held self.old b o) }
+        ensures err { OnErr result (self.new ≡ self.old) }
+    {
+        let region = self.region(base).with_leaves(leaves)?;
+        self.regions.insert((base, 0), region)?;
+        Ok(())
+    }
+
+    /// Drops what base regions hold, as those of a frame that ended. Where memory is refused, none is dropped.
+    pub fn drop_frame(&mut self, bases: &[u64]) -> Result<(), AllocError>
+        ensures dropped { OnOk result ((b o : ℕ) → Contains bases.now b → held self.new b o ≡ Found.Fill Fill.Unset) }
+        ensures others { OnOk result ((b o : ℕ) → (Contains bases.now b → ⊥) → held self.new b o ≡ held self.old b o) }
+        ensures err { OnErr result (self.new ≡ self.old) }
+    {
+        self.regions = without(&self.regions, bases)?;
+        Ok(())
+    }
+
+    /// The values that were bound in a base region, in order of offset. The iterator takes its memory here and none later.
+    pub fn bindings(&self, base: u64) -> Result<Bindings<'_>, AllocError>
+        ensures { IfOk result (λ bindings. IsListing self.now base bindings) }
+    {
+        self.region(base).bindings()
+    }
+
+    fn region(&self, base: u64) -> &Region
+        ensures { result.now ≡ contents_of self.now base }
+    {
+        match self.regions.get((base, 0)) {
+            Some(region) => region,
+            None => &self.unwritten,
+        }
+    }
+}
+
+// The regions other than these.
+fn without(regions: &PMap<Region>, bases: &[u64]) -> Result<PMap<Region>, AllocError>
+    ensures { IfOk result (λ others. (b : ℕ) → get others (b, 0) ≡ (if list_any (λ x. nat_eq b x) bases.now then None else get regions.now (b, 0))) }
+{
+    let mut others = regions.copy()?;
+    for base in bases {
+        others.remove((*base, 0))?;
+    }
+    Ok(others)
+}

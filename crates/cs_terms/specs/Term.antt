@@ -1,0 +1,32 @@
+-- The value of a term under a valuation, which gives each symbol a number.
+use Rattle.std.specs.Prelude.{◌≡◌, ◌≢◌, ℕ, ℤ, pos, ◌+ℤ◌, Option, None, Some}
+use Rattle.cs_ranges.specs.Affine.{affine}
+use Rattle.cs_terms.specs.declared.symbol.Sym.{Sym}
+use Rattle.cs_terms.specs.declared.term.Lin.{Lin}
+use Rattle.cs_terms.specs.declared.term.Lin2.{Lin2}
+
+-- a number for each symbol, by the symbol's own number
+abbrev pub Valuation : Type 0
+Valuation = ℕ → ℤ
+
+-- the value of an affine function of a symbol, or the constant
+abbrev pub value_with : Valuation → Option Sym → ℤ → ℤ → ℤ → ℤ
+value_with valuation None slope at value = value
+value_with valuation (Some sym) slope at value = affine slope at value (valuation sym.0)
+
+-- a term's value
+abbrev pub value_of : Valuation → Lin → ℤ
+value_of valuation term = value_with valuation term.sym term.slope term.at term.value
+
+-- the value of a sum of two terms
+abbrev pub value_of_sum : Valuation → Lin2 → ℤ
+value_of_sum valuation sum = value_of valuation sum.first +ℤ value_of valuation sum.second
+
+-- there is no symbol exactly where the slope is 0
+abbrev pub IsTermWith : Option Sym → ℤ → Type 0
+IsTermWith None slope = slope ≡ pos 0
+IsTermWith (Some sym) slope = slope ≢ pos 0
+
+-- a term has a symbol exactly where its slope isn't 0
+abbrev pub IsTerm : Lin → Type 0
+IsTerm term = IsTermWith term.sym term.slope
