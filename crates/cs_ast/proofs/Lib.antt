@@ -1,1 +1,5 @@
+pub mod HeightsOfNodes
+pub mod RawDeclarationRows
+pub mod RawRows
+pub mod RawStatementRows
 pub mod RowLemmas

@@ -1,2 +1,10 @@
 pub mod Tree
 pub mod View
+pub mod RawTree
+pub mod RawView
+pub mod RawHeight
+pub mod RawDeclarations
+pub mod RawStatements
+pub mod RawDeclarationView
+pub mod RawStatementView
+pub mod RawFileHeight

@@ -4,9 +4,12 @@
 pub mod expression;
 pub mod function;
 pub mod place;
+pub mod raw;
 pub mod statement;
+pub mod token;
 
 pub use expression::{BinOp, CmpOp, Expr, ExprKind};
 pub use function::{Function, Local};
 pub use place::Place;
 pub use statement::{Stmt, StmtKind};
+pub use token::{IntegerConstant, Keyword, LeftOut, Length, Mark, Token, TokenKind};

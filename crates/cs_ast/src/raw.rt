@@ -1,0 +1,15 @@
+//! The tree of a file as it is written, before anything is known of its types: a variant for each production of the grammar,
+//! with its parts and its place.
+
+pub mod declaration;
+pub mod declaration_height;
+pub mod expression;
+pub mod external;
+pub mod external_height;
+pub mod height;
+pub mod operator;
+pub mod statement;
+pub mod statement_height;
+#[cfg(test)]
+mod tests;
+pub mod written_type;

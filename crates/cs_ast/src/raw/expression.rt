@@ -1,0 +1,59 @@
+//! Written expressions (C11 6.5).
+
+use crate::place::Place;
+use crate::raw::operator::{AssignOp, InfixOp, PrefixOp, Step};
+use crate::raw::written_type::WrittenType;
+use crate::token::IntegerConstant;
+use cs_names::{Bytes, Name};
+
+/// An expression at its place: that of its operator, or of its first token where it has none.
+#[cycle(raw_expression)]
+#[derive(Drop)]
+pub struct RawExpr {
+    pub place: Place,
+    pub kind: RawExprKind,
+}
+
+/// What a written expression is.
+#[cycle(raw_expression)]
+#[derive(Drop)]
+pub enum RawExprKind {
+    /// An identifier (C11 6.5.1).
+    Name(Name),
+    /// An integer constant.
+    Number(IntegerConstant),
+    /// A character constant.
+    Character(i32),
+    /// A string literal.
+    Text(Bytes),
+    /// `( a )`, at its opening parenthesis.
+    Parenthesis(Box<RawExpr>),
+    /// `a [ b ]`, at its bracket (C11 6.5.2.1).
+    Index(Box<RawExpr>, Box<RawExpr>),
+    /// `a ( b , .. )`, at its parenthesis (C11 6.5.2.2).
+    Call(Box<RawExpr>, Vec<RawExpr>),
+    /// `a . name` (C11 6.5.2.3).
+    Member(Box<RawExpr>, Name),
+    /// `a -> name` (C11 6.5.2.3).
+    Arrow(Box<RawExpr>, Name),
+    /// `a ++` or `a --`.
+    StepBehind(Step, Box<RawExpr>),
+    /// `++ a` or `-- a`.
+    StepBefore(Step, Box<RawExpr>),
+    /// An operator before one operand.
+    Prefix(PrefixOp, Box<RawExpr>),
+    /// `sizeof a` (C11 6.5.3.4).
+    SizeOf(Box<RawExpr>),
+    /// `sizeof ( type )` (C11 6.5.3.4), with the bounds of the type's arrays, the outermost first.
+    SizeOfType(WrittenType, Vec<RawExpr>),
+    /// `( type ) a`, at its opening parenthesis (C11 6.5.4), with the bounds of the type's arrays.
+    Cast(WrittenType, Vec<RawExpr>, Box<RawExpr>),
+    /// An operator between two operands.
+    Infix(InfixOp, Box<RawExpr>, Box<RawExpr>),
+    /// `a ? b : c`, at its question mark (C11 6.5.15).
+    Choice(Box<RawExpr>, Box<RawExpr>, Box<RawExpr>),
+    /// An operator that stores.
+    Assign(AssignOp, Box<RawExpr>, Box<RawExpr>),
+    /// `a , b` (C11 6.5.17).
+    Comma(Box<RawExpr>, Box<RawExpr>),
+}

@@ -1,0 +1,50 @@
+//! The words of written types (C11 6.7.2, 6.7.3, 6.7.6.1).
+
+use crate::place::Place;
+use cs_names::Name;
+
+/// A word of a type that names no body: `const`, a word of an integer type, or what stands for a whole type.
+#[derive(Clone, Debug, Drop, PartialEq, Eq)]
+pub enum TypeWord {
+    /// `const`
+    Const,
+    /// A word of an integer type.
+    Integer(IntegerWord),
+    /// `void`
+    Void,
+    /// The name of a typedef.
+    Typedef(Name),
+    /// `struct` and a tag.
+    Struct(Name),
+    /// `enum` and a tag.
+    Enum(Name),
+}
+
+/// The words of integer types.
+#[derive(Clone, Copy, Debug, PartialEq, Eq)]
+pub enum IntegerWord {
+    Char,
+    Short,
+    Int,
+    Long,
+    Signed,
+    Unsigned,
+}
+
+/// A word of a pointer.
+#[derive(Clone, Copy, Debug, PartialEq, Eq)]
+pub enum PointerWord {
+    /// `*`
+    Star,
+    /// `const` behind a star.
+    Const,
+}
+
+/// A type's words and its pointers, without the bounds of arrays.
+#[derive(Debug, Drop)]
+pub struct WrittenType {
+    pub words: Vec<TypeWord>,
+    /// The place of the tag, where `struct` or `enum` and a tag name the type.
+    pub tag: Option<Place>,
+    pub pointers: Vec<PointerWord>,
+}

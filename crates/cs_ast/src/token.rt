@@ -1,0 +1,219 @@
+//! Tokens (C11 6.4).
+
+use crate::place::Place;
+use cs_names::{Bytes, Name};
+
+/// A token at the place of its first byte.
+#[derive(Clone, Debug, Drop, PartialEq, Eq)]
+pub struct Token {
+    pub kind: TokenKind,
+    pub place: Place,
+}
+
+/// What a token is.
+#[derive(Clone, Debug, Drop, PartialEq, Eq)]
+pub enum TokenKind {
+    /// A keyword that the grammar takes.
+    Keyword(Keyword),
+    /// A word of C that is left out: no production takes it.
+    LeftOut(LeftOut),
+    /// The word `__attribute__` without a closed parenthesis behind it: no production takes it.
+    Attribute,
+    /// An identifier (C11 6.4.2).
+    Name(Name),
+    /// An integer constant (C11 6.4.4.1).
+    Number(IntegerConstant),
+    /// A character constant (C11 6.4.4.4), by its value, which is a byte's as a signed char.
+    Character(i32),
+    /// A string literal (C11 6.4.5), by its bytes without the zero byte.
+    Text(Bytes),
+    /// A punctuator (C11 6.4.6).
+    Mark(Mark),
+}
+
+/// An integer constant: its value, and what its type depends on beside the value.
+#[derive(Clone, Copy, Debug, PartialEq, Eq)]
+pub struct IntegerConstant {
+    pub value: u64,
+    /// Whether it is written in base ten.
+    pub decimal: bool,
+    /// Whether its suffix has `u` or `U`.
+    pub unsigned: bool,
+    pub length: Length,
+}
+
+/// The `l`s of a suffix.
+#[derive(Clone, Copy, Debug, PartialEq, Eq)]
+pub enum Length {
+    Plain,
+    Long,
+    LongLong,
+}
+
+/// The keywords that the grammar takes (C11 6.4.1).
+#[derive(Clone, Copy, Debug, PartialEq, Eq)]
+pub enum Keyword {
+    Break,
+    Case,
+    Char,
+    Const,
+    Continue,
+    Default,
+    Do,
+    Else,
+    Enum,
+    For,
+    Goto,
+    If,
+    Int,
+    Long,
+    Return,
+    Short,
+    Signed,
+    Sizeof,
+    Static,
+    Struct,
+    Switch,
+    Typedef,
+    Unsigned,
+    Void,
+    While,
+}
+
+/// The words of C and of its common extensions that are left out, one for each spelling.
+#[derive(Clone, Copy, Debug, PartialEq, Eq)]
+pub enum LeftOut {
+    Float,
+    Double,
+    Union,
+    /// `_Bool`
+    Bool,
+    /// `_Complex`
+    Complex,
+    /// `_Imaginary`
+    Imaginary,
+    /// `_Atomic`
+    Atomic,
+    /// `_Alignas`
+    Alignas,
+    /// `_Alignof`
+    Alignof,
+    /// `_Generic`
+    Generic,
+    /// `_Noreturn`
+    Noreturn,
+    /// `_Static_assert`
+    StaticAssert,
+    /// `_Thread_local`
+    ThreadLocal,
+    /// `__int128`
+    Int128,
+    /// `asm`
+    Asm,
+    /// `__asm__`
+    AsmBetween,
+    /// `__asm`
+    AsmBehind,
+    /// `typeof`
+    Typeof,
+    /// `__typeof__`
+    TypeofBetween,
+    Auto,
+}
+
+/// The punctuators.
+#[derive(Clone, Copy, Debug, PartialEq, Eq)]
+pub enum Mark {
+    /// `[`
+    OpenBracket,
+    /// `]`
+    CloseBracket,
+    /// `(`
+    OpenParenthesis,
+    /// `)`
+    CloseParenthesis,
+    /// `{`
+    OpenBrace,
+    /// `}`
+    CloseBrace,
+    /// `.`
+    Dot,
+    /// `->`
+    Arrow,
+    /// `++`
+    Increment,
+    /// `--`
+    Decrement,
+    /// `&`
+    Ampersand,
+    /// `*`
+    Star,
+    /// `+`
+    Plus,
+    /// `-`
+    Minus,
+    /// `~`
+    Tilde,
+    /// `!`
+    Exclamation,
+    /// `/`
+    Slash,
+    /// `%`
+    Percent,
+    /// `<<`
+    ShiftLeft,
+    /// `>>`
+    ShiftRight,
+    /// `<`
+    Less,
+    /// `>`
+    More,
+    /// `<=`
+    AtMost,
+    /// `>=`
+    AtLeast,
+    /// `==`
+    EqualEqual,
+    /// `!=`
+    Differs,
+    /// `^`
+    Caret,
+    /// `|`
+    Bar,
+    /// `&&`
+    AndAnd,
+    /// `||`
+    BarBar,
+    /// `?`
+    Question,
+    /// `:`
+    Colon,
+    /// `;`
+    Semicolon,
+    /// `=`
+    Equal,
+    /// `*=`
+    StarEqual,
+    /// `/=`
+    SlashEqual,
+    /// `%=`
+    PercentEqual,
+    /// `+=`
+    PlusEqual,
+    /// `-=`
+    MinusEqual,
+    /// `<<=`
+    ShiftLeftEqual,
+    /// `>>=`
+    ShiftRightEqual,
+    /// `&=`
+    AmpersandEqual,
+    /// `^=`
+    CaretEqual,
+    /// `|=`
+    BarEqual,
+    /// `,`
+    Comma,
+    /// `...`
+    Ellipsis,
+}
