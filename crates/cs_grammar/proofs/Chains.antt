@@ -1,0 +1,281 @@
+-- Chains that grow to the left, as `a + b + c` or `a [ b ] . c`: for the loops of the parser of expressions.
+use Rattle.std.proofs.Common.{◌≡◌, ℕ, suc, ◌+◌, ◌<◌, ◌≤◌, max, ◌⊎◌, inl, inr, Bool, true, false, List, [], ◌∷◌, ◌++◌, refl, sym, ap, ◌∙◌, subst, arith, append_assoc}
+use Rattle.std.proofs.lemmas.Bool.{cases_lt, cases_eq, false≢true}
+use Rattle.cs_ast.specs.declared.token.TokenKind.{TokenKind}
+use Rattle.cs_ast.specs.declared.token.TokenKind.TheVariants as token
+use Rattle.cs_ast.specs.declared.token.Mark.{Mark}
+use Rattle.cs_ast.specs.declared.token.Mark.TheVariants as mark
+use Rattle.cs_ast.specs.declared.raw.operator.Step.{Step}
+use Rattle.cs_ast.specs.declared.raw.operator.InfixOp.{InfixOp}
+use Rattle.cs_ast.specs.RawTree.{Written, WrittenList, Named, Numeral, Character, Literal, Enclosed, Index, Call, Member, Arrow, StepBehind, StepBefore, Prefix, SizeOf, SizeOfType, Cast, Infix, Choice, Assign, Comma, End, More}
+use Rattle.cs_ast.specs.RawHeight.{height, highest}
+use Rattle.cs_grammar.specs.TypeWords.{Names}
+use Rattle.cs_grammar.specs.Levels.{level_of, infix_level}
+use Rattle.cs_grammar.specs.Marks.{step_mark, infix_mark}
+use Rattle.cs_grammar.specs.Text.{Kinds, text, listed}
+use Rattle.cs_grammar.specs.Phrases.{IsPhrase}
+use Rattle.cs_grammar.specs.Continuing.{join, mark_join, join_of}
+use Rattle.cs_grammar.specs.Parsing.{Class, Expressions, Near, IsOver, Begins, BeginsLow, Took, Refused}
+use Rattle.cs_grammar.specs.Chains.{Suffix, indexed, called, selected, followed_by, stepped, joined, continued, Stem, bare, grown, Grows}
+use Rattle.cs_grammar.proofs.Levels.{infix_join, infix_levels, step_join, looser}
+use Rattle.cs_grammar.proofs.Texts.{text_append}
+use Rattle.cs_grammar.proofs.Holes.{Lawful, splits, Hole, hole_refused}
+
+-- the levels of expressions that begin with another one of their level
+pub record IsChain (level : ℕ) : Type 0 where
+  pub not_assign : level ≡ 1 → ⊥
+  pub not_choice : level ≡ 2 → ⊥
+  pub not_cast : level ≡ 13 → ⊥
+  pub not_unary : level ≡ 14 → ⊥
+  pub most : level ≤ 15
+
+pub suffix_join : (level : ℕ) (whole : Written) (after : Kinds) (left : Written) (behind : Kinds) → Suffix level whole after left behind → join_of behind ≡ suc level
+suffix_join level whole after left behind (indexed n l w b) = ap join_of b ∙ ap suc (sym l)
+suffix_join level whole after left behind (called es l w b) = ap join_of b ∙ ap suc (sym l)
+suffix_join level whole after left behind (selected n l w b) = ap join_of b ∙ ap suc (sym l)
+suffix_join level whole after left behind (followed_by n l w b) = ap join_of b ∙ ap suc (sym l)
+suffix_join level whole after left behind (stepped s l w b) = ap join_of b ∙ step_join s ∙ ap suc (sym l)
+suffix_join level whole after left behind (joined op r l w b) = ap join_of b ∙ infix_join op ∙ ap suc (sym l)
+suffix_join level whole after left behind (continued s l w b) = ap join_of b ∙ ap suc (sym l)
+
+pub suffix_height : (level : ℕ) (whole : Written) (after : Kinds) (left : Written) (behind : Kinds) → Suffix level whole after left behind → height left < height whole
+suffix_height level whole after left behind (indexed n l w b) = subst (λ (e : Written). height left < height e) (sym w) (omega arith)
+suffix_height level whole after left behind (called es l w b) = subst (λ (e : Written). height left < height e) (sym w) (omega arith)
+suffix_height level whole after left behind (selected n l w b) = subst (λ (e : Written). height left < height e) (sym w) (omega arith)
+suffix_height level whole after left behind (followed_by n l w b) = subst (λ (e : Written). height left < height e) (sym w) (omega arith)
+suffix_height level whole after left behind (stepped s l w b) = subst (λ (e : Written). height left < height e) (sym w) (omega arith)
+suffix_height level whole after left behind (joined op r l w b) = subst (λ (e : Written). height left < height e) (sym w) (omega arith)
+suffix_height level whole after left behind (continued s l w b) = subst (λ (e : Written). height left < height e) (sym w) (omega arith)
+
+pub suffix_phrase : (names : Names) (level : ℕ) (whole : Written) (after : Kinds) (left : Written) (behind : Kinds) → Suffix level whole after left behind → IsPhrase names level whole → IsPhrase names level left
+suffix_phrase names level whole after left behind (indexed n l w b) is = let p = subst (IsPhrase names level) w is in (omega (arith, p.1.0), p.1.1)
+suffix_phrase names level whole after left behind (called es l w b) is = let p = subst (IsPhrase names level) w is in (omega (arith, p.1.0), p.1.1)
+suffix_phrase names level whole after left behind (selected n l w b) is = let p = subst (IsPhrase names level) w is in (omega (arith, p.1.0), p.1.1)
+suffix_phrase names level whole after left behind (followed_by n l w b) is = let p = subst (IsPhrase names level) w is in (omega (arith, p.1.0), p.1.1)
+suffix_phrase names level whole after left behind (stepped s l w b) is = let p = subst (IsPhrase names level) w is in (omega (arith, p.1.0), p.1.1)
+suffix_phrase names level whole after left behind (joined op r l w b) is = let p = subst (IsPhrase names level) w is in (omega (arith, p.1.0), p.1.1)
+suffix_phrase names level whole after left behind (continued s l w b) is = let p = subst (IsPhrase names level) w is in (omega arith, p.1.0)
+
+-- what holds of the tree with one suffix, and of each with one more, holds of all with some
+pub stem_fold : (names : Names) (level : ℕ) (left : Written) (behind : Kinds) (C : Written → Kinds → Type 0) → ((whole : Written) (after : Kinds) → IsPhrase names level whole → join_of after ≤ suc level → Suffix level whole after left behind → C whole after) → ((whole : Written) (after : Kinds) (smaller : Written) (rest : Kinds) → Suffix level whole after smaller rest → C smaller rest → C whole after) → (whole : Written) (after : Kinds) → IsPhrase names level whole → join_of after ≤ suc level → Stem level left behind whole after → ((whole ≡ left) × (after ≡ behind)) ⊎ C whole after
+stem_fold names level left behind C first up whole after is shut (bare w a) = inl (w, a)
+stem_fold names level left behind C first up whole after is shut (grown smaller rest s stem) =
+    let j : join_of rest ≡ suc level = suffix_join level whole after smaller rest s in
+    elim (stem_fold names level left behind C first up smaller rest (suffix_phrase names level whole after smaller rest s is) (omega arith) stem) [
+      | inl e ↦ inr (first whole after is shut (subst (λ (x : Kinds). Suffix level whole after left x) e.1 (subst (λ (x : Written). Suffix level whole after x rest) e.0 s)))
+      | inr c ↦ inr (up whole after smaller rest s c)
+    ]
+
+over_up : (names : Names) (level tight room : ℕ) (deep : Bool) (whole smaller : Written) (behind : Kinds) → height smaller < height whole → IsOver (Expressions names tight) room deep smaller behind → IsOver (Expressions names level) room deep whole behind
+over_up names level tight room deep whole smaller behind less over = record { told = over.told; high = omega (arith, over.high); onward = over.onward }
+
+-- a tighter phrase that begins so is the first operand
+tight : (names : Names) (level room : ℕ) (e : Written) (next : TokenKind) (deep : Bool) → Took (Expressions names (suc level)) room e next deep → (other : Written) (after behind : Kinds) → IsPhrase names level other → suc level ≤ level_of other → join_of after ≤ suc level → Near next behind → text other after ≡ text e behind → Stem level e behind other after ⊎ IsOver (Expressions names level) room deep other behind
+tight names level room e next deep t other after behind is bound shut near same =
+    elim (t.only other after behind (bound, is.1) shut near same) [
+      | inl e ↦ inl (bare e.0 e.1)
+      | inr over ↦ inr (record { told = over.told; high = over.high; onward = over.onward })
+    ]
+
+-- a phrase with a suffix is of this level, or tighter
+either : (names : Names) (level room : ℕ) (e : Written) (next : TokenKind) (deep : Bool) → Took (Expressions names (suc level)) room e next deep → (other : Written) (after behind : Kinds) → IsPhrase names level other → join_of after ≤ suc level → Near next behind → text other after ≡ text e behind → (smaller : Written) (rest : Kinds) → (level_of other ≡ level → Suffix level other after smaller rest) → (IsPhrase names level smaller → join_of rest ≤ suc level → Stem level e behind smaller rest ⊎ IsOver (Expressions names level) room deep smaller behind) → Stem level e behind other after ⊎ IsOver (Expressions names level) room deep other behind
+either names level room e next deep t other after behind is shut near same smaller rest suffix below =
+    elim (cases_eq (level_of other) level) [
+      | inl here ↦
+          let s = suffix here in
+          let j : join_of rest ≡ suc level = suffix_join level other after smaller rest s in
+          elim (below (suffix_phrase names level other after smaller rest s is) (omega arith)) [
+            | inl stem ↦ inl (grown smaller rest s stem)
+            | inr over ↦ inr (over_up names level level room deep other smaller behind (suffix_height level other after smaller rest s) over)
+          ]
+      | inr higher ↦ tight names level room e next deep t other after behind is (omega (arith, is.0, higher)) shut near same
+    ]
+
+mutual
+  -- the first operand begins every phrase that begins so
+  pub head_stems : (names : Names) (level room : ℕ) (e : Written) (next : TokenKind) (deep : Bool) → IsChain level → Took (Expressions names (suc level)) room e next deep → (other : Written) (after behind : Kinds) → IsPhrase names level other → join_of after ≤ suc level → Near next behind → text other after ≡ text e behind → Stem level e behind other after ⊎ IsOver (Expressions names level) room deep other behind
+  head_stems names level room e next deep c t (Named name) after behind is shut near same = tight names level room e next deep t (Named name) after behind is (omega (arith, c.most)) shut near same
+  head_stems names level room e next deep c t (Numeral n) after behind is shut near same = tight names level room e next deep t (Numeral n) after behind is (omega (arith, c.most)) shut near same
+  head_stems names level room e next deep c t (Character v) after behind is shut near same = tight names level room e next deep t (Character v) after behind is (omega (arith, c.most)) shut near same
+  head_stems names level room e next deep c t (Literal b) after behind is shut near same = tight names level room e next deep t (Literal b) after behind is (omega (arith, c.most)) shut near same
+  head_stems names level room e next deep c t (Enclosed i) after behind is shut near same = tight names level room e next deep t (Enclosed i) after behind is (omega (arith, c.most)) shut near same
+  head_stems names level room e next deep c t (StepBefore s i) after behind is shut near same = tight names level room e next deep t (StepBefore s i) after behind is (omega (arith, c.not_unary, is.0)) shut near same
+  head_stems names level room e next deep c t (Prefix o i) after behind is shut near same = tight names level room e next deep t (Prefix o i) after behind is (omega (arith, c.not_unary, is.0)) shut near same
+  head_stems names level room e next deep c t (SizeOf i) after behind is shut near same = tight names level room e next deep t (SizeOf i) after behind is (omega (arith, c.not_unary, is.0)) shut near same
+  head_stems names level room e next deep c t (SizeOfType ws ps bs) after behind is shut near same = tight names level room e next deep t (SizeOfType ws ps bs) after behind is (omega (arith, c.not_unary, is.0)) shut near same
+  head_stems names level room e next deep c t (Cast ws ps bs i) after behind is shut near same = tight names level room e next deep t (Cast ws ps bs i) after behind is (omega (arith, c.not_cast, is.0)) shut near same
+  head_stems names level room e next deep c t (Choice i l r) after behind is shut near same = tight names level room e next deep t (Choice i l r) after behind is (omega (arith, c.not_choice, is.0)) shut near same
+  head_stems names level room e next deep c t (Assign o l r) after behind is shut near same = tight names level room e next deep t (Assign o l r) after behind is (omega (arith, c.not_assign, is.0)) shut near same
+  head_stems names level room e next deep c t (Index a n) after behind is shut near same =
+      either names level room e next deep t (Index a n) after behind is shut near same a (token.Mark mark.OpenBracket ∷ text n (token.Mark mark.CloseBracket ∷ after)) (λ l. indexed n (sym l) refl refl)
+      (λ p s. head_stems names level room e next deep c t a (token.Mark mark.OpenBracket ∷ text n (token.Mark mark.CloseBracket ∷ after)) behind p s near same)
+  head_stems names level room e next deep c t (Call f es) after behind is shut near same =
+      either names level room e next deep t (Call f es) after behind is shut near same f (token.Mark mark.OpenParenthesis ∷ listed es (token.Mark mark.CloseParenthesis ∷ after)) (λ l. called es (sym l) refl refl)
+      (λ p s. head_stems names level room e next deep c t f (token.Mark mark.OpenParenthesis ∷ listed es (token.Mark mark.CloseParenthesis ∷ after)) behind p s near same)
+  head_stems names level room e next deep c t (Member o n) after behind is shut near same =
+      either names level room e next deep t (Member o n) after behind is shut near same o (token.Mark mark.Dot ∷ token.Name n ∷ after) (λ l. selected n (sym l) refl refl)
+      (λ p s. head_stems names level room e next deep c t o (token.Mark mark.Dot ∷ token.Name n ∷ after) behind p s near same)
+  head_stems names level room e next deep c t (Arrow o n) after behind is shut near same =
+      either names level room e next deep t (Arrow o n) after behind is shut near same o (token.Mark mark.Arrow ∷ token.Name n ∷ after) (λ l. followed_by n (sym l) refl refl)
+      (λ p s. head_stems names level room e next deep c t o (token.Mark mark.Arrow ∷ token.Name n ∷ after) behind p s near same)
+  head_stems names level room e next deep c t (StepBehind k o) after behind is shut near same =
+      either names level room e next deep t (StepBehind k o) after behind is shut near same o (token.Mark (step_mark k) ∷ after) (λ l. stepped k (sym l) refl refl)
+      (λ p s. head_stems names level room e next deep c t o (token.Mark (step_mark k) ∷ after) behind p s near same)
+  head_stems names level room e next deep c t (Infix op l r) after behind is shut near same =
+      either names level room e next deep t (Infix op l r) after behind is shut near same l (token.Mark (infix_mark op) ∷ text r after) (λ x. joined op r (sym x) refl refl)
+      (λ p s. head_stems names level room e next deep c t l (token.Mark (infix_mark op) ∷ text r after) behind p s near same)
+  head_stems names level room e next deep c t (Comma l r) after behind is shut near same =
+      either names level room e next deep t (Comma l r) after behind is shut near same l (token.Mark mark.Comma ∷ text r after) (λ x. continued r (sym x) refl refl)
+      (λ p s. head_stems names level room e next deep c t l (token.Mark mark.Comma ∷ text r after) behind p s near same)
+
+-- a chain of the first operand alone
+pub grows_head : (names : Names) (level room : ℕ) (e : Written) (next : TokenKind) (deep : Bool) → IsChain level → Took (Expressions names (suc level)) room e next deep → Grows names level room e next deep
+grows_head names level room e next deep c t = record {
+  is_phrase = looser names level (suc level) e (omega arith) t.is_phrase;
+  low = t.low;
+  stems = λ other after behind is shut near same. head_stems names level room e next deep c t other after behind is (omega arith) near same;
+  further = λ told. let b = t.further told in record { phrase = b.phrase; more = b.more; is_phrase = looser names level (suc level) b.phrase (omega arith) b.is_phrase; spelled = b.spelled };
+  joined = λ told.
+      elim (cases_lt (suc level) (join next)) [
+        | inl more ↦ more
+        | inr less ↦ absurd (t.joined told [] less)
+      ];
+}
+
+-- the chain ends before a token that adds no suffix
+pub grows_exit : (names : Names) (level room : ℕ) (left : Written) (next : TokenKind) (deep : Bool) → Grows names level room left next deep → (join next ≡ suc level → ⊥) → Took (Expressions names level) room left next deep
+grows_exit names level room left next deep g other_join = record {
+  is_phrase = g.is_phrase;
+  low = g.low;
+  only = λ other after behind is shut near same.
+      elim (g.stems other after behind is shut near same) [
+        | inl stem ↦
+            elim (stem_fold names level left behind (λ whole rest. ⊥)
+            (λ whole rest is' shut' s.
+            let j : join_of behind ≡ suc level = suffix_join level whole rest left behind s in
+            elim near [
+              | inl none ↦ let z : 0 ≡ suc level = sym (ap join_of none) ∙ j in omega arith
+              | inr m ↦ other_join (sym (ap join_of m.1) ∙ j)
+            ])
+            (λ whole rest smaller rest' s none. none)
+            other after is (omega arith) stem) [
+              | inl e ↦ inl e
+              | inr none ↦ absurd none
+            ]
+        | inr over ↦ inr over
+      ];
+  further = g.further;
+  joined = λ told more shut. let j = g.joined told in omega arith;
+}
+
+-- the chain ends before a token that would make it too high
+pub grows_deep : (names : Names) (level room : ℕ) (left : Written) (next : TokenKind) (deep : Bool) → Grows names level room left next deep → join next ≡ suc level → room ≤ height left → Begins (Expressions names level) (text left (next ∷ [])) → Took (Expressions names level) room left next true
+grows_deep names level room left next deep g j full further = record {
+  is_phrase = g.is_phrase;
+  low = g.low;
+  only = λ other after behind is shut near same.
+      elim (g.stems other after behind is shut near same) [
+        | inl stem ↦
+            elim (stem_fold names level left behind (λ whole rest. (room < height whole) × (behind ≡ [] → ⊥))
+            (λ whole rest is' shut' s.
+            let k : join_of behind ≡ suc level = suffix_join level whole rest left behind s in
+            let h : height left < height whole = suffix_height level whole rest left behind s in
+            (omega arith, λ none. let z : 0 ≡ suc level = sym (ap join_of none) ∙ k in omega arith))
+            (λ whole rest smaller rest' s c. let h : height smaller < height whole = suffix_height level whole rest smaller rest' s in (omega (arith, c.0), c.1))
+            other after is (omega arith) stem) [
+              | inl e ↦ inl e
+              | inr c ↦ inr (record { told = refl; high = c.0; onward = c.1 })
+            ]
+        | inr over ↦ absurd (let k = g.joined over.told in omega arith)
+      ];
+  further = λ told. further;
+  joined = λ told more shut. omega arith;
+}
+
+-- a suffix that begins with this token: the rest of it is a phrase of D, and it ends with the whole
+pub record Addition (names : Names) (level : ℕ) (left : Written) (room : ℕ) (first : TokenKind) (D : Class) (inner : ℕ) (build : D.Tree → Written) : Type 0 where
+  pub chain : join first ≡ suc level
+  pub started : BeginsLow (Expressions names level) room (text left (first ∷ []))
+  pub invert : (whole : Written) (after behind : Kinds) → IsPhrase names level whole → Suffix level whole after left (first ∷ behind) → (part : D.Tree) × (whole ≡ build part) × D.Is part × (behind ≡ D.spell part after)
+  pub shut : (after : Kinds) → join_of after ≤ suc level → D.Shut after
+  pub spelled : (part : D.Tree) (after : Kinds) → text (build part) after ≡ text left (first ∷ D.spell part after)
+  pub is_phrase : (part : D.Tree) → D.Is part → IsPhrase names level (build part)
+  pub low : (part : D.Tree) → D.Is part → D.tall part ≤ inner → height (build part) ≤ room
+  pub rises : (part : D.Tree) → inner < D.tall part → room < height (build part)
+
+addition_hole : (names : Names) (level : ℕ) (left : Written) (room : ℕ) (first : TokenKind) (D : Class) (inner : ℕ) (build : D.Tree → Written) (deep : Bool) → Grows names level room left first deep → Addition names level left room first D inner build → Hole (Expressions names level) D room inner (text left (first ∷ [])) (λ rest. Unit {0}) (λ rest. Unit {0})
+addition_hole names level left room first D inner build deep g a = record {
+  started = inr a.started;
+  invert = λ whole after behind is shut fit same.
+      elim (g.stems whole after (first ∷ behind) is shut (inr (behind, refl)) (same ∙ text_append left (first ∷ []) behind)) [
+        | inl stem ↦
+            elim (stem_fold names level left (first ∷ behind) (λ w rest. (part : D.Tree) × (rest' : Kinds) × D.Is part × (behind ≡ D.spell part rest') × D.Shut rest' × (inner < D.tall part → room < height w))
+            (λ w rest is' shut' s.
+            let f = a.invert w rest behind is' s in
+            (f.0, rest, f.2, f.3, a.shut rest shut', λ high. subst (λ (x : Written). room < height x) (sym f.1) (a.rises f.0 high)))
+            (λ w rest smaller rest' s c.
+            let h : height smaller < height w = suffix_height level w rest smaller rest' s in
+            (c.0, c.1, c.2, c.3, c.4, λ high. let k : room < height smaller = c.5 high in omega arith))
+            whole after is (omega arith) stem) [
+              | inl e ↦ absurd (let j : join_of after ≡ suc level = ap join_of e.1 ∙ a.chain in omega arith)
+              | inr c ↦ record { part = c.0; rest = c.1; is_phrase = c.2; spelled = c.3; shut = c.4; after = tt; rises = c.5 }
+            ]
+        | inr over ↦ absurd (let k = g.joined over.told in let j = a.chain in omega arith)
+      ];
+  complete = λ part is. record {
+    whole = build part;
+    more = [];
+    is_phrase = a.is_phrase part is;
+    spelled = a.spelled part [] ∙ sym (text_append left (first ∷ []) (D.spell part []));
+    low = a.low part is;
+  };
+}
+
+-- the rest of a suffix was refused
+pub addition_refused : (names : Names) (level : ℕ) (left : Written) (room : ℕ) (first : TokenKind) (D : Class) (inner : ℕ) (build : D.Tree → Written) (deep : Bool) → Lawful D → Grows names level room left first deep → Addition names level left room first D inner build → (front : Kinds) (next : TokenKind) (deep' : Bool) → Refused D inner front next deep' → Refused (Expressions names level) room (text left (first ∷ []) ++ front) next deep'
+addition_refused names level left room first D inner build deep law g a front next deep' r =
+    hole_refused (Expressions names level) D room inner (text left (first ∷ [])) (λ rest. Unit {0}) (λ rest. Unit {0}) law (addition_hole names level left room first D inner build deep g a) front next deep' (λ behind near. tt) r
+
+-- a suffix was taken: the chain is longer
+pub addition_took : (names : Names) (level : ℕ) (left : Written) (room : ℕ) (first : TokenKind) (D : Class) (inner : ℕ) (build : D.Tree → Written) (deep : Bool) → Grows names level room left first deep → Addition names level left room first D inner build → (part : D.Tree) (next : TokenKind) (deep' : Bool) → Took D inner part next deep' → Grows names level room (build part) next deep'
+addition_took names level left room first D inner build deep g a part next deep' t = record {
+  is_phrase = a.is_phrase part t.is_phrase;
+  low = a.low part t.is_phrase t.low;
+  stems = λ other after behind is shut near same.
+      elim (g.stems other after (first ∷ D.spell part behind) is shut (inr (D.spell part behind, refl)) (same ∙ a.spelled part behind)) [
+        | inl stem ↦
+            elim (stem_fold names level left (first ∷ D.spell part behind) (λ w rest. Stem level (build part) behind w rest ⊎ IsOver (Expressions names level) room deep' w behind)
+            (λ w rest is' shut' s.
+            let f = a.invert w rest (D.spell part behind) is' s in
+            elim (t.only f.0 rest behind f.2 (a.shut rest shut') near (sym f.3)) [
+              | inl e ↦ inl (bare (f.1 ∙ ap build e.0) e.1)
+              | inr over ↦ inr (record { told = over.told; high = subst (λ (x : Written). room < height x) (sym f.1) (a.rises f.0 over.high); onward = over.onward })
+            ])
+            (λ w rest smaller rest' s c.
+            elim c [
+              | inl stem' ↦ inl (grown smaller rest' s stem')
+              | inr over ↦ inr (over_up names level level room deep' w smaller behind (suffix_height level w rest smaller rest' s) over)
+            ])
+            other after is (omega arith) stem) [
+              | inl e ↦ absurd (let j : join_of after ≡ suc level = ap join_of e.1 ∙ a.chain in omega arith)
+              | inr c ↦ c
+            ]
+        | inr over ↦ absurd (let k = g.joined over.told in let j = a.chain in omega arith)
+      ];
+  further = λ told.
+      let b = t.further told in
+      record {
+        phrase = build b.phrase;
+        more = b.more;
+        is_phrase = a.is_phrase b.phrase b.is_phrase;
+        spelled =
+            a.spelled b.phrase [] ∙ ap (λ x. text left (first ∷ x)) b.spelled
+            ∙ sym (text_append left (first ∷ D.spell part (next ∷ [])) b.more)
+            ∙ ap (λ x. x ++ b.more) (sym (a.spelled part (next ∷ [])));
+      };
+  joined = λ told.
+      elim (cases_lt (suc level) (join next)) [
+        | inl more ↦ more
+        | inr less ↦ absurd (t.joined told [] (a.shut (next ∷ []) less))
+      ];
+}

@@ -1,0 +1,6 @@
+pub mod Texts
+pub mod WordsOfTypes
+pub mod Holes
+pub mod Levels
+pub mod Chains
+pub mod Beginnings

@@ -1,0 +1,13 @@
+pub mod TypeWords
+pub mod TypesSoFar
+pub mod Levels
+pub mod Marks
+pub mod Text
+pub mod Phrases
+pub mod Refusals
+pub mod Places
+pub mod Spelling
+pub mod Continuing
+pub mod Parsing
+pub mod FirstTokens
+pub mod Chains

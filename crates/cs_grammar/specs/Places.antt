@@ -1,0 +1,92 @@
+-- That each node of a written expression has the place of its token: that of its operator, or its first one where it has none.
+use Rattle.std.specs.Prelude.{◌≡◌, ℕ, suc, ◌+◌, List, [], ◌∷◌, drop, Option, None, Some, slice_get}
+use Rattle.std.specs.Option.{option_map, option_and_then}
+use Rattle.cs_ast.specs.declared.raw.written_type.TypeWord.{TypeWord}
+use Rattle.cs_ast.specs.declared.raw.written_type.TypeWord.TheVariants as word
+use Rattle.cs_ast.specs.declared.place.Place.{Place}
+use Rattle.cs_ast.specs.declared.token.Token.{Token}
+use Rattle.cs_ast.specs.declared.raw.expression.RawExpr.{RawExpr}
+use Rattle.cs_ast.specs.declared.raw.expression.RawExprKind.{RawExprKind, Row_of-RawExpr, end_of-RawExpr, more_of-RawExpr}
+use Rattle.cs_ast.specs.declared.raw.expression.RawExprKind.TheVariants as kind
+use Rattle.cs_ast.specs.declared.raw.written_type.WrittenType.{WrittenType}
+use Rattle.cs_ast.specs.RawTree.{WrittenList}
+use Rattle.cs_ast.specs.RawView.{written_kind}
+use Rattle.cs_grammar.specs.Text.{size, words_text, pointers_text}
+use Rattle.std.specs.Prelude.{length}
+
+-- the place is that of the first of these tokens
+abbrev pub StandsAt : Place → List Token → Type 0
+StandsAt at [] = ⊥
+StandsAt at (token ∷ tokens) = at ≡ token.place
+
+-- the tokens behind those of an expression
+abbrev pub behind : RawExprKind → List Token → List Token
+behind e tokens = drop (size (written_kind e)) tokens
+
+-- the tokens behind those of a type's words and pointers
+abbrev pub behind_words : WrittenType → List Token → List Token
+behind_words ty tokens = drop (length (words_text ty.words.items (pointers_text ty.pointers.items []))) tokens
+
+-- how many tokens stand before the tag that names a type
+abbrev pub before_tag : List TypeWord → Option ℕ
+before_tag [] = None
+before_tag (word.Struct tag ∷ words) = Some 1
+before_tag (word.Enum tag ∷ words) = Some 1
+before_tag (other ∷ words) = option_map suc (before_tag words)
+
+-- a type's words begin these tokens, and its tag, if it has one, is at its place
+abbrev pub HasTagPlace : WrittenType → List Token → Type 0
+HasTagPlace ty tokens =
+    ty.tag ≡ option_map (λ (token : Token). token.place) (option_and_then (λ number. slice_get tokens number) (before_tag ty.words.items))
+
+-- the tokens behind the bounds of a type
+abbrev pub behind_bounds : {n : _} → Row_of-RawExpr n → List Token → List Token
+behind_bounds end_of-RawExpr tokens = tokens
+behind_bounds (more_of-RawExpr at first others) tokens = behind_bounds others (drop 1 (behind first (drop 1 tokens)))
+
+abbrev mutual
+  -- an expression at a place begins these tokens, and each of its nodes has the place of its token
+  pub IsPlaced : Place → RawExprKind → List Token → Type 0
+  IsPlaced at (kind.Name name) tokens = StandsAt at tokens
+  IsPlaced at (kind.Number constant) tokens = StandsAt at tokens
+  IsPlaced at (kind.Character value) tokens = StandsAt at tokens
+  IsPlaced at (kind.Text bytes) tokens = StandsAt at tokens
+  IsPlaced at (kind.Parenthesis' p place inner) tokens = StandsAt at tokens × IsPlaced place inner (drop 1 tokens)
+  IsPlaced at (kind.Index' p place array q place' number) tokens =
+      IsPlaced place array tokens × StandsAt at (behind array tokens) × IsPlaced place' number (drop 1 (behind array tokens))
+  IsPlaced at (kind.Call' p place function shape row) tokens =
+      IsPlaced place function tokens × StandsAt at (behind function tokens) × ArePlaced row (drop 1 (behind function tokens))
+  IsPlaced at (kind.Member' p place object name) tokens = IsPlaced place object tokens × StandsAt at (behind object tokens)
+  IsPlaced at (kind.Arrow' p place pointer name) tokens = IsPlaced place pointer tokens × StandsAt at (behind pointer tokens)
+  IsPlaced at (kind.StepBehind' step p place object) tokens = IsPlaced place object tokens × StandsAt at (behind object tokens)
+  IsPlaced at (kind.StepBefore' step p place object) tokens = StandsAt at tokens × IsPlaced place object (drop 1 tokens)
+  IsPlaced at (kind.Prefix' operator p place operand) tokens = StandsAt at tokens × IsPlaced place operand (drop 1 tokens)
+  IsPlaced at (kind.SizeOf' p place operand) tokens = StandsAt at tokens × IsPlaced place operand (drop 1 tokens)
+  IsPlaced at (kind.SizeOfType' ty shape row) tokens = StandsAt at tokens × HasTagPlace ty (drop 2 tokens) × AreBoundsPlaced row (behind_words ty (drop 2 tokens))
+  IsPlaced at (kind.Cast' ty shape row p place operand) tokens =
+      StandsAt at tokens × HasTagPlace ty (drop 1 tokens) × AreBoundsPlaced row (behind_words ty (drop 1 tokens))
+      × IsPlaced place operand (drop 1 (behind_bounds row (behind_words ty (drop 1 tokens))))
+  IsPlaced at (kind.Infix' operator p place left q place' right) tokens =
+      IsPlaced place left tokens × StandsAt at (behind left tokens) × IsPlaced place' right (drop 1 (behind left tokens))
+  IsPlaced at (kind.Choice' p place test q place' one r place'' other) tokens =
+      IsPlaced place test tokens × StandsAt at (behind test tokens) × IsPlaced place' one (drop 1 (behind test tokens))
+      × IsPlaced place'' other (drop 1 (behind one (drop 1 (behind test tokens))))
+  IsPlaced at (kind.Assign' operator p place object q place' value) tokens =
+      IsPlaced place object tokens × StandsAt at (behind object tokens) × IsPlaced place' value (drop 1 (behind object tokens))
+  IsPlaced at (kind.Comma' p place first q place' second) tokens =
+      IsPlaced place first tokens × StandsAt at (behind first tokens) × IsPlaced place' second (drop 1 (behind first tokens))
+
+  -- the same of expressions with a mark behind each
+  pub ArePlaced : {n : _} → Row_of-RawExpr n → List Token → Type 0
+  ArePlaced end_of-RawExpr tokens = Unit {0}
+  ArePlaced (more_of-RawExpr at first others) tokens = IsPlaced at first tokens × ArePlaced others (drop 1 (behind first tokens))
+
+  -- the same of expressions between brackets
+  pub AreBoundsPlaced : {n : _} → Row_of-RawExpr n → List Token → Type 0
+  AreBoundsPlaced end_of-RawExpr tokens = Unit {0}
+  AreBoundsPlaced (more_of-RawExpr at first others) tokens =
+      IsPlaced at first (drop 1 tokens) × AreBoundsPlaced others (drop 1 (behind first (drop 1 tokens)))
+
+-- the tokens begin with an expression whose nodes have the places of their tokens
+abbrev pub HasPlaces : RawExpr → List Token → Type 0
+HasPlaces e tokens = IsPlaced e.place e.kind tokens

@@ -1,0 +1,40 @@
+-- How the words and marks of C that are left out are spelled.
+use Rattle.std.specs.Prelude.{ℕ, List, [], codes}
+use Rattle.cs_ast.specs.declared.token.TokenKind.{TokenKind}
+use Rattle.cs_ast.specs.declared.token.TokenKind.TheVariants as token
+use Rattle.cs_ast.specs.declared.token.Keyword.TheVariants as keyword
+use Rattle.cs_ast.specs.declared.token.Mark.TheVariants as mark
+use Rattle.cs_ast.specs.declared.token.LeftOut.{LeftOut}
+use Rattle.cs_ast.specs.declared.token.LeftOut.TheVariants as left
+
+-- the bytes of a word that is left out
+abbrev pub word_spelling : LeftOut → List ℕ
+word_spelling left.Float = codes "float"
+word_spelling left.Double = codes "double"
+word_spelling left.Union = codes "union"
+word_spelling left.Bool = codes "_Bool"
+word_spelling left.Complex = codes "_Complex"
+word_spelling left.Imaginary = codes "_Imaginary"
+word_spelling left.Atomic = codes "_Atomic"
+word_spelling left.Alignas = codes "_Alignas"
+word_spelling left.Alignof = codes "_Alignof"
+word_spelling left.Generic = codes "_Generic"
+word_spelling left.Noreturn = codes "_Noreturn"
+word_spelling left.StaticAssert = codes "_Static_assert"
+word_spelling left.ThreadLocal = codes "_Thread_local"
+word_spelling left.Int128 = codes "__int128"
+word_spelling left.Asm = codes "asm"
+word_spelling left.AsmBetween = codes "__asm__"
+word_spelling left.AsmBehind = codes "__asm"
+word_spelling left.Typeof = codes "typeof"
+word_spelling left.TypeofBetween = codes "__typeof__"
+word_spelling left.Auto = codes "auto"
+
+-- the bytes of a token that is left out somewhere, none of any other
+abbrev pub left_out_spelling : TokenKind → List ℕ
+left_out_spelling (token.LeftOut word) = word_spelling word
+left_out_spelling (token.Mark mark.Ellipsis) = codes "..."
+left_out_spelling (token.Mark mark.OpenBrace) = codes "{"
+left_out_spelling (token.Keyword keyword.Static) = codes "static"
+left_out_spelling (token.Keyword keyword.Typedef) = codes "typedef"
+left_out_spelling other = []

@@ -1,0 +1,16 @@
+//! The grammar of expressions: what is a phrase, which tokens begin one, and why a token is refused.
+#![tactic(auto)]
+
+mod marks;
+mod refusal;
+mod spelling;
+#[cfg(test)]
+mod tests;
+mod type_words;
+mod typedef_names;
+
+pub use marks::{assign_operator, infix_level, infix_operator, prefix_operator, step};
+pub use refusal::{Reason, SyntaxRefusal};
+pub use spelling::left_out_text;
+pub use type_words::{IntegerWords, TypeSoFar, integer_word};
+pub use typedef_names::TypedefNames;
