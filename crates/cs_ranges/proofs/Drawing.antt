@@ -1,12 +1,12 @@
 -- The numbers at which a line has values in a set, interval by interval: serves `Line::preimage`.
-use Rattle.std.proofs.Common.{◌≡◌, ◌^◌, Bool, true, false, ◌||◌, ◌&&◌, ℤ, pos, neg_ℤ, ◌+ℤ◌, ◌<ℤ◌, ◌≤ℤ◌, int_le, List, [], ◌∷◌, refl, sym, ap, ap₂, ◌∙◌, arith}
+use Rattle.std.proofs.Common.{◌≡◌, Bool, true, false, ◌||◌, ◌&&◌, ℤ, ◌<ℤ◌, ◌≤ℤ◌, int_le, List, [], ◌∷◌, refl, sym, ap, ap₂, ◌∙◌, arith}
 use Rattle.std.proofs.lemmas.Int.{ints}
 use Rattle.std.proofs.lemmas.Bool.{false≢true, and_right, or_left, or_right}
 use Rattle.cs_ranges.specs.declared.range_set.Interval.{Interval}
 use Rattle.cs_ranges.specs.declared.range_set.affine.Line.{Line}
-use Rattle.cs_ranges.specs.Interval.{IsInside, IsProper, in_interval}
+use Rattle.cs_ranges.specs.Interval.{IsProper, in_interval}
 use Rattle.cs_ranges.specs.Line.{is_over, value_of, IsPreimage}
-use Rattle.cs_ranges.specs.RangeSet.{contains, IsSpread, IsSpreadFrom, last_low}
+use Rattle.cs_ranges.specs.RangeSet.{contains, IsSpread, last_low}
 use Rattle.cs_ranges.proofs.Lines.{over_tells}
 use Rattle.cs_ranges.proofs.Members.{in_interval_tells, in_interval-low, in_interval-none, contains-nil, contains-cons, or-false}
 use Rattle.cs_ranges.proofs.Spread.{IsSpreadFrom-weaker, contains-from, last_low_or-nil}

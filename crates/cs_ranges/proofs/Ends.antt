@@ -1,11 +1,10 @@
 -- The least and the greatest number of a set: serves `least` and `greatest`.
-use Rattle.std.proofs.Common.{◌≡◌, ◌⊎◌, ◌<◌, ◌-◌, true, ◌||◌, inl, inr, ℤ, pos, ◌+ℤ◌, ◌≤ℤ◌, List, [], ◌∷◌, ◌++◌, length, take, get_or, refl, sym, ap, ◌∙◌, subst, arith, not-suc-le-zero}
+use Rattle.std.proofs.Common.{◌<◌, ◌-◌, inl, inr, List, [], ◌∷◌, ◌++◌, length, get_or, refl, sym, ◌∙◌, subst, arith, not-suc-le-zero}
 use Rattle.std.proofs.lemmas.Int.{ints}
 use Rattle.std.proofs.lemmas.List.{get_or_default}
 use Rattle.std.proofs.lemmas.Bool.{or_cases, or_left, or_right}
 use Rattle.cs_ranges.specs.declared.range_set.Interval.{Interval}
-use Rattle.cs_ranges.specs.Interval.{in_interval}
-use Rattle.cs_ranges.specs.RangeSet.{contains, IsSpread, IsSpreadFrom, IsLeast, IsGreatest}
+use Rattle.cs_ranges.specs.RangeSet.{IsSpread, IsLeast, IsGreatest}
 use Rattle.cs_ranges.proofs.LastItem.{front_last}
 use Rattle.cs_ranges.proofs.Members.{in_interval_tells, in_interval-low, in_interval-high, contains-cons, contains-push}
 use Rattle.cs_ranges.proofs.Spread.{IsSpreadFrom-last, contains-from, contains-before_last}

@@ -3,4 +3,4 @@
 
 mod range_set;
 
-pub use range_set::{GREATEST, Interval, LEAST, RangeSet, affine_preimage};
+pub use range_set::{GREATEST, Interval, LEAST, RangeSet, affine_preimage, affine_value};

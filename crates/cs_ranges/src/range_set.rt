@@ -14,7 +14,7 @@ mod query;
 #[cfg(test)]
 mod tests;
 
-pub use affine::affine_preimage;
+pub use affine::{affine_preimage, affine_value};
 
 /// The closed range from `low` to `high`: both ends belong to it, and it has no number where `low`
 /// is above `high`.
@@ -66,6 +66,14 @@ impl Model for RangeSet {
     ghost view = { λ s. s.intervals.items };
 
     ghost invariant = { λ s. IsSpread s.intervals.items };
+}
+
+impl Clone for RangeSet {
+    ghost is_clone = { λ set made. made ≡ set };
+
+    fn clone(&self) -> Result<RangeSet, AllocError> {
+        self.copy()
+    }
 }
 
 impl RangeSet {

@@ -1,1 +1,5 @@
+pub mod Conditions
+pub mod Near
+pub mod Pieces
+pub mod Table
 pub mod Term

@@ -22,6 +22,10 @@ value_of valuation term = value_with valuation term.sym term.slope term.at term.
 abbrev pub value_of_sum : Valuation → Lin2 → ℤ
 value_of_sum valuation sum = value_of valuation sum.first +ℤ value_of valuation sum.second
 
+-- a term's value where its symbol is this number
+abbrev pub value_at : Lin → ℤ → ℤ
+value_at term x = value_of (λ symbol. x) term
+
 -- there is no symbol exactly where the slope is 0
 abbrev pub IsTermWith : Option Sym → ℤ → Type 0
 IsTermWith None slope = slope ≡ pos 0
@@ -30,3 +34,13 @@ IsTermWith (Some sym) slope = slope ≢ pos 0
 -- a term has a symbol exactly where its slope isn't 0
 abbrev pub IsTerm : Lin → Type 0
 IsTerm term = IsTermWith term.sym term.slope
+
+-- the two have symbols, and these differ
+abbrev pub HaveTwoSymbols : Option Sym → Option Sym → Type 0
+HaveTwoSymbols None other = ⊥
+HaveTwoSymbols (Some sym) None = ⊥
+HaveTwoSymbols (Some sym) (Some other) = sym ≢ other
+
+-- the first symbol, where there is one, is the second
+abbrev pub HasNoOtherSymbol : Option Sym → Option Sym → Type 0
+HasNoOtherSymbol made given = (sym : Sym) → made ≡ Some sym → given ≡ Some sym

@@ -31,8 +31,8 @@ pub fn affine_preimage(
     found.intersect(within)
 }
 
-/// The value at `s`. It fits, so it is right although parts of it may wrap.
-fn affine(slope: i128, at: i128, value: i128, s: i128) -> i128
+/// The value of `value + slope * (s - at)`. It fits, so it is right although parts of it may wrap.
+pub fn affine_value(slope: i128, at: i128, value: i128, s: i128) -> i128
     requires { IsInside (affine slope at value s) }
     ensures { result ≡ affine slope at value s }
 {
@@ -64,8 +64,8 @@ impl Line {
         ensures values { pos 0 ≤ℤ slope → (s : ℤ) → value_of result s ≡ affine slope at value s }
         ensures negatives { slope <ℤ pos 0 → (s : ℤ) → value_of result s ≡ neg_ℤ (affine slope at value s) }
     {
-        let start = affine(slope, at, value, first);
-        let end = affine(slope, at, value, last);
+        let start = affine_value(slope, at, value, first);
+        let end = affine_value(slope, at, value, last);
         let slope_size = slope.unsigned_abs();
         if slope < 0 {
             return Line {

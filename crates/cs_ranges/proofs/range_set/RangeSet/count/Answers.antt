@@ -1,9 +1,9 @@
-use Rattle.std.proofs.Common.{◌≡◌, ◌+◌, ◌<◌, pos, List, [], ◌∷◌, length, get_or, drop, sym, ap, ◌∙◌, subst, arith}
+use Rattle.std.proofs.Common.{◌≡◌, pos, sym, ap, ◌∙◌, subst, arith}
 use Rattle.std.proofs.lemmas.Int.{ints}
 use Rattle.std.proofs.lemmas.List.{drop_more, drop_all}
 use Rattle.cs_ranges.specs.declared.range_set.Interval.{Interval}
-use Rattle.cs_ranges.specs.RangeSet.{IsSpread, IsCount}
-use Rattle.cs_ranges.proofs.Counting.{size_of, total_size, total_size-nil, total_size-cons, total_size-bound, IsCount-total_size}
+use Rattle.cs_ranges.specs.RangeSet.{IsSpread}
+use Rattle.cs_ranges.proofs.Counting.{total_size, total_size-nil, total_size-cons, total_size-bound, IsCount-total_size}
 use Rattle.cs_ranges.proofs.Spread.{IsSpreadFrom-at}
 use Rattle.cs_ranges.proofs.range_set.RangeSet.count.Goals as goal
 

@@ -1,4 +1,4 @@
-use Rattle.std.proofs.Common.{◌<◌, pos, List, [], length, get_or, sym, ap, ◌∙◌, subst, arith, FitsSigned}
+use Rattle.std.proofs.Common.{pos, get_or, sym, ap, ◌∙◌, subst, arith, FitsSigned}
 use Rattle.std.specs.Int.{w128}
 use Rattle.std.proofs.lemmas.Int.{ints, to_z-of_z}
 use Rattle.std.proofs.lemmas.List.{nil_from_length}

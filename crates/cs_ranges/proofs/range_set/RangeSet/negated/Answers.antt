@@ -1,8 +1,5 @@
-use Rattle.std.proofs.Common.{◌≡◌, ℤ, neg_ℤ, ◌≤ℤ◌, List, [], ◌∷◌, ◌++◌, sym, ap, ◌∙◌, subst, arith}
-use Rattle.std.proofs.lemmas.Int.{ints}
 use Rattle.std.proofs.lemmas.List.{nil_from_length}
-use Rattle.cs_ranges.specs.declared.range_set.Interval.{Interval}
-use Rattle.cs_ranges.proofs.Negatives.{Mirrors, Mirrors-start, Mirrors-more, Mirrors-end, Mirrors-behind}
+use Rattle.cs_ranges.proofs.Negatives.{Mirrors-start, Mirrors-more, Mirrors-end, Mirrors-behind}
 use Rattle.cs_ranges.proofs.Spread.{IsProper-last}
 use Rattle.cs_ranges.proofs.range_set.RangeSet.negated.Goals as goal
 

@@ -1,7 +1,6 @@
-use Rattle.std.proofs.Common.{◌≡◌, ◌+◌, ◌<◌, pos, List, [], ◌∷◌, length, get_or, drop, refl, sym, ap, ◌∙◌, arith}
+use Rattle.std.proofs.Common.{pos, length, refl, ap, arith}
 use Rattle.std.proofs.lemmas.List.{drop_more, drop_all}
-use Rattle.cs_ranges.specs.declared.range_set.Interval.{Interval}
-use Rattle.cs_ranges.proofs.Joining.{Adds, Adds-more, Adds-end}
+use Rattle.cs_ranges.proofs.Joining.{Adds-more, Adds-end}
 use Rattle.cs_ranges.proofs.Spread.{IsProper-first}
 use Rattle.cs_ranges.proofs.range_set.RangeSet.push_all.Goals as goal
 

@@ -1,7 +1,7 @@
-use Rattle.std.proofs.Common.{◌≡◌, ◌⊎◌, inl, inr, List, [], ◌∷◌, sym, ap, ◌∙◌, subst, arith}
+use Rattle.std.proofs.Common.{inl, inr, arith}
 use Rattle.std.proofs.lemmas.Int.{ints}
 use Rattle.std.proofs.lemmas.List.{nil_from_length}
-use Rattle.cs_ranges.proofs.Joining.{Joins, Joins-start, Joins-left, Joins-right, Joins-end, Joins-behind}
+use Rattle.cs_ranges.proofs.Joining.{Joins-start, Joins-left, Joins-right, Joins-end, Joins-behind}
 use Rattle.cs_ranges.proofs.Spread.{IsProper-first}
 use Rattle.cs_ranges.proofs.range_set.RangeSet.union.Goals.{in_default, in_default-2}
 use Rattle.cs_ranges.proofs.range_set.RangeSet.union.Goals as goal

@@ -1,4 +1,4 @@
-use Rattle.std.proofs.Common.{◌≡◌, ◌&&◌, Bool, true, false, ℤ, pos, neg_ℤ, ◌<ℤ◌, ◌≤ℤ◌, int_le, List, [], refl, sym, ap, ◌∙◌, arith, rules, FitsSigned}
+use Rattle.std.proofs.Common.{◌≡◌, ◌&&◌, Bool, true, false, ℤ, neg_ℤ, ◌≤ℤ◌, List, refl, sym, ap, ◌∙◌, arith, FitsSigned}
 use Rattle.std.specs.Int.{w128}
 use Rattle.std.proofs.lemmas.Bool.{and_left, false≢true}
 use Rattle.std.proofs.lemmas.Int.{ints, to_z-of_z}
@@ -6,7 +6,7 @@ use Rattle.std.proofs.lemmas.Result.{IfOk-weaker}
 use Rattle.cs_ranges.specs.declared.range_set.Interval.{Interval}
 use Rattle.cs_ranges.specs.declared.range_set.affine.Line.{Line}
 use Rattle.cs_ranges.specs.Affine.{affine}
-use Rattle.cs_ranges.specs.Line.{is_over, value_of}
+use Rattle.cs_ranges.specs.Line.{is_over}
 use Rattle.cs_ranges.specs.RangeSet.{contains, IsLeast, IsGreatest}
 use Rattle.cs_ranges.proofs.Drawing.{is_over-within}
 use Rattle.cs_ranges.proofs.Members.{contains-nil}

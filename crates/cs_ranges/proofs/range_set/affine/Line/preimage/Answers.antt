@@ -1,8 +1,8 @@
-use Rattle.std.proofs.Common.{◌≡◌, ◌+◌, ◌<◌, pos, List, [], ◌∷◌, length, drop, sym, ap, ◌∙◌, arith, rules, FitsSigned}
+use Rattle.std.proofs.Common.{pos, arith, rules, FitsSigned}
 use Rattle.std.specs.Int.{w128}
 use Rattle.std.proofs.lemmas.Int.{ints}
 use Rattle.std.proofs.lemmas.List.{drop_more, drop_all}
-use Rattle.cs_ranges.proofs.Drawing.{Draws, Draws-start, Draws-behind, Draws-more, Draws-skip, Draws-end, IsProper-numbers}
+use Rattle.cs_ranges.proofs.Drawing.{Draws-start, Draws-behind, Draws-more, Draws-skip, Draws-end, IsProper-numbers}
 use Rattle.cs_ranges.proofs.Spread.{IsProper-first}
 use Rattle.cs_ranges.proofs.range_set.affine.Line.preimage.Goals.{then-numbers+in_ok-push, else-numbers}
 use Rattle.cs_ranges.proofs.range_set.affine.Line.preimage.Goals as goal

@@ -1,0 +1,18 @@
+-- The sets of symbols as a finite map.
+use Rattle.std.specs.Prelude.{◌≡◌, ℕ, List, Option, Some}
+use Rattle.std.specs.FinMap as map
+use Rattle.cs_pmap.specs.Keys.{key_cmp}
+use Rattle.cs_ranges.specs.declared.range_set.Interval.{Interval}
+use Rattle.cs_ranges.specs.RangeSet.{IsInhabited}
+
+-- a set of numbers for each symbol that is declared, under the symbol's number and 0
+abbrev pub Sets : Type 0
+Sets = map.FinMap key_cmp (List Interval)
+
+-- the numbers that a symbol may stand for, none where it isn't declared
+abbrev pub set_of : Sets → ℕ → Option (List Interval)
+set_of sets sym = map.get sets (sym, 0)
+
+-- each declared symbol has a number
+abbrev pub AreInhabited : Sets → Type 0
+AreInhabited sets = (sym : ℕ) (set : List Interval) → set_of sets sym ≡ Some set → IsInhabited set

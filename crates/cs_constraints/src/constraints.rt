@@ -1,0 +1,167 @@
+//! `Constraints`, in the sense of Clang's `ConstraintManager`: `assume` adds a condition to a path or finds that the path
+//! is infeasible. Each condition bounds one symbol, so that the constraints are a range for each symbol.
+ghost use Rattle.std.specs.Prelude.{◌≡◌, ◌≢◌, true, false, ◌&&◌, ℕ, ℤ, Some, None, IsTrue, IfOk, IfSome, OnOk, OnErr, MatchOption, List};
+ghost use Rattle.std.specs.Option.{option_copied};
+ghost use Rattle.std.specs.FinMap as map;
+ghost use Rattle.cs_ranges.specs.declared.range_set.Interval.{Interval};
+ghost use Rattle.cs_ranges.specs.RangeSet.{contains, IsEmpty, IsInhabited, IsLeastAbs};
+ghost use Rattle.cs_terms.specs.Term.{Valuation, value_of, value_at, IsTerm};
+ghost use Rattle.cs_constraints.specs.Constraints.{set_of, AreInhabited, Fits, IsDeclared, HasValuesInside, HasOneNumber, IsNarrowed, Keeps, RulesOut};
+
+use cs_pmap::PMap;
+use cs_ranges::{RangeSet, affine_preimage, affine_value};
+use cs_terms::{Lin, Sym};
+use std::alloc::{AllocError, Global};
+use std::marker::Model;
+
+/// The symbols that are declared, each with a set of numbers that isn't empty. A contract sees them as a finite map.
+///
+/// A valuation fits where it gives each declared symbol a number of its set, so some valuation always fits.
+#[derive(Drop)]
+pub struct Constraints {
+    alloc: Global,
+    // Under a symbol's number and 0. States share the map, and a condition changes one entry of it.
+    sets: PMap<RangeSet>,
+}
+
+impl Model for Constraints {
+    ghost use Rattle.std.specs.Prelude.{List};
+    ghost use Rattle.std.specs.FinMap as map;
+    ghost use Rattle.cs_pmap.specs.Keys.{key_cmp};
+    ghost use Rattle.cs_ranges.specs.declared.range_set.Interval.{Interval};
+    ghost use Rattle.cs_constraints.specs.Codes.{sets_code};
+
+    ghost Value = { map.FinMap key_cmp (List Interval) };
+
+    ghost coded = { sets_code };
+
+    ghost use Rattle.cs_constraints.specs.Sets.{AreInhabited};
+
+    ghost view = { λ c. c.sets };
+
+    ghost invariant = { λ c. AreInhabited c.sets };
+}
+
+impl Constraints {
+    /// No symbol is declared.
+    pub fn new(alloc: Global) -> Constraints
+        ensures { (sym : ℕ) → set_of result sym ≡ None }
+    {
+        Constraints {
+            alloc,
+            sets: PMap::new(alloc),
+        }
+    }
+
+    /// Gives the symbol the numbers of the set, in place of those that it had.
+    pub fn declare(&mut self, sym: Sym, set: RangeSet) -> Result<(), AllocError>
+        requires { IsInhabited set }
+        ensures here { OnOk result (set_of self.new sym.0 ≡ Some set) }
+        ensures elsewhere { OnOk result ((other : ℕ) → other ≢ sym.0 → set_of self.new other ≡ set_of self.old other) }
+        ensures err { OnErr result (self.new ≡ self.old) }
+    {
+        self.sets.insert((sym.0, 0), set)
+    }
+
+    /// The numbers that the symbol may stand for.
+    pub fn range_of(&self, sym: Sym) -> Option<&RangeSet>
+        ensures set { option_copied result ≡ set_of self.now sym.0 }
+        ensures inhabited { IfSome result (λ set. IsInhabited set.now) }
+    {
+        self.sets.get((sym.0, 0))
+    }
+
+    /// The least absolute number that the symbol may stand for, the positive one of two.
+    pub fn solution(&self, sym: Sym) -> Option<i128>
+        ensures { MatchOption result (set_of self.now sym.0 ≡ None) (λ number. (set : List Interval) × (set_of self.now sym.0 ≡ Some set) × IsLeastAbs set number) }
+    {
+        self.range_of(sym)?.least_abs()
+    }
+
+    /// The same constraints once more.
+    pub fn copy(&self) -> Result<Constraints, AllocError>
+        ensures same { IfOk result (λ copy. copy ≡ self.now) }
+        ensures inhabited { AreInhabited self.now }
+    {
+        Ok(Constraints {
+            alloc: self.alloc,
+            sets: self.sets.copy()?,
+        })
+    }
+
+    /// The term, as a constant where its symbol can stand for one number only.
+    pub fn collapse(&self, term: Lin) -> Lin
+        requires term { IsTerm term }
+        requires values { HasValuesInside self.now term }
+        ensures value { (v : Valuation) → Fits v self.now → value_of v result ≡ value_of v term }
+        ensures constant { (number : ℤ) → HasOneNumber self.now term.sym number → result.sym ≡ None }
+        ensures kept { ¬ ((number : ℤ) × HasOneNumber self.now term.sym number) → result ≡ term }
+        ensures term { IsTerm result }
+    {
+        match self.only_number(term.sym) {
+            Some(number) => Lin {
+                sym: None,
+                slope: 0,
+                at: number,
+                value: affine_value(term.slope, term.at, term.value, number),
+            },
+            None => term,
+        }
+    }
+
+    // The number of a symbol that can stand for one number only.
+    fn only_number(&self, sym: Option<Sym>) -> Option<i128>
+        ensures { MatchOption result (¬ ((number : ℤ) × HasOneNumber self.now sym number)) (HasOneNumber self.now sym) }
+    {
+        self.range_of(sym?)?.is_single()
+    }
+
+    /// The constraints under the further condition that the term is in the set, none where no valuation meets it.
+    pub fn assume(&self, term: Lin, set: &RangeSet) -> Result<Option<Constraints>, AllocError>
+        requires term { IsTerm term }
+        requires declared { IsDeclared self.now term.sym }
+        requires values { HasValuesInside self.now term }
+        ensures { IfOk result (λ answer. MatchOption answer (RulesOut self.now term set.now) (Keeps self.now term set.now)) }
+    {
+        let Some(sym) = term.sym else {
+            return self.copy_if(set.contains(term.value));
+        };
+        let kept = self.numbers_with(sym, term, set)?;
+        self.narrowed(sym, kept)
+    }
+
+    // The constraints as they are if a condition without symbols holds.
+    fn copy_if(&self, holds: bool) -> Result<Option<Constraints>, AllocError>
+        ensures { IfOk result (λ answer. MatchOption answer (holds ≡ false) (λ copy. (holds ≡ true) × (copy ≡ self.now) × AreInhabited copy)) }
+    {
+        if holds {
+            Ok(Some(self.copy()?))
+        } else {
+            Ok(None)
+        }
+    }
+
+    // The numbers of the symbol at which the term is in the set.
+    fn numbers_with(&self, sym: Sym, term: Lin, set: &RangeSet) -> Result<RangeSet, AllocError>
+        requires symbol { term.sym ≡ Some sym }
+        requires values { HasValuesInside self.now term }
+        ensures { IfOk result (λ kept. (range : List Interval) → set_of self.now sym.0 ≡ Some range → (x : ℤ) → contains kept x ≡ (contains range x && contains set.now (value_at term x))) }
+    {
+        match self.range_of(sym) {
+            Some(range) => affine_preimage(self.alloc, term.slope, term.at, term.value, set, range),
+            None => RangeSet::of(self.alloc, 1, 0),
+        }
+    }
+
+    // The constraints with other numbers for one symbol, none where these are no numbers.
+    fn narrowed(&self, sym: Sym, set: RangeSet) -> Result<Option<Constraints>, AllocError>
+        ensures { IfOk result (λ answer. MatchOption answer (IsEmpty set) (λ after. IsNarrowed self.now sym.0 set after × AreInhabited after)) }
+    {
+        if set.is_empty() {
+            return Ok(None);
+        }
+        let mut narrowed = self.copy()?;
+        narrowed.declare(sym, set)?;
+        Ok(Some(narrowed))
+    }
+}

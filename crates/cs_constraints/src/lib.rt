@@ -1,0 +1,8 @@
+//! What a path assumes of its symbols: for each symbol the numbers that it may stand for.
+#![tactic(auto)]
+
+mod constraints;
+#[cfg(test)]
+mod tests;
+
+pub use constraints::Constraints;

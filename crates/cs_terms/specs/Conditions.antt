@@ -1,0 +1,36 @@
+-- Which numbers have to lie from -2^126 to 2^126 before terms are added or scaled.
+use Rattle.std.specs.Prelude.{◌≡◌, ℤ, ◌+ℤ◌, ◌*ℤ◌, Option, None, Some}
+use Rattle.cs_ranges.specs.Interval.{IsInside}
+use Rattle.cs_terms.specs.declared.symbol.Sym.{Sym}
+use Rattle.cs_terms.specs.declared.term.Lin.{Lin}
+use Rattle.cs_terms.specs.Term.{value_at}
+
+-- both have a symbol, and it is the same
+abbrev pub HaveOneSymbol : Option Sym → Option Sym → Type 0
+HaveOneSymbol None other = ⊥
+HaveOneSymbol (Some sym) None = ⊥
+HaveOneSymbol (Some sym) (Some other) = sym ≡ other
+
+-- each term's value at the other's number lies inside, and so does the sum of both values at either number
+pub record FitTogether (left right : Lin) : Type 0 where
+  pub left_there : IsInside (value_at left right.at)
+  pub right_there : IsInside (value_at right left.at)
+  pub sum_at_left : IsInside (left.value +ℤ value_at right left.at)
+  pub sum_at_right : IsInside (value_at left right.at +ℤ right.value)
+
+-- the slopes, their sum and the terms' values at their own numbers lie inside, and so do the sums of the values
+pub record CanAdd (left right : Lin) : Type 0 where
+  pub left_slope : IsInside left.slope
+  pub right_slope : IsInside right.slope
+  pub slopes : IsInside (left.slope +ℤ right.slope)
+  pub left_value : IsInside left.value
+  pub right_value : IsInside right.value
+  pub over_one : HaveOneSymbol left.sym right.sym → FitTogether left right
+  pub over_others : ¬ HaveOneSymbol left.sym right.sym → IsInside (left.value +ℤ right.value)
+
+-- the slope and the value lie inside, before the scaling and after it
+pub record CanScale (term : Lin) (factor : ℤ) : Type 0 where
+  pub slope : IsInside term.slope
+  pub scaled_slope : IsInside (term.slope *ℤ factor)
+  pub value : IsInside term.value
+  pub scaled_value : IsInside (term.value *ℤ factor)
