@@ -1,0 +1,12 @@
+pub mod Runs
+pub mod DigitRuns
+pub mod LongestMark
+pub mod Literals
+pub mod Stepping
+pub mod FilePlaces
+pub mod Advancing
+pub mod CutSoFar
+pub mod Groups
+pub mod JoinedTexts
+pub mod Turned
+pub mod Faults

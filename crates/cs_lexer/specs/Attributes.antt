@@ -1,0 +1,71 @@
+-- Tokens without the attributes among them: the word of an attribute and the parenthesis behind it.
+use Rattle.std.specs.Prelude.{◌≡◌, ℕ, zero, suc, pred, ◌≤◌, Bool, true, false, ◌&&◌, List, [], ◌∷◌, length, reverse, take, Option, Some, None, is_some, option_map, unwrap_or, slice_index_or, if◌then◌else◌}
+use Rattle.cs_ast.specs.declared.token.Token.{Token}
+use Rattle.cs_ast.specs.declared.token.Mark.{Mark}
+use Rattle.cs_ast.specs.declared.token.Mark.TheVariants as marks
+use Rattle.cs_ast.specs.declared.token.TokenKind.{TokenKind}
+use Rattle.cs_ast.specs.declared.token.TokenKind.TheVariants as kinds
+
+abbrev pub is_attribute : TokenKind → Bool
+is_attribute kinds.Attribute = true
+is_attribute _ = false
+
+abbrev pub is_opening : Mark → Bool
+is_opening marks.OpenParenthesis = true
+is_opening _ = false
+
+abbrev pub is_closing : Mark → Bool
+is_closing marks.CloseParenthesis = true
+is_closing _ = false
+
+abbrev pub opens : TokenKind → Bool
+opens (kinds.Mark mark) = is_opening mark
+opens _ = false
+
+abbrev pub closes : TokenKind → Bool
+closes (kinds.Mark mark) = is_closing mark
+closes _ = false
+
+-- how many parentheses are open behind a token, of so many before it
+abbrev pub depth_behind : Token → ℕ → ℕ
+depth_behind token depth = if opens token.kind then suc depth else (if closes token.kind then pred depth else depth)
+
+-- how many tokens it takes to close so many open parentheses, if they are closed at all
+abbrev pub length_to_close : List Token → ℕ → Option ℕ
+length_to_close tokens zero = Some 0
+length_to_close [] (suc depth) = None
+length_to_close (token ∷ tokens) (suc depth) = option_map suc (length_to_close tokens (depth_behind token (suc depth)))
+
+-- whether a parenthesis opens with the first token and is closed
+abbrev pub begins_group : List Token → Bool
+begins_group [] = false
+begins_group (token ∷ tokens) = opens token.kind && is_some (length_to_close tokens 1)
+
+-- how many tokens such a parenthesis has
+abbrev pub group_length : List Token → ℕ
+group_length [] = 0
+group_length (token ∷ tokens) = suc (unwrap_or (length_to_close tokens 1) 0)
+
+-- whether a token is an attribute's word with a closed parenthesis directly behind it
+abbrev pub has_group : Token → List Token → Bool
+has_group token tokens = is_attribute token.kind && begins_group tokens
+
+-- the tokens behind the first ones, without the attributes among them
+abbrev pub without_attributes : ℕ → List Token → List Token
+without_attributes skipped [] = []
+without_attributes (suc skipped) (token ∷ tokens) = without_attributes skipped tokens
+without_attributes zero (token ∷ tokens) =
+    if has_group token tokens then without_attributes (group_length tokens) tokens else token ∷ without_attributes 0 tokens
+
+-- how many parentheses a token and those behind it close that open before them
+abbrev pub surplus_before : Token → ℕ → ℕ
+surplus_before token surplus = if opens token.kind then pred surplus else (if closes token.kind then suc surplus else surplus)
+
+abbrev pub surplus_of : List Token → ℕ
+surplus_of [] = 0
+surplus_of (token ∷ tokens) = surplus_before token (surplus_of tokens)
+
+-- for each number of tokens at the end of a list, given from the last one on, whether they close a parenthesis
+pub record IsClosings (reversed : List Token) (closings : List Bool) : Type 0 where
+  pub enough : suc (length reversed) ≤ length closings
+  pub each : (count : ℕ) → count ≤ length reversed → slice_index_or closings count false ≡ is_some (length_to_close (reverse (take count reversed)) 1)

@@ -1,0 +1,55 @@
+-- The tokens of a text, or why it has none (C11 6.4).
+use Rattle.std.specs.Prelude.{◌≡◌, ℕ, ◌<◌, ◌≤◌, List, length}
+use Rattle.cs_ast.specs.declared.place.Place.{Place}
+use Rattle.cs_ast.specs.declared.token.Token.{Token}
+use Rattle.cs_lexer.specs.declared.found.Fault.{Fault}
+use Rattle.cs_lexer.specs.declared.found.Fault.TheVariants as faults
+use Rattle.cs_lexer.specs.declared.cut.End.{End}
+use Rattle.cs_lexer.specs.declared.refusal.LexRefusal.{LexRefusal}
+use Rattle.cs_lexer.specs.declared.refusal.LexRefusal.TheVariants.{BadByte, Unclosed, WideNumber, BadLine, TooManyTokens, Memory}
+use Rattle.cs_lexer.specs.declared.lexer.Lexed.{Lexed}
+use Rattle.cs_lexer.specs.Attributes.{without_attributes}
+use Rattle.cs_lexer.specs.Texts.{joined}
+use Rattle.cs_lexer.specs.Cuttings.{IsWhole, IsRefusedAt, EndsAs}
+
+-- the tokens of a cutting: attributes are left out, then texts that stand side by side are one
+abbrev pub tokens_of : List Token → List Token
+tokens_of pieces = joined (without_attributes 0 pieces)
+
+-- the whole text is cut, and these are its tokens, its files and its end
+pub record Lexes (text : List ℕ) (lexed : Lexed) : Type 0 where
+  pub pieces : List Token
+  pub whole : IsWhole text lexed.files.items pieces lexed.end
+  pub tokens_are : lexed.list.items ≡ tokens_of pieces
+  pub few : length lexed.list.items ≤ 400000
+
+-- the first fault of the text is at this place, and no more than 400,000 tokens begin before it
+pub record IsFirstFault (text : List ℕ) (fault : Fault) (place : Place) : Type 0 where
+  pub files : List (List ℕ)
+  pub pieces : List Token
+  pub refused : IsRefusedAt text files pieces place fault
+  pub few : length (tokens_of pieces) ≤ 400000
+
+-- more than 400,000 tokens begin before the end of the text or its first fault
+pub record HasTooMany (text : List ℕ) : Type 0 where
+  pub files : List (List ℕ)
+  pub pieces : List Token
+  pub place : Place
+  pub end : End
+  pub cut : EndsAs text files pieces place end
+  pub many : 400000 < length (tokens_of pieces)
+
+abbrev pub refusal_of : Fault → Place → LexRefusal
+refusal_of faults.BadByte place = BadByte place
+refusal_of faults.Unclosed place = Unclosed place
+refusal_of faults.WideNumber place = WideNumber place
+refusal_of faults.BadLine place = BadLine place
+
+-- why a text has no tokens; want of memory is free
+abbrev pub IsRefused : List ℕ → LexRefusal → Type 0
+IsRefused text (BadByte place) = IsFirstFault text faults.BadByte place
+IsRefused text (Unclosed place) = IsFirstFault text faults.Unclosed place
+IsRefused text (WideNumber place) = IsFirstFault text faults.WideNumber place
+IsRefused text (BadLine place) = IsFirstFault text faults.BadLine place
+IsRefused text TooManyTokens = HasTooMany text
+IsRefused text Memory = Unit {0}

@@ -1,0 +1,17 @@
+pub mod Classes
+pub mod Spellings
+pub mod Digits
+pub mod Numbers
+pub mod Marks
+pub mod Words
+pub mod Escapes
+pub mod Quoted
+pub mod Comments
+pub mod Directives
+pub mod Pieces
+pub mod Spots
+pub mod Files
+pub mod Cuttings
+pub mod Attributes
+pub mod Texts
+pub mod Lexing

@@ -1,0 +1,38 @@
+//! Where comments end.
+ghost use Rattle.std.specs.Prelude.{◌≡◌, ℕ, ◌<◌, ◌^◌, length, take, drop, MatchOption};
+ghost use Rattle.std.specs.List.{take_while};
+ghost use Rattle.cs_lexer.specs.Comments.{IsEnd, IsFirstEnd, CommentGives, is_inside};
+
+use crate::found::{Fault, Found};
+use crate::part::behind;
+
+/// How many bytes at the front are none of them a line feed.
+pub fn line_length(bytes: &[u8]) -> usize
+    ensures { result ≡ length (take_while is_inside bytes.now) }
+{
+    bytes.iter().take_while(|byte| **byte != b'\n').count()
+}
+
+// How many bytes stand before the first `*/`.
+fn comment_end(bytes: &[u8]) -> Option<usize>
+    requires { length bytes.now < 2 ^ 32 }
+    ensures { MatchOption result ((k : ℕ) → IsEnd bytes.now k → ⊥) (λ count. IsFirstEnd bytes.now count) }
+{
+    for i in 0..bytes.len() {
+        if bytes[i] == b'*' && i + 1 < bytes.len() && bytes[i + 1] == b'/' {
+            return Some(i);
+        }
+    }
+    None
+}
+
+/// The comment that bytes begin with, the first of them being `/*`.
+pub fn comment(bytes: &[u8]) -> Found
+    requires { length bytes.now < 2 ^ 32 }
+    ensures { CommentGives (drop 2 bytes.now) result }
+{
+    match comment_end(behind(bytes, 2)) {
+        Some(count) => Found::Gap(count + 4),
+        None => Found::Refused(Fault::Unclosed, 0),
+    }
+}

@@ -1,0 +1,202 @@
+//! Lines that begin with `#`: linemarkers and pragmas.
+ghost use Rattle.std.specs.Prelude.{◌≡◌, ◌<◌, ◌^◌, false, length, IfOk};
+ghost use Rattle.std.specs.List.{list_all};
+ghost use Rattle.std.specs.Str.{is_utf8};
+ghost use Rattle.cs_lexer.specs.Classes as classes;
+ghost use Rattle.cs_lexer.specs.Directives as spec;
+
+use crate::byte::is_blank;
+use crate::comment::line_length;
+use crate::digits::{Base, digit_count, leading_value};
+use crate::found::{Fault, Found};
+use crate::part::{begins_with, behind, front};
+use crate::quoted::closing;
+use cs_names::Name;
+use std::alloc::{AllocError, Global};
+use std::str;
+
+/// The greatest line that a linemarker may give.
+const MOST_LINE: u64 = 2_147_483_647;
+
+/// What a linemarker says of its file.
+#[derive(Debug, Drop)]
+enum FileName {
+    Absent,
+    Given(Name),
+    Bad,
+}
+
+// The bytes behind the blanks at the front.
+fn skip_blanks(bytes: &[u8]) -> &[u8]
+    ensures { result.now ≡ spec.skip_blanks bytes.now }
+{
+    let count = blank_count(bytes);
+    behind(bytes, count)
+}
+
+// How many bytes at the front are blanks.
+fn blank_count(bytes: &[u8]) -> usize
+    ensures { result ≡ spec.blank_count bytes.now }
+{
+    bytes.iter().take_while(|byte| is_blank(**byte)).count()
+}
+
+// Whether each byte is a blank.
+fn is_all_blank(bytes: &[u8]) -> bool
+    ensures { result ≡ list_all classes.is_blank bytes.now }
+{
+    bytes.iter().all(|byte| is_blank(*byte))
+}
+
+// Whether the first byte is a blank.
+fn begins_blank(bytes: &[u8]) -> bool
+    ensures { result ≡ spec.begins_blank bytes.now }
+{
+    match bytes.split_first() {
+        Some((first, _)) => is_blank(*first),
+        None => false,
+    }
+}
+
+// The bytes from the number of a linemarker on: behind the word `line` and blanks, if they stand before it.
+fn number_part(bytes: &[u8]) -> &[u8]
+    ensures { result.now ≡ spec.number_part bytes.now }
+{
+    if bytes.starts_with(b"line".as_slice()) && begins_blank(behind(bytes, 4)) {
+        skip_blanks(behind(bytes, 4))
+    } else {
+        bytes
+    }
+}
+
+// The line that digits at the front give.
+fn line_number(bytes: &[u8]) -> Option<u32>
+    ensures { result ≡ spec.line_number bytes.now }
+{
+    if digit_count(Base::Decimal, bytes) == 0 {
+        return None;
+    }
+    match leading_value(Base::Decimal, bytes) {
+        Some(value) => {
+            if value <= MOST_LINE {
+                Some(value as u32)
+            } else {
+                None
+            }
+        }
+        None => None,
+    }
+}
+
+// Bytes in which a backslash and the byte behind it stand for that byte.
+fn unescaped(alloc: Global, bytes: &[u8]) -> Result<Vec<u8>, AllocError>
+    ensures { IfOk result (λ made. made.items ≡ spec.unescaped false bytes.now) }
+{
+    let mut made = Vec::new(alloc);
+    let mut escaped = false;
+    for byte in bytes {
+        if *byte == b'\\' && !escaped {
+            escaped = true;
+        } else {
+            made.push(*byte)?;
+            escaped = false;
+        }
+    }
+    Ok(made)
+}
+
+// Whether bytes are text in UTF-8.
+fn is_text(bytes: &[u8]) -> bool
+    ensures { result ≡ is_utf8 bytes.now }
+{
+    match str::from_utf8(bytes) {
+        Ok(_) => true,
+        Err(_) => false,
+    }
+}
+
+// The file's name with these bytes between its quotes.
+fn name_of(alloc: Global, body: &[u8]) -> Result<FileName, AllocError>
+    ensures { IfOk result (λ name. name ≡ spec.name_of body.now) }
+{
+    let bytes = unescaped(alloc, body)?;
+    if is_text(bytes.as_slice()) {
+        Ok(FileName::Given(Name::from_vec(bytes)))
+    } else {
+        Ok(FileName::Bad)
+    }
+}
+
+// The file's name in quotes at the front of bytes.
+fn quoted_name(alloc: Global, bytes: &[u8]) -> Result<FileName, AllocError>
+    ensures { IfOk result (λ name. name ≡ spec.quoted_name bytes.now) }
+{
+    if !begins_with(bytes, b'"') {
+        return Ok(FileName::Bad);
+    }
+    let more = behind(bytes, 1);
+    match closing(b'"', more) {
+        Some(count) => name_of(alloc, front(more, count)),
+        None => Ok(FileName::Bad),
+    }
+}
+
+// What stands behind the number of a linemarker: nothing, or blanks, a name and flags.
+fn file_name(alloc: Global, bytes: &[u8]) -> Result<FileName, AllocError>
+    ensures { IfOk result (λ name. name ≡ spec.file_name bytes.now) }
+{
+    if is_all_blank(bytes) {
+        return Ok(FileName::Absent);
+    }
+    if !begins_blank(bytes) {
+        return Ok(FileName::Bad);
+    }
+    quoted_name(alloc, skip_blanks(bytes))
+}
+
+// The line behind a linemarker, which is there if the marker's own line ends.
+fn next_line(line: u32, is_ended: bool) -> Option<u32>
+    ensures { result ≡ spec.next_line line is_ended }
+{
+    if is_ended { Some(line) } else { None }
+}
+
+// The linemarker with these bytes behind its `#` and blanks.
+fn marker(alloc: Global, body: &[u8], size: usize, is_ended: bool) -> Result<Found, AllocError>
+    ensures { IfOk result (λ found. found ≡ spec.marker body.now size is_ended) }
+{
+    let number = number_part(body);
+    let Some(line) = line_number(number) else {
+        return Ok(Found::Refused(Fault::BadLine, 0));
+    };
+    let next = next_line(line, is_ended);
+    let rest = behind(number, digit_count(Base::Decimal, number));
+    match file_name(alloc, rest)? {
+        FileName::Absent => Ok(Found::Marker(size, next, None)),
+        FileName::Given(name) => Ok(Found::Marker(size, next, Some(name))),
+        FileName::Bad => Ok(Found::Refused(Fault::BadLine, 0)),
+    }
+}
+
+// How many bytes a line has, with its line feed.
+fn whole_length(length: usize, is_ended: bool) -> usize
+    requires { length < 2 ^ 32 }
+    ensures { result ≡ spec.whole_length length is_ended }
+{
+    if is_ended { length + 1 } else { length }
+}
+
+/// The line that bytes begin with, the first of them being its `#`.
+pub fn directive(alloc: Global, bytes: &[u8]) -> Result<Found, AllocError>
+    requires { length bytes.now < 2 ^ 32 }
+    ensures { IfOk result (λ found. found ≡ spec.directive_at bytes.now) }
+{
+    let length = line_length(bytes);
+    let is_ended = length < bytes.len();
+    let size = whole_length(length, is_ended);
+    let body = skip_blanks(behind(front(bytes, length), 1));
+    if body.starts_with(b"pragma".as_slice()) {
+        return Ok(Found::Gap(size));
+    }
+    marker(alloc, body, size, is_ended)
+}

@@ -1,0 +1,30 @@
+//! The tokens of a preprocessed C text, with their places.
+#![tactic(auto)]
+
+mod attributes;
+mod byte;
+mod comment;
+mod cut;
+mod digits;
+mod directive;
+mod escape;
+mod files;
+mod found;
+mod lexer;
+mod mark;
+mod number;
+mod part;
+mod piece;
+mod quoted;
+mod refusal;
+mod spelling;
+mod spot;
+mod tail;
+#[cfg(test)]
+mod tests;
+mod texts;
+mod word;
+
+pub use cs_ast::{Token, TokenKind};
+pub use lexer::{Lexed, tokens};
+pub use refusal::LexRefusal;

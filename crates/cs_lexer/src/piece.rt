@@ -1,0 +1,108 @@
+//! The piece at the front of bytes.
+ghost use Rattle.std.specs.Prelude.{◌≡◌, ◌<◌, ◌^◌, length, IfOk};
+ghost use Rattle.std.specs.List.{take_while};
+ghost use Rattle.cs_lexer.specs.Pieces as spec;
+ghost use Rattle.cs_lexer.specs.Pieces.{Begins};
+ghost use Rattle.cs_lexer.specs.Classes as classes;
+
+use crate::byte::{is_digit, is_letter, is_name_byte, is_space};
+use crate::comment::{comment, line_length};
+use crate::directive::directive;
+use crate::found::Found;
+use crate::mark::mark;
+use crate::number::number;
+use crate::part::{begins_with, front};
+use crate::quoted::{character, text};
+use crate::word::word;
+use std::alloc::{AllocError, Global};
+
+/// The classes of pieces, which their first bytes tell.
+#[derive(Clone, Copy)]
+enum Class {
+    /// A line that begins with `#`.
+    Directive,
+    Space,
+    BlockComment,
+    LineComment,
+    Word,
+    Number,
+    Character,
+    Text,
+    Mark,
+}
+
+// The class of the piece at the front of bytes, where only blanks may stand before it on its line.
+fn class_of(is_line_start: bool, bytes: &[u8]) -> Class
+    ensures { result ≡ spec.class_of is_line_start bytes.now }
+{
+    let Some((first, rest)) = bytes.split_first() else {
+        return Class::Mark;
+    };
+    if is_line_start && *first == b'#' {
+        Class::Directive
+    } else if is_space(*first) {
+        Class::Space
+    } else if *first == b'/' && begins_with(rest, b'*') {
+        Class::BlockComment
+    } else if *first == b'/' && begins_with(rest, b'/') {
+        Class::LineComment
+    } else if is_letter(*first) {
+        Class::Word
+    } else {
+        other_class(*first)
+    }
+}
+
+// The class of a piece that is no space, comment or word, by its first byte.
+fn other_class(first: u8) -> Class
+    ensures { result ≡ spec.other_class first }
+{
+    if is_digit(first) {
+        Class::Number
+    } else if first == b'\'' {
+        Class::Character
+    } else if first == b'"' {
+        Class::Text
+    } else {
+        Class::Mark
+    }
+}
+
+// How many bytes at the front are white space.
+fn space_length(bytes: &[u8]) -> usize
+    ensures { result ≡ length (take_while classes.is_space bytes.now) }
+{
+    bytes.iter().take_while(|byte| is_space(**byte)).count()
+}
+
+// How many bytes at the front a name goes on with.
+fn word_length(bytes: &[u8]) -> usize
+    ensures { result ≡ length (take_while classes.is_name_byte bytes.now) }
+{
+    bytes.iter().take_while(|byte| is_name_byte(**byte)).count()
+}
+
+// The bytes of the word at the front.
+fn leading_word(bytes: &[u8]) -> &[u8]
+    ensures { result.now ≡ take_while classes.is_name_byte bytes.now }
+{
+    front(bytes, word_length(bytes))
+}
+
+/// The piece at the front of bytes, of which there are some.
+pub fn piece(alloc: Global, is_line_start: bool, bytes: &[u8]) -> Result<Found, AllocError>
+    requires { length bytes.now < 2 ^ 32 }
+    ensures { IfOk result (λ found. Begins is_line_start bytes.now found) }
+{
+    match class_of(is_line_start, bytes) {
+        Class::Directive => directive(alloc, bytes),
+        Class::Space => Ok(Found::Gap(space_length(bytes))),
+        Class::BlockComment => Ok(comment(bytes)),
+        Class::LineComment => Ok(Found::Gap(line_length(bytes))),
+        Class::Word => word(alloc, leading_word(bytes)),
+        Class::Number => Ok(number(bytes)),
+        Class::Character => Ok(character(bytes)),
+        Class::Text => text(alloc, bytes),
+        Class::Mark => Ok(mark(bytes)),
+    }
+}

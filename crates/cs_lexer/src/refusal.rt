@@ -1,0 +1,64 @@
+//! Why a text has no tokens.
+ghost use Rattle.std.specs.Prelude.{◌≡◌};
+ghost use Rattle.cs_lexer.specs.declared.refusal.LexRefusal.TheVariants.{Memory};
+ghost use Rattle.cs_lexer.specs.Lexing as spec;
+
+use crate::found::Fault;
+use cs_ast::Place;
+use std::alloc::{AllocError, AllocFailed};
+use thiserror::Error;
+
+/// Why a text has no tokens, and where: of several causes the one with the earliest place, and at one place the one that
+/// stands first here.
+#[derive(Clone, Copy, PartialEq, Eq, Debug, Error)]
+pub enum LexRefusal {
+    /// A byte that begins no token, an escape that isn't known, an empty character constant, or a byte that may not stand
+    /// behind a number or in a character constant.
+    #[error("a bad byte")]
+    BadByte(Place),
+    /// A comment, a character constant or a string literal that doesn't end, or not on its line, by its first byte.
+    #[error("not closed")]
+    Unclosed(Place),
+    /// An integer constant past its type, or an escape past a byte.
+    #[error("a number that is too large")]
+    WideNumber(Place),
+    /// A line that begins with `#` and is neither a linemarker nor a pragma.
+    #[error("a bad line")]
+    BadLine(Place),
+    /// A token behind the 400,000th begins.
+    #[error("too many tokens")]
+    TooManyTokens,
+    /// Memory ran out.
+    #[error("out of memory")]
+    Memory,
+}
+
+impl LexRefusal {
+    /// The refusal for a fault at a place.
+    pub fn of(fault: Fault, place: Place) -> LexRefusal
+        ensures { result ≡ spec.refusal_of fault place }
+    {
+        match fault {
+            Fault::BadByte => LexRefusal::BadByte(place),
+            Fault::Unclosed => LexRefusal::Unclosed(place),
+            Fault::WideNumber => LexRefusal::WideNumber(place),
+            Fault::BadLine => LexRefusal::BadLine(place),
+        }
+    }
+}
+
+impl From<AllocError> for LexRefusal {
+    ghost from_gives = { λ _ refusal. refusal ≡ Memory };
+
+    fn from(_error: AllocError) -> LexRefusal {
+        LexRefusal::Memory
+    }
+}
+
+impl<T: Drop> From<AllocFailed<T>> for LexRefusal {
+    ghost from_gives = { λ _ refusal. refusal ≡ Memory };
+
+    fn from(_error: AllocFailed<T>) -> LexRefusal {
+        LexRefusal::Memory
+    }
+}

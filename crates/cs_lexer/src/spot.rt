@@ -1,0 +1,69 @@
+//! Where bytes stand in their file.
+ghost use Rattle.std.specs.Prelude.{◌≡◌, ◌+◌, ◌<◌, ◌≤◌, ◌^◌, length};
+ghost use Rattle.cs_lexer.specs.Spots as spec;
+ghost use Rattle.cs_lexer.specs.Spots.{IsWithin};
+
+use cs_ast::Place;
+
+/// The place of a byte, and whether only spaces and tabs stand before it on its line.
+#[derive(Clone, Copy)]
+pub struct Spot {
+    pub place: Place,
+    pub is_line_start: bool,
+}
+
+/// The beginning of the first file.
+pub fn start() -> Spot
+    ensures { result ≡ spec.start }
+{
+    line_of(0, 1)
+}
+
+/// The beginning of a line.
+pub fn line_of(file: u32, line: u32) -> Spot
+    ensures { result ≡ spec.line_of file line }
+{
+    let place = Place {
+        file,
+        line,
+        column: 1,
+    };
+    Spot {
+        place,
+        is_line_start: true,
+    }
+}
+
+// Where the byte behind this one stands.
+fn step(spot: Spot, byte: u8) -> Spot
+    requires line { spot.place.line + 1 < 2 ^ 32 }
+    requires column { spot.place.column + 1 < 2 ^ 32 }
+    ensures { result ≡ spec.step spot byte }
+{
+    if byte == b'\n' {
+        return line_of(spot.place.file, spot.place.line + 1);
+    }
+    let place = Place {
+        file: spot.place.file,
+        line: spot.place.line,
+        column: spot.place.column + 1,
+    };
+    Spot {
+        place,
+        is_line_start: spot.is_line_start && (byte == b' ' || byte == b'\t'),
+    }
+}
+
+/// Where the byte behind these ones stands.
+pub fn spot_behind(spot: Spot, bytes: &[u8]) -> Spot
+    requires line { spot.place.line + length bytes.now < 2 ^ 32 }
+    requires column { spot.place.column + length bytes.now < 2 ^ 32 }
+    ensures value { result ≡ spec.spot_behind spot bytes.now }
+    ensures within { IsWithin spot (length bytes.now) result }
+{
+    let mut at = spot;
+    for byte in bytes {
+        at = step(at, *byte);
+    }
+    at
+}

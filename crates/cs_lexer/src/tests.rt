@@ -1,0 +1,230 @@
+//! Tokens, places and refusals of small texts, and the limit of tokens.
+use super::*;
+use cs_ast::{IntegerConstant, Keyword, LeftOut, Length, Mark, Place};
+use std::alloc::Global;
+use std::test::Fail;
+
+const fn at(line: u32, column: u32) -> Place {
+    Place {
+        file: 0,
+        line,
+        column,
+    }
+}
+
+// The tokens of a text, whose length is tested.
+fn lexed(alloc: Global, text: &[u8]) -> Result<Lexed, LexRefusal> {
+    if text.len() > 4_194_304 {
+        return Err(LexRefusal::Memory);
+    }
+    tokens(alloc, text)
+}
+
+fn number(value: u64, decimal: bool, unsigned: bool, length: Length) -> TokenKind {
+    TokenKind::Number(IntegerConstant {
+        value,
+        decimal,
+        unsigned,
+        length,
+    })
+}
+
+#[test]
+fn a_token_has_its_kind(rt: HostRuntime) -> Result<(), Fail> {
+    for (text, kind) in [
+        ("while", TokenKind::Keyword(Keyword::While)),
+        ("_Static_assert", TokenKind::LeftOut(LeftOut::StaticAssert)),
+        ("__int128", TokenKind::LeftOut(LeftOut::Int128)),
+        ("__attribute__", TokenKind::Attribute),
+        ("0", number(0, false, false, Length::Plain)),
+        ("42", number(42, true, false, Length::Plain)),
+        ("0777", number(511, false, false, Length::Plain)),
+        ("0XfFuL", number(255, false, true, Length::Long)),
+        (
+            "18446744073709551615LLU",
+            number(18446744073709551615, true, true, Length::LongLong),
+        ),
+        ("'a'", TokenKind::Character(97)),
+        ("'\\0'", TokenKind::Character(0)),
+        ("'\\377'", TokenKind::Character(-1)),
+        ("'\\x80'", TokenKind::Character(-128)),
+        ("'\\''", TokenKind::Character(39)),
+        ("'\"'", TokenKind::Character(34)),
+        ("->", TokenKind::Mark(Mark::Arrow)),
+        (">>=", TokenKind::Mark(Mark::ShiftRightEqual)),
+        ("...", TokenKind::Mark(Mark::Ellipsis)),
+        ("/", TokenKind::Mark(Mark::Slash)),
+    ] {
+        let found = lexed(rt.alloc(), text.as_bytes())?;
+        let place = at(1, 1);
+        let list = [Token { kind, place }];
+        assert_eq!(rt; found.list.as_slice(), list.as_slice(), "{text}");
+        assert_eq!(rt; found.end.column as usize, 1 + text.len(), "{text}");
+    }
+    Ok(())
+}
+
+#[test]
+fn a_bad_text_is_refused_at_its_first_fault(rt: HostRuntime) -> Result<(), Fail> {
+    for (text, refusal) in [
+        ("\0", LexRefusal::BadByte(at(1, 1))),
+        ("x # 1", LexRefusal::BadByte(at(1, 3))),
+        ("/* a */ # 1", LexRefusal::BadByte(at(1, 9))),
+        ("\x0c# 1", LexRefusal::BadByte(at(1, 2))),
+        ("08", LexRefusal::BadByte(at(1, 2))),
+        ("0x", LexRefusal::BadByte(at(1, 2))),
+        ("1.5", LexRefusal::BadByte(at(1, 2))),
+        ("1lul", LexRefusal::BadByte(at(1, 4))),
+        ("''", LexRefusal::BadByte(at(1, 1))),
+        ("'ab'", LexRefusal::BadByte(at(1, 3))),
+        ("'\\q'", LexRefusal::BadByte(at(1, 2))),
+        ("'\\1234'", LexRefusal::BadByte(at(1, 6))),
+        ("'a\\xfff'", LexRefusal::BadByte(at(1, 3))),
+        ("\"a\\x\"", LexRefusal::BadByte(at(1, 3))),
+        ("a\n\t@ '", LexRefusal::BadByte(at(2, 2))),
+        ("/* x", LexRefusal::Unclosed(at(1, 1))),
+        ("/*/", LexRefusal::Unclosed(at(1, 1))),
+        ("'ab\n'", LexRefusal::Unclosed(at(1, 1))),
+        ("'\\\n'", LexRefusal::Unclosed(at(1, 1))),
+        ("\n\n  \"\\q\nb\"", LexRefusal::Unclosed(at(3, 3))),
+        (
+            "int x = 18446744073709551616;",
+            LexRefusal::WideNumber(at(1, 9)),
+        ),
+        ("9223372036854775808", LexRefusal::WideNumber(at(1, 1))),
+        ("99999999999999999999x", LexRefusal::WideNumber(at(1, 1))),
+        ("'\\400'", LexRefusal::WideNumber(at(1, 2))),
+        ("\"\\x00100\"", LexRefusal::WideNumber(at(1, 2))),
+        ("#", LexRefusal::BadLine(at(1, 1))),
+        (" # 1 2", LexRefusal::BadLine(at(1, 2))),
+        ("#line5", LexRefusal::BadLine(at(1, 1))),
+        ("# 1\"x\"", LexRefusal::BadLine(at(1, 1))),
+        ("# 1 \"x", LexRefusal::BadLine(at(1, 1))),
+        ("# 2147483648 \"a\"", LexRefusal::BadLine(at(1, 1))),
+    ] {
+        match lexed(rt.alloc(), text.as_bytes()) {
+            Ok(_) => assert!(rt; false, "{text} has tokens"),
+            Err(found) => assert_eq!(rt; found, refusal, "{text}"),
+        }
+    }
+    Ok(())
+}
+
+const LINKED: &str = "# 0 \"list.c\"
+# 0 \"<built-in>\"
+# 0 \"<command-line>\"
+# 1 \"list.c\"
+# 1 \"list.h\" 1
+struct node
+{
+    int value;
+    struct node *next;
+};
+
+extern int keep(int value);
+static inline int value_of(const struct node *n) { return n->value; }
+# 2 \"list.c\" 2
+
+int drop_second(struct node *head)
+{
+    struct node *gone;
+
+    gone = head->next;
+    if (keep(gone->value))
+        return 0;
+    head->next = gone->next;
+    gone->next = 0;
+    return 1;
+}
+";
+
+#[test]
+fn linemarkers_give_places(rt: HostRuntime) -> Result<(), Fail> {
+    let found = lexed(rt.alloc(), LINKED.as_bytes())?;
+    let mut names = Vec::new(rt.alloc());
+    for name in &found.files {
+        names.extend_from_slice(name.as_bytes())?;
+        names.push(b' ')?;
+    }
+    assert_eq!(rt;
+        names.as_slice(),
+        b"<input> list.c <built-in> <command-line> list.h ".as_slice()
+    );
+    let mut arrows = Vec::new(rt.alloc());
+    for token in &found.list {
+        if token.kind == TokenKind::Mark(Mark::Arrow) {
+            arrows.push((token.place.file, token.place.line, token.place.column))?;
+        }
+    }
+    let places = [
+        (4, 8, 60),
+        (1, 7, 16),
+        (1, 8, 18),
+        (1, 10, 9),
+        (1, 10, 22),
+        (1, 11, 9),
+    ];
+    assert_eq!(rt; arrows.as_slice(), places.as_slice());
+    assert_eq!(rt;
+        (found.end.file, found.end.line, found.end.column),
+        (1, 14, 1)
+    );
+    Ok(())
+}
+
+#[test]
+fn dropped_words_leave_no_token(rt: HostRuntime) -> Result<(), Fail> {
+    for (text, count, end) in [
+        ("", 0, at(1, 1)),
+        (" \t\r\n\x0b\x0c // x", 0, at(2, 8)),
+        ("extern inline x __const;", 2, at(1, 25)),
+        ("\"a\" /* b */ __extension__\n\"c\" 'd'", 2, at(2, 8)),
+        (
+            "int __attribute__((a, (b))) x __attribute__ y (",
+            5,
+            at(1, 48),
+        ),
+        (
+            "__attribute__ __attribute ( __attribute__ ( ) ) ( (",
+            3,
+            at(1, 52),
+        ),
+        ("__attribute__ ( __attribute__ ( x ) y", 3, at(1, 38)),
+        ("# pragma ' @\n#pragmatic\n;", 1, at(3, 2)),
+        ("  # line 7 \n;", 1, at(7, 2)),
+        ("# 9 \"\\<input>\" 3 4\n;", 1, at(9, 2)),
+        (";\n# 9 \"x\"", 1, at(2, 8)),
+    ] {
+        let found = lexed(rt.alloc(), text.as_bytes())?;
+        assert_eq!(rt; found.list.len(), count, "{text}");
+        assert_eq!(rt;
+            (found.end.line, found.end.column),
+            (end.line, end.column),
+            "{text}"
+        );
+    }
+    Ok(())
+}
+
+// The refusal of so many semicolons with more bytes behind them, and `Memory` where there is none.
+fn refused(alloc: Global, count: usize, behind: &str) -> Result<LexRefusal, Fail> {
+    let mut text = vec![in alloc; b';'; count]?;
+    text.extend_from_slice(behind.as_bytes())?;
+    match lexed(alloc, text.as_slice()) {
+        Ok(_) => Ok(LexRefusal::Memory),
+        Err(refusal) => Ok(refusal),
+    }
+}
+
+#[test]
+fn tokens_are_counted_to_their_limit(rt: HostRuntime) -> Result<(), Fail> {
+    for (count, behind, refusal) in [
+        (400_000, " // x", LexRefusal::Memory),
+        (400_001, "", LexRefusal::TooManyTokens),
+        (400_000, "1x", LexRefusal::TooManyTokens),
+        (400_000, "'", LexRefusal::Unclosed(at(1, 400_001))),
+    ] {
+        assert_eq!(rt; refused(rt.alloc(), count, behind)?, refusal, "{behind}");
+    }
+    Ok(())
+}

@@ -1,0 +1,65 @@
+//! Tokens with the texts that stand side by side made one.
+ghost use Rattle.std.specs.Prelude.{◌≡◌, ◌≤◌, ◌∷◌, Some, reverse, length, IfOk};
+ghost use Rattle.cs_lexer.specs.Texts as spec;
+ghost use Rattle.cs_lexer.specs.Texts.{IsWholeKind, IsWholeText};
+
+use crate::tail::{drop_last, last_text};
+use cs_ast::{Token, TokenKind};
+use cs_names::Bytes;
+use std::alloc::{AllocError, Global};
+
+// The bytes of a text and of those that stand directly behind it, which are dropped. The tokens behind it are given from
+// the last one on.
+fn whole_text(alloc: Global, first: Bytes, left: &mut Vec<Token>) -> Result<Bytes, AllocError>
+    ensures whole { IfOk result (λ bytes. IsWholeText first (reverse left.old.items) bytes (reverse left.new.items)) }
+    ensures fewer { length left.new.items ≤ length left.old.items }
+{
+    let mut bytes = Vec::from_slice(alloc, first.as_bytes())?;
+    while let Some(next) = last_text(left.as_slice()) {
+        bytes.extend_from_slice(next.as_bytes())?;
+        drop_last(left);
+    }
+    Ok(Bytes::from_vec(bytes))
+}
+
+// What a token is, made one with the texts directly behind it if it is a text.
+fn whole_kind(
+    alloc: Global,
+    kind: TokenKind,
+    left: &mut Vec<Token>,
+) -> Result<TokenKind, AllocError>
+    ensures whole { IfOk result (λ whole. IsWholeKind kind (reverse left.old.items) whole (reverse left.new.items)) }
+    ensures fewer { length left.new.items ≤ length left.old.items }
+{
+    match kind {
+        TokenKind::Text(first) => {
+            let bytes = whole_text(alloc, first, left)?;
+            Ok(TokenKind::Text(bytes))
+        }
+        other => Ok(other),
+    }
+}
+
+// A token, made one with the texts directly behind it if it is a text.
+fn whole_token(alloc: Global, token: Token, left: &mut Vec<Token>) -> Result<Token, AllocError>
+    ensures whole { IfOk result (λ whole. spec.joined (token ∷ reverse left.old.items) ≡ whole ∷ spec.joined (reverse left.new.items)) }
+    ensures fewer { length left.new.items ≤ length left.old.items }
+{
+    let Token { kind, place } = token;
+    let kind = whole_kind(alloc, kind, left)?;
+    Ok(Token { kind, place })
+}
+
+/// The tokens with the texts that stand side by side made one, at the place of the first.
+pub fn joined(alloc: Global, tokens: Vec<Token>) -> Result<Vec<Token>, AllocError>
+    ensures { IfOk result (λ made. made.items ≡ spec.joined tokens.items) }
+{
+    let mut left = tokens;
+    left.reverse();
+    let mut made = Vec::new(alloc);
+    while let Some(token) = left.pop() {
+        let whole = whole_token(alloc, token, &mut left)?;
+        made.push(whole)?;
+    }
+    Ok(made)
+}
