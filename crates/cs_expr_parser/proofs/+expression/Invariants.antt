@@ -1,0 +1,72 @@
+-- How much room and which part are left: the measure of the parser's parts; and what their loops keep.
+use Rattle.std.proofs.Common.{◌≤◌, ◌<◌, ◌+◌, ◌-◌, ◌*◌, length}
+use Rattle.cs_expr_parser.proofs.+expression.Given as goal
+
+abbrev pub decreases-primary::primary : goal.decreases-primary::primary
+decreases-primary::primary l = 100 * l.room + 10
+
+abbrev pub decreases-postfix::postfix : goal.decreases-postfix::postfix
+decreases-postfix::postfix l = 100 * l.room + 16
+
+abbrev pub decreases-postfix::suffixed : goal.decreases-postfix::suffixed
+decreases-postfix::suffixed l = 100 * l.room + 12
+
+abbrev pub decreases-lists::arguments : goal.decreases-lists::arguments
+decreases-lists::arguments l = 100 * l.room + 55
+
+abbrev pub decreases-lists::bounds : goal.decreases-lists::bounds
+decreases-lists::bounds l = 100 * l.room + 50
+
+abbrev pub decreases-types::parenthesised_type : goal.decreases-types::parenthesised_type
+decreases-types::parenthesised_type l = 100 * l.room + 52
+
+abbrev pub decreases-unary::cast : goal.decreases-unary::cast
+decreases-unary::cast l = 100 * l.room + 20
+
+abbrev pub decreases-unary::unary : goal.decreases-unary::unary
+decreases-unary::unary l = 100 * l.room + 18
+
+abbrev pub decreases-unary::sized : goal.decreases-unary::sized
+decreases-unary::sized l = 100 * l.room + 17
+
+abbrev pub decreases-loose::choice : goal.decreases-loose::choice
+decreases-loose::choice l = 100 * l.room + 45
+
+abbrev pub decreases-loose::assign : goal.decreases-loose::assign
+decreases-loose::assign l = 100 * l.room + 50
+
+abbrev pub decreases-loose::comma : goal.decreases-loose::comma
+decreases-loose::comma l = 100 * l.room + 60
+
+abbrev pub decreases-infix::infix : goal.decreases-infix::infix
+decreases-infix::infix l = 100 * l.room + 40 - l.level
+
+abbrev pub decreases-postfix::postfix-chain : goal.decreases-postfix::postfix-chain
+decreases-postfix::postfix-chain l = length l.tokens - l.left.next
+
+abbrev pub invariant-postfix::postfix-chain : goal.invariant-postfix::postfix-chain
+invariant-postfix::postfix-chain l = (l.fn.from < l.left.next) × (l.left.next ≤ length l.tokens) × (1 ≤ l.left.height) × (l.left.height ≤ l.room)
+
+abbrev pub decreases-infix::infix-chain : goal.decreases-infix::infix-chain
+decreases-infix::infix-chain l = length l.tokens - l.left.next
+
+abbrev pub invariant-infix::infix-chain : goal.invariant-infix::infix-chain
+invariant-infix::infix-chain l = (l.fn.from < l.left.next) × (l.left.next ≤ length l.tokens) × (1 ≤ l.left.height) × (l.left.height ≤ l.room)
+
+abbrev pub decreases-loose::comma-chain : goal.decreases-loose::comma-chain
+decreases-loose::comma-chain l = length l.tokens - l.first.next
+
+abbrev pub invariant-loose::comma-chain : goal.invariant-loose::comma-chain
+invariant-loose::comma-chain l = (l.fn.from < l.first.next) × (l.first.next ≤ length l.tokens) × (1 ≤ l.first.height) × (l.first.height ≤ l.room)
+
+abbrev pub decreases-lists::arguments-row : goal.decreases-lists::arguments-row
+decreases-lists::arguments-row l = length l.tokens - l.last.next
+
+abbrev pub invariant-lists::arguments-row : goal.invariant-lists::arguments-row
+invariant-lists::arguments-row l = (l.fn.from < l.last.next) × (l.last.next ≤ length l.tokens) × (l.height ≤ l.room)
+
+abbrev pub decreases-lists::bounds-row : goal.decreases-lists::bounds-row
+decreases-lists::bounds-row l = length l.tokens - l.next
+
+abbrev pub invariant-lists::bounds-row : goal.invariant-lists::bounds-row
+invariant-lists::bounds-row l = (l.fn.from ≤ l.next) × (l.next ≤ length l.tokens) × (l.height ≤ l.room)

@@ -1,0 +1,14 @@
+mod Standing
+mod Stopping
+mod RowsOfTrees
+mod Closings
+mod Suffixes
+mod Prefixes
+mod TypedPrefixes
+mod Looser
+mod Sites
+mod SitesOfLevels
+mod SitesOfPrefixes
+mod ProgramRows
+mod TypesInside
+mod WordsBegun

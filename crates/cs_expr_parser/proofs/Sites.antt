@@ -1,0 +1,118 @@
+-- Each return of the parser's parts, over tokens by their numbers: for the contracts of all parts of the parser.
+use Rattle.std.proofs.Common.{◌≡◌, ℕ, suc, ◌+◌, ◌-◌, ◌<◌, ◌≤◌, max, ◌⊎◌, inl, inr, Bool, true, false, List, [], ◌∷◌, ◌++◌, length, drop, refl, sym, ap, ◌∙◌, subst, arith, append_assoc, append-nil}
+use Rattle.cs_ast.specs.declared.token.Token.{Token}
+use Rattle.cs_ast.specs.declared.token.TokenKind.{TokenKind}
+use Rattle.cs_ast.specs.declared.token.TokenKind.TheVariants as token
+use Rattle.cs_ast.specs.declared.token.Mark.{Mark}
+use Rattle.cs_ast.specs.declared.token.Mark.TheVariants as mark
+use Rattle.cs_ast.specs.declared.raw.operator.InfixOp.{InfixOp}
+use Rattle.cs_ast.specs.RawTree.{Written, WrittenList, Enclosed, Index, Call, Infix, Comma}
+use Rattle.cs_ast.specs.RawView.{written}
+use Rattle.cs_ast.specs.RawHeight.{height, highest}
+use Rattle.cs_grammar.specs.declared.refusal.Reason.{Reason}
+use Rattle.cs_grammar.specs.TypeWords.{Names}
+use Rattle.cs_grammar.specs.Levels.{infix_level}
+use Rattle.cs_grammar.specs.Marks.{infix_mark}
+use Rattle.cs_grammar.specs.Text.{Kinds, text}
+use Rattle.cs_grammar.specs.Phrases.{IsPhrase}
+use Rattle.cs_grammar.specs.Continuing.{join}
+use Rattle.cs_grammar.specs.Parsing.{Class, Expressions, Took, Refused, Begins}
+use Rattle.cs_grammar.specs.Chains.{Grows}
+use Rattle.cs_grammar.proofs.Holes.{ClosedBy, closed_law, closed_refused, closed_wrong, closed_exact, exact_took, Lawful}
+use Rattle.cs_grammar.proofs.Levels.{text_law, infix_join}
+use Rattle.cs_grammar.proofs.Chains.{Addition, addition_refused, addition_took, grows_head, grows_exit, grows_deep}
+use Rattle.cs_grammar.proofs.Texts.{text_append, text_splits}
+use Rattle.cs_expr_parser.specs.Positions.{kinds, kind_or_end}
+use Rattle.cs_expr_parser.specs.Parts.{Spells, Stops, IsRefused, IsTakenFrom, IsChainFrom, IsNode, is_deep}
+use Rattle.cs_expr_parser.specs.declared.stop.Stop.{Stop}
+use Rattle.cs_expr_parser.specs.declared.stop.Stop.TheVariants as stop
+use Rattle.cs_expr_parser.specs.declared.stop.Taken.{Taken}
+use Rattle.cs_expr_parser.proofs.Standing.{spells_one, spells_more, spells_as}
+use Rattle.cs_expr_parser.proofs.Stopping.{stops_in, refused_at, refused_first}
+use Rattle.cs_expr_parser.proofs.Closings.{zero, height_some, open_parenthesis, close_parenthesis, enclosed_refused, enclosed_wrong, enclosed_took}
+use Rattle.cs_expr_parser.proofs.Suffixes.{index_addition, infix_addition, comma_addition}
+
+-- a node that was taken
+pub node_taken : (names : Names) (level room : ℕ) (tokens : List Token) (from : ℕ) (whole : Taken) (tree : Written) (tall next : ℕ) (deep : Bool) → IsNode tree tall next deep whole → tall ≡ height tree → Spells tokens from next (text tree) → from < next → Took (Expressions names level) room tree (kind_or_end tokens next) deep → IsTakenFrom names level room tokens from whole
+node_taken names level room tokens from whole tree tall next deep n h sp some t = record {
+  height_is = n.height_is ∙ h ∙ ap height (sym n.tree_is);
+  spelled = subst (λ (k : ℕ). Spells tokens from k (text (written whole.tree))) (sym n.next_is) (subst (λ (e : Written). Spells tokens from next (text e)) (sym n.tree_is) sp);
+  some = let k = n.next_is in omega arith;
+  took =
+      subst (λ (k : ℕ). Took (Expressions names level) room (written whole.tree) (kind_or_end tokens k) whole.deep) (sym n.next_is)
+      (subst (λ (d : Bool). Took (Expressions names level) room (written whole.tree) (kind_or_end tokens next) d) (sym n.deep_is)
+      (subst (λ (e : Written). Took (Expressions names level) room e (kind_or_end tokens next) deep) (sym n.tree_is) t));
+}
+
+-- a chain that was taken
+pub node_chain : (names : Names) (level room : ℕ) (tokens : List Token) (from : ℕ) (whole : Taken) (tree : Written) (tall next : ℕ) (deep : Bool) → IsNode tree tall next deep whole → tall ≡ height tree → Spells tokens from next (text tree) → from < next → Grows names level room tree (kind_or_end tokens next) deep → IsChainFrom names level room tokens from whole
+node_chain names level room tokens from whole tree tall next deep n h sp some t = record {
+  height_is = n.height_is ∙ h ∙ ap height (sym n.tree_is);
+  spelled = subst (λ (k : ℕ). Spells tokens from k (text (written whole.tree))) (sym n.next_is) (subst (λ (e : Written). Spells tokens from next (text e)) (sym n.tree_is) sp);
+  some = let k = n.next_is in omega arith;
+  grows =
+      subst (λ (k : ℕ). Grows names level room (written whole.tree) (kind_or_end tokens k) whole.deep) (sym n.next_is)
+      (subst (λ (d : Bool). Grows names level room (written whole.tree) (kind_or_end tokens next) d) (sym n.deep_is)
+      (subst (λ (e : Written). Grows names level room e (kind_or_end tokens next) deep) (sym n.tree_is) t));
+}
+
+-- tokens of one kind that is no end
+pub mark_stands : (tokens : List Token) (at : ℕ) (m : Mark) → kind_or_end tokens at ≡ token.Mark m → Spells tokens at (at + 1) (λ rest. token.Mark m ∷ rest)
+mark_stands tokens at m e = spells_one tokens at (token.Mark m) e (λ x. cc)
+
+-- the tokens of a tree that was read, before others
+pub taken_front : (tokens : List Token) (from next : ℕ) (e : Written) → Spells tokens from next (text e) → Spells tokens from next (λ rest. text e [] ++ rest)
+taken_front tokens from next e sp = spells_as tokens from next (text e) (λ rest. text e [] ++ rest) sp (λ rest. text_splits e rest)
+
+-- an operand and one token behind it
+pub front_and_mark : (tokens : List Token) (from next : ℕ) (e : Written) (m : Mark) → Spells tokens from next (text e) → kind_or_end tokens next ≡ token.Mark m → Spells tokens from (next + 1) (λ rest. text e (token.Mark m ∷ []) ++ rest)
+front_and_mark tokens from next e m sp k =
+    spells_as tokens from (next + 1) (λ rest. text e (token.Mark m ∷ rest)) (λ rest. text e (token.Mark m ∷ []) ++ rest)
+    (spells_more tokens from next (next + 1) (text e) (λ rest. token.Mark m ∷ rest) sp (mark_stands tokens next m k))
+    (λ rest. sym (text_append e (token.Mark m ∷ []) rest))
+
+-- between parentheses, the expression was refused
+pub enclosed_stops : (names : Names) (room : ℕ) (tokens : List Token) (from : ℕ) → 2 ≤ room → kind_or_end tokens from ≡ open_parenthesis → (s : Stop) → Stops (Expressions names 0) (room - 1) tokens (from + 1) s → Stops (Expressions names 16) room tokens from s
+enclosed_stops names room tokens from least k s r =
+    stops_in (Expressions names 16) (Expressions names 0) room (room - 1) tokens from (from + 1) (open_parenthesis ∷ []) (mark_stands tokens from mark.OpenParenthesis k)
+    (λ front at deep sp x. enclosed_refused names room least front (kind_or_end tokens at) deep x) s r
+
+-- no parenthesis closes the expression
+pub enclosed_unclosed : (names : Names) (room : ℕ) (tokens : List Token) (from : ℕ) (inner : Taken) (reason : Reason) → 2 ≤ room → kind_or_end tokens from ≡ open_parenthesis → IsTakenFrom names 0 (room - 1) tokens (from + 1) inner → (kind_or_end tokens inner.next ≡ close_parenthesis → ⊥) → is_deep reason ≡ inner.deep → Stops (Expressions names 16) room tokens from (stop.Refused inner.next reason)
+enclosed_unclosed names room tokens from inner reason least k t other d =
+    refused_at (Expressions names 16) room tokens from inner.next reason inner.deep (open_parenthesis ∷ text (written inner.tree) [])
+    (spells_more tokens from (from + 1) inner.next (λ rest. open_parenthesis ∷ rest) (λ rest. text (written inner.tree) [] ++ rest) (mark_stands tokens from mark.OpenParenthesis k) (taken_front tokens (from + 1) inner.next (written inner.tree) t.spelled))
+    d (enclosed_wrong names room least (written inner.tree) (kind_or_end tokens inner.next) inner.deep t.took other)
+
+-- the expression between parentheses
+pub enclosed_taken : (names : Names) (room : ℕ) (tokens : List Token) (from : ℕ) (inner whole : Taken) → 2 ≤ room → kind_or_end tokens from ≡ open_parenthesis → IsTakenFrom names 0 (room - 1) tokens (from + 1) inner → kind_or_end tokens inner.next ≡ close_parenthesis → IsNode (Enclosed (written inner.tree)) (inner.height + 1) (inner.next + 1) false whole → IsTakenFrom names 16 room tokens from whole
+enclosed_taken names room tokens from inner whole least k t close n =
+    let h = t.height_is in
+    let s = t.some in
+    node_taken names 16 room tokens from whole (Enclosed (written inner.tree)) (inner.height + 1) (inner.next + 1) false n (omega arith)
+    (spells_more tokens from (from + 1) (inner.next + 1) (λ rest. open_parenthesis ∷ rest) (λ rest. text (written inner.tree) (close_parenthesis ∷ rest)) (mark_stands tokens from mark.OpenParenthesis k)
+    (spells_more tokens (from + 1) inner.next (inner.next + 1) (text (written inner.tree)) (λ rest. close_parenthesis ∷ rest) t.spelled (mark_stands tokens inner.next mark.CloseParenthesis close)))
+    (omega arith)
+    (enclosed_took names room least (written inner.tree) inner.deep (kind_or_end tokens (inner.next + 1)) (subst (λ (x : TokenKind). Took (Expressions names 0) (room - 1) (written inner.tree) x inner.deep) close t.took))
+
+-- the rest of a suffix was refused
+pub addition_stops : (names : Names) (level room : ℕ) (tokens : List Token) (from : ℕ) (left : Taken) (m : Mark) (D : Class) (inner : ℕ) (build : D.Tree → Written) → Lawful D → IsChainFrom names level room tokens from left → kind_or_end tokens left.next ≡ token.Mark m → Addition names level (written left.tree) room (token.Mark m) D inner build → (s : Stop) → Stops D inner tokens (left.next + 1) s → Stops (Expressions names level) room tokens from s
+addition_stops names level room tokens from left m D inner build law c k a s r =
+    stops_in (Expressions names level) D room inner tokens from (left.next + 1) (text (written left.tree) (token.Mark m ∷ [])) (front_and_mark tokens from left.next (written left.tree) m c.spelled k)
+    (λ front at deep sp x. addition_refused names level (written left.tree) room (token.Mark m) D inner build left.deep law (subst (λ (t : TokenKind). Grows names level room (written left.tree) t left.deep) k c.grows) a front (kind_or_end tokens at) deep x) s r
+
+-- a chain that ends
+pub chain_ends : (names : Names) (level room : ℕ) (tokens : List Token) (from : ℕ) (left : Taken) → IsChainFrom names level room tokens from left → (join (kind_or_end tokens left.next) ≡ suc level → ⊥) → IsTakenFrom names level room tokens from left
+chain_ends names level room tokens from left c other = record {
+  height_is = c.height_is;
+  spelled = c.spelled;
+  some = c.some;
+  took = grows_exit names level room (written left.tree) (kind_or_end tokens left.next) left.deep c.grows other;
+}
+
+-- a chain that would be too high with the next token
+pub chain_full : (names : Names) (level room : ℕ) (tokens : List Token) (from : ℕ) (left whole : Taken) → IsChainFrom names level room tokens from left → join (kind_or_end tokens left.next) ≡ suc level → room ≤ left.height → Begins (Expressions names level) (text (written left.tree) (kind_or_end tokens left.next ∷ [])) → IsNode (written left.tree) left.height left.next true whole → IsTakenFrom names level room tokens from whole
+chain_full names level room tokens from left whole c j full b n =
+    let h = c.height_is in
+    node_taken names level room tokens from whole (written left.tree) left.height left.next true n h c.spelled c.some
+    (grows_deep names level room (written left.tree) (kind_or_end tokens left.next) left.deep c.grows j (omega arith) b)

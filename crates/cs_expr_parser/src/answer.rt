@@ -1,0 +1,27 @@
+//! What the parser of expressions is asked for, and what it gives.
+
+use cs_ast::raw::expression::RawExpr;
+use cs_grammar::Reason;
+
+/// The phrases that other phrases ask for.
+#[derive(Clone, Copy, Debug, PartialEq, Eq)]
+pub enum ExprLevel {
+    /// Expressions with commas between them (C11 6.5.17).
+    Expr,
+    /// Expressions without a comma (C11 6.5.16).
+    Assign,
+    /// Expressions that don't store (C11 6.5.15).
+    Cond,
+}
+
+/// An expression that tokens begin with.
+#[derive(Drop)]
+pub struct Phrase {
+    pub tree: RawExpr,
+    /// The height of the tree.
+    pub height: u32,
+    /// The number of the token behind it.
+    pub next: usize,
+    /// Why the token behind it is refused, if the caller can't go on with it either.
+    pub otherwise: Reason,
+}

@@ -1,0 +1,85 @@
+//! Operators between two operands that group from the left (C11 6.5.5 to 6.5.14).
+ghost use Rattle.std.specs.Prelude.{◌≡◌, ◌≤◌, ◌<◌, ◌^◌, ◌+◌, ◌-◌, length, max, IfOk, IsSome};
+ghost use Rattle.cs_ast.specs.RawTree.{Infix};
+ghost use Rattle.cs_ast.specs.RawView.{written};
+ghost use Rattle.cs_expr_parser.specs.Parts.{IsBounded, IsNode};
+ghost use Rattle.cs_expr_parser.specs.Operators.{IsInfixAt};
+ghost use Rattle.cs_expr_parser.specs.Positions.{kind_or_end};
+
+use crate::nodes::infix as infix_node;
+use crate::postfix::deepened;
+use crate::stop::{Stop, Taken};
+use crate::tokens::{mark_at, place_at};
+use crate::unary::cast;
+use cs_ast::Token;
+use cs_ast::raw::operator::InfixOp;
+use cs_grammar::{TypedefNames, infix_level, infix_operator};
+use std::alloc::{AllocError, Global};
+
+/// The level of casts, which are the operands of the tightest operators.
+const CASTS: u32 = 13;
+
+/// The expression with operators of this level or a tighter one that the tokens from a number on begin with.
+#[cycle(expression)]
+pub fn infix(
+    alloc: Global,
+    tokens: &[Token],
+    names: &TypedefNames,
+    from: usize,
+    room: u32,
+    level: u32,
+) -> Result<Taken, Stop>
+    requires within { from ≤ length tokens.now }
+    requires few { length tokens.now < 2 ^ 32 }
+    requires infix { 3 ≤ level }
+    requires tight { level ≤ 13 }
+    ensures bounds { IsBounded room tokens.now from result }
+{
+    if level == CASTS {
+        return cast(alloc, tokens, names, from, room);
+    }
+    let mut left = infix(alloc, tokens, names, from, room, level + 1)?;
+    'chain: while let Some(operator) = operator_at(tokens, left.next, level) {
+        if left.height >= room {
+            return Ok(deepened(left));
+        }
+        let right = infix(alloc, tokens, names, left.next + 1, room - 1, level + 1)?;
+        left = joined(alloc, tokens, operator, left, right)?;
+    }
+    Ok(left)
+}
+
+/// The operator of this level that stands at a number, if one does.
+fn operator_at(tokens: &[Token], at: usize, level: u32) -> Option<InfixOp>
+    ensures within { IsSome result → at < length tokens.now }
+    ensures operator { IsInfixAt level (kind_or_end tokens.now at) result }
+{
+    let operator = infix_operator(mark_at(tokens, at)?)?;
+    if infix_level(operator) == level {
+        Some(operator)
+    } else {
+        None
+    }
+}
+
+/// Two operands with the operator between them.
+fn joined(
+    alloc: Global,
+    tokens: &[Token],
+    operator: InfixOp,
+    left: Taken,
+    right: Taken,
+) -> Result<Taken, AllocError>
+    requires within { left.next < length tokens.now }
+    requires low { (left.height < 2 ^ 32 - 1) × (right.height < 2 ^ 32 - 1) }
+    ensures { IfOk result (IsNode (Infix operator (written left.tree) (written right.tree)) (max left.height right.height + 1) right.next right.deep) }
+{
+    let place = place_at(tokens, left.next);
+    let tree = infix_node(alloc, place, operator, left.tree, right.tree)?;
+    Ok(Taken {
+        tree,
+        height: left.height.max(right.height) + 1,
+        next: right.next,
+        deep: right.deep,
+    })
+}

@@ -1,0 +1,21 @@
+//! From tokens to written expressions, exact to the token that is refused.
+#![tactic(auto)]
+
+mod answer;
+mod ends;
+mod infix;
+mod lists;
+mod loose;
+mod nodes;
+mod parser;
+mod postfix;
+mod primary;
+mod stop;
+#[cfg(test)]
+mod tests;
+mod tokens;
+mod types;
+mod unary;
+
+pub use answer::{ExprLevel, Phrase};
+pub use parser::expression;

@@ -1,0 +1,173 @@
+//! The loosest expressions: choices, those that store, and those with commas (C11 6.5.15 to 6.5.17).
+ghost use Rattle.std.specs.Prelude.{◌≡◌, ◌≤◌, ◌<◌, ◌^◌, ◌+◌, ◌-◌, length, max, IfOk, IsSome};
+ghost use Rattle.cs_ast.specs.RawTree.{Choice, Assign, Comma};
+ghost use Rattle.cs_ast.specs.RawView.{written};
+ghost use Rattle.cs_expr_parser.specs.Parts.{IsBounded, IsNode};
+ghost use Rattle.cs_expr_parser.specs.Operators.{IsAssignAt};
+ghost use Rattle.cs_expr_parser.specs.Positions.{kind_or_end};
+
+use crate::ends::is_unary;
+use crate::infix::infix;
+use crate::nodes::{assign as assign_node, choice as choice_node, comma as comma_node};
+use crate::postfix::deepened;
+use crate::stop::{Stop, Taken};
+use crate::tokens::{is_mark, mark_at, place_at, refuse_behind};
+use cs_ast::raw::operator::AssignOp;
+use cs_ast::{Mark, Token};
+use cs_grammar::{TypedefNames, assign_operator};
+use std::alloc::{AllocError, Global};
+
+/// The level of the loosest operators between two operands.
+const INFIX: u32 = 3;
+
+/// The choice, or the tighter expression, that the tokens from a number on begin with.
+#[cycle(expression)]
+pub fn choice(
+    alloc: Global,
+    tokens: &[Token],
+    names: &TypedefNames,
+    from: usize,
+    room: u32,
+) -> Result<Taken, Stop>
+    requires within { from ≤ length tokens.now }
+    requires few { length tokens.now < 2 ^ 32 }
+    ensures bounds { IsBounded room tokens.now from result }
+{
+    let test = infix(alloc, tokens, names, from, room, INFIX)?;
+    if !is_mark(tokens, test.next, Mark::Question) {
+        return Ok(test);
+    }
+    if test.height >= room {
+        return Ok(deepened(test));
+    }
+    let one = comma(alloc, tokens, names, test.next + 1, room - 1)?;
+    if !is_mark(tokens, one.next, Mark::Colon) {
+        return Err(refuse_behind(tokens, &one));
+    }
+    let other = choice(alloc, tokens, names, one.next + 1, room - 1)?;
+    Ok(chosen(alloc, tokens, test, one, other)?)
+}
+
+/// The choice of its three parts.
+fn chosen(
+    alloc: Global,
+    tokens: &[Token],
+    test: Taken,
+    one: Taken,
+    other: Taken,
+) -> Result<Taken, AllocError>
+    requires within { test.next < length tokens.now }
+    requires low { (test.height < 2 ^ 32 - 1) × (one.height < 2 ^ 32 - 1) × (other.height < 2 ^ 32 - 1) }
+    ensures { IfOk result (IsNode (Choice (written test.tree) (written one.tree) (written other.tree)) (max (max test.height one.height) other.height + 1) other.next other.deep) }
+{
+    let place = place_at(tokens, test.next);
+    let tree = choice_node(alloc, place, test.tree, one.tree, other.tree)?;
+    Ok(Taken {
+        tree,
+        height: test.height.max(one.height).max(other.height) + 1,
+        next: other.next,
+        deep: other.deep,
+    })
+}
+
+/// The expression that stores, or the tighter one, that the tokens from a number on begin with.
+#[cycle(expression)]
+pub fn assign(
+    alloc: Global,
+    tokens: &[Token],
+    names: &TypedefNames,
+    from: usize,
+    room: u32,
+) -> Result<Taken, Stop>
+    requires within { from ≤ length tokens.now }
+    requires few { length tokens.now < 2 ^ 32 }
+    ensures bounds { IsBounded room tokens.now from result }
+{
+    let object = choice(alloc, tokens, names, from, room)?;
+    let Some(operator) = assign_operator_at(tokens, object.next) else {
+        return Ok(object);
+    };
+    if !is_unary(&object.tree) {
+        return Ok(object);
+    }
+    if object.height >= room {
+        return Ok(deepened(object));
+    }
+    let value = assign(alloc, tokens, names, object.next + 1, room - 1)?;
+    Ok(stored(alloc, tokens, operator, object, value)?)
+}
+
+/// The operator that stores at a number, if one stands there.
+fn assign_operator_at(tokens: &[Token], at: usize) -> Option<AssignOp>
+    ensures within { IsSome result → at < length tokens.now }
+    ensures operator { IsAssignAt (kind_or_end tokens.now at) result }
+{
+    assign_operator(mark_at(tokens, at)?)
+}
+
+/// An object and a value with the operator between them.
+fn stored(
+    alloc: Global,
+    tokens: &[Token],
+    operator: AssignOp,
+    object: Taken,
+    value: Taken,
+) -> Result<Taken, AllocError>
+    requires within { object.next < length tokens.now }
+    requires low { (object.height < 2 ^ 32 - 1) × (value.height < 2 ^ 32 - 1) }
+    ensures { IfOk result (IsNode (Assign operator (written object.tree) (written value.tree)) (max object.height value.height + 1) value.next value.deep) }
+{
+    let place = place_at(tokens, object.next);
+    let tree = assign_node(alloc, place, operator, object.tree, value.tree)?;
+    Ok(Taken {
+        tree,
+        height: object.height.max(value.height) + 1,
+        next: value.next,
+        deep: value.deep,
+    })
+}
+
+/// The expression with commas, or the tighter one, that the tokens from a number on begin with.
+#[cycle(expression)]
+pub fn comma(
+    alloc: Global,
+    tokens: &[Token],
+    names: &TypedefNames,
+    from: usize,
+    room: u32,
+) -> Result<Taken, Stop>
+    requires within { from ≤ length tokens.now }
+    requires few { length tokens.now < 2 ^ 32 }
+    ensures bounds { IsBounded room tokens.now from result }
+{
+    let mut first = assign(alloc, tokens, names, from, room)?;
+    'chain: while is_mark(tokens, first.next, Mark::Comma) {
+        if first.height >= room {
+            return Ok(deepened(first));
+        }
+        let second = assign(alloc, tokens, names, first.next + 1, room - 1)?;
+        first = followed(alloc, tokens, first, second)?;
+    }
+    Ok(first)
+}
+
+/// Two expressions with the comma between them.
+fn followed(
+    alloc: Global,
+    tokens: &[Token],
+    first: Taken,
+    second: Taken,
+) -> Result<Taken, AllocError>
+    requires within { first.next < length tokens.now }
+    requires low { (first.height < 2 ^ 32 - 1) × (second.height < 2 ^ 32 - 1) }
+    ensures { IfOk result (IsNode (Comma (written first.tree) (written second.tree)) (max first.height second.height + 1) second.next second.deep) }
+{
+    let place = place_at(tokens, first.next);
+    let tree = comma_node(alloc, place, first.tree, second.tree)?;
+    Ok(Taken {
+        tree,
+        height: first.height.max(second.height) + 1,
+        next: second.next,
+        deep: second.deep,
+    })
+}

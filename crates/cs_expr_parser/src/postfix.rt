@@ -1,0 +1,186 @@
+//! Postfix expressions (C11 6.5.2).
+ghost use Rattle.std.specs.Prelude.{◌≡◌, ◌≤◌, ◌<◌, ◌^◌, ◌+◌, ◌-◌, false, true, Some, length, max, IfOk, IsSome};
+ghost use Rattle.cs_ast.specs.RawTree.{Index, Call, Member, Arrow, StepBehind};
+ghost use Rattle.cs_ast.specs.RawView.{written, written_list};
+ghost use Rattle.cs_ast.specs.declared.token.TokenKind.TheVariants as token;
+ghost use Rattle.cs_expr_parser.specs.Parts.{IsBounded, IsNode, IsSelected};
+ghost use Rattle.cs_expr_parser.specs.Positions.{kind_or_end, IsSuffixAt};
+
+use crate::lists::{Listed, arguments};
+use crate::loose::comma;
+use crate::nodes::{arrow, call, index, member, step_behind};
+use crate::primary::primary;
+use crate::stop::{Stop, Taken};
+use crate::tokens::{is_mark, mark_at, name_at, place_at, refuse, refuse_behind};
+use cs_ast::raw::operator::Step;
+use cs_ast::{Mark, Token};
+use cs_grammar::TypedefNames;
+use std::alloc::{AllocError, Global};
+
+/// The postfix expression that the tokens from a number on begin with.
+#[cycle(expression)]
+pub fn postfix(
+    alloc: Global,
+    tokens: &[Token],
+    names: &TypedefNames,
+    from: usize,
+    room: u32,
+) -> Result<Taken, Stop>
+    requires within { from ≤ length tokens.now }
+    requires few { length tokens.now < 2 ^ 32 }
+    ensures bounds { IsBounded room tokens.now from result }
+{
+    let mut left = primary(alloc, tokens, names, from, room)?;
+    'chain: while let Some(mark) = suffix_at(tokens, left.next) {
+        if left.height >= room {
+            return Ok(deepened(left));
+        }
+        left = suffixed(alloc, tokens, names, left, mark, room)?;
+    }
+    Ok(left)
+}
+
+/// The expression, of which it is told that a higher one goes on with the token behind it.
+pub fn deepened(taken: Taken) -> Taken
+    ensures { IsNode (written taken.tree) taken.height taken.next true result }
+{
+    Taken {
+        tree: taken.tree,
+        height: taken.height,
+        next: taken.next,
+        deep: true,
+    }
+}
+
+/// The mark at a number, if it stands behind an operand and belongs to it.
+fn suffix_at(tokens: &[Token], at: usize) -> Option<Mark>
+    ensures within { IsSome result → at < length tokens.now }
+    ensures mark { IsSuffixAt (kind_or_end tokens.now at) result }
+{
+    match mark_at(tokens, at) {
+        Some(mark) => suffix_of(mark),
+        None => None,
+    }
+}
+
+fn suffix_of(mark: Mark) -> Option<Mark>
+    ensures { IsSuffixAt (token.Mark mark) result }
+{
+    match mark {
+        Mark::OpenBracket => Some(mark),
+        Mark::OpenParenthesis => Some(mark),
+        Mark::Dot => Some(mark),
+        Mark::Arrow => Some(mark),
+        Mark::Increment => Some(mark),
+        Mark::Decrement => Some(mark),
+        _ => None,
+    }
+}
+
+/// The operand with what begins with this mark behind it.
+#[cycle(expression)]
+fn suffixed(
+    alloc: Global,
+    tokens: &[Token],
+    names: &TypedefNames,
+    left: Taken,
+    mark: Mark,
+    room: u32,
+) -> Result<Taken, Stop>
+    requires within { left.next < length tokens.now }
+    requires stands { IsSuffixAt (kind_or_end tokens.now left.next) (Some mark) }
+    requires low { left.height < room }
+    requires some { 1 ≤ left.height }
+    requires few { length tokens.now < 2 ^ 32 }
+    ensures bounds { IsBounded room tokens.now left.next result }
+{
+    match mark {
+        Mark::OpenBracket => {
+            let number = comma(alloc, tokens, names, left.next + 1, room - 1)?;
+            if !is_mark(tokens, number.next, Mark::CloseBracket) {
+                return Err(refuse_behind(tokens, &number));
+            }
+            Ok(indexed(alloc, tokens, left, number)?)
+        }
+        Mark::OpenParenthesis => {
+            let listed = arguments(alloc, tokens, names, left.next + 1, room - 2)?;
+            Ok(called(alloc, tokens, left, listed)?)
+        }
+        Mark::Dot => selected(alloc, tokens, left, false),
+        Mark::Arrow => selected(alloc, tokens, left, true),
+        Mark::Increment => Ok(stepped(alloc, tokens, left, Step::Up)?),
+        _ => Ok(stepped(alloc, tokens, left, Step::Down)?),
+    }
+}
+
+/// `left [ number ]`
+fn indexed(alloc: Global, tokens: &[Token], left: Taken, number: Taken) -> Result<Taken, AllocError>
+    requires within { left.next < length tokens.now }
+    requires low { (left.height < 2 ^ 32 - 1) × (number.height < 2 ^ 32 - 1) }
+    requires few { number.next < 2 ^ 32 }
+    ensures { IfOk result (IsNode (Index (written left.tree) (written number.tree)) (max left.height number.height + 1) (number.next + 1) false) }
+{
+    let tree = index(alloc, place_at(tokens, left.next), left.tree, number.tree)?;
+    Ok(Taken {
+        tree,
+        height: left.height.max(number.height) + 1,
+        next: number.next + 1,
+        deep: false,
+    })
+}
+
+/// `left ( arguments )`
+fn called(alloc: Global, tokens: &[Token], left: Taken, listed: Listed) -> Result<Taken, AllocError>
+    requires within { left.next < length tokens.now }
+    requires low { (left.height < 2 ^ 32 - 1) × (listed.height < 2 ^ 32 - 2) }
+    ensures { IfOk result (IsNode (Call (written left.tree) (written_list listed.trees.items)) (max left.height (listed.height + 1) + 1) listed.next false) }
+{
+    let tree = call(alloc, place_at(tokens, left.next), left.tree, listed.trees)?;
+    Ok(Taken {
+        tree,
+        height: left.height.max(listed.height + 1) + 1,
+        next: listed.next,
+        deep: false,
+    })
+}
+
+/// The operand with a dot or an arrow and the name of a member behind it.
+fn selected(alloc: Global, tokens: &[Token], left: Taken, through: bool) -> Result<Taken, Stop>
+    requires within { left.next < length tokens.now }
+    requires low { left.height < 2 ^ 32 - 1 }
+    requires few { left.next < 2 ^ 32 }
+    ensures { IsSelected through (written left.tree) left.height left.next tokens.now result }
+{
+    let Some(name) = name_at(tokens, left.next + 1) else {
+        return Err(refuse(tokens, left.next + 1, false));
+    };
+    let place = place_at(tokens, left.next);
+    let name = name.copy()?;
+    let tree = if through {
+        arrow(alloc, place, left.tree, name)?
+    } else {
+        member(alloc, place, left.tree, name)?
+    };
+    Ok(Taken {
+        tree,
+        height: left.height + 1,
+        next: left.next + 2,
+        deep: false,
+    })
+}
+
+/// The operand with a step behind it.
+fn stepped(alloc: Global, tokens: &[Token], left: Taken, by: Step) -> Result<Taken, AllocError>
+    requires within { left.next < length tokens.now }
+    requires low { left.height < 2 ^ 32 - 1 }
+    requires few { left.next < 2 ^ 32 }
+    ensures { IfOk result (IsNode (StepBehind by (written left.tree)) (left.height + 1) (left.next + 1) false) }
+{
+    let tree = step_behind(alloc, place_at(tokens, left.next), by, left.tree)?;
+    Ok(Taken {
+        tree,
+        height: left.height + 1,
+        next: left.next + 1,
+        deep: false,
+    })
+}

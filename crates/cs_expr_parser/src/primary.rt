@@ -1,0 +1,66 @@
+//! Primary expressions (C11 6.5.1).
+ghost use Rattle.std.specs.Prelude.{◌≤◌, ◌<◌, ◌^◌, ◌+◌, ◌-◌, false, length, IfOk};
+ghost use Rattle.cs_ast.specs.RawTree.{Enclosed};
+ghost use Rattle.cs_ast.specs.RawView.{written};
+ghost use Rattle.cs_expr_parser.specs.Parts.{IsBounded, IsNode};
+
+use crate::loose::comma;
+use crate::nodes::{leaf_at, parenthesis};
+use crate::stop::{Stop, Taken};
+use crate::tokens::{is_mark, place_at, refuse, refuse_behind};
+use cs_ast::{Mark, Token};
+use cs_grammar::TypedefNames;
+use std::alloc::{AllocError, Global};
+
+/// The primary expression that the tokens from a number on begin with.
+#[cycle(expression)]
+pub fn primary(
+    alloc: Global,
+    tokens: &[Token],
+    names: &TypedefNames,
+    from: usize,
+    room: u32,
+) -> Result<Taken, Stop>
+    requires within { from ≤ length tokens.now }
+    requires few { length tokens.now < 2 ^ 32 }
+    ensures bounds { IsBounded room tokens.now from result }
+{
+    if is_mark(tokens, from, Mark::OpenParenthesis) {
+        if room < 2 {
+            return Err(refuse(tokens, from, true));
+        }
+        let inner = comma(alloc, tokens, names, from + 1, room - 1)?;
+        if !is_mark(tokens, inner.next, Mark::CloseParenthesis) {
+            return Err(refuse_behind(tokens, &inner));
+        }
+        return Ok(enclosed(alloc, tokens, from, inner)?);
+    }
+    let Some(tree) = leaf_at(tokens, names, from)? else {
+        return Err(refuse(tokens, from, false));
+    };
+    if room == 0 {
+        return Err(refuse(tokens, from, true));
+    }
+    Ok(Taken {
+        tree,
+        height: 1,
+        next: from + 1,
+        deep: false,
+    })
+}
+
+/// The expression with parentheses around it, the first of which stands at a number.
+fn enclosed(alloc: Global, tokens: &[Token], from: usize, inner: Taken) -> Result<Taken, AllocError>
+    requires within { from < length tokens.now }
+    requires low { inner.height < 2 ^ 32 - 1 }
+    requires few { inner.next < 2 ^ 32 }
+    ensures { IfOk result (IsNode (Enclosed (written inner.tree)) (inner.height + 1) (inner.next + 1) false) }
+{
+    let tree = parenthesis(alloc, place_at(tokens, from), inner.tree)?;
+    Ok(Taken {
+        tree,
+        height: inner.height + 1,
+        next: inner.next + 1,
+        deep: false,
+    })
+}

@@ -1,0 +1,218 @@
+//! Tokens by their numbers.
+ghost use Rattle.std.specs.Prelude.{◌≡◌, ◌<◌, ◌↔◌, IsTrue, IsSome, false, length, drop};
+ghost use Rattle.std.specs.Option.{option_copied};
+ghost use Rattle.cs_grammar.specs.FirstTokens.{begins_type as starts_type, keyword_begins_type};
+ghost use Rattle.cs_grammar.specs.Places.{StandsAt};
+ghost use Rattle.cs_ast.specs.declared.token.TokenKind.TheVariants as token;
+ghost use Rattle.cs_ast.specs.RawView.{written};
+ghost use Rattle.cs_expr_parser.specs.Reasons.{plain_reason, reason_of, ends_in_type};
+ghost use Rattle.cs_expr_parser.specs.Positions.{kind_or_end, mark_of as mark_of_kind, keyword_of as keyword_of_kind, name_of as name_of_kind, is_left_out as left_out, is_brace as brace};
+
+use crate::ends::ends_with_type;
+use crate::stop::{Stop, Taken};
+use cs_ast::{Keyword, Mark, Place, Token, TokenKind};
+use cs_grammar::{Reason, TypedefNames};
+use cs_names::Name;
+
+/// The mark that stands at a number, if one does.
+#[tactic(auto, using(std::proofs::lemmas::Option::slice_get_within))]
+pub fn mark_at(tokens: &[Token], at: usize) -> Option<Mark>
+    ensures mark { result ≡ mark_of_kind (kind_or_end tokens.now at) }
+    ensures within { IsSome result → at < length tokens.now }
+{
+    match tokens.get(at) {
+        Some(token) => mark_of(&token.kind),
+        None => None,
+    }
+}
+
+fn mark_of(kind: &TokenKind) -> Option<Mark>
+    ensures { result ≡ mark_of_kind kind.now }
+{
+    match kind {
+        TokenKind::Mark(mark) => Some(*mark),
+        _ => None,
+    }
+}
+
+/// Whether this mark stands at a number.
+pub fn is_mark(tokens: &[Token], at: usize, mark: Mark) -> bool
+    ensures mark { IsTrue result ↔ (kind_or_end tokens.now at ≡ token.Mark mark) }
+    ensures within { IsTrue result → at < length tokens.now }
+{
+    mark_at(tokens, at) == Some(mark)
+}
+
+/// The keyword that stands at a number, if one does.
+#[tactic(auto, using(std::proofs::lemmas::Option::slice_get_within))]
+pub fn keyword_at(tokens: &[Token], at: usize) -> Option<Keyword>
+    ensures within { IsSome result → at < length tokens.now }
+    ensures keyword { result ≡ keyword_of_kind (kind_or_end tokens.now at) }
+{
+    match tokens.get(at) {
+        Some(token) => keyword_of(&token.kind),
+        None => None,
+    }
+}
+
+fn keyword_of(kind: &TokenKind) -> Option<Keyword>
+    ensures { result ≡ keyword_of_kind kind.now }
+{
+    match kind {
+        TokenKind::Keyword(keyword) => Some(*keyword),
+        _ => None,
+    }
+}
+
+/// The name that stands at a number, if one does.
+#[tactic(auto, using(std::proofs::lemmas::Option::slice_get_within))]
+pub fn name_at(tokens: &[Token], at: usize) -> Option<&Name>
+    ensures within { IsSome result → at < length tokens.now }
+    ensures name { option_copied result ≡ name_of_kind (kind_or_end tokens.now at) }
+{
+    match tokens.get(at) {
+        Some(token) => name_of(&token.kind),
+        None => None,
+    }
+}
+
+fn name_of(kind: &TokenKind) -> Option<&Name>
+    ensures { option_copied result ≡ name_of_kind kind.now }
+{
+    match kind {
+        TokenKind::Name(name) => Some(name),
+        _ => None,
+    }
+}
+
+/// Whether a type between parentheses may begin with the token at a number.
+pub fn begins_type(tokens: &[Token], names: &TypedefNames, at: usize) -> bool
+    ensures { result ≡ starts_type names.now (kind_or_end tokens.now at) }
+{
+    match tokens.get(at) {
+        Some(token) => is_type_start(&token.kind, names),
+        None => false,
+    }
+}
+
+fn is_type_start(kind: &TokenKind, names: &TypedefNames) -> bool
+    ensures { result ≡ starts_type names.now kind.now }
+{
+    match kind {
+        TokenKind::Name(name) => names.contains(name),
+        TokenKind::Keyword(keyword) => is_type_keyword(*keyword),
+        _ => false,
+    }
+}
+
+fn is_type_keyword(keyword: Keyword) -> bool
+    ensures { result ≡ keyword_begins_type keyword }
+{
+    match keyword {
+        Keyword::Const | Keyword::Void | Keyword::Struct | Keyword::Enum => true,
+        Keyword::Char | Keyword::Short | Keyword::Int => true,
+        Keyword::Long | Keyword::Signed | Keyword::Unsigned => true,
+        _ => false,
+    }
+}
+
+/// Whether the token at a number is left out wherever it stands in an expression.
+fn is_left_out(tokens: &[Token], at: usize) -> bool
+    ensures { result ≡ left_out (kind_or_end tokens.now at) }
+{
+    match tokens.get(at) {
+        Some(token) => is_left_out_kind(&token.kind),
+        None => false,
+    }
+}
+
+fn is_left_out_kind(kind: &TokenKind) -> bool
+    ensures { result ≡ left_out kind.now }
+{
+    match kind {
+        TokenKind::LeftOut(_) => true,
+        TokenKind::Mark(Mark::Ellipsis) => true,
+        TokenKind::Keyword(Keyword::Static) => true,
+        TokenKind::Keyword(Keyword::Typedef) => true,
+        _ => false,
+    }
+}
+
+/// Whether an opening brace stands at a number.
+pub fn is_brace(tokens: &[Token], at: usize) -> bool
+    ensures { result ≡ brace (kind_or_end tokens.now at) }
+{
+    match mark_at(tokens, at) {
+        Some(Mark::OpenBrace) => true,
+        _ => false,
+    }
+}
+
+/// Whether the tokens from a number on end with a tag before another number.
+pub fn ends_with_tag(tokens: &[Token], from: usize, at: usize) -> bool {
+    if at < 2 || at - 2 < from || name_at(tokens, at - 1).is_none() {
+        return false;
+    }
+    match keyword_at(tokens, at - 2) {
+        Some(Keyword::Struct | Keyword::Enum) => true,
+        _ => false,
+    }
+}
+
+/// Why the token at a number is refused where no expression goes on with it, behind a type or a tag or not.
+pub fn reason_at(tokens: &[Token], at: usize, behind_type: bool) -> Reason
+    ensures { result ≡ plain_reason (kind_or_end tokens.now at) behind_type }
+{
+    if is_left_out(tokens, at) || behind_type && is_brace(tokens, at) {
+        Reason::LeftOut
+    } else {
+        Reason::Syntax
+    }
+}
+
+/// The refusal of the token at a number, which no expression that is low enough goes on with.
+pub fn refuse(tokens: &[Token], at: usize, deep: bool) -> Stop
+    ensures { result ≡ Stop.Refused at (reason_of deep (kind_or_end tokens.now at) false) }
+{
+    if deep {
+        Stop::Refused(at, Reason::TooDeep)
+    } else {
+        Stop::Refused(at, reason_at(tokens, at, false))
+    }
+}
+
+/// The refusal of the token at a number, behind a type between parentheses or a tag or not.
+pub fn refuse_in_type(tokens: &[Token], at: usize, behind_type: bool) -> Stop
+    ensures { result ≡ Stop.Refused at (plain_reason (kind_or_end tokens.now at) behind_type) }
+{
+    Stop::Refused(at, reason_at(tokens, at, behind_type))
+}
+
+/// Why the token behind an expression is refused, if nothing else goes on with it.
+pub fn reason_behind(tokens: &[Token], taken: &Taken) -> Reason
+    ensures { result ≡ reason_of taken.now.deep (kind_or_end tokens.now taken.now.next) (ends_in_type (written taken.now.tree)) }
+{
+    if taken.deep {
+        return Reason::TooDeep;
+    }
+    if is_brace(tokens, taken.next) {
+        return reason_at(tokens, taken.next, ends_with_type(&taken.tree));
+    }
+    reason_at(tokens, taken.next, false)
+}
+
+/// The refusal of the token behind an expression.
+pub fn refuse_behind(tokens: &[Token], taken: &Taken) -> Stop
+    ensures { result ≡ Stop.Refused taken.now.next (reason_of taken.now.deep (kind_or_end tokens.now taken.now.next) (ends_in_type (written taken.now.tree))) }
+{
+    Stop::Refused(taken.next, reason_behind(tokens, taken))
+}
+
+/// The place of the token at a number.
+pub fn place_at(tokens: &[Token], at: usize) -> Place
+    requires { at < length tokens.now }
+    ensures { StandsAt result (drop at tokens.now) }
+{
+    let token = &tokens[at];
+    token.place
+}

@@ -1,0 +1,236 @@
+//! Types between parentheses (C11 6.7.7).
+ghost use Rattle.std.specs.Prelude.{◌≡◌, ◌≤◌, ◌<◌, ◌^◌, ◌+◌, None, length, IfOk, IsSome};
+ghost use Rattle.cs_expr_parser.specs.Parts.{IsTypeBounded, IsStopBounded};
+ghost use Rattle.cs_expr_parser.specs.Words.{IsNextBounded, IsIntegerAt, IsPointerAt, names_some, word_of_tag};
+ghost use Rattle.cs_expr_parser.specs.Positions.{kind_or_end};
+
+use crate::lists::bounds;
+use crate::stop::Stop;
+use crate::tokens::{is_mark, keyword_at, name_at, place_at, refuse, refuse_in_type};
+use cs_ast::raw::expression::RawExpr;
+use cs_ast::raw::written_type::{PointerWord, TypeWord, WrittenType};
+use cs_ast::{Keyword, Mark, Place, Token};
+use cs_grammar::{TypeSoFar, TypedefNames, integer_word};
+use cs_names::Name;
+use std::alloc::Global;
+
+/// A type between parentheses, as one part of the parser hands it to another.
+#[derive(Drop)]
+pub struct TakenType {
+    pub ty: WrittenType,
+    pub bounds: Vec<RawExpr>,
+    /// The height of the highest bound, 0 where there is none.
+    pub height: u32,
+    /// The number of the token behind the closing parenthesis.
+    pub next: usize,
+}
+
+/// The words of a type, and the number of the token behind them.
+#[derive(Drop)]
+pub struct TypeWords {
+    pub words: Vec<TypeWord>,
+    pub tag: Option<Place>,
+    pub next: usize,
+}
+
+/// The words of pointers, and the number of the token behind them.
+#[derive(Drop)]
+pub struct PointerWords {
+    pub words: Vec<PointerWord>,
+    pub next: usize,
+}
+
+/// A word of a type, with the place of its tag, and the number of the token behind it.
+#[derive(Drop)]
+pub struct NextWord {
+    pub word: TypeWord,
+    pub tag: Option<Place>,
+    pub next: usize,
+}
+
+/// The type from behind an opening parenthesis to behind the closing one.
+#[cycle(expression)]
+pub fn parenthesised_type(
+    alloc: Global,
+    tokens: &[Token],
+    names: &TypedefNames,
+    from: usize,
+    room: u32,
+) -> Result<TakenType, Stop>
+    requires within { from ≤ length tokens.now }
+    requires few { length tokens.now < 2 ^ 32 }
+    ensures bounds { IsTypeBounded room tokens.now from result }
+{
+    let words = type_words(alloc, tokens, names, from)?;
+    let pointers = pointer_words(alloc, tokens, words.next)?;
+    let listed = bounds(alloc, tokens, names, from, pointers.next, room)?;
+    Ok(TakenType {
+        ty: WrittenType {
+            words: words.words,
+            tag: words.tag,
+            pointers: pointers.words,
+        },
+        bounds: listed.trees,
+        height: listed.height,
+        next: listed.next,
+    })
+}
+
+/// The words of a type, as many as fit together.
+fn type_words(
+    alloc: Global,
+    tokens: &[Token],
+    names: &TypedefNames,
+    from: usize,
+) -> Result<TypeWords, Stop>
+    requires within { from ≤ length tokens.now }
+    requires few { length tokens.now < 2 ^ 32 }
+    ensures bounds { IfOk result (λ taken. (from ≤ taken.next) × (taken.next ≤ length tokens.now)) }
+    ensures refused { IsStopBounded tokens.now from result }
+{
+    let mut words = Vec::new(alloc);
+    let mut so_far = TypeSoFar::Nothing;
+    let mut tag = None;
+    let mut next = from;
+    'words: while let Some(found) = word_at(tokens, names, next, so_far)? {
+        let Some(after) = so_far.with(&found.word) else {
+            break;
+        };
+        so_far = after;
+        tag = tag.or(found.tag);
+        next = found.next;
+        words.push(found.word)?;
+    }
+    if !so_far.is_type() {
+        return Err(refuse(tokens, next, false));
+    }
+    Ok(TypeWords { words, tag, next })
+}
+
+/// The word of a type at a number, if one stands there; `struct` and `enum` begin one only where no word names a type yet.
+fn word_at(
+    tokens: &[Token],
+    names: &TypedefNames,
+    at: usize,
+    so_far: TypeSoFar,
+) -> Result<Option<NextWord>, Stop>
+    requires within { at ≤ length tokens.now }
+    requires few { length tokens.now < 2 ^ 32 }
+    ensures bounds { IsNextBounded tokens.now at result }
+{
+    if let Some(name) = name_at(tokens, at) {
+        if !names.contains(name) {
+            return Ok(None);
+        }
+        let word = TypeWord::Typedef(name.copy()?);
+        return Ok(Some(untagged(word, at)));
+    }
+    let Some(keyword) = keyword_at(tokens, at) else {
+        return Ok(None);
+    };
+    match keyword {
+        Keyword::Struct => tagged(tokens, at, true, so_far),
+        Keyword::Enum => tagged(tokens, at, false, so_far),
+        Keyword::Const => Ok(Some(untagged(TypeWord::Const, at))),
+        Keyword::Void => Ok(Some(untagged(TypeWord::Void, at))),
+        _ => Ok(integer_at(keyword, at)),
+    }
+}
+
+fn integer_at(keyword: Keyword, at: usize) -> Option<NextWord>
+    requires { at < 2 ^ 32 }
+    ensures { IsIntegerAt keyword at result }
+{
+    let word = integer_word(keyword)?;
+    Some(untagged(TypeWord::Integer(word), at))
+}
+
+/// A word of one token, at a number.
+fn untagged(word: TypeWord, at: usize) -> NextWord
+    requires { at < 2 ^ 32 }
+    ensures word { result.word ≡ word }
+    ensures next { result.next ≡ at + 1 }
+    ensures tag { result.tag ≡ None }
+{
+    NextWord {
+        word,
+        tag: None,
+        next: at + 1,
+    }
+}
+
+/// `struct` or `enum`, at a number, with the tag behind it.
+fn tagged(
+    tokens: &[Token],
+    at: usize,
+    is_struct: bool,
+    so_far: TypeSoFar,
+) -> Result<Option<NextWord>, Stop>
+    requires within { at < length tokens.now }
+    requires few { length tokens.now < 2 ^ 32 }
+    ensures bounds { IsNextBounded tokens.now at result }
+{
+    if names_type(so_far) {
+        return Ok(None);
+    }
+    let Some(tag) = name_at(tokens, at + 1) else {
+        return Err(refuse_in_type(tokens, at + 1, true));
+    };
+    let tag = tag.copy()?;
+    let word = tag_word(tag, is_struct);
+    Ok(Some(NextWord {
+        word,
+        tag: Some(place_at(tokens, at + 1)),
+        next: at + 2,
+    }))
+}
+
+/// Whether the words so far name a type or are part of one.
+fn names_type(so_far: TypeSoFar) -> bool
+    ensures { result ≡ names_some so_far }
+{
+    match so_far {
+        TypeSoFar::Nothing => false,
+        TypeSoFar::Integers(_) => true,
+        TypeSoFar::Whole => true,
+    }
+}
+
+fn tag_word(tag: Name, is_struct: bool) -> TypeWord
+    ensures { result ≡ word_of_tag is_struct tag }
+{
+    if is_struct {
+        TypeWord::Struct(tag)
+    } else {
+        TypeWord::Enum(tag)
+    }
+}
+
+/// The stars and the `const`s behind them.
+fn pointer_words(alloc: Global, tokens: &[Token], from: usize) -> Result<PointerWords, Stop>
+    requires within { from ≤ length tokens.now }
+    requires few { length tokens.now < 2 ^ 32 }
+    ensures bounds { IfOk result (λ taken. (from ≤ taken.next) × (taken.next ≤ length tokens.now)) }
+    ensures refused { IsStopBounded tokens.now from result }
+{
+    let mut words = Vec::new(alloc);
+    let mut next = from;
+    'stars: while let Some(word) = pointer_word_at(tokens, next) {
+        words.push(word)?;
+        next += 1;
+    }
+    Ok(PointerWords { words, next })
+}
+
+fn pointer_word_at(tokens: &[Token], at: usize) -> Option<PointerWord>
+    ensures within { IsSome result → at < length tokens.now }
+    ensures word { IsPointerAt (kind_or_end tokens.now at) result }
+{
+    if is_mark(tokens, at, Mark::Star) {
+        return Some(PointerWord::Star);
+    }
+    match keyword_at(tokens, at) {
+        Some(Keyword::Const) => Some(PointerWord::Const),
+        _ => None,
+    }
+}

@@ -1,0 +1,209 @@
+//! Casts and unary expressions (C11 6.5.3, 6.5.4).
+ghost use Rattle.std.specs.Prelude.{◌≡◌, ◌≤◌, ◌<◌, ◌^◌, ◌+◌, ◌-◌, false, length, max, IfOk, IsSome, IsTrue};
+ghost use Rattle.cs_ast.specs.RawTree.{Cast, SizeOfType};
+ghost use Rattle.cs_ast.specs.RawView.{written, written_list};
+ghost use Rattle.cs_ast.specs.declared.token.TokenKind.TheVariants as token;
+ghost use Rattle.cs_expr_parser.specs.Parts.{IsBounded, IsNode};
+ghost use Rattle.cs_expr_parser.specs.Unary.{opens_type as type_opens, prefixed_tree, IsOperatorAt};
+ghost use Rattle.cs_expr_parser.specs.Positions.{kind_or_end};
+
+use crate::loose::comma;
+use crate::nodes::{cast as cast_node, prefix, size_of, size_of_type, step_before};
+use crate::postfix::postfix;
+use crate::stop::{Stop, Taken};
+use crate::tokens::{
+    begins_type, is_brace, is_mark, keyword_at, mark_at, place_at, refuse, refuse_in_type,
+};
+use crate::types::{TakenType, parenthesised_type};
+use cs_ast::raw::operator::{PrefixOp, Step};
+use cs_ast::{Keyword, Mark, Token};
+use cs_grammar::{TypedefNames, prefix_operator, step};
+use std::alloc::{AllocError, Global};
+
+/// What stands before the operand of a unary expression.
+#[derive(Clone, Copy, Debug, PartialEq, Eq)]
+pub enum Before {
+    /// `++` or `--`, before a unary expression.
+    Step(Step),
+    /// Another operator, before a cast.
+    Operator(PrefixOp),
+    /// `sizeof`, before a unary expression or a type.
+    Size,
+}
+
+/// Whether an opening parenthesis and a type behind it stand at a number.
+fn opens_type(tokens: &[Token], names: &TypedefNames, at: usize) -> bool
+    requires few { at < 2 ^ 33 }
+    ensures opens { result ≡ type_opens names.now (kind_or_end tokens.now at) (kind_or_end tokens.now (at + 1)) }
+    ensures within { IsTrue result → at < length tokens.now }
+{
+    is_mark(tokens, at, Mark::OpenParenthesis) && begins_type(tokens, names, at + 1)
+}
+
+/// The cast, or the unary expression, that the tokens from a number on begin with.
+#[cycle(expression)]
+pub fn cast(
+    alloc: Global,
+    tokens: &[Token],
+    names: &TypedefNames,
+    from: usize,
+    room: u32,
+) -> Result<Taken, Stop>
+    requires within { from ≤ length tokens.now }
+    requires few { length tokens.now < 2 ^ 32 }
+    ensures bounds { IsBounded room tokens.now from result }
+{
+    if !opens_type(tokens, names, from) {
+        return unary(alloc, tokens, names, from, room);
+    }
+    if room < 2 {
+        return Err(refuse(tokens, from, true));
+    }
+    let taken = parenthesised_type(alloc, tokens, names, from + 1, room - 1)?;
+    if is_brace(tokens, taken.next) {
+        return Err(refuse_in_type(tokens, taken.next, true));
+    }
+    let operand = cast(alloc, tokens, names, taken.next, room - 1)?;
+    Ok(converted(alloc, tokens, from, taken, operand)?)
+}
+
+/// The operand with a type between parentheses before it, which stands at a number.
+fn converted(
+    alloc: Global,
+    tokens: &[Token],
+    from: usize,
+    taken: TakenType,
+    operand: Taken,
+) -> Result<Taken, AllocError>
+    requires within { from < length tokens.now }
+    requires low { (taken.height < 2 ^ 32 - 1) × (operand.height < 2 ^ 32 - 1) }
+    ensures { IfOk result (IsNode (Cast taken.ty.words.items taken.ty.pointers.items (written_list taken.bounds.items) (written operand.tree)) (max taken.height operand.height + 1) operand.next operand.deep) }
+{
+    let place = place_at(tokens, from);
+    let tree = cast_node(alloc, place, taken.ty, taken.bounds, operand.tree)?;
+    Ok(Taken {
+        tree,
+        height: taken.height.max(operand.height) + 1,
+        next: operand.next,
+        deep: operand.deep,
+    })
+}
+
+/// The unary expression that the tokens from a number on begin with.
+#[cycle(expression)]
+pub fn unary(
+    alloc: Global,
+    tokens: &[Token],
+    names: &TypedefNames,
+    from: usize,
+    room: u32,
+) -> Result<Taken, Stop>
+    requires within { from ≤ length tokens.now }
+    requires few { length tokens.now < 2 ^ 32 }
+    ensures bounds { IsBounded room tokens.now from result }
+{
+    let Some(before) = operator_at(tokens, from) else {
+        return postfix(alloc, tokens, names, from, room);
+    };
+    if room < 2 {
+        return Err(refuse(tokens, from, true));
+    }
+    let operand = match before {
+        Before::Step(_) => unary(alloc, tokens, names, from + 1, room - 1)?,
+        Before::Operator(_) => cast(alloc, tokens, names, from + 1, room - 1)?,
+        Before::Size => return sized(alloc, tokens, names, from, room),
+    };
+    Ok(prefixed(alloc, tokens, from, before, operand)?)
+}
+
+/// What stands at a number, if an operand may stand behind it.
+fn operator_at(tokens: &[Token], at: usize) -> Option<Before>
+    ensures within { IsSome result → at < length tokens.now }
+    ensures operator { IsOperatorAt (kind_or_end tokens.now at) result }
+{
+    if let Some(mark) = mark_at(tokens, at) {
+        return operator_of(mark);
+    }
+    match keyword_at(tokens, at) {
+        Some(Keyword::Sizeof) => Some(Before::Size),
+        _ => None,
+    }
+}
+
+fn operator_of(mark: Mark) -> Option<Before>
+    ensures { IsOperatorAt (token.Mark mark) result }
+{
+    if let Some(by) = step(mark) {
+        return Some(Before::Step(by));
+    }
+    if let Some(operator) = prefix_operator(mark) {
+        return Some(Before::Operator(operator));
+    }
+    None
+}
+
+/// The operand with what stands before it.
+fn prefixed(
+    alloc: Global,
+    tokens: &[Token],
+    from: usize,
+    before: Before,
+    operand: Taken,
+) -> Result<Taken, AllocError>
+    requires within { from < length tokens.now }
+    requires low { operand.height < 2 ^ 32 - 1 }
+    ensures { IfOk result (IsNode (prefixed_tree before (written operand.tree)) (operand.height + 1) operand.next operand.deep) }
+{
+    let place = place_at(tokens, from);
+    let tree = match before {
+        Before::Step(by) => step_before(alloc, place, by, operand.tree)?,
+        Before::Operator(operator) => prefix(alloc, place, operator, operand.tree)?,
+        Before::Size => size_of(alloc, place, operand.tree)?,
+    };
+    Ok(Taken {
+        tree,
+        height: operand.height + 1,
+        next: operand.next,
+        deep: operand.deep,
+    })
+}
+
+/// The `sizeof` of a type or of an expression (C11 6.5.3.4).
+#[cycle(expression)]
+fn sized(
+    alloc: Global,
+    tokens: &[Token],
+    names: &TypedefNames,
+    from: usize,
+    room: u32,
+) -> Result<Taken, Stop>
+    requires within { from < length tokens.now }
+    requires least { 2 ≤ room }
+    requires few { length tokens.now < 2 ^ 32 }
+    ensures bounds { IsBounded room tokens.now from result }
+{
+    if opens_type(tokens, names, from + 1) {
+        let taken = parenthesised_type(alloc, tokens, names, from + 2, room - 1)?;
+        return Ok(measured(tokens, from, taken));
+    }
+    // At a room of 2 the parenthesis may stand for that of a type alone, so that the token behind it is refused.
+    if room == 2 && is_mark(tokens, from + 1, Mark::OpenParenthesis) {
+        return comma(alloc, tokens, names, from + 2, 0);
+    }
+    let operand = unary(alloc, tokens, names, from + 1, room - 1)?;
+    Ok(prefixed(alloc, tokens, from, Before::Size, operand)?)
+}
+
+/// The `sizeof`, at a number, of a type.
+fn measured(tokens: &[Token], from: usize, taken: TakenType) -> Taken
+    requires within { from < length tokens.now }
+    requires low { taken.height < 2 ^ 32 - 1 }
+    ensures { IsNode (SizeOfType taken.ty.words.items taken.ty.pointers.items (written_list taken.bounds.items)) (max taken.height 1 + 1) taken.next false result }
+{
+    Taken {
+        tree: size_of_type(place_at(tokens, from), taken.ty, taken.bounds),
+        height: taken.height.max(1) + 1,
+        next: taken.next,
+        deep: false,
+    }
+}
