@@ -10,3 +10,4 @@ pub mod Groups
 pub mod JoinedTexts
 pub mod Turned
 pub mod Faults
+pub mod FilesNamed

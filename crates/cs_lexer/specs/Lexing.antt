@@ -1,5 +1,5 @@
 -- The tokens of a text, or why it has none (C11 6.4).
-use Rattle.std.specs.Prelude.{◌≡◌, ℕ, ◌<◌, ◌≤◌, List, length}
+use Rattle.std.specs.Prelude.{◌≡◌, ℕ, ◌<◌, ◌≤◌, List, length, slice_get, Some}
 use Rattle.cs_ast.specs.declared.place.Place.{Place}
 use Rattle.cs_ast.specs.declared.token.Token.{Token}
 use Rattle.cs_lexer.specs.declared.found.Fault.{Fault}
@@ -23,11 +23,12 @@ pub record Lexes (text : List ℕ) (lexed : Lexed) : Type 0 where
   pub tokens_are : lexed.list.items ≡ tokens_of pieces
   pub few : length lexed.list.items ≤ 400000
 
--- the first fault of the text is at this place, and no more than 400,000 tokens begin before it
-pub record IsFirstFault (text : List ℕ) (fault : Fault) (place : Place) : Type 0 where
+-- the first fault of the text is at this place in the file of this name, and no more than 400,000 tokens begin before it
+pub record IsFirstFault (text : List ℕ) (fault : Fault) (place : Place) (file : List ℕ) : Type 0 where
   pub files : List (List ℕ)
   pub pieces : List Token
   pub refused : IsRefusedAt text files pieces place fault
+  pub named : slice_get files place.file ≡ Some file
   pub few : length (tokens_of pieces) ≤ 400000
 
 -- more than 400,000 tokens begin before the end of the text or its first fault
@@ -39,17 +40,17 @@ pub record HasTooMany (text : List ℕ) : Type 0 where
   pub cut : EndsAs text files pieces place end
   pub many : 400000 < length (tokens_of pieces)
 
-abbrev pub refusal_of : Fault → Place → LexRefusal
-refusal_of faults.BadByte place = BadByte place
-refusal_of faults.Unclosed place = Unclosed place
-refusal_of faults.WideNumber place = WideNumber place
-refusal_of faults.BadLine place = BadLine place
+abbrev pub refusal_of : Fault → Place → List ℕ → LexRefusal
+refusal_of faults.BadByte place file = BadByte place file
+refusal_of faults.Unclosed place file = Unclosed place file
+refusal_of faults.WideNumber place file = WideNumber place file
+refusal_of faults.BadLine place file = BadLine place file
 
 -- why a text has no tokens; want of memory is free
 abbrev pub IsRefused : List ℕ → LexRefusal → Type 0
-IsRefused text (BadByte place) = IsFirstFault text faults.BadByte place
-IsRefused text (Unclosed place) = IsFirstFault text faults.Unclosed place
-IsRefused text (WideNumber place) = IsFirstFault text faults.WideNumber place
-IsRefused text (BadLine place) = IsFirstFault text faults.BadLine place
+IsRefused text (BadByte place file) = IsFirstFault text faults.BadByte place file
+IsRefused text (Unclosed place file) = IsFirstFault text faults.Unclosed place file
+IsRefused text (WideNumber place file) = IsFirstFault text faults.WideNumber place file
+IsRefused text (BadLine place file) = IsFirstFault text faults.BadLine place file
 IsRefused text TooManyTokens = HasTooMany text
 IsRefused text Memory = Unit {0}

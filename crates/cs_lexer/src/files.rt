@@ -1,5 +1,5 @@
 //! The files that a text names.
-ghost use Rattle.std.specs.Prelude.{◌≡◌, ℕ, List, ◌<◌, ◌^◌, ◌+◌, ◌++◌, ◌∷◌, [], None, length, codes, nat_eq, IfOk, OnOk, OnErr};
+ghost use Rattle.std.specs.Prelude.{◌≡◌, ℕ, List, ◌<◌, ◌^◌, ◌+◌, ◌++◌, ◌∷◌, [], None, Some, slice_get, length, codes, nat_eq, IfOk, OnOk, OnErr};
 ghost use Rattle.std.specs.List.{position};
 ghost use Rattle.std.specs.Option.{option_copied};
 ghost use Rattle.std.specs.Cmp.Lexicographic.{pointwise};
@@ -52,6 +52,14 @@ impl Files {
         ensures err { OnErr result (self.new ≡ self.old) }
     {
         number_in(&mut self.names, &mut self.numbers, name)
+    }
+
+    /// A copy of the name with this number.
+    pub fn name(&self, number: u32) -> Result<Name, AllocError>
+        requires { number < length self.now }
+        ensures { IfOk result (λ name. slice_get self.now number ≡ Some name) }
+    {
+        self.names.as_slice()[number as usize].copy()
     }
 
     /// The names in order.

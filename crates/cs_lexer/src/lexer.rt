@@ -46,6 +46,9 @@ pub fn tokens(alloc: Global, bytes: &[u8]) -> Result<Lexed, LexRefusal>
             files: cutting.files.into_names(),
             end: cutting.place,
         }),
-        End::Refused(fault) => Err(LexRefusal::of(fault, cutting.place)),
+        End::Refused(fault) => {
+            let file = cutting.files.name(cutting.place.file)?;
+            Err(LexRefusal::of(fault, cutting.place, file))
+        }
     }
 }

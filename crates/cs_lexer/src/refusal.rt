@@ -5,26 +5,27 @@ ghost use Rattle.cs_lexer.specs.Lexing as spec;
 
 use crate::found::Fault;
 use cs_ast::Place;
+use cs_names::Name;
 use std::alloc::{AllocError, AllocFailed};
 use thiserror::Error;
 
-/// Why a text has no tokens, and where: of several causes the one with the earliest place, and at one place the one that
-/// stands first here.
-#[derive(Clone, Copy, PartialEq, Eq, Debug, Error)]
+/// Why a text has no tokens, and where, with the name of that file: of several causes the one that stands first in the text,
+/// and at one place the one that stands first here.
+#[derive(PartialEq, Eq, Debug, Error, Drop)]
 pub enum LexRefusal {
     /// A byte that begins no token, an escape that isn't known, an empty character constant, or a byte that may not stand
     /// behind a number or in a character constant.
     #[error("a bad byte")]
-    BadByte(Place),
+    BadByte(Place, Name),
     /// A comment, a character constant or a string literal that doesn't end, or not on its line, by its first byte.
     #[error("not closed")]
-    Unclosed(Place),
+    Unclosed(Place, Name),
     /// An integer constant past its type, or an escape past a byte.
     #[error("a number that is too large")]
-    WideNumber(Place),
+    WideNumber(Place, Name),
     /// A line that begins with `#` and is neither a linemarker nor a pragma.
     #[error("a bad line")]
-    BadLine(Place),
+    BadLine(Place, Name),
     /// A token behind the 400,000th begins.
     #[error("too many tokens")]
     TooManyTokens,
@@ -34,15 +35,15 @@ pub enum LexRefusal {
 }
 
 impl LexRefusal {
-    /// The refusal for a fault at a place.
-    pub fn of(fault: Fault, place: Place) -> LexRefusal
-        ensures { result ≡ spec.refusal_of fault place }
+    /// The refusal for a fault at a place in a file.
+    pub fn of(fault: Fault, place: Place, file: Name) -> LexRefusal
+        ensures { result ≡ spec.refusal_of fault place file }
     {
         match fault {
-            Fault::BadByte => LexRefusal::BadByte(place),
-            Fault::Unclosed => LexRefusal::Unclosed(place),
-            Fault::WideNumber => LexRefusal::WideNumber(place),
-            Fault::BadLine => LexRefusal::BadLine(place),
+            Fault::BadByte => LexRefusal::BadByte(place, file),
+            Fault::Unclosed => LexRefusal::Unclosed(place, file),
+            Fault::WideNumber => LexRefusal::WideNumber(place, file),
+            Fault::BadLine => LexRefusal::BadLine(place, file),
         }
     }
 }

@@ -1,6 +1,8 @@
 //! Tokens, places and refusals of small texts, and the limit of tokens.
 use super::*;
+use crate::found::Fault;
 use cs_ast::{IntegerConstant, Keyword, LeftOut, Length, Mark, Place};
+use cs_names::Name;
 use std::alloc::Global;
 use std::test::Fail;
 
@@ -66,49 +68,66 @@ fn a_token_has_its_kind(rt: HostRuntime) -> Result<(), Fail> {
 
 #[test]
 fn a_bad_text_is_refused_at_its_first_fault(rt: HostRuntime) -> Result<(), Fail> {
-    for (text, refusal) in [
-        ("\0", LexRefusal::BadByte(at(1, 1))),
-        ("x # 1", LexRefusal::BadByte(at(1, 3))),
-        ("/* a */ # 1", LexRefusal::BadByte(at(1, 9))),
-        ("\x0c# 1", LexRefusal::BadByte(at(1, 2))),
-        ("08", LexRefusal::BadByte(at(1, 2))),
-        ("0x", LexRefusal::BadByte(at(1, 2))),
-        ("1.5", LexRefusal::BadByte(at(1, 2))),
-        ("1lul", LexRefusal::BadByte(at(1, 4))),
-        ("''", LexRefusal::BadByte(at(1, 1))),
-        ("'ab'", LexRefusal::BadByte(at(1, 3))),
-        ("'\\q'", LexRefusal::BadByte(at(1, 2))),
-        ("'\\1234'", LexRefusal::BadByte(at(1, 6))),
-        ("'a\\xfff'", LexRefusal::BadByte(at(1, 3))),
-        ("\"a\\x\"", LexRefusal::BadByte(at(1, 3))),
-        ("a\n\t@ '", LexRefusal::BadByte(at(2, 2))),
-        ("/* x", LexRefusal::Unclosed(at(1, 1))),
-        ("/*/", LexRefusal::Unclosed(at(1, 1))),
-        ("'ab\n'", LexRefusal::Unclosed(at(1, 1))),
-        ("'\\\n'", LexRefusal::Unclosed(at(1, 1))),
-        ("\n\n  \"\\q\nb\"", LexRefusal::Unclosed(at(3, 3))),
+    for (text, fault, place) in [
+        ("\0", Fault::BadByte, at(1, 1)),
+        ("x # 1", Fault::BadByte, at(1, 3)),
+        ("/* a */ # 1", Fault::BadByte, at(1, 9)),
+        ("\x0c# 1", Fault::BadByte, at(1, 2)),
+        ("08", Fault::BadByte, at(1, 2)),
+        ("0x", Fault::BadByte, at(1, 2)),
+        ("1.5", Fault::BadByte, at(1, 2)),
+        ("1lul", Fault::BadByte, at(1, 4)),
+        ("''", Fault::BadByte, at(1, 1)),
+        ("'ab'", Fault::BadByte, at(1, 3)),
+        ("'\\q'", Fault::BadByte, at(1, 2)),
+        ("'\\1234'", Fault::BadByte, at(1, 6)),
+        ("'a\\xfff'", Fault::BadByte, at(1, 3)),
+        ("\"a\\x\"", Fault::BadByte, at(1, 3)),
+        ("a\n\t@ '", Fault::BadByte, at(2, 2)),
+        ("/* x", Fault::Unclosed, at(1, 1)),
+        ("/*/", Fault::Unclosed, at(1, 1)),
+        ("'ab\n'", Fault::Unclosed, at(1, 1)),
+        ("'\\\n'", Fault::Unclosed, at(1, 1)),
+        ("\n\n  \"\\q\nb\"", Fault::Unclosed, at(3, 3)),
         (
             "int x = 18446744073709551616;",
-            LexRefusal::WideNumber(at(1, 9)),
+            Fault::WideNumber, at(1, 9),
         ),
-        ("9223372036854775808", LexRefusal::WideNumber(at(1, 1))),
-        ("99999999999999999999x", LexRefusal::WideNumber(at(1, 1))),
-        ("'\\400'", LexRefusal::WideNumber(at(1, 2))),
-        ("\"\\x00100\"", LexRefusal::WideNumber(at(1, 2))),
-        ("#", LexRefusal::BadLine(at(1, 1))),
-        (" # 1 2", LexRefusal::BadLine(at(1, 2))),
-        ("#line5", LexRefusal::BadLine(at(1, 1))),
-        ("# 1\"x\"", LexRefusal::BadLine(at(1, 1))),
-        ("# 1 \"x", LexRefusal::BadLine(at(1, 1))),
-        ("# 2147483648 \"a\"", LexRefusal::BadLine(at(1, 1))),
+        ("9223372036854775808", Fault::WideNumber, at(1, 1)),
+        ("99999999999999999999x", Fault::WideNumber, at(1, 1)),
+        ("'\\400'", Fault::WideNumber, at(1, 2)),
+        ("\"\\x00100\"", Fault::WideNumber, at(1, 2)),
+        ("#", Fault::BadLine, at(1, 1)),
+        (" # 1 2", Fault::BadLine, at(1, 2)),
+        ("#line5", Fault::BadLine, at(1, 1)),
+        ("# 1\"x\"", Fault::BadLine, at(1, 1)),
+        ("# 1 \"x", Fault::BadLine, at(1, 1)),
+        ("# 2147483648 \"a\"", Fault::BadLine, at(1, 1)),
     ] {
+        let file = Name::from_slice(rt.alloc(), b"<input>")?;
         match lexed(rt.alloc(), text.as_bytes()) {
             Ok(_) => assert!(rt; false, "{text} has tokens"),
-            Err(found) => assert_eq!(rt; found, refusal, "{text}"),
+            Err(found) => assert_eq!(rt; found, LexRefusal::of(fault, place, file), "{text}"),
         }
     }
     Ok(())
 }
+
+#[test]
+fn a_refusal_names_its_file(rt: HostRuntime) -> Result<(), Fail> {
+    let place = Place {
+        file: 1,
+        line: 7,
+        column: 3,
+    };
+    let file = Name::from_slice(rt.alloc(), b"a.h")?;
+    match lexed(rt.alloc(), b"x\n# 7 \"a.h\"\n  @") {
+        Ok(_) => assert!(rt; false, "a byte that begins no token is taken"),
+        Err(found) => assert_eq!(rt; found, LexRefusal::BadByte(place, file)),
+    }
+    Ok(())
+}
+
 
 const LINKED: &str = "# 0 \"list.c\"
 # 0 \"<built-in>\"
