@@ -80,7 +80,7 @@ external_of (external_kind.Type s) = TypeAlone (specs s)
 external_of (external_kind.Typedef s names) = Typedef (specs s) (map declarator names.items)
 external_of (external_kind.Objects s objects) = Objects (specs s) (map declared objects.items)
 external_of (external_kind.Function s f) = Function (specs s) (head f)
-external_of (external_kind.Definition s f body closing) = Definition (specs s) (head f) (items_list body.items)
+external_of (external_kind.Definition s f body) = Definition (specs s) (head f) (items_list body.items.items)
 
 abbrev pub external : RawExternal → External
 external e = external_of e.kind

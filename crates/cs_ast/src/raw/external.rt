@@ -22,8 +22,16 @@ pub enum RawExternalKind {
     Objects(RawSpecs, Vec<RawInit>),
     /// A function without a body.
     Function(RawSpecs, RawFunction),
-    /// A function with its body between braces, and the place of the closing one (C11 6.9.1).
-    Definition(RawSpecs, RawFunction, Vec<RawItem>, Place),
+    /// A function with its body (C11 6.9.1).
+    Definition(RawSpecs, RawFunction, RawBody),
+}
+
+/// The body of a function, with the places of its braces.
+#[derive(Drop)]
+pub struct RawBody {
+    pub opening: Place,
+    pub items: Vec<RawItem>,
+    pub closing: Place,
 }
 
 /// A file.

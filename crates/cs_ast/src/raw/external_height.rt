@@ -20,10 +20,10 @@ impl RawExternal {
                 + specs.height().max(highest_declarator(names)),
             RawExternalKind::Objects(specs, objects) => declaration_height(specs, objects),
             RawExternalKind::Function(specs, function) => 1 + specs.height().max(function.height()),
-            RawExternalKind::Definition(specs, function, body, _) => 1
+            RawExternalKind::Definition(specs, function, body) => 1
                 + specs
                     .height()
-                    .max(function.height().max(1 + highest_item(body))),
+                    .max(function.height().max(1 + highest_item(&body.items))),
         }
     }
 }

@@ -11,7 +11,7 @@ use crate::raw::declaration::{
     RawDeclarator, RawFunction, RawMember, RawParameter, RawParameters, RawSpecs, SpecWord,
 };
 use crate::raw::expression::{RawExpr, RawExprKind};
-use crate::raw::external::{RawExternal, RawExternalKind};
+use crate::raw::external::{RawBody, RawExternal, RawExternalKind};
 use crate::raw::statement::{RawItem, RawStmt, RawStmtKind, RawSwitchItem};
 use crate::raw::written_type::{IntegerWord, TypeWord};
 use cs_names::Name;
@@ -126,8 +126,11 @@ fn definition(alloc: Global, body: RawStmtKind) -> Result<RawExternal, AllocErro
         kind: RawExternalKind::Definition(
             int(alloc)?,
             head(alloc)?,
-            vec![in alloc; RawItem::Run(body)]?,
-            PLACE,
+            RawBody {
+                opening: PLACE,
+                items: vec![in alloc; RawItem::Run(body)]?,
+                closing: PLACE,
+            },
         ),
     })
 }
