@@ -1,1 +1,6 @@
-pub mod Samples
+pub mod Building
+mod Arithmetic
+mod Pointers
+mod Blocks
+mod Control
+mod Guesses

@@ -1,6 +1,6 @@
 -- Loads and stores (C11 6.3.2.1, 6.5.16): what is checked and shown on the way to an object, and what memory gives and keeps.
 use Rattle.std.specs.Prelude.{ℕ, ◌+◌, ℤ, pos, negsuc, ◌-ℤ◌, neg_ℤ, Bool, true, false, List, [], ◌∷◌, Option, Some, None, unwrap_or, if◌then◌else◌}
-use Rattle.cs_types.specs.Shape.{Shape, void, integer, pointer, array, struct}
+use Rattle.cs_types.specs.Shape.{Shape, void, struct}
 use Rattle.cs_ast.specs.declared.place.Place.{Place}
 use Rattle.cs_ast.specs.TypedTree.{Typed, Of, Form, Local, Global, Member}
 use Rattle.cs_ast.specs.TypedProgram.{TypedProgram}
@@ -14,7 +14,7 @@ use Rattle.cs_runs.specs.declared.outcome.Outcome.TheVariants.{Fault}
 use Rattle.cs_runs.specs.Operations.{is_true}
 use Rattle.cs_runs.specs.Objects.{Object, Cell, NumberCell, NullCell, PointerCell, UnsetCell}
 use Rattle.cs_runs.specs.Touches.{Touch, Loads, Stores}
-use Rattle.cs_runs.specs.Acts.{Act, Goes, Stops, Reads, Asks, Reaches, Touches}
+use Rattle.cs_runs.specs.Acts.{Act, Stops, Reads, Asks, Reaches, Touches}
 use Rattle.cs_plain.specs.Types.{size_of, scalar_of, scalar_offsets, type_of, is_scalar}
 use Rattle.cs_plain.specs.Initials.{byte_cell}
 use Rattle.cs_plain.specs.Memory.{Block, Memory, changed, write_cell, begins_at, Found, Holds, Unknown, found_in, is_constant}

@@ -1,9 +1,8 @@
 -- Calls (C11 6.5.2.2, 7.22.3): frames, functions without a body, allocations and releases.
-use Rattle.std.specs.Prelude.{ℕ, ◌+◌, ◌==◌, nat_lt, ℤ, pos, negsuc, Bool, true, false, not, ◌&&◌, List, [], ◌∷◌, length, replicate, Option, Some, None, option_map, slice_get, if◌then◌else◌}
-use Rattle.std.specs.Option.{option_and_then}
+use Rattle.std.specs.Prelude.{ℕ, ◌+◌, ◌==◌, nat_lt, ℤ, pos, negsuc, Bool, true, false, not, List, [], ◌∷◌, length, replicate, Option, Some, None, option_map, slice_get, if◌then◌else◌}
 use Rattle.std.specs.Ordering.{int_eq}
 use Rattle.cs_types.specs.DataModel.{size_type_of}
-use Rattle.cs_types.specs.Shape.{Shape, void, integer, pointer, array, struct}
+use Rattle.cs_types.specs.Shape.{Shape, void}
 use Rattle.cs_inputs.specs.declared.path.Path.{Path}
 use Rattle.cs_inputs.specs.declared.path.Root.{Root}
 use Rattle.cs_inputs.specs.declared.path.Root.TheVariants as root
@@ -24,14 +23,14 @@ use Rattle.cs_runs.specs.declared.outcome.Returned.{Returned}
 use Rattle.cs_runs.specs.declared.outcome.Returned.TheVariants as returned
 use Rattle.cs_runs.specs.declared.outcome.RunBudgets.{RunBudgets}
 use Rattle.cs_runs.specs.Operations.{is_true}
-use Rattle.cs_runs.specs.Objects.{Object, StartBlock, GlobalObject, LiteralObject, LocalObject, HeapBlock, Cell, NumberCell, NullCell, PointerCell, UnsetCell}
+use Rattle.cs_runs.specs.Objects.{Object, StartBlock, LocalObject, HeapBlock, Cell, NumberCell, NullCell, PointerCell, UnsetCell}
 use Rattle.cs_runs.specs.Acts.{Act, Goes, Stops, Asks, Allocates}
 use Rattle.cs_plain.specs.Types.{size_of, element_of}
 use Rattle.cs_plain.specs.Initials.{number_in}
-use Rattle.cs_plain.specs.Memory.{Block, Memory, Fill, UnsetFill, ZeroFill, InputFill, new_block, with_block, changed, refill, stand, is_constant, Holds, Unknown}
+use Rattle.cs_plain.specs.Memory.{Block, Memory, Fill, UnsetFill, ZeroFill, InputFill, new_block, with_block, changed, refill, stand, is_constant, Unknown}
 use Rattle.cs_plain.specs.Access.{shows_then, receive}
 use Rattle.cs_plain.specs.Operators.{operate}
-use Rattle.cs_plain.specs.Machine.{Operand, Scalar, Whole, Nothing, Item, Execute, Begin, End, Frame, State, to_do, push, push_cell, pop, pop_many, with_memory, cell_of, cell_at, operand_at, newest, routine_of, body_of}
+use Rattle.cs_plain.specs.Machine.{Operand, Scalar, Whole, Nothing, Execute, Begin, End, Frame, State, push, push_cell, pop, pop_many, with_memory, cell_of, cell_at, newest, routine_of, body_of}
 use Rattle.cs_plain.specs.Marks.{marks}
 
 -- the path of the result of a call, of what a call wrote through an argument, and of an allocation

@@ -1,27 +1,24 @@
 -- What evaluating an expression does (C11 6.5): its parts, in the order in which they stand in the file, and then what it does with them.
-use Rattle.std.specs.Prelude.{ℕ, zero, suc, ◌+◌, ℤ, pos, Bool, true, false, not, List, [], ◌∷◌, if◌then◌else◌}
-use Rattle.cs_types.specs.Shape.{Shape, void, integer, pointer, array, struct}
+use Rattle.std.specs.Prelude.{ℕ, ◌+◌, ℤ, pos, Bool, true, false, not, List, ◌∷◌, if◌then◌else◌}
+use Rattle.cs_types.specs.Shape.{Shape, void, integer}
 use Rattle.cs_ast.specs.declared.place.Place.{Place}
-use Rattle.cs_ast.specs.declared.typed.operator.Direction.{Direction}
 use Rattle.cs_ast.specs.declared.typed.operator.Order.{Order}
 use Rattle.cs_ast.specs.declared.typed.operator.Order.TheVariants.{PointerFirst, AmountFirst}
 use Rattle.cs_ast.specs.declared.typed.operator.Gives.{Gives}
 use Rattle.cs_ast.specs.declared.typed.operator.Gives.TheVariants.{Old, New}
 use Rattle.cs_ast.specs.TypedTree.{Typed, Of, Form, Number, Null, Text, Local, Global, Through, Index, Member, Arrow, Load, Address, Decay, Convert, Unary, Not, Binary, Compare, Sum, Difference, And, Or, Choice, Comma, Assign, Update, Move, Call, Allocate, Free, TypedList, NoMore, Further}
 use Rattle.cs_ast.specs.TypedProgram.{TypedProgram}
-use Rattle.cs_model.specs.declared.kind.Kind.TheVariants as kind
 use Rattle.cs_runs.specs.declared.event.Label.TheVariants as label
 use Rattle.cs_runs.specs.declared.operation.Operation.TheVariants as operation
-use Rattle.cs_runs.specs.declared.outcome.Outcome.TheVariants.{Fault}
 use Rattle.cs_runs.specs.declared.outcome.RunBudgets.{RunBudgets}
-use Rattle.cs_runs.specs.Objects.{Object, GlobalObject, LiteralObject, LocalObject, Cell, NumberCell, NullCell, PointerCell, UnsetCell}
-use Rattle.cs_runs.specs.Acts.{Act, Goes, Stops, Asks}
+use Rattle.cs_runs.specs.Objects.{GlobalObject, LiteralObject, LocalObject, Cell, NumberCell, NullCell, PointerCell}
+use Rattle.cs_runs.specs.Acts.{Act, Goes, Asks}
 use Rattle.cs_plain.specs.Types.{size_of, type_of, target_of, integer_of}
 use Rattle.cs_plain.specs.Initials.{number_in, truth_cell, further, directed}
 use Rattle.cs_plain.specs.Access.{shows_then, set_then, load, store}
 use Rattle.cs_plain.specs.Operators.{truth, branch, operate, convert_number, convert, sum, compare, difference, arrow}
 use Rattle.cs_plain.specs.Calls.{call, allocate, release}
-use Rattle.cs_plain.specs.Machine.{Operand, Scalar, Whole, Nothing, Item, Evaluate, EvaluateUnused, Act as Acting, Fetch, Choose, Judge, Use, Drop, State, to_do, push, push_cell, pop, pop_many, with_memory, operand_at, cell_of, cell_at}
+use Rattle.cs_plain.specs.Machine.{Operand, Scalar, Item, Evaluate, EvaluateUnused, Act as Acting, Fetch, Choose, Judge, Use, Drop, State, to_do, push, push_cell, pop, pop_many, with_memory, operand_at, cell_of, cell_at}
 
 -- expressions in a row, evaluated from the first on
 abbrev pub evaluates_all : TypedList → List Item → List Item

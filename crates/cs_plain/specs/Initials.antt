@@ -1,7 +1,7 @@
 -- What objects hold at first (C11 6.7.9): the pieces of an initializer by their offsets, and what constant expressions give.
-use Rattle.std.specs.Prelude.{ℕ, ◌+◌, ◌-◌, ◌==◌, nat_lt, nat_le, ℤ, pos, ◌+ℤ◌, neg_ℤ, Bool, true, false, not, ◌&&◌, ◌||◌, List, [], ◌∷◌, ◌++◌, take, length, slice_index_or, Option, Some, None, if◌then◌else◌}
+use Rattle.std.specs.Prelude.{ℕ, ◌+◌, ◌-◌, ◌==◌, nat_lt, nat_le, ℤ, pos, ◌+ℤ◌, neg_ℤ, Bool, true, false, not, ◌&&◌, ◌||◌, List, [], ◌∷◌, ◌++◌, take, length, slice_index_or, if◌then◌else◌}
 use Rattle.cs_types.specs.declared.data_model.DataModel.{DataModel}
-use Rattle.cs_types.specs.Shape.{Shape, void, integer, pointer, array, struct}
+use Rattle.cs_types.specs.Shape.{Shape, integer, pointer}
 use Rattle.cs_types.specs.Wrap.{wrapped}
 use Rattle.cs_ast.specs.declared.typed.operator.Direction.{Direction}
 use Rattle.cs_ast.specs.declared.typed.operator.Direction.TheVariants.{Forward, Back}
@@ -9,7 +9,7 @@ use Rattle.cs_ast.specs.TypedTree.{Typed, Of, Form, Number, Null, Text, Global, 
 use Rattle.cs_ast.specs.TypedProgram.{TypedProgram}
 use Rattle.cs_runs.specs.declared.operation.Operation.TheVariants as operation
 use Rattle.cs_runs.specs.Operations.{own_result, truth_number, is_true}
-use Rattle.cs_runs.specs.Objects.{Object, GlobalObject, LiteralObject, Cell, NumberCell, NullCell, PointerCell, UnsetCell}
+use Rattle.cs_runs.specs.Objects.{GlobalObject, LiteralObject, Cell, NumberCell, NullCell, PointerCell, UnsetCell}
 use Rattle.cs_plain.specs.Types.{size_of, target_of, integer_of, part_type, part_offset, count_of}
 
 -- a piece of an initializer: an expression whose value is stored at an offset, or bytes that are stored from an offset on

@@ -1,7 +1,7 @@
 -- What inputs give: the value of a cell by its path's number, and the block that comes with a pointer.
-use Rattle.std.specs.Prelude.{ℕ, ℤ, pos, Bool, Option, if◌then◌else◌}
+use Rattle.std.specs.Prelude.{ℕ, ℤ, pos, Option, if◌then◌else◌}
 use Rattle.cs_types.specs.declared.data_model.DataModel.{DataModel}
-use Rattle.cs_types.specs.Shape.{Shape, void, integer, pointer, array, struct}
+use Rattle.cs_types.specs.Shape.{Shape, integer, pointer}
 use Rattle.cs_inputs.specs.declared.path.Path.{Path}
 use Rattle.cs_ast.specs.TypedProgram.{TypedProgram}
 use Rattle.cs_runs.specs.Operations.{numbers_of, is_true}

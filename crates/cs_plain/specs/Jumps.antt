@@ -2,7 +2,7 @@
 use Rattle.std.specs.Prelude.{ℕ, ◌+◌, ◌==◌, List, [], ◌∷◌, Option, Some, None, if◌then◌else◌}
 use Rattle.cs_ast.specs.declared.place.Place.{Place}
 use Rattle.cs_ast.specs.TypedTree.{Statement, Block, Declare, Run, If, IfElse, While, Do, For, Switch, Goto, Label, Break, Continue, Return, Statements, Empty, Then}
-use Rattle.cs_plain.specs.Machine.{Item, Execute, Turn, Again, Out}
+use Rattle.cs_plain.specs.Machine.{Item, Execute, Again, Out}
 use Rattle.cs_plain.specs.Marks.{marks, marks_in}
 
 -- statements in their order, the first mark of which has this number, before what is to be done then

@@ -1,10 +1,10 @@
 -- The states of the plain machine.
-use Rattle.std.specs.Prelude.{ℕ, ◌+◌, ◌<◌, ℤ, pos, Bool, List, [], ◌∷◌, ◌++◌, take, drop, reverse, length, Option, Some, None, unwrap_or, slice_get}
+use Rattle.std.specs.Prelude.{ℕ, List, [], ◌∷◌, take, drop, reverse, None, unwrap_or, slice_get}
 use Rattle.cs_types.specs.Shape.{Shape, void}
 use Rattle.cs_ast.specs.declared.place.Place.{Place}
-use Rattle.cs_ast.specs.TypedTree.{Typed, Statement, Block as Compound, Statements, Empty}
+use Rattle.cs_ast.specs.TypedTree.{Typed, Statement, Block as Compound, Empty}
 use Rattle.cs_ast.specs.TypedProgram.{TypedProgram, Routine}
-use Rattle.cs_runs.specs.Objects.{Object, Cell, UnsetCell}
+use Rattle.cs_runs.specs.Objects.{Cell, UnsetCell}
 use Rattle.cs_plain.specs.Memory.{Memory}
 
 -- what an evaluated expression leaves: a scalar, the scalars of a struct in order, or nothing. A place is the pointer to it

@@ -1,12 +1,12 @@
 -- The memory of the plain machine.
-use Rattle.std.specs.Prelude.{ℕ, zero, suc, ◌+◌, ◌*◌, ◌%◌, ◌==◌, nat_le, nat_lt, ℤ, pos, negsuc, Bool, true, false, ◌&&◌, not, List, [], ◌∷◌, ◌++◌, Option, Some, None, option_map, unwrap_or, slice_get, if◌then◌else◌}
+use Rattle.std.specs.Prelude.{ℕ, zero, suc, ◌*◌, ◌%◌, ◌==◌, ℤ, pos, negsuc, Bool, true, false, List, [], ◌∷◌, ◌++◌, Option, Some, None, option_map, unwrap_or, slice_get, if◌then◌else◌}
 use Rattle.cs_types.specs.DataModel.{start_extent_of}
-use Rattle.cs_types.specs.Shape.{Shape, void, integer, pointer, array, struct}
+use Rattle.cs_types.specs.Shape.{Shape, void}
 use Rattle.cs_inputs.specs.declared.path.Path.{Path}
 use Rattle.cs_ast.specs.TypedProgram.{TypedProgram, FileObject}
 use Rattle.cs_model.specs.declared.standing.Standing.{Standing}
-use Rattle.cs_model.specs.declared.standing.Standing.TheVariants.{Live, Freed, Ended}
-use Rattle.cs_runs.specs.Objects.{Object, StartBlock, GlobalObject, LiteralObject, LocalObject, HeapBlock, same_object, Cell, NumberCell, NullCell, PointerCell, UnsetCell}
+use Rattle.cs_model.specs.declared.standing.Standing.TheVariants.{Live}
+use Rattle.cs_runs.specs.Objects.{Object, StartBlock, GlobalObject, LiteralObject, HeapBlock, same_object, Cell, UnsetCell}
 use Rattle.cs_plain.specs.Types.{size_of, scalar_of, element_of, begins}
 use Rattle.cs_plain.specs.Initials.{Piece, zero_of, initial_cell}
 

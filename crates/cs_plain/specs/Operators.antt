@@ -6,23 +6,23 @@ use Rattle.cs_types.specs.declared.int_type.IntType.{IntType}
 use Rattle.cs_types.specs.IntType.{bytes_of}
 use Rattle.cs_types.specs.DataModel.{offset_bound_of}
 use Rattle.cs_types.specs.Conversions.{holds_all_of}
-use Rattle.cs_types.specs.Shape.{Shape, void, integer, pointer, array, struct}
+use Rattle.cs_types.specs.Shape.{Shape, void, integer}
 use Rattle.cs_ast.specs.declared.place.Place.{Place}
 use Rattle.cs_ast.specs.declared.typed.operator.BinOp.{BinOp}
-use Rattle.cs_ast.specs.declared.typed.operator.BinOp.TheVariants.{Add, Sub, Mul, Div, Rem, Shl, Shr, And, Xor, Or}
+use Rattle.cs_ast.specs.declared.typed.operator.BinOp.TheVariants.{Div, Rem, Shl, Shr}
 use Rattle.cs_ast.specs.declared.typed.operator.CmpOp.{CmpOp}
-use Rattle.cs_ast.specs.declared.typed.operator.CmpOp.TheVariants.{Less, AtMost, More, AtLeast, Equal, Differs}
+use Rattle.cs_ast.specs.declared.typed.operator.CmpOp.TheVariants.{Equal, Differs}
 use Rattle.cs_model.specs.declared.kind.Kind.TheVariants as kind
 use Rattle.cs_runs.specs.declared.event.Label.TheVariants as label
 use Rattle.cs_runs.specs.declared.operation.Operation.TheVariants as operation
 use Rattle.cs_runs.specs.declared.outcome.Outcome.TheVariants.{Fault}
 use Rattle.cs_runs.specs.declared.point.PointKind.TheVariants.{Branch}
 use Rattle.cs_runs.specs.Operations.{is_true, truth_number}
-use Rattle.cs_runs.specs.Objects.{Object, same_object, Cell, NumberCell, NullCell, PointerCell, UnsetCell}
+use Rattle.cs_runs.specs.Objects.{same_object, Cell, NumberCell, NullCell, PointerCell, UnsetCell}
 use Rattle.cs_runs.specs.Touches.{Meets}
-use Rattle.cs_runs.specs.Acts.{Act, Goes, Stops, Asks, Touches}
+use Rattle.cs_runs.specs.Acts.{Act, Stops, Asks, Touches}
 use Rattle.cs_plain.specs.Initials.{number_in, further}
-use Rattle.cs_plain.specs.Machine.{Operand, Scalar, Whole, Nothing}
+use Rattle.cs_plain.specs.Machine.{Operand, Scalar, Nothing}
 use Rattle.cs_plain.specs.Access.{shows_then, ordered}
 
 -- whether a type holds every number of another

@@ -1,5 +1,5 @@
 -- The runs of a program: how each ends, which events it passes, what is pending, and which paths it reads.
-use Rattle.std.specs.Prelude.{◌≡◌, ℕ, ℤ, List, Contains}
+use Rattle.std.specs.Prelude.{ℕ, ℤ, List, Contains}
 use Rattle.cs_inputs.specs.declared.path.Path.{Path}
 use Rattle.cs_inputs.specs.Inputs.{number_at}
 use Rattle.cs_ast.specs.TypedProgram.{TypedProgram}

@@ -1,14 +1,13 @@
 -- What executing a statement does (C11 6.8).
-use Rattle.std.specs.Prelude.{ℕ, zero, suc, ◌+◌, ℤ, Bool, true, false, List, [], ◌∷◌, length, Option, Some, None, unwrap_or, option_map, slice_get, if◌then◌else◌}
+use Rattle.std.specs.Prelude.{ℕ, zero, suc, ◌+◌, ℤ, Bool, false, List, [], ◌∷◌, Option, Some, None, unwrap_or, option_map, slice_get, if◌then◌else◌}
 use Rattle.std.specs.Ordering.{int_eq}
 use Rattle.cs_types.specs.Shape.{Shape, void}
 use Rattle.cs_ast.specs.declared.place.Place.{Place}
 use Rattle.cs_ast.specs.declared.typed.statement.Case.{Case}
-use Rattle.cs_ast.specs.TypedTree.{Typed, Initial, Value, Parts, Bytes, Statement, Block, Declare, Run, If, IfElse, While, Do, For, Switch, Goto, Label, Break, Continue, Return, Statements, Empty, Then}
+use Rattle.cs_ast.specs.TypedTree.{Typed, Initial, Value, Statement, Block, Declare, Run, If, IfElse, While, Do, For, Switch, Goto, Label, Break, Continue, Return, Statements, Empty, Then}
 use Rattle.cs_ast.specs.TypedProgram.{TypedProgram, Variable}
 use Rattle.cs_runs.specs.declared.event.Label.TheVariants as label
 use Rattle.cs_runs.specs.declared.outcome.RunBudgets.{RunBudgets}
-use Rattle.cs_runs.specs.declared.point.PointKind.{PointKind}
 use Rattle.cs_runs.specs.declared.point.PointKind.TheVariants as point
 use Rattle.cs_runs.specs.Objects.{LocalObject}
 use Rattle.cs_runs.specs.Touches.{Meets, Stores, Clears}
@@ -18,7 +17,7 @@ use Rattle.cs_plain.specs.Initials.{Piece, Evaluated, Spelled, pieces, number_in
 use Rattle.cs_plain.specs.Memory.{Fill, UnsetFill, ZeroFill, changed, refill}
 use Rattle.cs_plain.specs.Access.{shows_then, touches_then, write_operand, write_bytes}
 use Rattle.cs_plain.specs.Operators.{branch}
-use Rattle.cs_plain.specs.Machine.{Operand, Nothing, Item, Evaluate, EvaluateUnused, Drop, Store, Spell, Execute, Decide, Turn, Again, Out, Give, Leave, State, to_do, push, pop, with_memory, operand_at, cell_at, routine_of, body_of}
+use Rattle.cs_plain.specs.Machine.{Nothing, Item, Evaluate, EvaluateUnused, Drop, Store, Spell, Execute, Decide, Turn, Again, Out, Give, State, to_do, push, pop, with_memory, operand_at, cell_at, routine_of, body_of}
 use Rattle.cs_plain.specs.Marks.{marks, marks_in, reach_mark}
 use Rattle.cs_plain.specs.Jumps.{executes, broken_out, continued, Landing, landing}
 

@@ -1,22 +1,21 @@
 -- The plain machine: what it does at each step, and how it begins.
-use Rattle.std.specs.Prelude.{ℕ, ◌+◌, ◌*◌, ◌==◌, ℤ, Bool, true, false, List, [], ◌∷◌, ◌++◌, length, map, take, Option, Some, None, option_map, slice_get, if◌then◌else◌}
+use Rattle.std.specs.Prelude.{ℕ, ◌+◌, ℤ, Bool, true, false, List, [], ◌∷◌, length, map, take, Option, Some, None, option_map, slice_get}
 use Rattle.cs_types.specs.declared.int_type.IntType.TheVariants.{Char}
-use Rattle.cs_types.specs.Shape.{Shape, integer, array}
+use Rattle.cs_types.specs.Shape.{integer, array}
 use Rattle.cs_inputs.specs.declared.path.Path.{Path}
 use Rattle.cs_inputs.specs.declared.path.Root.TheVariants as root
-use Rattle.cs_ast.specs.declared.place.Place.{Place}
 use Rattle.cs_ast.specs.TypedTree.{Initial}
 use Rattle.cs_ast.specs.TypedProgram.{TypedProgram, FileObject, Routine, Variable}
 use Rattle.cs_runs.specs.declared.outcome.RunBudgets.{RunBudgets}
 use Rattle.cs_runs.specs.declared.point.PointKind.TheVariants as point
-use Rattle.cs_runs.specs.Objects.{Object, StartBlock, GlobalObject, LiteralObject, LocalObject, HeapBlock, Cell, UnsetCell}
+use Rattle.cs_runs.specs.Objects.{GlobalObject, LiteralObject, UnsetCell}
 use Rattle.cs_runs.specs.Touches.{Meets}
 use Rattle.cs_runs.specs.Acts.{Act, Goes, Touches}
 use Rattle.cs_plain.specs.Types.{size_of}
 use Rattle.cs_plain.specs.Initials.{Spelled, pieces}
 use Rattle.cs_plain.specs.Memory.{Block, Memory, Fill, ZeroFill, InitialFill, InputFill, new_block}
 use Rattle.cs_plain.specs.Inputs.{input_cell, opened}
-use Rattle.cs_plain.specs.Machine.{Operand, Scalar, Nothing, Item, Evaluate, EvaluateUnused, Act as Acting, Fetch, Choose, Judge, Use, Drop, Store, Spell, Execute, Decide, Turn, Again, Out, Begin, End, Give, Leave, Frame, State, to_do, push, pop, operand_at, routine_of}
+use Rattle.cs_plain.specs.Machine.{Operand, Scalar, Item, Evaluate, EvaluateUnused, Act as Acting, Fetch, Choose, Judge, Use, Drop, Store, Spell, Execute, Decide, Turn, Again, Out, Begin, End, Give, Leave, State, to_do, push, pop, operand_at, routine_of}
 use Rattle.cs_plain.specs.Calls.{root_path, with_locals, new_frame, falls_off, leave}
 use Rattle.cs_plain.specs.Expressions.{evaluates, uses, act, fetch, choose, judge, use_result}
 use Rattle.cs_plain.specs.Statements.{store_local, spell_local, execute, decide, turn, again}

@@ -1,5 +1,5 @@
 -- Runs of any machine whose steps are acts.
-use Rattle.std.specs.Prelude.{◌≡◌, ℕ, suc, ◌+◌, ◌==◌, Bool, true, false, ◌&&◌, nat_lt, int_le, ℤ, List, [], ◌∷◌, ◌++◌, Option, Some, None, length, ◌⊎◌, if◌then◌else◌}
+use Rattle.std.specs.Prelude.{◌≡◌, ℕ, suc, ◌==◌, Bool, ◌&&◌, nat_lt, int_le, ℤ, List, [], ◌∷◌, ◌++◌, Option, Some, None, length, ◌⊎◌, if◌then◌else◌}
 use Rattle.cs_ast.specs.declared.place.Place.{Place}
 use Rattle.cs_inputs.specs.declared.path.Path.{Path}
 use Rattle.cs_types.specs.declared.data_model.DataModel.{DataModel}
