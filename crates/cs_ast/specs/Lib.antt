@@ -8,3 +8,6 @@ pub mod RawStatements
 pub mod RawDeclarationView
 pub mod RawStatementView
 pub mod RawFileHeight
+pub mod TypedTree
+pub mod TypedView
+pub mod TypedProgram

@@ -7,6 +7,7 @@ pub mod place;
 pub mod raw;
 pub mod statement;
 pub mod token;
+pub mod typed;
 
 pub use expression::{BinOp, CmpOp, Expr, ExprKind};
 pub use function::{Function, Local};

@@ -1,0 +1,79 @@
+//! Typed expressions (C11 6.5).
+
+use crate::place::Place;
+use crate::typed::operator::{Allocator, BinOp, CmpOp, Direction, Gives, Order, UnOp};
+use cs_types::{CType, IntType};
+
+/// An expression with its type, at the place of its operator, or of its first token where it has none. An implicit conversion
+/// has the place of what asks for it.
+#[cycle(typed_expression)]
+#[derive(Drop)]
+pub struct Expr {
+    pub place: Place,
+    pub ty: CType,
+    pub kind: ExprKind,
+}
+
+/// What an expression is. Those up to `Decay`'s operand that name an object are lvalues: their value is a place.
+#[cycle(typed_expression)]
+#[derive(Drop)]
+pub enum ExprKind {
+    /// An integer constant, or any other constant of an integer type.
+    Number(i128),
+    /// The null pointer.
+    Null,
+    /// The object of a string literal, by its number in the program.
+    Text(u32),
+    /// The object that a declaration of the running function names, by the declaration's number.
+    Local(u32),
+    /// The object that a file-scope declaration names, by its number in the program.
+    Global(u32),
+    /// The object that a pointer points to (C11 6.5.3.2).
+    Through(Box<Expr>),
+    /// The element of an array, from a pointer to its first element and a number (C11 6.5.2.1).
+    Index(Box<Expr>, Box<Expr>, Order),
+    /// The member of an object at an offset of so many bytes (C11 6.5.2.3).
+    Member(Box<Expr>, u64),
+    /// The same of the object that a pointer points to.
+    Arrow(Box<Expr>, u64),
+    /// The value that an object holds (C11 6.3.2.1, paragraph 2).
+    Load(Box<Expr>),
+    /// The pointer to an object (C11 6.5.3.2).
+    Address(Box<Expr>),
+    /// The pointer to the first element of an array (C11 6.3.2.1, paragraph 3).
+    Decay(Box<Expr>),
+    /// A conversion to the expression's type (C11 6.3).
+    Convert(Box<Expr>),
+    /// An arithmetic operator on one integer.
+    Unary(UnOp, Box<Expr>),
+    /// 1 where the operand is 0 or null, else 0 (C11 6.5.3.3, paragraph 5).
+    Not(Box<Expr>),
+    /// An arithmetic operator on two integers.
+    Binary(BinOp, Box<Expr>, Box<Expr>),
+    /// A comparison of two integers or two pointers, which gives 1 or 0.
+    Compare(CmpOp, Box<Expr>, Box<Expr>),
+    /// A pointer moved by a number of elements (C11 6.5.6, paragraph 8).
+    Sum(Box<Expr>, Box<Expr>, Direction, Order),
+    /// How many elements lie between two pointers (C11 6.5.6, paragraph 9).
+    Difference(Box<Expr>, Box<Expr>),
+    /// `&&` (C11 6.5.13).
+    And(Box<Expr>, Box<Expr>),
+    /// `||` (C11 6.5.14).
+    Or(Box<Expr>, Box<Expr>),
+    /// `?:` (C11 6.5.15).
+    Choice(Box<Expr>, Box<Expr>, Box<Expr>),
+    /// The comma (C11 6.5.17).
+    Comma(Box<Expr>, Box<Expr>),
+    /// `=`: the object and its new value (C11 6.5.16.1).
+    Assign(Box<Expr>, Box<Expr>),
+    /// A compound assignment or a step of an integer: the operator works in the type that is given (C11 6.5.16.2, 6.5.2.4).
+    Update(BinOp, Box<Expr>, Box<Expr>, IntType, Gives),
+    /// The same of a pointer, which moves by a number of elements.
+    Move(Box<Expr>, Box<Expr>, Direction, Gives),
+    /// A call of a function, by its number in the program (C11 6.5.2.2).
+    Call(u32, Vec<Expr>),
+    /// A call of `malloc` or `calloc` for elements of a type.
+    Allocate(Allocator, Vec<Expr>, CType),
+    /// A call of `free`.
+    Free(Box<Expr>),
+}

@@ -1,0 +1,68 @@
+//! Typed statements (C11 6.8).
+
+use crate::place::Place;
+use crate::typed::expression::Expr;
+use cs_names::Bytes;
+
+/// A statement at the place of its first token; a declaration at its `=`, or at its name where it has none.
+#[cycle(typed_statement)]
+#[derive(Drop)]
+pub struct Stmt {
+    pub place: Place,
+    pub kind: StmtKind,
+}
+
+/// What a statement is.
+#[cycle(typed_statement)]
+#[derive(Drop)]
+pub enum StmtKind {
+    /// Statements one after another (C11 6.8.2).
+    Block(Vec<Stmt>),
+    /// A declaration of an object, by its number in the function, with what it holds at first (C11 6.7.9).
+    Declare(u32, Option<Initial>),
+    /// An expression whose value is dropped (C11 6.8.3).
+    Run(Expr),
+    /// `if` without `else` (C11 6.8.4.1).
+    If(Expr, Box<Stmt>),
+    /// `if` with `else`.
+    IfElse(Expr, Box<Stmt>, Box<Stmt>),
+    /// `while` (C11 6.8.5.1).
+    While(Expr, Box<Stmt>),
+    /// `do` (C11 6.8.5.2).
+    Do(Box<Stmt>, Expr),
+    /// `for`: its first part, its test, its last part and its body (C11 6.8.5.3).
+    For(Vec<Stmt>, Option<Expr>, Option<Expr>, Box<Stmt>),
+    /// `switch`: its value, its cases, and the statements between its braces (C11 6.8.4.2).
+    Switch(Expr, Vec<Case>, Vec<Stmt>),
+    /// `goto`, by the number of the label in the function (C11 6.8.6.1).
+    Goto(u32),
+    /// A label with its number (C11 6.8.1).
+    Label(u32, Box<Stmt>),
+    /// `break` (C11 6.8.6.3).
+    Break,
+    /// `continue` (C11 6.8.6.2).
+    Continue,
+    /// `return` (C11 6.8.6.4).
+    Return(Option<Expr>),
+}
+
+/// A label of a `switch`.
+#[derive(Clone, Copy, Debug, PartialEq, Eq)]
+pub struct Case {
+    /// The number that it stands for; none for `default`.
+    pub value: Option<i128>,
+    /// The number of the first statement behind it, from 0, or how many there are where none is behind it.
+    pub item: u32,
+}
+
+/// What an object holds at first (C11 6.7.9).
+#[cycle(initial)]
+#[derive(Drop)]
+pub enum Initial {
+    /// A value.
+    Value(Expr),
+    /// The initializers of elements or members, in order; what is left out is zero.
+    List(Vec<Initial>),
+    /// The bytes of a string literal.
+    Text(Bytes),
+}

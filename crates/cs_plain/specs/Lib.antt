@@ -1,0 +1,14 @@
+pub mod Types
+pub mod Initials
+pub mod Memory
+pub mod Inputs
+pub mod Machine
+pub mod Marks
+pub mod Access
+pub mod Operators
+pub mod Calls
+pub mod Expressions
+pub mod Jumps
+pub mod Statements
+pub mod Steps
+pub mod PlainRuns
