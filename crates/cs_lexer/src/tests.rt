@@ -237,11 +237,12 @@ fn refused(alloc: Global, count: usize, behind: &str) -> Result<LexRefusal, Fail
 
 #[test]
 fn tokens_are_counted_to_their_limit(rt: HostRuntime) -> Result<(), Fail> {
+    let input = Name::from_slice(rt.alloc(), b"<input>")?;
     for (count, behind, refusal) in [
         (400_000, " // x", LexRefusal::Memory),
         (400_001, "", LexRefusal::TooManyTokens),
         (400_000, "1x", LexRefusal::TooManyTokens),
-        (400_000, "'", LexRefusal::Unclosed(at(1, 400_001))),
+        (400_000, "'", LexRefusal::Unclosed(at(1, 400_001), input)),
     ] {
         assert_eq!(rt; refused(rt.alloc(), count, behind)?, refusal, "{behind}");
     }
