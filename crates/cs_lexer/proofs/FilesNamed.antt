@@ -1,7 +1,6 @@
 -- The file of a place is one that the text names: for the refusals of `tokens`.
-use Rattle.std.proofs.Common.{◌≡◌, ℕ, ◌+◌, ◌<◌, ◌≤◌, true, false, cond, nat_lt, List, [], ◌∷◌, ◌++◌, length, take, Option, Some, None, length-append, refl, ◌∙◌, ap, subst, sym, arith}
-use Rattle.std.specs.Prelude.{◌==◌, nat_eq}
-use Rattle.std.specs.Cmp.Lexicographic.{pointwise}
+use Rattle.std.proofs.Common.{◌≡◌, ℕ, ◌+◌, ◌<◌, ◌≤◌, true, false, cond, nat_lt, List, [], ◌∷◌, ◌++◌, length, take, Option, Some, None, length-append, refl, ◌∙◌, ap, subst, arith}
+use Rattle.std.specs.Prelude.{◌==◌}
 use Rattle.std.proofs.lemmas.Bool.Decides.{nat_tests}
 use Rattle.std.proofs.lemmas.List.Sums.{prefix_len-le-length}
 use Rattle.cs_ast.specs.declared.place.Place.{Place}
@@ -9,7 +8,7 @@ use Rattle.cs_ast.specs.declared.token.Token.{Token}
 use Rattle.cs_lexer.specs.declared.spot.Spot.{Spot}
 use Rattle.cs_lexer.specs.declared.found.Fault.{Fault}
 use Rattle.cs_lexer.specs.declared.cut.End.{End}
-use Rattle.cs_lexer.specs.declared.cut.End.TheVariants.{Whole, Refused}
+use Rattle.cs_lexer.specs.declared.cut.End.TheVariants.{Refused}
 use Rattle.cs_lexer.specs.Files.{file_number, with_file}
 use Rattle.cs_lexer.specs.Spots.{line_of, column_on, step, spot_behind}
 use Rattle.cs_lexer.specs.Cuttings.{Reaches, begins, gap, marker, token, file_behind, files_behind, marked_spot, IsRefusedAt, EndsAs}

@@ -11,3 +11,8 @@ pub mod JoinedTexts
 pub mod Turned
 pub mod Faults
 pub mod FilesNamed
+pub mod OneWord
+pub mod Onward
+pub mod OnePiece
+pub mod OneCutting
+pub mod OneLexing

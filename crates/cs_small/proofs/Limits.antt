@@ -1,7 +1,7 @@
 -- What is read stays within the limits of the form: for the crates above, which analyze such functions.
-use Rattle.std.proofs.Common.{◌≡◌, ◌≢◌, ℕ, zero, suc, ◌+◌, ◌<◌, ◌≤◌, ◌^◌, ◌&&◌, ◌||◌, not, Bool, true, false, cond, List, [], ◌∷◌, ◌++◌, length, Option, Some, None, get_or, nat_lt, nat_le, nat_eq, refl, sym, ap, ◌∙◌, subst, length-append, arith, tests}
+use Rattle.std.proofs.Common.{◌≡◌, ◌≢◌, ℕ, zero, suc, ◌+◌, ◌<◌, ◌≤◌, ◌^◌, ◌||◌, not, Bool, true, false, cond, List, [], ◌∷◌, ◌++◌, length, Option, Some, None, get_or, nat_lt, nat_le, nat_eq, refl, sym, ap, ◌∙◌, subst, length-append, arith, tests}
 use Rattle.std.specs.Prelude.{option_map, option_and_then}
-use Rattle.std.specs.List.{All, AllPairs, position, position_or_len}
+use Rattle.std.specs.List.{All, AllPairs, position_or_len}
 use Rattle.std.specs.Cmp.Lexicographic.{pointwise}
 use Rattle.std.proofs.lemmas.List.Elements.{All-nil, All-cons}
 use Rattle.std.proofs.lemmas.List.Quantifiers.{all_pairs_push, position-Some}
@@ -28,7 +28,7 @@ use Rattle.cs_small.specs.declared.small.Answer.{Answer}
 use Rattle.cs_small.specs.declared.small.Answer.TheVariants.{Single, Quotient}
 use Rattle.cs_small.specs.declared.small.Guard.{Guard}
 use Rattle.cs_small.specs.Small.{Small, IsAtomWithin, IsAnswerWithin, IsGuardWithin, IsWithinLimits}
-use Rattle.cs_small.specs.Reading.{Names, number_of, where_new, is_int, is_plain, used, constant, atom, answer, returned, compared, guard_at, guard, ending, body, is_int_alone, is_taken, parameter, parameters, parameter_names, parts, function, functions}
+use Rattle.cs_small.specs.Reading.{Names, number_of, where_new, is_int, used, constant, atom, answer, returned, compared, guard_at, guard, ending, body, is_int_alone, is_taken, parameter, parameters, parameter_names, parts, function, functions}
 
 -- what a reader found first, and what then
 pub and_then_some : {A B : Type 0} (o : Option A) (f : A → Option B) (b : B) → option_and_then f o ≡ Some b → (a : A) × (o ≡ Some a) × (f a ≡ Some b)

@@ -1,10 +1,10 @@
 -- The number of a parameter, for the readers of operands.
-use Rattle.std.proofs.Common.{◌≡◌, ℕ, suc, cond, Bool, List, [], ◌∷◌, map, length, refl, ap, rules}
+use Rattle.std.proofs.Common.{◌≡◌, ℕ, suc, Bool, List, [], ◌∷◌, map, length, refl, ap, rules}
 use Rattle.std.specs.Prelude.{nat_eq}
-use Rattle.std.specs.List.{position, prefix_len, position_or_len}
+use Rattle.std.specs.List.{position, prefix_len}
 use Rattle.std.specs.Cmp.Lexicographic.{pointwise}
 use Rattle.cs_ast.specs.declared.function.Local.{Local}
-use Rattle.cs_small.specs.Reading.{Names, names_of, number_of}
+use Rattle.cs_small.specs.Reading.{names_of, number_of}
 use Rattle.cs_ast.specs.declared.function.Function.{Function}
 use Rattle.cs_small.specs.Plain.{function_names}
 

@@ -1,5 +1,5 @@
 -- Functions of the form seen as plain data.
-use Rattle.std.specs.Prelude.{ℕ, List, map}
+use Rattle.std.specs.Prelude.{List, map}
 use Rattle.cs_ast.specs.declared.function.Function.{Function}
 use Rattle.cs_small.specs.declared.small.SmallFunction.{SmallFunction}
 use Rattle.cs_small.specs.Small.{Small}

@@ -8,7 +8,6 @@ use Rattle.cs_ast.specs.declared.token.Length.{Length}
 use Rattle.cs_ast.specs.declared.token.Length.TheVariants as lengths
 use Rattle.cs_ast.specs.declared.function.Local.{Local}
 use Rattle.cs_ast.specs.declared.raw.operator.InfixOp.TheVariants.{Divide, Equal}
-use Rattle.cs_ast.specs.declared.raw.expression.RawExpr.{RawExpr}
 use Rattle.cs_ast.specs.declared.raw.expression.RawExprKind.{RawExprKind}
 use Rattle.cs_ast.specs.declared.raw.expression.RawExprKind.TheVariants as kind
 use Rattle.cs_ast.specs.declared.raw.statement.RawStmtKind.{RawStmtKind}
@@ -20,7 +19,6 @@ use Rattle.cs_ast.specs.declared.raw.written_type.IntegerWord.TheVariants.{Int}
 use Rattle.cs_ast.specs.declared.raw.declaration.RawSpecs.{RawSpecs}
 use Rattle.cs_ast.specs.declared.raw.declaration.SpecWord.{SpecWord}
 use Rattle.cs_ast.specs.declared.raw.declaration.SpecWord.TheVariants as words
-use Rattle.cs_ast.specs.declared.raw.declaration.RawName.{RawName}
 use Rattle.cs_ast.specs.declared.raw.declaration.RawParameter.{RawParameter}
 use Rattle.cs_ast.specs.declared.raw.declaration.RawParameters.{RawParameters}
 use Rattle.cs_ast.specs.declared.raw.declaration.RawParameters.TheVariants as parameter_lists

@@ -1,5 +1,5 @@
 -- The functions that are analyzed so far: tests of one parameter against a literal, and quotients.
-use Rattle.std.specs.Prelude.{ℕ, pos, ◌≡◌, ◌≢◌, ◌≤◌, ◌<◌, ◌^◌, List, [], ◌∷◌, length, All, AllPairs}
+use Rattle.std.specs.Prelude.{ℕ, pos, ◌≢◌, ◌≤◌, ◌<◌, ◌^◌, List, [], ◌∷◌, length, All, AllPairs}
 use Rattle.cs_ast.specs.declared.place.Place.{Place}
 use Rattle.cs_ast.specs.declared.expression.BinOp.TheVariants.{Div}
 use Rattle.cs_ast.specs.declared.expression.CmpOp.TheVariants.{Equal}

@@ -1,4 +1,4 @@
-use Rattle.std.proofs.Common.{◌≡◌, ◌≤◌, length, ap, sym, ◌∙◌, subst, arith}
+use Rattle.std.proofs.Common.{◌≤◌, length, ap, sym, ◌∙◌, subst, arith}
 use Rattle.cs_lexer.specs.Cuttings.{EndsAs}
 use Rattle.cs_lexer.specs.Lexing.{IsRefused, tokens_of}
 use Rattle.cs_lexer.proofs.Faults.{first_fault}

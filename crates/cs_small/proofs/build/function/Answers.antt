@@ -1,4 +1,4 @@
-use Rattle.std.proofs.Common.{◌≡◌, length, ap, sym, ◌∙◌}
+use Rattle.std.proofs.Common.{length, ap, sym, ◌∙◌}
 use Rattle.cs_ast.specs.Tree as trees
 use Rattle.cs_small.specs.Reading.{names_of}
 use Rattle.cs_small.proofs.Bodies.{body_is, same_definition}

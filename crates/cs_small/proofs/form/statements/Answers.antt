@@ -1,6 +1,4 @@
-use Rattle.std.proofs.Common.{rules, ◌≡◌, sym, ap, ◌∙◌}
-use Rattle.std.specs.Prelude.{Err}
-use Rattle.std.proofs.lemmas.Result.{err_from_is_err_and}
+use Rattle.std.proofs.Common.{rules}
 use Rattle.cs_small.specs.Reading.{names_of}
 use Rattle.cs_small.proofs.Growing.{body_ended}
 use Rattle.cs_small.proofs.form.statements.Goals as goal
