@@ -1,0 +1,30 @@
+-- What a machine owes that goes on without an event, so that every run of it ends.
+use Rattle.std.specs.Prelude.{ℕ, ℤ, ◌<◌, ◌≤◌, ◌⊎◌}
+use Rattle.cs_runs.specs.declared.outcome.Outcome.{Outcome}
+use Rattle.cs_runs.specs.Acts.{Act, Goes, Stops, Reads, Asks, Allocates, Reaches, Touches}
+use Rattle.cs_runs.specs.Runs.{Setting, Log, EndsFrom}
+
+module _ {State : Type 0} where
+  -- where an act goes on before any event, whatever the inputs, the next state is of this kind
+  abbrev pub Owes : (State → Type 0) → Act State → Type 0
+  Owes Next (Goes next) = Next next
+  Owes Next (Stops outcome) = Unit {0}
+  Owes Next (Reads path onward) = (number : ℤ) → Owes Next (onward number)
+  Owes Next (Asks at operation onward) = Unit {0}
+  Owes Next (Allocates at path onward) = Unit {0}
+  Owes Next (Reaches at object offset act) = Unit {0}
+  Owes Next (Touches touch act) = Owes Next act
+
+  -- a state with fewer turns left, or with as many and less weight
+  abbrev pub IsBelow : (State → ℕ) → (State → ℕ) → ℕ → ℕ → State → Type 0
+  IsBelow turns weight some much next = (turns next < some) ⊎ ((turns next ≤ some) × (weight next < much))
+
+  -- each step that goes on silently leaves fewer turns, or as many and less weight
+  abbrev pub Lessens : (State → Act State) → (State → ℕ) → (State → ℕ) → Type 0
+  Lessens step turns weight = (m : State) → Owes (IsBelow turns weight (turns m) (weight m)) (step m)
+
+  -- an end of the run from a state and a log
+  pub record Ending (step : State → Act State) (setting : Setting) (m : State) (log : Log) : Type 0 where
+    pub outcome : Outcome
+    pub end : Log
+    pub ended : EndsFrom step setting m log outcome end
