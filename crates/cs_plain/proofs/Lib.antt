@@ -4,3 +4,5 @@ mod Pointers
 mod Blocks
 mod Control
 mod Guesses
+pub mod Weights
+pub mod Owing

@@ -9,7 +9,7 @@ use Rattle.cs_runs.specs.Operations.{is_true}
 use Rattle.cs_runs.specs.Acts.{Act, Goes, Stops, Reads, Asks, Allocates, Reaches, Touches}
 use Rattle.cs_runs.specs.Runs.{Setting, Log, Performed, Continues, Finishes, perform, with_event, with_read, with_touch, has_room, operation_event, number_of, allocation_event, access_event, Leads, stays, goes, EndsFrom}
 use Rattle.cs_runs.specs.Growth.{GoesOn, log_of}
-use Rattle.cs_runs.specs.Silence.{Owes, IsBelow, Lessens, Ending}
+use Rattle.cs_runs.specs.Silence.{Owes, owes_next, stops, reads, asks, allocates, reaches, touches, IsBelow, Lessens, Ending}
 use Rattle.cs_runs.proofs.LogGrowth.{act_adds}
 
 -- how many events a log has
@@ -54,24 +54,25 @@ module _ {State : Type 0} where
   from_as_many setting Next log before (Continues next later) e (inr quiet) = inr (quiet.0, quiet.1 ∙ e)
   from_as_many setting Next log before (Finishes outcome later) e w = tt
 
-  went : (setting : Setting) (Next : State → Type 0) (log : Log) (act : Act State) → Owes Next act → Went setting Next log (perform setting log act)
+  -- what an act has led to, that owes a kind of state where it passes no event
+  went : (setting : Setting) (Next : State → Type 0) (log : Log) {act : Act State} → Owes Next act → Went setting Next log (perform setting log act)
   unfolding perform
-  went setting Next log (Goes next) owes = inr (owes, refl)
-  went setting Next log (Stops outcome) owes = tt
-  went setting Next log (Reads path onward) owes =
-      from_as_many setting Next log (with_read log path) _ refl (went setting Next (with_read log path) (onward (setting.inputs path)) (owes (setting.inputs path)))
-  went setting Next log (Asks at operation onward) owes =
+  went setting Next log (owes_next next) = inr (next, refl)
+  went setting Next log stops = tt
+  went setting Next log (reads {path = path} onward) =
+      from_as_many setting Next log (with_read log path) _ refl (went setting Next (with_read log path) (onward (setting.inputs path)))
+  went setting Next log (asks {at = at} {operation = operation} {onward = onward}) =
       after_event setting Next log (operation_event setting log at operation) _ log _ (has_room setting log) refl
         (act_adds setting (with_event log (operation_event setting log at operation)) (onward (number_of setting log operation)))
-  went setting Next log (Allocates at path onward) owes =
+  went setting Next log (allocates {at = at} {path = path} {onward = onward}) =
       from_as_many setting Next log (with_read log path) _ refl
         (after_event setting Next (with_read log path) (allocation_event setting at path) _ log _ (has_room setting log) refl
           (act_adds setting (with_event (with_read log path) (allocation_event setting at path)) (onward (is_true (setting.inputs path)))))
-  went setting Next log (Reaches at object offset act) owes =
+  went setting Next log (reaches {at = at} {offset = offset} {act = act}) =
       after_event setting Next log (access_event at offset) _ log _ (has_room setting log) refl
         (act_adds setting (with_event log (access_event at offset)) act)
-  went setting Next log (Touches touch act) owes =
-      from_as_many setting Next log (with_touch log touch) _ refl (went setting Next (with_touch log touch) act owes)
+  went setting Next log (touches {touch = touch} owed) =
+      from_as_many setting Next log (with_touch log touch) _ refl (went setting Next (with_touch log touch) owed)
 
   module _ (step : State → Act State) (setting : Setting) (turns weight : State → ℕ) where
     -- so many events are left at the most
@@ -104,7 +105,7 @@ module _ {State : Type 0} where
     by_weight : Lessens step turns weight → (events some : ℕ) → ((next : State) (log later : Log) → HasLeft events log → IsLouder setting log later → Ending step setting next later) → ((next : State) (later : Log) → HasLeft events later → turns next < some → Ending step setting next later) → (much : ℕ) (m : State) (log : Log) → HasLeft events log → turns m ≤ some → weight m < much → Ending step setting m log
     by_weight lessens events some loud fewer zero m log left few light = absurd (omega arith)
     by_weight lessens events some loud fewer (suc much) m log left few light =
-        act_ends m log (perform setting log (step m)) refl (went setting (IsBelow turns weight (turns m) (weight m)) log (step m) (lessens m))
+        act_ends m log (perform setting log (step m)) refl (went setting (IsBelow turns weight (turns m) (weight m)) log (lessens m))
           (λ next later l. loud next log later left l)
           (below_ends events some much fewer (λ next later left' few' light'. by_weight lessens events some loud fewer much next later left' few' light') m log left few light)
 
