@@ -6,3 +6,4 @@ mod Control
 mod Guesses
 pub mod Weights
 pub mod Owing
+pub mod Keeping
