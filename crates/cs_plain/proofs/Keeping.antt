@@ -1,8 +1,7 @@
 -- An expression that shows nothing keeps what is to be done, the visits and the frames.
-use Rattle.std.proofs.Common.{◌≡◌, ℕ, zero, suc, ◌+◌, ℤ, pos, Bool, true, false, not, List, [], ◌∷◌, length, Option, Some, None, nat_lt, int_eq, if◌then◌else◌, refl}
+use Rattle.std.proofs.Common.{◌≡◌, ℕ, ◌+◌, true, false, not, List, length, Option, Some, None, nat_lt, if◌then◌else◌, refl}
 use Rattle.cs_types.specs.Shape.{Shape, integer}
 use Rattle.cs_ast.specs.declared.place.Place.{Place}
-use Rattle.cs_ast.specs.declared.typed.operator.Gives.{Gives}
 use Rattle.cs_ast.specs.declared.typed.operator.Allocator.{Allocator}
 use Rattle.cs_ast.specs.declared.typed.operator.Allocator.TheVariants.{Malloc, Calloc}
 use Rattle.cs_ast.specs.TypedTree.{Typed, Of, Form, Number, Null, Text, Local, Global, Through, Index, Member, Arrow, Load, Address, Decay, Convert, Unary, Not, Binary, Compare, Sum, Difference, And, Or, Choice, Comma, Assign, Update, Move, Call, Allocate, Free, Statement}
@@ -12,14 +11,14 @@ use Rattle.cs_runs.specs.declared.outcome.Outcome.TheVariants.{Over}
 use Rattle.cs_runs.specs.declared.outcome.Budget.TheVariants.{Depth}
 use Rattle.cs_runs.specs.declared.outcome.RunBudgets.{RunBudgets}
 use Rattle.cs_runs.specs.Objects.{Cell, NumberCell, NullCell, PointerCell, UnsetCell}
-use Rattle.cs_runs.specs.Acts.{Act, Goes, Stops, Asks}
+use Rattle.cs_runs.specs.Acts.{Goes, Stops}
 use Rattle.cs_runs.specs.Silence.{Owes, owes_next, stops, asks, allocates}
 use Rattle.cs_plain.specs.Types.{size_of, type_of, target_of, integer_of}
 use Rattle.cs_plain.specs.Initials.{number_in, truth_cell, directed}
-use Rattle.cs_plain.specs.Access.{shows_then, set_then}
+use Rattle.cs_plain.specs.Access.{shows_then}
 use Rattle.cs_plain.specs.Operators.{convert_number}
-use Rattle.cs_plain.specs.Machine.{Operand, Scalar, Whole, Nothing, Item, State, push, push_cell, pop, pop_many, with_memory, operand_at, cell_of, cell_at, newest, routine_of}
-use Rattle.cs_plain.specs.Calls.{call_routine, call_outside, entered, enter, call, allocate, release}
+use Rattle.cs_plain.specs.Machine.{Operand, Scalar, Whole, Nothing, State, push, push_cell, pop, pop_many, with_memory, operand_at, cell_of, cell_at, newest, routine_of}
+use Rattle.cs_plain.specs.Calls.{call_routine, entered, allocate, release}
 use Rattle.cs_plain.specs.Expressions.{count_all, given, number_at, pointer_age, amount_age, stores, updates, moves, act_form, act, fetch_form, fetch, goes_on_to, goes_to, choose_form, choose, judge, use_result}
 use Rattle.cs_plain.proofs.Owing.{owes_if, owes_truth, owes_branch, owes_operate, owes_convert_number, owes_convert, owes_sum, owes_compare, owes_difference, owes_arrow, owes_set, owes_load, owes_store}
 

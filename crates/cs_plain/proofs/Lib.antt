@@ -7,3 +7,6 @@ mod Guesses
 pub mod Weights
 pub mod Owing
 pub mod Keeping
+pub mod Weighing
+pub mod Lessening
+pub mod PlainEndings

@@ -1,5 +1,5 @@
 -- What each operation owes where it shows nothing: what comes behind it.
-use Rattle.std.proofs.Common.{◌≡◌, ℕ, zero, suc, ◌+◌, ◌*◌, ℤ, pos, int_le, int_lt, int_eq, ◌&&◌, ◌||◌, Bool, true, false, List, [], ◌∷◌, Option, Some, None, if◌then◌else◌, refl}
+use Rattle.std.proofs.Common.{ℕ, ◌+◌, ◌*◌, ℤ, pos, int_le, int_lt, int_eq, ◌&&◌, ◌||◌, Bool, true, false, List, [], ◌∷◌, Option, Some, None, if◌then◌else◌}
 use Rattle.cs_types.specs.Shape.{Shape, void, integer, pointer, array, struct}
 use Rattle.cs_types.specs.declared.int_type.IntType.{IntType}
 use Rattle.cs_types.specs.declared.data_model.DataModel.{DataModel}
@@ -18,13 +18,13 @@ use Rattle.cs_plain.specs.Initials.{number_in}
 use Rattle.cs_ast.specs.TypedProgram.{TypedProgram}
 use Rattle.cs_runs.specs.Objects.{Object, Cell, NumberCell, NullCell, PointerCell, UnsetCell}
 use Rattle.cs_runs.specs.Touches.{Touch, Meets, Loads, Stores}
-use Rattle.cs_runs.specs.Acts.{Act, Goes, Stops, Reads, Asks, Allocates, Reaches, Touches}
+use Rattle.cs_runs.specs.Acts.{Act, Stops, Asks, Touches}
 use Rattle.cs_runs.specs.Silence.{Owes, owes_next, stops, reads, asks, allocates, reaches, touches}
 use Rattle.cs_plain.specs.Types.{scalar_offsets, type_of}
 use Rattle.cs_plain.specs.Memory.{Memory, Found, Holds, Unknown, found_in, is_constant, changed}
 use Rattle.cs_plain.specs.Inputs.{input_cell, opened}
 use Rattle.cs_plain.specs.Access.{shows_then, place_of, is_direct, scalar_local, touches_then, direct, reach, locate, receive, read, read_all, set_then, value_at, load, store, write_operand}
-use Rattle.cs_plain.specs.Operators.{takes_all, is_pointer, in_one_object, related, both_null, asks_order, look, truth, branch, divide, shift, checked, operate, convert_number, convert, move_null, sum, equality, in_relation, compare_pointers, compare, difference, arrow}
+use Rattle.cs_plain.specs.Operators.{takes_all, is_pointer, in_one_object, related, both_null, asks_order, look, truth, branch, operate, convert_number, convert, sum, equality, in_relation, compare_pointers, compare, difference, arrow}
 use Rattle.cs_plain.specs.Machine.{Operand, Scalar, Whole, Nothing, State}
 
 module _ (P : State → Type 0) where
