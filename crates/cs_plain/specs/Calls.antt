@@ -124,17 +124,18 @@ write_arguments program at call argument (true ∷ written) (operand ∷ operand
 write_arguments program at call argument (false ∷ written) (operand ∷ operands) memory onward = write_arguments program at call (argument + 1) written operands memory onward
 write_arguments program at call argument written operands memory onward = onward memory
 
--- the result of a call of such a function, by the type that it gives
-abbrev pub outside_result : TypedProgram → Shape → ℕ → State → Act State
-outside_result program void call m = Goes (push Nothing m)
-outside_result program ty call m = receive program m.memory (Unknown (result_path call) ty) (λ memory cell. Goes (push_cell cell (with_memory memory m)))
+-- the result of a call of such a function, by the type that it gives: it is looked up, but nothing is where the type is void
+abbrev pub outside_result : TypedProgram → Shape → ℕ → Memory → (Memory → Operand → Act State) → Act State
+outside_result program void call memory onward = onward memory Nothing
+outside_result program ty call memory onward = receive program memory (Unknown (result_path call) ty) (λ after cell. onward after (Scalar cell))
 
--- a call of a function without a body: it shows, its number is drawn, it writes, and it gives any value
+-- a call of a function without a body: it shows, its number is drawn and its result looked up, and it writes
 abbrev pub call_outside : TypedProgram → Place → ℕ → Routine → List Operand → State → Act State
 call_outside program at function routine arguments m =
     shows_then at (label.Callee function)
-      (write_arguments program at (m.calls + 1) 0 routine.written arguments m.memory
-        (λ memory. outside_result program routine.returns (m.calls + 1) (record m { memory = memory; calls = m.calls + 1 })))
+      (outside_result program routine.returns (m.calls + 1) m.memory (λ memory result.
+        write_arguments program at (m.calls + 1) 0 routine.written arguments memory (λ after.
+          Goes (push result (record m { memory = after; calls = m.calls + 1 })))))
 
 -- a call of a function, with a body or without one
 abbrev pub call_routine : TypedProgram → RunBudgets → Place → ℕ → Routine → Option Statement → List Operand → State → Act State
