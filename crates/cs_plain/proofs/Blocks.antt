@@ -44,8 +44,8 @@ frees_a_local = ends_so frees_local 0 (plain []) USUAL 40 refl
 -- void drop(int*p){free(p);} int f(void){int*p=malloc(4);int*q=p;if(!p)return 0;*p=1;drop(p);return *q;}
 abbrev uses_freed : TypedProgram
 uses_freed = functions (
-  defined 6 void 1 (named 112 to_int ∷ []) 26 (Run (at 18) (Of (at 22) void (Free (value 23 to_int 0))) ∷ []) ∷ (
-  defined 32 int 0 (named 112 to_int ∷ (named 113 to_int ∷ [])) 90 (
+    defined 6 void 1 (named 112 to_int ∷ []) 26 (Run (at 18) (Of (at 22) void (Free (value 23 to_int 0))) ∷ []) ∷ (
+    defined 32 int 0 (named 112 to_int ∷ (named 113 to_int ∷ [])) 90 (
     Declare (at 45) 0 (Some (Value (Of (at 52) to_int (Allocate Malloc (row (Of (at 52) (integer ULong) (Convert (literal 53 4)) ∷ [])) int)))) ∷ (
     Declare (at 60) 1 (Some (Value (value 61 to_int 0))) ∷ (
     If (at 63) (Of (at 66) int (Not (value 67 to_int 0))) (Return (at 69) (Some (literal 76 0))) ∷ (
@@ -66,8 +66,8 @@ allocation_fails = ends_so uses_freed 1 (plain []) USUAL 120 refl
 -- int*g(void){int v=1;return &v;}int f(void){return *g();}
 abbrev returns_local : TypedProgram
 returns_local = functions (
-  defined 5 to_int 0 (named 118 int ∷ []) 31 (Declare (at 18) 0 (Some (Value (literal 19 1))) ∷ (Return (at 21) (Some (Of (at 28) to_int (Address (local 29 int 0)))) ∷ [])) ∷ (
-  defined 36 int 0 [] 57 (Return (at 44) (Some (loaded (Of (at 51) int (Through (Of (at 53) to_int (Call 0 (row []))))))) ∷ []) ∷ []))
+    defined 5 to_int 0 (named 118 int ∷ []) 31 (Declare (at 18) 0 (Some (Value (literal 19 1))) ∷ (Return (at 21) (Some (Of (at 28) to_int (Address (local 29 int 0)))) ∷ [])) ∷ (
+    defined 36 int 0 [] 57 (Return (at 44) (Some (loaded (Of (at 51) int (Through (Of (at 53) to_int (Call 0 (row []))))))) ∷ []) ∷ []))
 
 reads_a_dead_local : RunEnds returns_local 1 (plain []) USUAL (event 53 (Callee 0) ∷ event 51 (Look true) ∷ []) (Fault kind.DeadLocal (at 51))
 unfolding runs.perform
@@ -97,8 +97,8 @@ asks_for_too_much = ends_so allocates_zeros 0 (plain (given 110 (pos 46116860184
 -- int ext(int*p);int f(void){int a;ext(&a);return 1/a;}, where the parameter of `ext` may point to const
 abbrev calls_outside : List Bool → TypedProgram
 calls_outside written = functions (
-  declared 5 int (named 112 to_int ∷ []) written ∷ (
-  defined 20 int 0 (named 97 int ∷ []) 53 (
+    declared 5 int (named 112 to_int ∷ []) written ∷ (
+    defined 20 int 0 (named 97 int ∷ []) 53 (
     Declare (at 32) 0 None ∷ (
     Run (at 34) (Of (at 37) int (Call 0 (row (Of (at 38) to_int (Address (local 39 int 0)) ∷ [])))) ∷ (
     Return (at 42) (Some (Of (at 50) int (Binary Div (literal 49 1) (value 51 int 0)))) ∷ []))) ∷ []))
@@ -140,7 +140,7 @@ reads_a_copied_member = ends_so (copies_unset 0) 0 (plain []) USUAL 80 refl
 -- int f(int**p){return **p;}
 abbrev follows_twice : TypedProgram
 follows_twice = functions (defined 5 int 1 (named 112 (pointer to_int) ∷ []) 27 (
-  Return (at 15) (Some (loaded (Of (at 22) int (Through (loaded (Of (at 23) to_int (Through (value 24 (pointer to_int) 0)))))))) ∷ []) ∷ [])
+    Return (at 15) (Some (loaded (Of (at 22) int (Through (loaded (Of (at 23) to_int (Through (value 24 (pointer to_int) 0)))))))) ∷ []) ∷ [])
 
 -- a pointer in a start block is null unless an input says otherwise
 follows_null : RunEnds follows_twice 0 (plain (given 112 (pos 1) ∷ [])) USUAL (event 23 (Look true) ∷ event 23 (Truth true) ∷ event 23 (Truth true) ∷ event 23 (Offset 0) ∷ event 22 (Look false) ∷ []) (Fault kind.Null (at 22))
@@ -155,8 +155,9 @@ follows_a_start_block = ends_so follows_twice 0 (plain (given 112 (pos 1) ∷ ((
 -- const int t[3]={1,2};int f(int i){return t[i];}
 abbrev reads_table : TypedProgram
 reads_table = record (functions (defined 27 int 1 (named 105 int ∷ []) 48 (
-  Return (at 36) (Some (loaded (Of (at 44) int (Index (Of (at 43) to_int (Decay (Of (at 43) (array int 3) (Global 0)))) (value 45 int 0) PointerFirst)))) ∷ []) ∷ [])) {
-  globals = record { name = 116 ∷ []; at = at 11; ty = array int 3; constant = true; initial = Some (Parts (Part (Value (literal 17 1)) (Part (Value (literal 19 2)) NoPart))) } ∷ [] }
+    Return (at 36) (Some (loaded (Of (at 44) int (Index (Of (at 43) to_int (Decay (Of (at 43) (array int 3) (Global 0)))) (value 45 int 0) PointerFirst)))) ∷ []) ∷ [])) {
+      globals = record { name = 116 ∷ []; at = at 11; ty = array int 3; constant = true; initial = Some (Parts (Part (Value (literal 17 1)) (Part (Value (literal 19 2)) NoPart))) } ∷ [];
+    }
 
 reads_an_initializer : RunEnds reads_table 0 (plain (given 105 (pos 1) ∷ [])) USUAL (event 44 (Look true) ∷ event 44 (Truth true) ∷ event 44 (Truth true) ∷ event 44 (Wrap Same) ∷ event 44 (Look true) ∷ event 44 (Truth true) ∷ event 44 (Truth true) ∷ event 44 (Offset 4) ∷ []) (Done (returned.Number (pos 2)))
 unfolding runs.perform

@@ -20,9 +20,9 @@ use Rattle.cs_plain.proofs.Building.{at, int, to_int, literal, value, sequence, 
 -- int f(int x,int y){if(x<y){if(y<x)return 1/0;}return 0;}
 abbrev contradicts : TypedProgram
 contradicts = functions (defined 5 int 2 (named 120 int ∷ (named 121 int ∷ [])) 56 (
-  If (at 20) (Of (at 24) int (Compare Less (value 23 int 0) (value 25 int 1))) (Block (at 27) (sequence (
+    If (at 20) (Of (at 24) int (Compare Less (value 23 int 0) (value 25 int 1))) (Block (at 27) (sequence (
     If (at 28) (Of (at 32) int (Compare Less (value 31 int 1) (value 33 int 0))) (Return (at 35) (Some (Of (at 43) int (Binary Div (literal 42 1) (literal 44 0))))) ∷ []))) ∷ (
-  Return (at 47) (Some (literal 54 0)) ∷ [])) ∷ [])
+    Return (at 47) (Some (literal 54 0)) ∷ [])) ∷ [])
 
 -- both comparisons are guessed to hold
 two_guesses_are_used : RunEnds contradicts 0 (record { inputs = []; guesses = guess 1 (pos 1) ∷ (guess 3 (pos 1) ∷ []) }) USUAL (event 24 (Truth true) ∷ event 20 (Branch true) ∷ event 32 (Truth true) ∷ event 28 (Branch true) ∷ []) (Fault kind.Divide (at 43))
@@ -37,8 +37,8 @@ a_test_has_no_guess = ends_so contradicts 0 (record { inputs = []; guesses = gue
 -- int f(int x,int y){if(x*y==7)return 1/(x-1);return 0;}
 abbrev multiplies : TypedProgram
 multiplies = functions (defined 5 int 2 (named 120 int ∷ (named 121 int ∷ [])) 55 (
-  If (at 20) (Of (at 26) int (Compare Equal (Of (at 24) int (Binary Mul (value 23 int 0) (value 25 int 1))) (literal 28 7))) (Return (at 30) (Some (Of (at 38) int (Binary Div (literal 37 1) (Of (at 41) int (Binary Sub (value 40 int 0) (literal 42 1))))))) ∷ (
-  Return (at 46) (Some (literal 53 0)) ∷ [])) ∷ [])
+    If (at 20) (Of (at 26) int (Compare Equal (Of (at 24) int (Binary Mul (value 23 int 0) (value 25 int 1))) (literal 28 7))) (Return (at 30) (Some (Of (at 38) int (Binary Div (literal 37 1) (Of (at 41) int (Binary Sub (value 40 int 0) (literal 42 1))))))) ∷ (
+    Return (at 46) (Some (literal 53 0)) ∷ [])) ∷ [])
 
 a_product_is_guessed : RunEnds multiplies 0 (record { inputs = given 120 (pos 1) ∷ []; guesses = guess 1 (pos 7) ∷ [] }) USUAL (event 24 (Wrap Guessed) ∷ event 26 (Truth true) ∷ event 20 (Branch true) ∷ event 41 (Wrap Same) ∷ []) (Fault kind.Divide (at 38))
 unfolding runs.perform

@@ -32,7 +32,7 @@ module _ (program : TypedProgram) (budgets : RunBudgets) where
   stores_keeps : (at : Place) (a : Typed) (age : ℕ) (operand : Operand) (count : ℕ) (left : Operand) (m : State) → Owes (Keeps m) (stores program at a age operand count left m)
   stores_keeps at a age operand count left m =
       owes_store (Keeps m) program m.memory m.frame.number at a (cell_at m age) operand (λ memory. Goes (push left (with_memory memory (pop_many count m))))
-        (λ memory. owes_next (record { visits = refl; callers = refl; todo = refl }))
+      (λ memory. owes_next (record { visits = refl; callers = refl; todo = refl }))
 
   call_keeps : (at : Place) (function : ℕ) (routine : Routine) (body : Option Statement) (arguments : List Operand) (m before : State) → Owes (Keeps before) (call_routine program budgets at function routine body arguments m)
   call_keeps at function routine None arguments m before = asks
@@ -58,13 +58,13 @@ module _ (program : TypedProgram) (budgets : RunBudgets) where
   act_form_keeps at ty (Through a) m = owes_next (record { visits = refl; callers = refl; todo = refl })
   act_form_keeps at ty (Index a i order) m =
       owes_sum (Keeps m) program.model at (cell_at m (pointer_age order)) (number_at m (amount_age order)) (size_of program ty) (λ cell. Goes (push_cell cell (pop_many 2 m)))
-        (λ cell. owes_next (record { visits = refl; callers = refl; todo = refl }))
+      (λ cell. owes_next (record { visits = refl; callers = refl; todo = refl }))
   act_form_keeps at ty (Member a offset) m = owes_next (record { visits = refl; callers = refl; todo = refl })
   act_form_keeps at ty (Arrow a offset) m =
       owes_arrow (Keeps m) at (cell_at m 0) offset (λ cell. Goes (push_cell cell (pop m))) (λ cell. owes_next (record { visits = refl; callers = refl; todo = refl }))
   act_form_keeps at ty (Load a) m =
       owes_load (Keeps m) program m.memory m.frame.number a (cell_at m 0) (λ memory operand. Goes (push operand (with_memory memory (pop m))))
-        (λ memory operand. owes_next (record { visits = refl; callers = refl; todo = refl }))
+      (λ memory operand. owes_next (record { visits = refl; callers = refl; todo = refl }))
   act_form_keeps at ty (Address a) m = owes_next (record { visits = refl; callers = refl; todo = refl })
   act_form_keeps at ty (Decay a) m = owes_next (record { visits = refl; callers = refl; todo = refl })
   act_form_keeps at ty (Convert a) m =
@@ -77,7 +77,7 @@ module _ (program : TypedProgram) (budgets : RunBudgets) where
   act_form_keeps at ty (Compare op a b) m = owes_compare (Keeps m) at op (cell_at m 1) (cell_at m 0) (λ number. Goes (push_cell (NumberCell number) (pop_many 2 m)))
   act_form_keeps at ty (Sum a n direction order) m =
       owes_sum (Keeps m) program.model at (cell_at m (pointer_age order)) (directed direction (number_at m (amount_age order))) (size_of program (target_of ty)) (λ cell. Goes (push_cell cell (pop_many 2 m)))
-        (λ cell. owes_next (record { visits = refl; callers = refl; todo = refl }))
+      (λ cell. owes_next (record { visits = refl; callers = refl; todo = refl }))
   act_form_keeps at ty (Difference a b) m =
       owes_difference (Keeps m) at (cell_at m 1) (cell_at m 0) (size_of program (target_of (type_of a))) (λ number. Goes (push_cell (NumberCell number) (pop_many 2 m)))
   act_form_keeps at ty (And a b) m = owes_next (record { visits = refl; callers = refl; todo = refl })
@@ -87,10 +87,10 @@ module _ (program : TypedProgram) (budgets : RunBudgets) where
   act_form_keeps at ty (Assign a b) m = stores_keeps at a 1 (operand_at m 0) 2 (operand_at m 0) m
   act_form_keeps at ty (Update op a b works_in gives) m =
       owes_operate (Keeps m) program.model at op works_in (number_at m 1) (number_at m 0) (λ number.
-        convert_number program.model at (integer works_in) (integer_of (type_of a)) number (λ stored. updates program at a gives stored m))
+      convert_number program.model at (integer works_in) (integer_of (type_of a)) number (λ stored. updates program at a gives stored m))
   act_form_keeps at ty (Move a n direction gives) m =
       owes_sum (Keeps m) program.model at (cell_at m 1) (directed direction (number_at m 0)) (size_of program (target_of (type_of a))) (λ cell. moves program at a gives cell m)
-        (λ cell. stores_keeps at a 2 (Scalar cell) 3 (given gives (operand_at m 1) (Scalar cell)) m)
+      (λ cell. stores_keeps at a 2 (Scalar cell) 3 (given gives (operand_at m 1) (Scalar cell)) m)
   act_form_keeps at ty (Call function arguments) m = call_keeps at function (routine_of program function) (routine_of program function).body (newest (count_all arguments) m) (pop_many (count_all arguments) m) m
   act_form_keeps at ty (Allocate allocator arguments element) m = allocate_keeps at allocator element m
   act_form_keeps at ty (Free a) m = release_keeps at (cell_at m 0) (pop m) m (record { visits = refl; callers = refl; todo = refl })
@@ -101,12 +101,12 @@ module _ (program : TypedProgram) (budgets : RunBudgets) where
   fetch_form_keeps : (at : Place) (form : Form) (m : State) → Owes (Keeps m) (fetch_form program at form m)
   fetch_form_keeps at (Update op a b works_in gives) m =
       owes_load (Keeps m) program m.memory m.frame.number a (cell_at m 0)
-        (λ memory operand. convert_number program.model at (type_of a) works_in (number_in (cell_of operand)) (λ number. Goes (push_cell (NumberCell number) (push operand (with_memory memory m)))))
-        (λ memory operand. owes_convert_number (Keeps m) program.model at (type_of a) works_in (number_in (cell_of operand)) (λ number. Goes (push_cell (NumberCell number) (push operand (with_memory memory m))))
-          (λ number. owes_next (record { visits = refl; callers = refl; todo = refl })))
+      (λ memory operand. convert_number program.model at (type_of a) works_in (number_in (cell_of operand)) (λ number. Goes (push_cell (NumberCell number) (push operand (with_memory memory m)))))
+      (λ memory operand. owes_convert_number (Keeps m) program.model at (type_of a) works_in (number_in (cell_of operand)) (λ number. Goes (push_cell (NumberCell number) (push operand (with_memory memory m))))
+      (λ number. owes_next (record { visits = refl; callers = refl; todo = refl })))
   fetch_form_keeps at (Move a n direction gives) m =
       owes_load (Keeps m) program m.memory m.frame.number a (cell_at m 0) (λ memory operand. Goes (push operand (with_memory memory m)))
-        (λ memory operand. owes_next (record { visits = refl; callers = refl; todo = refl }))
+      (λ memory operand. owes_next (record { visits = refl; callers = refl; todo = refl }))
   fetch_form_keeps at (Number n) m = owes_next (record { visits = refl; callers = refl; todo = refl })
   fetch_form_keeps at Null m = owes_next (record { visits = refl; callers = refl; todo = refl })
   fetch_form_keeps at (Text literal) m = owes_next (record { visits = refl; callers = refl; todo = refl })

@@ -82,7 +82,7 @@ module _ (program : TypedProgram) (budgets : RunBudgets) where
   declare_owes : (at : Place) (declaration : ℕ) (initial : Option Initial) (m : State) → Owes (Under budgets.visits m (1 + weigh_some_initial initial)) (declare program at declaration initial m)
   declare_owes at declaration None m =
       owes_touches (Under budgets.visits m 1) (λ local. Clears m.frame.number local at) (if_scalar (local_type program declaration m) declaration) (Goes (refilled UnsetFill declaration m))
-        (goes_light budgets.visits m (refilled UnsetFill declaration m) 1 refl refl (omega arith))
+      (goes_light budgets.visits m (refilled UnsetFill declaration m) 1 refl refl (omega arith))
   declare_owes at declaration (Some (Value e)) m = goes_light budgets.visits m _ (1 + weigh_some_initial (Some (Value e))) refl refl (omega arith)
   declare_owes at declaration (Some (Bytes bytes)) m = goes_light budgets.visits m _ (1 + weigh_some_initial (Some (Bytes bytes))) refl refl (omega arith)
   declare_owes at declaration (Some (Parts parts)) m =
@@ -197,8 +197,8 @@ module _ (program : TypedProgram) (budgets : RunBudgets) where
   item_owes Drop m = goes_light budgets.visits m _ 1 refl refl (omega arith)
   item_owes (Store at declaration offset ty) m =
       owes_touches (Under budgets.visits m 1) (λ local. Stores m.frame.number local at) (if_scalar (local_type program declaration m) declaration)
-        (Goes (with_memory (changed (write_operand program ty offset (operand_at m 0)) (LocalObject m.frame.number declaration) m.memory) (pop m)))
-        (goes_light budgets.visits m _ 1 refl refl (omega arith))
+      (Goes (with_memory (changed (write_operand program ty offset (operand_at m 0)) (LocalObject m.frame.number declaration) m.memory) (pop m)))
+      (goes_light budgets.visits m _ 1 refl refl (omega arith))
   item_owes (Spell declaration offset bytes) m = goes_light budgets.visits m _ 1 refl refl (omega arith)
   item_owes (Execute s mark) m = execute_owes (at_end (routine_of program m.frame.function)) s mark m
   item_owes (Decide s mark) m = decide_owes s mark m
@@ -213,13 +213,13 @@ module _ (program : TypedProgram) (budgets : RunBudgets) where
   step_owes : (todo : List Item) (m : State) → m.frame.todo ≡ todo → Owes (IsBelow (turns budgets.visits) weight (turns budgets.visits m) (weight m)) (step_with program budgets todo m)
   step_owes [] m h =
       owes_wider (Under budgets.visits m 0) (IsBelow (turns budgets.visits) weight (turns budgets.visits m) (weight m))
-        (λ next below. as_much budgets.visits m next (0 + weight m) (weight m) (omega arith) below)
-        (leave_owes m.callers (Scalar UnsetCell) m 0 refl)
+      (λ next below. as_much budgets.visits m next (0 + weight m) (weight m) (omega arith) below)
+      (leave_owes m.callers (Scalar UnsetCell) m 0 refl)
   step_owes (item ∷ behind) m h =
       let a : weigh_items m.frame.todo ≡ weigh_item item + weigh_items behind = ap weigh_items h in
       owes_wider (Under budgets.visits (to_do behind m) (weigh_item item)) (IsBelow (turns budgets.visits) weight (turns budgets.visits m) (weight m))
-        (λ next below. as_much budgets.visits m next (weigh_item item + weight (to_do behind m)) (weight m) (omega arith) below)
-        (item_owes item (to_do behind m))
+      (λ next below. as_much budgets.visits m next (weigh_item item + weight (to_do behind m)) (weight m) (omega arith) below)
+      (item_owes item (to_do behind m))
 
   -- each silent step leaves fewer turns, or as many and less weight
   pub lessens : Lessens (step program budgets) (turns budgets.visits) weight

@@ -4,6 +4,9 @@ mod Pointers
 mod Blocks
 mod Control
 mod Guesses
+mod Initializers
+mod Evaluation
+mod Touching
 pub mod Weights
 pub mod Owing
 pub mod Keeping

@@ -145,7 +145,7 @@ module _ (P : State → Type 0) where
   owes_read_all program memory object from [] onward h = h memory []
   owes_read_all program memory object from (offset ∷ offsets) onward h =
       owes_read program memory object (from + offset) (λ after cell. read_all program after object from offsets (λ end cells. onward end (cell ∷ cells)))
-        (λ after cell. owes_read_all program after object from offsets (λ end cells. onward end (cell ∷ cells)) (λ end cells. h end (cell ∷ cells)))
+      (λ after cell. owes_read_all program after object from offsets (λ end cells. onward end (cell ∷ cells)) (λ end cells. h end (cell ∷ cells)))
 
   pub owes_set : (at : Place) (cell : Cell) (act : Act State) → Owes P act → Owes P (set_then at cell act)
   owes_set at (NumberCell n) act h = h
@@ -164,16 +164,16 @@ module _ (P : State → Type 0) where
   pub owes_load : (program : TypedProgram) (memory : Memory) (frame : ℕ) (e : Typed) (cell : Cell) (onward : Memory → Operand → Act State) → ((after : Memory) (operand : Operand) → Owes P (onward after operand)) → Owes P (load program memory frame e cell onward)
   owes_load program memory frame e cell onward h =
       owes_locate program memory e cell
-        (λ object offset. touches_then (λ declaration. Loads frame declaration (place_of e)) (scalar_local e) (value_at program memory (place_of e) (type_of e) object offset onward))
-        (λ object offset. owes_touches (λ declaration. Loads frame declaration (place_of e)) (scalar_local e) (value_at program memory (place_of e) (type_of e) object offset onward)
-          (owes_value program memory (place_of e) (type_of e) object offset onward h))
+      (λ object offset. touches_then (λ declaration. Loads frame declaration (place_of e)) (scalar_local e) (value_at program memory (place_of e) (type_of e) object offset onward))
+      (λ object offset. owes_touches (λ declaration. Loads frame declaration (place_of e)) (scalar_local e) (value_at program memory (place_of e) (type_of e) object offset onward)
+      (owes_value program memory (place_of e) (type_of e) object offset onward h))
 
   pub owes_store : (program : TypedProgram) (memory : Memory) (frame : ℕ) (at : Place) (e : Typed) (cell : Cell) (operand : Operand) (onward : Memory → Act State) → ((after : Memory) → Owes P (onward after)) → Owes P (store program memory frame at e cell operand onward)
   owes_store program memory frame at e cell operand onward h =
       owes_locate program memory e cell
-        (λ object offset. if is_constant program object then Stops (Fault kind.ConstWrite (place_of e)) else touches_then (λ declaration. Stores frame declaration at) (scalar_local e) (onward (changed (write_operand program (type_of e) offset operand) object memory)))
-        (λ object offset. owes_if (is_constant program object) (Stops (Fault kind.ConstWrite (place_of e))) (touches_then (λ declaration. Stores frame declaration at) (scalar_local e) (onward (changed (write_operand program (type_of e) offset operand) object memory))) stops
-          (owes_touches (λ declaration. Stores frame declaration at) (scalar_local e) (onward (changed (write_operand program (type_of e) offset operand) object memory)) (h (changed (write_operand program (type_of e) offset operand) object memory))))
+      (λ object offset. if is_constant program object then Stops (Fault kind.ConstWrite (place_of e)) else touches_then (λ declaration. Stores frame declaration at) (scalar_local e) (onward (changed (write_operand program (type_of e) offset operand) object memory)))
+      (λ object offset. owes_if (is_constant program object) (Stops (Fault kind.ConstWrite (place_of e))) (touches_then (λ declaration. Stores frame declaration at) (scalar_local e) (onward (changed (write_operand program (type_of e) offset operand) object memory))) stops
+      (owes_touches (λ declaration. Stores frame declaration at) (scalar_local e) (onward (changed (write_operand program (type_of e) offset operand) object memory)) (h (changed (write_operand program (type_of e) offset operand) object memory))))
 
 -- what owes one kind of state owes a wider one
 pub owes_wider : (P Q : State → Type 0) → ((next : State) → P next → Q next) → {act : Act State} → Owes P act → Owes Q act

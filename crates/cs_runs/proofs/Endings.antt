@@ -63,14 +63,14 @@ module _ {State : Type 0} where
       from_as_many setting Next log (with_read log path) _ refl (went setting Next (with_read log path) (onward (setting.inputs path)))
   went setting Next log (asks {at = at} {operation = operation} {onward = onward}) =
       after_event setting Next log (operation_event setting log at operation) _ log _ (has_room setting log) refl
-        (act_adds setting (with_event log (operation_event setting log at operation)) (onward (number_of setting log operation)))
+      (act_adds setting (with_event log (operation_event setting log at operation)) (onward (number_of setting log operation)))
   went setting Next log (allocates {at = at} {path = path} {onward = onward}) =
       from_as_many setting Next log (with_read log path) _ refl
-        (after_event setting Next (with_read log path) (allocation_event setting at path) _ log _ (has_room setting log) refl
-          (act_adds setting (with_event (with_read log path) (allocation_event setting at path)) (onward (is_true (setting.inputs path)))))
+      (after_event setting Next (with_read log path) (allocation_event setting at path) _ log _ (has_room setting log) refl
+      (act_adds setting (with_event (with_read log path) (allocation_event setting at path)) (onward (is_true (setting.inputs path)))))
   went setting Next log (reaches {at = at} {offset = offset} {act = act}) =
       after_event setting Next log (access_event at offset) _ log _ (has_room setting log) refl
-        (act_adds setting (with_event log (access_event at offset)) act)
+      (act_adds setting (with_event log (access_event at offset)) act)
   went setting Next log (touches {touch = touch} owed) =
       from_as_many setting Next log (with_touch log touch) _ refl (went setting Next (with_touch log touch) owed)
 
@@ -106,8 +106,8 @@ module _ {State : Type 0} where
     by_weight lessens events some loud fewer zero m log left few light = absurd (omega arith)
     by_weight lessens events some loud fewer (suc much) m log left few light =
         act_ends m log (perform setting log (step m)) refl (went setting (IsBelow turns weight (turns m) (weight m)) log (lessens m))
-          (λ next later l. loud next log later left l)
-          (below_ends events some much fewer (λ next later left' few' light'. by_weight lessens events some loud fewer much next later left' few' light') m log left few light)
+        (λ next later l. loud next log later left l)
+        (below_ends events some much fewer (λ next later left' few' light'. by_weight lessens events some loud fewer much next later left' few' light') m log left few light)
 
     -- by the turns, where runs with fewer events left end
     by_turns : Lessens step turns weight → (events : ℕ) → ((next : State) (log later : Log) → HasLeft events log → IsLouder setting log later → Ending step setting next later) → (some : ℕ) (m : State) (log : Log) → HasLeft events log → turns m ≤ some → Ending step setting m log
