@@ -13,49 +13,50 @@ use Rattle.cs_runs.specs.declared.event.Wrap.TheVariants.{Under, Same, Past}
 use Rattle.cs_runs.specs.declared.outcome.Outcome.TheVariants.{Done, Fault}
 use Rattle.cs_runs.specs.declared.outcome.Returned.TheVariants.{Number}
 use Rattle.cs_runs.specs.Runs as runs
-use Rattle.cs_plain.proofs.Building.{at, int, literal, local, value, named, defined, functions, given, event, USUAL, plain, EndsSo, ends_so}
+use Rattle.cs_plain.specs.PlainRuns.{RunEnds}
+use Rattle.cs_plain.proofs.Building.{at, int, literal, local, value, named, defined, functions, given, event, USUAL, plain, ends_so}
 
 -- int f(int x){return 10/x;}
 abbrev divides : TypedProgram
 divides = functions (defined 5 int 1 (named 120 int ∷ []) 26 (Return (at 14) (Some (Of (at 23) int (Binary Div (literal 21 10) (value 24 int 0)))) ∷ []) ∷ [])
 
 -- a division by 0 is a fault, and shows nothing
-divides_by_zero : EndsSo divides 0 (plain []) USUAL (Fault Divide (at 23)) []
+divides_by_zero : RunEnds divides 0 (plain []) USUAL [] (Fault Divide (at 23))
 unfolding runs.perform
-divides_by_zero = ends_so divides 0 (plain []) USUAL 20 (Fault Divide (at 23)) [] refl
+divides_by_zero = ends_so divides 0 (plain []) USUAL 20 refl
 
-divides_by_three : EndsSo divides 0 (plain (given 120 (pos 3) ∷ [])) USUAL (Done (Number (pos 3))) (event 23 (Wrap Same) ∷ [])
+divides_by_three : RunEnds divides 0 (plain (given 120 (pos 3) ∷ [])) USUAL (event 23 (Wrap Same) ∷ []) (Done (Number (pos 3)))
 unfolding runs.perform
-divides_by_three = ends_so divides 0 (plain (given 120 (pos 3) ∷ [])) USUAL 20 (Done (Number (pos 3))) (event 23 (Wrap Same) ∷ []) refl
+divides_by_three = ends_so divides 0 (plain (given 120 (pos 3) ∷ [])) USUAL 20 refl
 
 -- int f(int x){return x/-1;}, where the least number leaves its type once
 abbrev turns_round : TypedProgram
 turns_round = functions (defined 5 int 1 (named 120 int ∷ []) 26 (Return (at 14) (Some (Of (at 22) int (Binary Div (value 21 int 0) (Of (at 23) int (Unary Complement (literal 24 0)))))) ∷ []) ∷ [])
 
-least_by_minus_one : EndsSo turns_round 0 (plain (given 120 (negsuc 2147483647) ∷ [])) USUAL (Done (Number (negsuc 2147483647))) (event 23 (Wrap Same) ∷ event 22 (Wrap Past) ∷ [])
+least_by_minus_one : RunEnds turns_round 0 (plain (given 120 (negsuc 2147483647) ∷ [])) USUAL (event 23 (Wrap Same) ∷ event 22 (Wrap Past) ∷ []) (Done (Number (negsuc 2147483647)))
 unfolding runs.perform
-least_by_minus_one = ends_so turns_round 0 (plain (given 120 (negsuc 2147483647) ∷ [])) USUAL 20 (Done (Number (negsuc 2147483647))) (event 23 (Wrap Same) ∷ event 22 (Wrap Past) ∷ []) refl
+least_by_minus_one = ends_so turns_round 0 (plain (given 120 (negsuc 2147483647) ∷ [])) USUAL 20 refl
 
 -- int f(int x){return 1<<x;}
 abbrev shifts : TypedProgram
 shifts = functions (defined 5 int 1 (named 120 int ∷ []) 26 (Return (at 14) (Some (Of (at 22) int (Binary Shl (literal 21 1) (value 24 int 0)))) ∷ []) ∷ [])
 
-shifts_by_minus_one : EndsSo shifts 0 (plain (given 120 (negsuc 0) ∷ [])) USUAL (Fault Shift (at 22)) []
+shifts_by_minus_one : RunEnds shifts 0 (plain (given 120 (negsuc 0) ∷ [])) USUAL [] (Fault Shift (at 22))
 unfolding runs.perform
-shifts_by_minus_one = ends_so shifts 0 (plain (given 120 (negsuc 0) ∷ [])) USUAL 20 (Fault Shift (at 22)) [] refl
+shifts_by_minus_one = ends_so shifts 0 (plain (given 120 (negsuc 0) ∷ [])) USUAL 20 refl
 
-shifts_by_width : EndsSo shifts 0 (plain (given 120 (pos 32) ∷ [])) USUAL (Fault Shift (at 22)) []
+shifts_by_width : RunEnds shifts 0 (plain (given 120 (pos 32) ∷ [])) USUAL [] (Fault Shift (at 22))
 unfolding runs.perform
-shifts_by_width = ends_so shifts 0 (plain (given 120 (pos 32) ∷ [])) USUAL 20 (Fault Shift (at 22)) [] refl
+shifts_by_width = ends_so shifts 0 (plain (given 120 (pos 32) ∷ [])) USUAL 20 refl
 
-shifts_into_sign : EndsSo shifts 0 (plain (given 120 (pos 31) ∷ [])) USUAL (Done (Number (negsuc 2147483647))) (event 22 (Wrap Past) ∷ [])
+shifts_into_sign : RunEnds shifts 0 (plain (given 120 (pos 31) ∷ [])) USUAL (event 22 (Wrap Past) ∷ []) (Done (Number (negsuc 2147483647)))
 unfolding runs.perform
-shifts_into_sign = ends_so shifts 0 (plain (given 120 (pos 31) ∷ [])) USUAL 20 (Done (Number (negsuc 2147483647))) (event 22 (Wrap Past) ∷ []) refl
+shifts_into_sign = ends_so shifts 0 (plain (given 120 (pos 31) ∷ [])) USUAL 20 refl
 
 -- unsigned char f(unsigned char x){return x--;}, where the value before is given and -1 doesn't fit the type
 abbrev steps_down : TypedProgram
 steps_down = functions (defined 15 (integer UChar) 1 (named 120 (integer UChar) ∷ []) 46 (Return (at 34) (Some (Of (at 42) (integer UChar) (Update Sub (local 41 (integer UChar) 0) (literal 42 1) Int Old))) ∷ []) ∷ [])
 
-steps_below_zero : EndsSo steps_down 0 (plain []) USUAL (Done (Number (pos 0))) (event 42 (Wrap Same) ∷ event 42 (Wrap Under) ∷ [])
+steps_below_zero : RunEnds steps_down 0 (plain []) USUAL (event 42 (Wrap Same) ∷ event 42 (Wrap Under) ∷ []) (Done (Number (pos 0)))
 unfolding runs.perform
-steps_below_zero = ends_so steps_down 0 (plain []) USUAL 20 (Done (Number (pos 0))) (event 42 (Wrap Same) ∷ event 42 (Wrap Under) ∷ []) refl
+steps_below_zero = ends_so steps_down 0 (plain []) USUAL 20 refl

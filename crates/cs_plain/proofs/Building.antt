@@ -14,14 +14,14 @@ use Rattle.cs_runs.specs.declared.event.Label.{Label}
 use Rattle.cs_runs.specs.declared.guess.Guess.{Guess}
 use Rattle.cs_runs.specs.declared.outcome.Outcome.{Outcome}
 use Rattle.cs_runs.specs.declared.outcome.RunBudgets.{RunBudgets}
-use Rattle.cs_runs.specs.Runs.{Log, empty, Performed, Continues, Finishes}
+use Rattle.cs_runs.specs.Runs.{empty, Performed, Continues, Finishes}
 use Rattle.cs_runs.specs.Counted.{followed}
 use Rattle.cs_runs.proofs.RunLaws.{ends_by}
 use Rattle.cs_plain.specs.Types.{type_of}
 use Rattle.cs_plain.specs.Access.{place_of}
 use Rattle.cs_plain.specs.Machine.{State}
 use Rattle.cs_plain.specs.Steps.{step}
-use Rattle.cs_plain.specs.PlainRuns.{PlainRun, setting_of, start_of, RunEnds}
+use Rattle.cs_plain.specs.PlainRuns.{PlainRun, setting_of, start_of, RunGives, RunEnds}
 
 -- the place of a column
 abbrev pub at : ℕ → Place
@@ -123,18 +123,14 @@ abbrev pub told : Performed State → Option (Outcome × List Event)
 told (Continues m log) = None
 told (Finishes outcome log) = Some (outcome, log.events)
 
--- the run ends so, with these events
-abbrev pub EndsSo : TypedProgram → ℕ → PlainRun → RunBudgets → Outcome → List Event → Type 0
-EndsSo program entry run budgets outcome events = (log : Log) × RunEnds program entry run budgets outcome log × (log.events ≡ events)
-
 -- a run that has ended after so many steps ends so
-pub ends_so : (program : TypedProgram) (entry : ℕ) (run : PlainRun) (budgets : RunBudgets) (steps : ℕ) (outcome : Outcome) (events : List Event) → told (come_to program entry run budgets steps) ≡ Some (outcome, events) → EndsSo program entry run budgets outcome events
-ends_so program entry run budgets steps outcome events h = finished (come_to program entry run budgets steps) refl h
+pub ends_so : (program : TypedProgram) (entry : ℕ) (run : PlainRun) (budgets : RunBudgets) (steps : ℕ) {outcome : Outcome} {events : List Event} → told (come_to program entry run budgets steps) ≡ Some (outcome, events) → RunEnds program entry run budgets events outcome
+ends_so program entry run budgets steps {outcome = outcome} {events = events} h = finished (come_to program entry run budgets steps) refl h
   where
-    finished : (done : Performed State) → come_to program entry run budgets steps ≡ done → told done ≡ Some (outcome, events) → EndsSo program entry run budgets outcome events
+    finished : (done : Performed State) → come_to program entry run budgets steps ≡ done → told done ≡ Some (outcome, events) → RunEnds program entry run budgets events outcome
     finished (Continues m log) e h = cc
     finished (Finishes end log) e h =
         let ended = ends_by (step program budgets) (setting_of program run budgets) steps (start_of program entry run) empty log end e in
         let same : end ≡ outcome = ap (λ o. (unwrap_or {T = Outcome × List Event} o (end, log.events)).0) h in
         let shown : log.events ≡ events = ap (λ o. (unwrap_or {T = Outcome × List Event} o (end, log.events)).1) h in
-        (log, subst (λ o. RunEnds program entry run budgets o log) same ended, shown)
+        (log, subst (λ o. RunGives program entry run budgets o log) same ended, shown)

@@ -17,7 +17,8 @@ use Rattle.cs_runs.specs.declared.outcome.Outcome.TheVariants.{Done, Fault, Over
 use Rattle.cs_runs.specs.declared.outcome.Budget.TheVariants.{Visits}
 use Rattle.cs_runs.specs.declared.outcome.Returned.TheVariants as returned
 use Rattle.cs_runs.specs.Runs as runs
-use Rattle.cs_plain.proofs.Building.{at, int, to_int, literal, local, loaded, value, sequence, named, defined, functions, given, event, USUAL, plain, EndsSo, ends_so}
+use Rattle.cs_plain.specs.PlainRuns.{RunEnds}
+use Rattle.cs_plain.proofs.Building.{at, int, to_int, literal, local, loaded, value, sequence, named, defined, functions, given, event, USUAL, plain, ends_so}
 
 -- int f(int n){int a[N];int i;for(i=0;i<n;i++)a[i]=0;return a[0];}
 abbrev ints : ℕ → Shape
@@ -28,71 +29,68 @@ element column count name number = Of (at column) int (Index (Of (at name) to_in
 
 abbrev clears : ℕ → TypedProgram
 clears count = functions (defined 5 int 1 (named 110 int ∷ (named 97 (ints count) ∷ (named 105 int ∷ []))) 64 (
-  Declare (at 18) 1 None ∷ (Declare (at 27) 2 None ∷ (
-  For (at 29) (sequence (Run (at 33) (Of (at 34) int (Assign (local 33 int 2) (literal 35 0))) ∷ []))
+    Declare (at 18) 1 None ∷ (Declare (at 27) 2 None ∷ (
+    For (at 29) (sequence (Run (at 33) (Of (at 34) int (Assign (local 33 int 2) (literal 35 0))) ∷ []))
     (Some (Of (at 38) int (Compare Less (value 37 int 2) (value 39 int 0))))
     (Some (Of (at 42) int (Update Add (local 41 int 2) (literal 42 1) Int Old)))
     (Run (at 45) (Of (at 49) int (Assign (element 46 count 45 (value 47 int 2)) (literal 50 0)))) ∷ (
-  Return (at 52) (Some (loaded (element 60 count 59 (literal 61 0)))) ∷ [])))) ∷ [])
+    Return (at 52) (Some (loaded (element 60 count 59 (literal 61 0)))) ∷ [])))) ∷ [])
 
 -- what a round of the loop shows
 abbrev round : ℕ → List Event
 round offset =
-  event 38 (Truth true) ∷ event 29 (Branch true) ∷ event 46 (Look true) ∷ event 46 (Truth true) ∷ event 46 (Truth true) ∷ event 46 (Wrap Same) ∷ event 46 (Look true) ∷ event 46 (Truth true) ∷ event 46 (Truth true) ∷ event 46 (Offset offset) ∷ event 42 (Wrap Same) ∷ []
+    event 38 (Truth true) ∷ event 29 (Branch true) ∷ event 46 (Look true) ∷ event 46 (Truth true) ∷ event 46 (Truth true) ∷ event 46 (Wrap Same) ∷ event 46 (Look true) ∷ event 46 (Truth true) ∷ event 46 (Truth true) ∷ event 46 (Offset offset) ∷ event 42 (Wrap Same) ∷ []
 
 -- a store behind the last element is out of bounds: of the two order tests the second one fails
-stores_behind : EndsSo (clears 3) 0 (plain (given 110 (pos 4) ∷ [])) USUAL (Fault kind.Bounds (at 46))
-  (round 0 ++ round 4 ++ round 8 ++ event 38 (Truth true) ∷ event 29 (Branch true) ∷ event 46 (Look true) ∷ event 46 (Truth true) ∷ event 46 (Truth true) ∷ event 46 (Wrap Same) ∷ event 46 (Look true) ∷ event 46 (Truth true) ∷ event 46 (Truth false) ∷ [])
+stores_behind : RunEnds (clears 3) 0 (plain (given 110 (pos 4) ∷ [])) USUAL (round 0 ++ round 4 ++ round 8 ++ event 38 (Truth true) ∷ event 29 (Branch true) ∷ event 46 (Look true) ∷ event 46 (Truth true) ∷ event 46 (Truth true) ∷ event 46 (Wrap Same) ∷ event 46 (Look true) ∷ event 46 (Truth true) ∷ event 46 (Truth false) ∷ []) (Fault kind.Bounds (at 46))
 unfolding runs.perform
-stores_behind = ends_so (clears 3) 0 (plain (given 110 (pos 4) ∷ [])) USUAL 200 (Fault kind.Bounds (at 46)) (round 0 ++ round 4 ++ round 8 ++ event 38 (Truth true) ∷ event 29 (Branch true) ∷ event 46 (Look true) ∷ event 46 (Truth true) ∷ event 46 (Truth true) ∷ event 46 (Wrap Same) ∷ event 46 (Look true) ∷ event 46 (Truth true) ∷ event 46 (Truth false) ∷ []) refl
+stores_behind = ends_so (clears 3) 0 (plain (given 110 (pos 4) ∷ [])) USUAL 200 refl
 
 -- an element that was never set
-reads_unset : EndsSo (clears 3) 0 (plain []) USUAL (Fault kind.Unset (at 60))
-  (event 38 (Truth false) ∷ event 29 (Branch false) ∷ event 60 (Look true) ∷ event 60 (Truth true) ∷ event 60 (Truth true) ∷ event 60 (Wrap Same) ∷ event 60 (Look true) ∷ event 60 (Truth true) ∷ event 60 (Truth true) ∷ event 60 (Offset 0) ∷ [])
+reads_unset : RunEnds (clears 3) 0 (plain []) USUAL (event 38 (Truth false) ∷ event 29 (Branch false) ∷ event 60 (Look true) ∷ event 60 (Truth true) ∷ event 60 (Truth true) ∷ event 60 (Wrap Same) ∷ event 60 (Look true) ∷ event 60 (Truth true) ∷ event 60 (Truth true) ∷ event 60 (Offset 0) ∷ []) (Fault kind.Unset (at 60))
 unfolding runs.perform
-reads_unset = ends_so (clears 3) 0 (plain []) USUAL 100 (Fault kind.Unset (at 60)) (event 38 (Truth false) ∷ event 29 (Branch false) ∷ event 60 (Look true) ∷ event 60 (Truth true) ∷ event 60 (Truth true) ∷ event 60 (Wrap Same) ∷ event 60 (Look true) ∷ event 60 (Truth true) ∷ event 60 (Truth true) ∷ event 60 (Offset 0) ∷ []) refl
+reads_unset = ends_so (clears 3) 0 (plain []) USUAL 100 refl
 
 -- a fifth turn of a loop, where four are the budget
-turns_too_often : EndsSo (clears 9) 0 (plain (given 110 (pos 4) ∷ [])) USUAL (Over Visits (at 29)) (round 0 ++ round 4 ++ round 8 ++ round 12)
+turns_too_often : RunEnds (clears 9) 0 (plain (given 110 (pos 4) ∷ [])) USUAL (round 0 ++ round 4 ++ round 8 ++ round 12) (Over Visits (at 29))
 unfolding runs.perform
-turns_too_often = ends_so (clears 9) 0 (plain (given 110 (pos 4) ∷ [])) USUAL 200 (Over Visits (at 29)) (round 0 ++ round 4 ++ round 8 ++ round 12) refl
+turns_too_often = ends_so (clears 9) 0 (plain (given 110 (pos 4) ∷ [])) USUAL 200 refl
 
 -- int f(void){int a[4];int*p=a+4;if(p==a)return 1;return *p;}
 abbrev behind : TypedProgram
 behind = functions (defined 5 int 0 (named 97 (ints 4) ∷ (named 112 to_int ∷ [])) 60 (
-  Declare (at 17) 0 None ∷ (
-  Declare (at 27) 1 (Some (Value (Of (at 29) to_int (Sum (Of (at 28) to_int (Decay (local 28 (ints 4) 0))) (literal 30 4) Forward PointerFirst)))) ∷ (
-  If (at 32) (Of (at 36) int (Compare Equal (value 35 to_int 1) (Of (at 38) to_int (Decay (local 38 (ints 4) 0))))) (Return (at 40) (Some (literal 47 1))) ∷ (
-  Return (at 49) (Some (loaded (Of (at 56) int (Through (value 57 to_int 1))))) ∷ [])))) ∷ [])
+    Declare (at 17) 0 None ∷ (
+    Declare (at 27) 1 (Some (Value (Of (at 29) to_int (Sum (Of (at 28) to_int (Decay (local 28 (ints 4) 0))) (literal 30 4) Forward PointerFirst)))) ∷ (
+    If (at 32) (Of (at 36) int (Compare Equal (value 35 to_int 1) (Of (at 38) to_int (Decay (local 38 (ints 4) 0))))) (Return (at 40) (Some (literal 47 1))) ∷ (
+    Return (at 49) (Some (loaded (Of (at 56) int (Through (value 57 to_int 1))))) ∷ [])))) ∷ [])
 
 -- a pointer behind the last element may be made and compared, but not followed
-follows_past_end : EndsSo behind 0 (plain []) USUAL (Fault kind.Bounds (at 56))
-  (event 29 (Look true) ∷ event 29 (Truth true) ∷ event 29 (Truth true) ∷ event 29 (Wrap Same) ∷ event 36 (Look true) ∷ event 36 (Look true) ∷ event 36 (Truth false) ∷ event 32 (Branch false) ∷ event 56 (Look true) ∷ event 56 (Truth true) ∷ event 56 (Truth false) ∷ [])
+follows_past_end : RunEnds behind 0 (plain []) USUAL (event 29 (Look true) ∷ event 29 (Truth true) ∷ event 29 (Truth true) ∷ event 29 (Wrap Same) ∷ event 36 (Look true) ∷ event 36 (Look true) ∷ event 36 (Truth false) ∷ event 32 (Branch false) ∷ event 56 (Look true) ∷ event 56 (Truth true) ∷ event 56 (Truth false) ∷ []) (Fault kind.Bounds (at 56))
 unfolding runs.perform
-follows_past_end = ends_so behind 0 (plain []) USUAL 60 (Fault kind.Bounds (at 56)) (event 29 (Look true) ∷ event 29 (Truth true) ∷ event 29 (Truth true) ∷ event 29 (Wrap Same) ∷ event 36 (Look true) ∷ event 36 (Look true) ∷ event 36 (Truth false) ∷ event 32 (Branch false) ∷ event 56 (Look true) ∷ event 56 (Truth true) ∷ event 56 (Truth false) ∷ []) refl
+follows_past_end = ends_so behind 0 (plain []) USUAL 60 refl
 
 -- long f(void){int a;int b;return &a-&b;}
 abbrev apart : TypedProgram
 apart = functions (defined 6 (integer Long) 0 (named 97 int ∷ (named 98 int ∷ [])) 39 (
-  Declare (at 18) 0 None ∷ (Declare (at 24) 1 None ∷ (
-  Return (at 26) (Some (Of (at 35) (integer Long) (Difference (Of (at 33) to_int (Address (local 34 int 0))) (Of (at 36) to_int (Address (local 37 int 1)))))) ∷ []))) ∷ [])
+    Declare (at 18) 0 None ∷ (Declare (at 24) 1 None ∷ (
+    Return (at 26) (Some (Of (at 35) (integer Long) (Difference (Of (at 33) to_int (Address (local 34 int 0))) (Of (at 36) to_int (Address (local 37 int 1)))))) ∷ []))) ∷ [])
 
-subtracts_unrelated : EndsSo apart 0 (plain []) USUAL (Fault kind.Unrelated (at 35)) (event 35 (Look true) ∷ event 35 (Look true) ∷ [])
+subtracts_unrelated : RunEnds apart 0 (plain []) USUAL (event 35 (Look true) ∷ event 35 (Look true) ∷ []) (Fault kind.Unrelated (at 35))
 unfolding runs.perform
-subtracts_unrelated = ends_so apart 0 (plain []) USUAL 30 (Fault kind.Unrelated (at 35)) (event 35 (Look true) ∷ event 35 (Look true) ∷ []) refl
+subtracts_unrelated = ends_so apart 0 (plain []) USUAL 30 refl
 
 -- int f(int*p,int*q){return p<q;}, both null or neither
 abbrev orders : TypedProgram
 orders = functions (defined 5 int 2 (named 112 to_int ∷ (named 113 to_int ∷ [])) 31 (
-  Return (at 20) (Some (Of (at 28) int (Compare Less (value 27 to_int 0) (value 29 to_int 1)))) ∷ []) ∷ [])
+    Return (at 20) (Some (Of (at 28) int (Compare Less (value 27 to_int 0) (value 29 to_int 1)))) ∷ []) ∷ [])
 
-orders_unrelated : EndsSo orders 0 (plain (given 112 (pos 1) ∷ (given 113 (pos 1) ∷ []))) USUAL (Fault kind.Unrelated (at 28)) (event 28 (Look true) ∷ event 28 (Look true) ∷ [])
+orders_unrelated : RunEnds orders 0 (plain (given 112 (pos 1) ∷ (given 113 (pos 1) ∷ []))) USUAL (event 28 (Look true) ∷ event 28 (Look true) ∷ []) (Fault kind.Unrelated (at 28))
 unfolding runs.perform
-orders_unrelated = ends_so orders 0 (plain (given 112 (pos 1) ∷ (given 113 (pos 1) ∷ []))) USUAL 30 (Fault kind.Unrelated (at 28)) (event 28 (Look true) ∷ event 28 (Look true) ∷ []) refl
+orders_unrelated = ends_so orders 0 (plain (given 112 (pos 1) ∷ (given 113 (pos 1) ∷ []))) USUAL 30 refl
 
-orders_nulls : EndsSo orders 0 (plain []) USUAL (Done (returned.Number (pos 0))) (event 28 (Look false) ∷ event 28 (Look false) ∷ event 28 (Truth false) ∷ [])
+orders_nulls : RunEnds orders 0 (plain []) USUAL (event 28 (Look false) ∷ event 28 (Look false) ∷ event 28 (Truth false) ∷ []) (Done (returned.Number (pos 0)))
 unfolding runs.perform
-orders_nulls = ends_so orders 0 (plain []) USUAL 30 (Done (returned.Number (pos 0))) (event 28 (Look false) ∷ event 28 (Look false) ∷ event 28 (Truth false) ∷ []) refl
+orders_nulls = ends_so orders 0 (plain []) USUAL 30 refl
 
 -- void f(void){char*s="ab";s[0]='x';}
 abbrev chars : Shape
@@ -100,11 +98,10 @@ chars = pointer (integer Char)
 
 abbrev writes_literal : TypedProgram
 writes_literal = record (functions (defined 6 int 0 (named 115 chars ∷ []) 35 (
-  Declare (at 20) 0 (Some (Value (Of (at 21) chars (Decay (Of (at 21) (array (integer Char) 3) (Text 0)))))) ∷ (
-  Run (at 26) (Of (at 30) (integer Char) (Assign (Of (at 27) (integer Char) (Index (value 26 chars 0) (literal 28 0) PointerFirst)) (Of (at 30) (integer Char) (Convert (literal 31 120))))) ∷ [])) ∷ [])) { literals = (97 ∷ (98 ∷ [])) ∷ [] }
+    Declare (at 20) 0 (Some (Value (Of (at 21) chars (Decay (Of (at 21) (array (integer Char) 3) (Text 0)))))) ∷ (
+    Run (at 26) (Of (at 30) (integer Char) (Assign (Of (at 27) (integer Char) (Index (value 26 chars 0) (literal 28 0) PointerFirst)) (Of (at 30) (integer Char) (Convert (literal 31 120))))) ∷ [])) ∷ [])) { literals = (97 ∷ (98 ∷ [])) ∷ [] }
 
 -- a store to a literal is a fault behind its bounds
-writes_const : EndsSo writes_literal 0 (plain []) USUAL (Fault kind.ConstWrite (at 27))
-  (event 27 (Look true) ∷ event 27 (Truth true) ∷ event 27 (Truth true) ∷ event 27 (Wrap Same) ∷ event 30 (Wrap Same) ∷ event 27 (Look true) ∷ event 27 (Truth true) ∷ event 27 (Truth true) ∷ event 27 (Offset 0) ∷ [])
+writes_const : RunEnds writes_literal 0 (plain []) USUAL (event 27 (Look true) ∷ event 27 (Truth true) ∷ event 27 (Truth true) ∷ event 27 (Wrap Same) ∷ event 30 (Wrap Same) ∷ event 27 (Look true) ∷ event 27 (Truth true) ∷ event 27 (Truth true) ∷ event 27 (Offset 0) ∷ []) (Fault kind.ConstWrite (at 27))
 unfolding runs.perform
-writes_const = ends_so writes_literal 0 (plain []) USUAL 60 (Fault kind.ConstWrite (at 27)) (event 27 (Look true) ∷ event 27 (Truth true) ∷ event 27 (Truth true) ∷ event 27 (Wrap Same) ∷ event 30 (Wrap Same) ∷ event 27 (Look true) ∷ event 27 (Truth true) ∷ event 27 (Truth true) ∷ event 27 (Offset 0) ∷ []) refl
+writes_const = ends_so writes_literal 0 (plain []) USUAL 60 refl

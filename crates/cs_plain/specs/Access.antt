@@ -93,10 +93,10 @@ module _ {S : Type 0} where
   reach_in program at ty object offset None onward = Stops (Fault kind.Bounds at)
   reach_in program at ty object offset (Some block) onward =
       stands at block.standing
-        (ordered at offset (pos 0)
-          (ordered at (neg_ℤ offset) (pos block.extent -ℤ pos (size_of program ty))
-            (Reaches at object offset
-              (fits at (begins_at program ty object block offset) (onward (offset_number offset))))))
+      (ordered at offset (pos 0)
+      (ordered at (neg_ℤ offset) (pos block.extent -ℤ pos (size_of program ty))
+      (Reaches at object offset
+      (fits at (begins_at program ty object block offset) (onward (offset_number offset))))))
 
   -- an object of a type is reached through a pointer: it shows whether the pointer is null, which is a fault (C11 6.5.3.2, paragraph 4)
   abbrev pub reach : TypedProgram → Memory → Place → Shape → Cell → (Object → ℕ → Act S) → Act S
@@ -146,14 +146,14 @@ module _ {S : Type 0} where
   abbrev pub load : TypedProgram → Memory → ℕ → Typed → Cell → (Memory → Operand → Act S) → Act S
   load program memory frame e cell onward =
       locate program memory e cell (λ object offset.
-        touches_then (λ declaration. Loads frame declaration (place_of e)) (scalar_local e)
-          (value_at program memory (place_of e) (type_of e) object offset onward))
+      touches_then (λ declaration. Loads frame declaration (place_of e)) (scalar_local e)
+      (value_at program memory (place_of e) (type_of e) object offset onward))
 
   -- a store at a place, in a frame, to the object that an expression names
   abbrev pub store : TypedProgram → Memory → ℕ → Place → Typed → Cell → Operand → (Memory → Act S) → Act S
   store program memory frame at e cell operand onward =
       locate program memory e cell (λ object offset.
-        if is_constant program object
-        then Stops (Fault kind.ConstWrite (place_of e))
-        else touches_then (λ declaration. Stores frame declaration at) (scalar_local e)
-          (onward (changed (write_operand program (type_of e) offset operand) object memory)))
+      if is_constant program object
+      then Stops (Fault kind.ConstWrite (place_of e))
+      else touches_then (λ declaration. Stores frame declaration at) (scalar_local e)
+      (onward (changed (write_operand program (type_of e) offset operand) object memory)))

@@ -120,21 +120,22 @@ write_through program at path UnsetCell memory onward = onward memory
 abbrev pub write_arguments : TypedProgram → Place → ℕ → ℕ → List Bool → List Operand → Memory → (Memory → Act State) → Act State
 write_arguments program at call argument (true ∷ written) (operand ∷ operands) memory onward =
     write_through program at (wrote_path call argument) (cell_of operand) memory
-      (λ after. write_arguments program at call (argument + 1) written operands after onward)
+    (λ after. write_arguments program at call (argument + 1) written operands after onward)
 write_arguments program at call argument (false ∷ written) (operand ∷ operands) memory onward = write_arguments program at call (argument + 1) written operands memory onward
 write_arguments program at call argument written operands memory onward = onward memory
 
--- the result of a call of such a function, by the type that it gives
-abbrev pub outside_result : TypedProgram → Shape → ℕ → State → Act State
-outside_result program void call m = Goes (push Nothing m)
-outside_result program ty call m = receive program m.memory (Unknown (result_path call) ty) (λ memory cell. Goes (push_cell cell (with_memory memory m)))
+-- the result of a call of such a function, by the type that it gives: it is looked up, but nothing is where the type is void
+abbrev pub outside_result : TypedProgram → Shape → ℕ → Memory → (Memory → Operand → Act State) → Act State
+outside_result program void call memory onward = onward memory Nothing
+outside_result program ty call memory onward = receive program memory (Unknown (result_path call) ty) (λ after cell. onward after (Scalar cell))
 
--- a call of a function without a body: it shows, its number is drawn, it writes, and it gives any value
+-- a call of a function without a body: it shows, its number is drawn and its result looked up, and it writes
 abbrev pub call_outside : TypedProgram → Place → ℕ → Routine → List Operand → State → Act State
 call_outside program at function routine arguments m =
     shows_then at (label.Callee function)
-      (write_arguments program at (m.calls + 1) 0 routine.written arguments m.memory
-        (λ memory. outside_result program routine.returns (m.calls + 1) (record m { memory = memory; calls = m.calls + 1 })))
+    (outside_result program routine.returns (m.calls + 1) m.memory (λ memory result.
+    write_arguments program at (m.calls + 1) 0 routine.written arguments memory (λ after.
+    Goes (push result (record m { memory = after; calls = m.calls + 1 })))))
 
 -- a call of a function, with a body or without one
 abbrev pub call_routine : TypedProgram → RunBudgets → Place → ℕ → Routine → Option Statement → List Operand → State → Act State
@@ -179,7 +180,7 @@ bytes_of_number (negsuc n) = 0
 abbrev pub allocated : Shape → ℤ → Fill → Bool → State → State
 allocated element bytes fill true m =
     push_cell (PointerCell (HeapBlock (m.allocations + 1)) (pos 0))
-      (record m { allocations = m.allocations + 1; memory = with_block (HeapBlock (m.allocations + 1)) (new_block (element_of element) (bytes_of_number bytes) fill) m.memory })
+    (record m { allocations = m.allocations + 1; memory = with_block (HeapBlock (m.allocations + 1)) (new_block (element_of element) (bytes_of_number bytes) fill) m.memory })
 allocated element bytes fill false m = push_cell NullCell (record m { allocations = m.allocations + 1 })
 
 -- an allocation of so many bytes (C11 7.22.3.4)
@@ -191,9 +192,9 @@ allocate_bytes at element bytes fill m =
 abbrev pub allocate_zeros : TypedProgram → Place → Shape → ℤ → ℤ → State → Act State
 allocate_zeros program at element count size m =
     Asks at (operation.Product count size) (λ holds.
-      if is_true holds
-      then operate program.model at Mul (size_type_of program.model) count size (λ bytes. allocate_bytes at element bytes ZeroFill m)
-      else Goes (allocated element (pos 0) ZeroFill false m))
+    if is_true holds
+    then operate program.model at Mul (size_type_of program.model) count size (λ bytes. allocate_bytes at element bytes ZeroFill m)
+    else Goes (allocated element (pos 0) ZeroFill false m))
 
 -- a call of `malloc` or `calloc`, whose arguments are on the stack
 abbrev pub allocate : TypedProgram → Place → Allocator → Shape → State → Act State

@@ -134,7 +134,7 @@ act_form program budgets at ty (Difference a b) m =
 act_form program budgets at ty (Assign a b) m = stores program at a 1 (operand_at m 0) 2 (operand_at m 0) m
 act_form program budgets at ty (Update op a b works_in gives) m =
     operate program.model at op works_in (number_at m 1) (number_at m 0) (λ number.
-      convert_number program.model at (integer works_in) (integer_of (type_of a)) number (λ stored. updates program at a gives stored m))
+    convert_number program.model at (integer works_in) (integer_of (type_of a)) number (λ stored. updates program at a gives stored m))
 act_form program budgets at ty (Move a n direction gives) m =
     sum program.model at (cell_at m 1) (directed direction (number_at m 0)) (size_of program (target_of (type_of a))) (λ cell. moves program at a gives cell m)
 act_form program budgets at ty (Call function arguments) m = call program budgets at function (count_all arguments) m
@@ -149,8 +149,8 @@ act program budgets (Of at ty form) m = act_form program budgets at ty form m
 abbrev pub fetch_form : TypedProgram → Place → Form → State → Act State
 fetch_form program at (Update op a b works_in gives) m =
     load program m.memory m.frame.number a (cell_at m 0) (λ memory operand.
-      convert_number program.model at (type_of a) works_in (number_in (cell_of operand)) (λ number.
-        Goes (push_cell (NumberCell number) (push operand (with_memory memory m)))))
+    convert_number program.model at (type_of a) works_in (number_in (cell_of operand)) (λ number.
+    Goes (push_cell (NumberCell number) (push operand (with_memory memory m)))))
 fetch_form program at (Move a n direction gives) m =
     load program m.memory m.frame.number a (cell_at m 0) (λ memory operand. Goes (push operand (with_memory memory m)))
 fetch_form program at other m = Goes m

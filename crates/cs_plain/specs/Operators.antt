@@ -124,9 +124,9 @@ module _ {S : Type 0} where
   sum model at NullCell amount size onward = shows_then at (label.Look false) (move_null at amount onward)
   sum model at (PointerCell object offset) amount size onward =
       shows_then at (label.Look true)
-        (ordered at (offset +ℤ pos (offset_bound_of model)) (amount *ℤ pos size)
-          (ordered at (pos (offset_bound_of model) -ℤ offset) (neg_ℤ (amount *ℤ pos size))
-            (Asks at (operation.Sum offset amount size) (λ moved. onward (PointerCell object moved)))))
+      (ordered at (offset +ℤ pos (offset_bound_of model)) (amount *ℤ pos size)
+      (ordered at (pos (offset_bound_of model) -ℤ offset) (neg_ℤ (amount *ℤ pos size))
+      (Asks at (operation.Sum offset amount size) (λ moved. onward (PointerCell object moved)))))
   sum model at (NumberCell n) amount size onward = onward UnsetCell
   sum model at UnsetCell amount size onward = onward UnsetCell
 
@@ -144,9 +144,9 @@ module _ {S : Type 0} where
   abbrev pub compare_pointers : Place → CmpOp → Cell → Cell → (ℤ → Act S) → Act S
   compare_pointers at operator left right onward =
       look at left (look at right
-        (if asks_order operator
-         then in_relation at (related left right) (λ one other. Asks at (operation.Compare operator one other) onward)
-         else equality at operator (both_null left right) (in_one_object left right) onward))
+      (if asks_order operator
+      then in_relation at (related left right) (λ one other. Asks at (operation.Compare operator one other) onward)
+      else equality at operator (both_null left right) (in_one_object left right) onward))
 
   -- a comparison of two numbers or two pointers (C11 6.5.8, 6.5.9)
   abbrev pub compare : Place → CmpOp → Cell → Cell → (ℤ → Act S) → Act S

@@ -1,5 +1,5 @@
 -- The runs of a program: how each ends, which events it passes, what is pending, and which paths it reads.
-use Rattle.std.specs.Prelude.{ℕ, ℤ, List, Contains}
+use Rattle.std.specs.Prelude.{◌≡◌, ℕ, ℤ, List, Contains}
 use Rattle.cs_inputs.specs.declared.path.Path.{Path}
 use Rattle.cs_inputs.specs.Inputs.{number_at}
 use Rattle.cs_ast.specs.TypedProgram.{TypedProgram}
@@ -26,8 +26,12 @@ abbrev pub start_of : TypedProgram → ℕ → PlainRun → State
 start_of program entry run = start program (number_at run.inputs) entry
 
 -- the run ends so, with this log
-abbrev pub RunEnds : TypedProgram → ℕ → PlainRun → RunBudgets → Outcome → Log → Type 0
-RunEnds program entry run budgets outcome log = Ends (step program budgets) (setting_of program run budgets) (start_of program entry run) outcome log
+abbrev pub RunGives : TypedProgram → ℕ → PlainRun → RunBudgets → Outcome → Log → Type 0
+RunGives program entry run budgets outcome log = Ends (step program budgets) (setting_of program run budgets) (start_of program entry run) outcome log
+
+-- the run passes exactly these events and ends so
+abbrev pub RunEnds : TypedProgram → ℕ → PlainRun → RunBudgets → List Event → Outcome → Type 0
+RunEnds program entry run budgets events outcome = (log : Log) × RunGives program entry run budgets outcome log × (log.events ≡ events)
 
 -- the run passes these events first
 abbrev pub RunPasses : TypedProgram → ℕ → PlainRun → RunBudgets → List Event → Type 0

@@ -52,7 +52,7 @@ declare program at declaration (Some initial) m =
 abbrev pub store_local : TypedProgram → Place → ℕ → ℕ → Shape → State → Act State
 store_local program at declaration offset ty m =
     touches_then (λ local. Stores m.frame.number local at) (if_scalar (local_type program declaration m) declaration)
-      (Goes (with_memory (changed (write_operand program ty offset (operand_at m 0)) (LocalObject m.frame.number declaration) m.memory) (pop m)))
+    (Goes (with_memory (changed (write_operand program ty offset (operand_at m 0)) (LocalObject m.frame.number declaration) m.memory) (pop m)))
 
 -- bytes are stored in a local
 abbrev pub spell_local : TypedProgram → ℕ → ℕ → List ℕ → State → Act State

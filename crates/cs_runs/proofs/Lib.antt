@@ -1,2 +1,3 @@
 pub mod RunLaws
 pub mod LogGrowth
+pub mod Endings

@@ -6,3 +6,4 @@ pub mod Runs
 pub mod Pending
 pub mod Counted
 pub mod Growth
+pub mod Silence
