@@ -89,10 +89,7 @@ fn a_bad_text_is_refused_at_its_first_fault(rt: HostRuntime) -> Result<(), Fail>
         ("'ab\n'", Fault::Unclosed, at(1, 1)),
         ("'\\\n'", Fault::Unclosed, at(1, 1)),
         ("\n\n  \"\\q\nb\"", Fault::Unclosed, at(3, 3)),
-        (
-            "int x = 18446744073709551616;",
-            Fault::WideNumber, at(1, 9),
-        ),
+        ("int x = 18446744073709551616;", Fault::WideNumber, at(1, 9)),
         ("9223372036854775808", Fault::WideNumber, at(1, 1)),
         ("99999999999999999999x", Fault::WideNumber, at(1, 1)),
         ("'\\400'", Fault::WideNumber, at(1, 2)),
@@ -127,7 +124,6 @@ fn a_refusal_names_its_file(rt: HostRuntime) -> Result<(), Fail> {
     }
     Ok(())
 }
-
 
 const LINKED: &str = "# 0 \"list.c\"
 # 0 \"<built-in>\"

@@ -26,11 +26,7 @@ const MOST_PARAMETERS: usize = 8;
 const MOST_TESTS: usize = 100;
 
 /// The tests that statements of a block are.
-fn guards(
-    alloc: Global,
-    parameters: &[Local],
-    items: &[RawItem],
-) -> Result<Vec<Guard>, FormRefusal>
+fn guards(alloc: Global, parameters: &[Local], items: &[RawItem]) -> Result<Vec<Guard>, FormRefusal>
     requires { length parameters.now ≤ 8 }
     ensures { Reads (λ v. v.items) result (reading.guards (names_of parameters.now) items.now) }
 {
@@ -105,8 +101,11 @@ fn parts(alloc: Global, head: &RawFunction, body: &RawBody) -> Result<SmallFunct
         return Err(FormRefusal::NotOfForm);
     }
     let parameters = locals(alloc, &head.parameters)?;
-    let (guards, (return_at, answer)) =
-        statements(alloc, parameters.as_slice(), body.items.as_slice())?;
+    let (guards, (return_at, answer)) = statements(
+        alloc,
+        parameters.as_slice(),
+        body.items.as_slice(),
+    )?;
     Ok(SmallFunction {
         name: head.name.copy()?,
         at: head.place,

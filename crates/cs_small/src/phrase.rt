@@ -65,7 +65,10 @@ fn constant(e: &RawExpr) -> Option<(Place, u32)>
     ensures { result ≡ reading.constant e.now.place e.now.kind }
 {
     match &e.kind {
-        RawExprKind::Number(constant) if is_int(*constant) => Some((e.place, constant.value as u32)),
+        RawExprKind::Number(constant) if is_int(*constant) => Some((
+            e.place,
+            constant.value as u32,
+        )),
         _ => None,
     }
 }
