@@ -6,9 +6,15 @@ mod Suffixes
 mod Prefixes
 mod TypedPrefixes
 mod Looser
+mod Heads
+mod Joining
 mod Sites
 mod SitesOfLevels
 mod SitesOfPrefixes
 mod ProgramRows
 mod TypesInside
 mod WordsBegun
+mod SitesOfWords
+mod SitesOfChains
+mod SitesOfRows
+mod SitesOfTypes

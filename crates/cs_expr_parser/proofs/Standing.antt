@@ -51,6 +51,11 @@ near_list (t ∷ ts) = inr (kinds ts, refl)
 pub near : (tokens : List Token) (at : ℕ) → Near (kind_or_end tokens at) (kinds (drop at tokens))
 near tokens at = near_list (drop at tokens)
 
+-- the first of some tokens, by their kinds
+pub kinds_first : (tokens : List Token) (kind : TokenKind) (others : Kinds) → kinds tokens ≡ kind ∷ others → first_kind tokens ≡ kind
+kinds_first [] kind others e = absurd cc
+kinds_first (t ∷ ts) kind others e = cc
+
 -- one token
 pub spells_one : (tokens : List Token) (at : ℕ) (kind : TokenKind) → kind_or_end tokens at ≡ kind → (kind ≡ token.Attribute → ⊥) → Spells tokens at (at + 1) (λ rest. kind ∷ rest)
 spells_one tokens at kind e ne =

@@ -1,6 +1,8 @@
 //! Expressions in a row: arguments of calls, and bounds of arrays.
 ghost use Rattle.std.specs.Prelude.{◌≤◌, ◌<◌, ◌^◌, length};
-ghost use Rattle.cs_expr_parser.specs.Parts.{IsRowBounded};
+ghost use Rattle.cs_grammar.specs.Levels.{ASSIGN, CHOICE};
+ghost use Rattle.cs_grammar.specs.Phrases.{ArePhrases};
+ghost use Rattle.cs_expr_parser.specs.Parts.{IsRowBounded, RowAnswers, arguments_text, closed_bounds_text};
 
 use crate::loose::{assign, choice};
 use crate::stop::Stop;
@@ -32,6 +34,7 @@ pub fn arguments(
     requires within { from ≤ length tokens.now }
     requires few { length tokens.now < 2 ^ 32 }
     ensures bounds { IsRowBounded room tokens.now from result }
+    ensures parsed { RowAnswers arguments_text (ArePhrases names.now ASSIGN) room tokens.now from result }
 {
     let mut trees = Vec::new(alloc);
     if is_mark(tokens, from, Mark::CloseParenthesis) {
@@ -73,7 +76,9 @@ pub fn bounds(
 ) -> Result<Listed, Stop>
     requires within { from ≤ length tokens.now }
     requires few { length tokens.now < 2 ^ 32 }
+    requires least { 1 ≤ room }
     ensures bounds { IsRowBounded room tokens.now from result }
+    ensures parsed { RowAnswers closed_bounds_text (ArePhrases names.now CHOICE) room tokens.now from result }
 {
     let mut trees = Vec::new(alloc);
     let mut height = 0;
