@@ -48,6 +48,16 @@ no_suffix_mark mark.Increment s j = cc
 no_suffix_mark mark.Decrement s j = cc
 no_suffix_mark _ s j = absurd (omega (arith, j))
 
+-- the mark that is left
+pub last_suffix : (m : Mark) → is_suffix m ≡ true → (m ≡ mark.OpenBracket → ⊥) → (m ≡ mark.OpenParenthesis → ⊥) → (m ≡ mark.Dot → ⊥) → (m ≡ mark.Arrow → ⊥) → (m ≡ mark.Increment → ⊥) → m ≡ mark.Decrement
+last_suffix mark.OpenBracket s a b c d e = absurd (a refl)
+last_suffix mark.OpenParenthesis s a b c d e = absurd (b refl)
+last_suffix mark.Dot s a b c d e = absurd (c refl)
+last_suffix mark.Arrow s a b c d e = absurd (d refl)
+last_suffix mark.Increment s a b c d e = absurd (e refl)
+last_suffix mark.Decrement s a b c d e = refl
+last_suffix _ s a b c d e = absurd cc
+
 -- a mark that stands behind an operand goes on with a postfix expression
 pub some_suffix : (kind : TokenKind) (m : Mark) → IsSuffixAt kind (Some m) → join kind ≡ suc 15
 some_suffix kind m s = ap join s.0 ∙ suffix_join m s.1

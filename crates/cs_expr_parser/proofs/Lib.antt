@@ -18,3 +18,5 @@ mod SitesOfWords
 mod SitesOfChains
 mod SitesOfRows
 mod SitesOfTypes
+mod EndOfInput
+mod Answering

@@ -21,7 +21,7 @@ use Rattle.cs_grammar.specs.FirstTokens.{begins_expression}
 use Rattle.cs_grammar.proofs.Beginnings.{expression_begins}
 use Rattle.cs_grammar.proofs.Levels.{text_law}
 use Rattle.cs_grammar.proofs.Holes.{tail_took, tail_refused}
-use Rattle.cs_expr_parser.specs.Positions.{kinds, kind_or_end}
+use Rattle.cs_expr_parser.specs.Positions.{kinds, kind_or_end, is_brace}
 use Rattle.cs_expr_parser.specs.Parts.{Spells, Stops, Answers, IsTakenFrom, IsTypeFrom, IsNode, IsBounded, Types, parts_of, type_closed_text, TypeParts}
 use Rattle.cs_expr_parser.specs.Reasons.{plain_reason}
 use Rattle.cs_expr_parser.specs.Unary.{before_text, prefixed_tree, opens_type, IsOperatorAt}
@@ -160,6 +160,17 @@ cast_front names room tokens from taken k t =
     spells_as tokens from taken.next (λ rest. open_parenthesis ∷ type_closed_text (parts_of taken) rest) (λ rest. (open_parenthesis ∷ type_closed_text (parts_of taken) []) ++ rest)
     (spells_more tokens from (from + 1) taken.next (λ rest. open_parenthesis ∷ rest) (type_closed_text (parts_of taken)) (parenthesis_stands tokens from k) t.spelled)
     (λ rest. ap (λ (x : Kinds). open_parenthesis ∷ x) (sym (types_law names (parts_of taken) [] rest)))
+
+pub brace_begins_none : (names : Names) (kind : TokenKind) → is_brace kind ≡ true → begins_expression names kind ≡ false
+brace_begins_none names (token.Mark mark.OpenBrace) b = refl
+brace_begins_none names (token.Mark _) b = absurd cc
+brace_begins_none names (token.Keyword k) b = absurd cc
+brace_begins_none names (token.LeftOut k) b = absurd cc
+brace_begins_none names token.Attribute b = absurd cc
+brace_begins_none names (token.Name k) b = absurd cc
+brace_begins_none names (token.Number k) b = absurd cc
+brace_begins_none names (token.Character k) b = absurd cc
+brace_begins_none names (token.Text k) b = absurd cc
 
 -- a brace behind the type of a cast
 pub cast_brace_stops : (names : Names) (room : ℕ) (tokens : List Token) (from : ℕ) (taken : TakenType) (s : Stop) → 2 ≤ room → kind_or_end tokens from ≡ open_parenthesis → IsTypeFrom names (room - 1) tokens (from + 1) taken → begins_expression names (kind_or_end tokens taken.next) ≡ false → s ≡ stop.Refused taken.next (plain_reason (kind_or_end tokens taken.next) true) → Stops (Expressions names 13) room tokens from s

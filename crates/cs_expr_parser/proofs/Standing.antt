@@ -19,7 +19,7 @@ kind_of_some tokens at t e =
     let h : at < length tokens = slice_get_within tokens at t e in
     ap first_kind (drop-cons tokens at t h) ∙ ap (λ (x : Token). x.kind) (get_or_from_slice_get tokens at t t e)
 
-past_end : (tokens : List Token) (at : ℕ) → slice_get tokens at ≡ None → length tokens ≤ at
+pub past_end : (tokens : List Token) (at : ℕ) → slice_get tokens at ≡ None → length tokens ≤ at
 past_end [] at e = omega arith
 past_end (t ∷ ts) at e =
     elim (cases_lt at (length (t ∷ ts))) [

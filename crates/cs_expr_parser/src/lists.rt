@@ -81,7 +81,7 @@ pub fn bounds(
     ensures parsed { RowAnswers closed_bounds_text (ArePhrases names.now CHOICE) room tokens.now from result }
 {
     let mut trees = Vec::new(alloc);
-    let mut height = 0;
+    let mut height: u32 = 0;
     let mut next = from;
     'row: while is_mark(tokens, next, Mark::OpenBracket) {
         let bound = choice(alloc, tokens, names, next + 1, room)?;

@@ -1,10 +1,11 @@
 //! Casts and unary expressions (C11 6.5.3, 6.5.4).
-ghost use Rattle.std.specs.Prelude.{◌≡◌, ◌≤◌, ◌<◌, ◌^◌, ◌+◌, ◌-◌, false, length, max, IfOk, IsSome, IsTrue};
+ghost use Rattle.std.specs.Prelude.{◌≡◌, ◌↔◌, ◌≤◌, ◌<◌, ◌^◌, ◌+◌, ◌-◌, false, length, max, IfOk, IsSome, IsTrue};
 ghost use Rattle.cs_ast.specs.RawTree.{Cast, SizeOfType};
 ghost use Rattle.cs_ast.specs.RawView.{written, written_list};
 ghost use Rattle.cs_grammar.specs.Levels.{CAST, UNARY};
 ghost use Rattle.cs_expr_parser.specs.declared.unary.Before.TheVariants.{Size};
 ghost use Rattle.cs_ast.specs.declared.token.TokenKind.TheVariants as token;
+ghost use Rattle.cs_ast.specs.declared.token.Mark.TheVariants.{OpenParenthesis};
 ghost use Rattle.cs_expr_parser.specs.Parts.{IsBounded, IsNode, Answers};
 ghost use Rattle.cs_expr_parser.specs.Unary.{opens_type as type_opens, before_text, prefixed_tree, IsOperatorAt};
 ghost use Rattle.cs_expr_parser.specs.Positions.{kind_or_end};
@@ -198,11 +199,18 @@ fn sized(
         return Ok(measured(tokens, from, taken));
     }
     // At a room of 2 the parenthesis may stand for that of a type alone, so that the token behind it is refused.
-    if room == 2 && is_mark(tokens, from + 1, Mark::OpenParenthesis) {
+    if is_narrow(tokens, from + 1, room) {
         return comma(alloc, tokens, names, from + 2, 0);
     }
     let operand = unary(alloc, tokens, names, from + 1, room - 1)?;
     Ok(prefixed(alloc, tokens, from, Before::Size, operand)?)
+}
+
+/// Whether an opening parenthesis stands at a number, and there is room for a type alone behind it.
+fn is_narrow(tokens: &[Token], at: usize, room: u32) -> bool
+    ensures { IsTrue result ↔ ((room ≡ 2) × (kind_or_end tokens.now at ≡ token.Mark OpenParenthesis)) }
+{
+    room == 2 && is_mark(tokens, at, Mark::OpenParenthesis)
 }
 
 /// The `sizeof`, at a number, of a type.
