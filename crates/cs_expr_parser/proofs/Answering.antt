@@ -5,6 +5,7 @@ use Rattle.std.proofs.Math.Seq.{drop-cons}
 use Rattle.std.proofs.Math.ListN.{drop_of_length-le}
 use Rattle.std.proofs.lemmas.Option.{slice_get_within, get_or_from_slice_get}
 use Rattle.std.proofs.lemmas.Bool.{false≢true}
+use Rattle.std.proofs.lemmas.List.{append_cancel_right}
 use Rattle.cs_ast.specs.declared.place.Place.{Place}
 use Rattle.cs_ast.specs.declared.token.Token.{Token}
 use Rattle.cs_ast.specs.declared.token.TokenKind.{TokenKind}
@@ -21,17 +22,37 @@ use Rattle.cs_grammar.specs.Spelling.{left_out_spelling}
 use Rattle.cs_grammar.specs.TypeWords.{Names}
 use Rattle.cs_grammar.specs.Text.{Kinds, text}
 use Rattle.cs_grammar.specs.Phrases.{IsPhrase, BeginsPhrase, BeginsLowPhrase, IsLowPhrase}
+use Rattle.cs_grammar.specs.Refusals.{IsReason}
 use Rattle.cs_grammar.specs.Parsing.{Class, Expressions, Begins, BeginsLow, Took, Refused}
 use Rattle.cs_grammar.proofs.Texts.{text_splits}
 use Rattle.cs_expr_parser.specs.Positions.{kinds, kind_or_end}
 use Rattle.cs_expr_parser.specs.Reasons.{reason_of, ends_in_type}
 use Rattle.cs_expr_parser.specs.Parts.{Spells, IsRefused, IsTakenFrom, is_deep}
-use Rattle.cs_expr_parser.specs.Expression.{first_place, place_or_end, IsRefusalBy, kind_at, GoesNoFurther, TellsDepth, IsTaken, IsRefusedAt, IsRefusalFor, IsRefusal, reason_there}
+use Rattle.cs_expr_parser.specs.LastTokens.{TellsLeftOut, IsToldAt}
+use Rattle.cs_expr_parser.specs.Expression.{first_place, place_or_end, IsRefusalBy, kind_at, GoesNoFurther, IsTaken, IsRefusedAt, IsRefusalFor, IsRefusal, reason_there}
 use Rattle.cs_expr_parser.specs.declared.stop.Taken.{Taken}
 use Rattle.cs_expr_parser.specs.declared.answer.Phrase.{Phrase}
 use Rattle.cs_expr_parser.proofs.Standing.{kind_of_some, kind_of_none, past_end}
 use Rattle.cs_expr_parser.proofs.Stopping.{deep_reason}
 use Rattle.cs_expr_parser.proofs.EndOfInput.{no_end}
+use Rattle.cs_expr_parser.proofs.Telling.{plain_not_left_out, tells_reason, text_ends, text_plain}
+
+-- the next token is refused as too deep exactly where some phrase of the level, of any height, goes on with it
+abbrev TellsDepth : Names → ℕ → Kinds → Option TokenKind → Reason → Type 0
+TellsDepth names level front (Some next) TooDeep = BeginsPhrase names level (front ++ next ∷ [])
+TellsDepth names level front (Some next) other = BeginsPhrase names level (front ++ next ∷ []) → ⊥
+TellsDepth names level front None TooDeep = ⊥
+TellsDepth names level front None other = Unit {0}
+
+reason_is : (names : Names) (level : ℕ) (front : Kinds) (next : TokenKind) (reason : Reason) → TellsDepth names level front (Some next) reason → TellsLeftOut names front next reason → IsReason names level front (Some next) reason
+reason_is names level front next TooDeep d l = d
+reason_is names level front next LeftOut d l = (d, l)
+reason_is names level front next Syntax d l = (d, plain_not_left_out names front next l.0 l.1)
+
+reason_ends : (names : Names) (level : ℕ) (front : Kinds) (reason : Reason) → TellsDepth names level front None reason → TellsLeftOut names front token.Attribute reason → IsReason names level front None reason
+reason_ends names level front TooDeep d l = d
+reason_ends names level front LeftOut d l = l
+reason_ends names level front Syntax d l = tt
 
 kind_found : (tokens : List Token) (at : ℕ) (P : Option TokenKind → Type 0) → ((next : TokenKind) → kind_or_end tokens at ≡ next → P (Some next)) → (kind_or_end tokens at ≡ token.Attribute → P None) → (found : Option Token) → slice_get tokens at ≡ found → P (option_map (λ (token : Token). token.kind) found)
 kind_found tokens at P some none (Some t) e = some t.kind (kind_of_some tokens at t e)
@@ -73,8 +94,8 @@ took_ends names level room e LeftOut t = tt
 took_ends names level room e Syntax t = tt
 
 -- a phrase that was taken, with the reason for a refusal of the token behind it
-taken_is : (names : Names) (level room : ℕ) (tokens : List Token) (from : ℕ) (phrase : Phrase) → phrase.height ≡ height (written phrase.tree) → Spells tokens from phrase.next (text (written phrase.tree)) → from < phrase.next → Took (Expressions names level) room (written phrase.tree) (kind_or_end tokens phrase.next) (is_deep phrase.otherwise) → IsTaken names level room tokens from phrase
-taken_is names level room tokens from phrase h sp some t = record {
+taken_is : (names : Names) (level room : ℕ) (tokens : List Token) (from : ℕ) (phrase : Phrase) → phrase.height ≡ height (written phrase.tree) → Spells tokens from phrase.next (text (written phrase.tree)) → from < phrase.next → Took (Expressions names level) room (written phrase.tree) (kind_or_end tokens phrase.next) (is_deep phrase.otherwise) → TellsLeftOut names (text (written phrase.tree) []) (kind_or_end tokens phrase.next) phrase.otherwise → IsTaken names level room tokens from phrase
+taken_is names level room tokens from phrase h sp some t l = record {
   is_phrase = t.is_phrase;
   low = t.low;
   height_is = h;
@@ -90,9 +111,9 @@ taken_is names level room tokens from phrase h sp some t = record {
       (λ next k. took_no_further names level room (written phrase.tree) next (is_deep phrase.otherwise) (subst (λ (x : TokenKind). Took (Expressions names level) room (written phrase.tree) x (is_deep phrase.otherwise)) k t))
       (λ k. tt);
   otherwise =
-      kind_cases tokens phrase.next (λ (next : Option TokenKind). TellsDepth names level (text (written phrase.tree) []) next phrase.otherwise)
-      (λ next k. took_tells names level room (written phrase.tree) next phrase.otherwise (subst (λ (x : TokenKind). Took (Expressions names level) room (written phrase.tree) x (is_deep phrase.otherwise)) k t))
-      (λ k. took_ends names level room (written phrase.tree) phrase.otherwise (subst (λ (x : TokenKind). Took (Expressions names level) room (written phrase.tree) x (is_deep phrase.otherwise)) k t));
+      kind_cases tokens phrase.next (λ (next : Option TokenKind). IsReason names level (text (written phrase.tree) []) next phrase.otherwise)
+      (λ next k. reason_is names level (text (written phrase.tree) []) next phrase.otherwise (took_tells names level room (written phrase.tree) next phrase.otherwise (subst (λ (x : TokenKind). Took (Expressions names level) room (written phrase.tree) x (is_deep phrase.otherwise)) k t)) (subst (λ (x : TokenKind). TellsLeftOut names (text (written phrase.tree) []) x phrase.otherwise) k l))
+      (λ k. reason_ends names level (text (written phrase.tree) []) phrase.otherwise (took_ends names level room (written phrase.tree) phrase.otherwise (subst (λ (x : TokenKind). Took (Expressions names level) room (written phrase.tree) x (is_deep phrase.otherwise)) k t)) (subst (λ (x : TokenKind). TellsLeftOut names (text (written phrase.tree) []) x phrase.otherwise) k l));
   took = t;
 }
 
@@ -107,6 +128,11 @@ phrase_taken names level room tokens from taken phrase t tree tall next otherwis
     (subst (λ (d : Bool). Took (Expressions names level) room (written phrase.tree) (kind_or_end tokens phrase.next) d) deep
     (subst (λ (n : ℕ). Took (Expressions names level) room (written phrase.tree) (kind_or_end tokens n) taken.deep) (sym next)
     (subst (λ (x : RawExpr). Took (Expressions names level) room (written x) (kind_or_end tokens taken.next) taken.deep) (sym tree) t.took)))
+    (subst (λ (n : ℕ). TellsLeftOut names (text (written phrase.tree) []) (kind_or_end tokens n) phrase.otherwise) (sym next)
+    (subst (λ (x : RawExpr). TellsLeftOut names (text (written x) []) (kind_or_end tokens taken.next) phrase.otherwise) (sym tree)
+    (subst (TellsLeftOut names (text (written taken.tree) []) (kind_or_end tokens taken.next)) (sym otherwise)
+    (tells_reason names (text (written taken.tree) []) (kind_or_end tokens taken.next) taken.deep (ends_in_type (written taken.tree))
+    (λ b. inr (text_ends names (written taken.tree) t.took.is_phrase.1 b)) (λ b. text_plain names (written taken.tree) t.took.is_phrase.1 b)))))
 
 refused_no_further : (names : Names) (level room : ℕ) (front : Kinds) (next : TokenKind) (deep : Bool) → Refused (Expressions names level) room front next deep → BeginsLowPhrase names level room (front ++ next ∷ []) → ⊥
 refused_no_further names level room front next deep r b =
@@ -137,8 +163,8 @@ begun_is names level room front (inl e) = inl e
 begun_is names level room front (inr b) = inr (record { phrase = b.phrase; more = b.more; is_phrase = b.is_phrase; low = b.low; spelled = b.spelled })
 
 -- the refusal of a part as that of `expression`
-pub phrase_refused : (names : Names) (level room : ℕ) (tokens : List Token) (from at : ℕ) (reason : Reason) → IsRefused (Expressions names level) room tokens from at reason → IsRefusedAt names level room tokens from at (reason_there (kind_at tokens at) reason)
-phrase_refused names level room tokens from at reason r = record {
+pub phrase_refused : (names : Names) (level room : ℕ) (tokens : List Token) (from at : ℕ) (reason : Reason) → IsRefused (Expressions names level) room tokens from at reason → IsToldAt names tokens from at reason → IsRefusedAt names level room tokens from at (reason_there (kind_at tokens at) reason)
+phrase_refused names level room tokens from at reason r t = record {
   front = r.front;
   spelled = r.spelled;
   begun = begun_is names level room r.front r.refused.begun;
@@ -150,8 +176,13 @@ phrase_refused names level room tokens from at reason r = record {
       (λ next k. refused_no_further names level room r.front next (is_deep reason) (subst (λ (x : TokenKind). Refused (Expressions names level) room r.front x (is_deep reason)) k r.refused))
       (λ k. tt);
   why =
-      kind_cases tokens at (λ (next : Option TokenKind). TellsDepth names level r.front next (reason_there next reason))
-      (λ next k. refused_tells names level room r.front next reason (subst (λ (x : TokenKind). Refused (Expressions names level) room r.front x (is_deep reason)) k r.refused))
+      let front : t.front ≡ r.front = append_cancel_right t.front r.front (kinds (drop at tokens)) (sym t.spelled.spelled ∙ r.spelled.spelled) in
+      let tells : TellsLeftOut names r.front (kind_or_end tokens at) reason = subst (λ (x : Kinds). TellsLeftOut names x (kind_or_end tokens at) reason) front t.tells in
+      kind_cases tokens at (λ (next : Option TokenKind). IsReason names level r.front next (reason_there next reason))
+      (λ next k.
+      reason_is names level r.front next reason
+      (refused_tells names level room r.front next reason (subst (λ (x : TokenKind). Refused (Expressions names level) room r.front x (is_deep reason)) k r.refused))
+      (subst (λ (x : TokenKind). TellsLeftOut names r.front x reason) k tells))
       (λ k. tt);
   refused =
       kind_cases tokens at (λ (next : Option TokenKind). Refused (Expressions names level) room r.front (kind_or_end tokens at) (is_deep (reason_there next reason)))

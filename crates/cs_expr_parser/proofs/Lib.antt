@@ -20,3 +20,6 @@ mod SitesOfRows
 mod SitesOfTypes
 mod EndOfInput
 mod Answering
+mod LastTokens
+mod Telling
+mod SitesOfReasons

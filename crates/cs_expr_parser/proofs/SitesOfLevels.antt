@@ -76,7 +76,7 @@ one_is : (names : Names) (room : ℕ) (tokens : List Token) (from : ℕ) (one : 
 one_is names room tokens from one o k = one_exact names room (written one.tree) one.deep (subst (λ (x : TokenKind). Took (Expressions names 0) room (written one.tree) x one.deep) k o.took)
 
 -- the tokens of a choice up to its colon
-choice_front : (names : Names) (room : ℕ) (tokens : List Token) (from : ℕ) (test one : Taken) → IsTakenFrom names 3 room tokens from test → kind_or_end tokens test.next ≡ question → IsTakenFrom names 0 (room - 1) tokens (test.next + 1) one → kind_or_end tokens one.next ≡ colon → Spells tokens from (one.next + 1) (λ rest. text (written test.tree) (question ∷ text (written one.tree) (colon ∷ rest)))
+pub choice_front : (names : Names) (room : ℕ) (tokens : List Token) (from : ℕ) (test one : Taken) → IsTakenFrom names 3 room tokens from test → kind_or_end tokens test.next ≡ question → IsTakenFrom names 0 (room - 1) tokens (test.next + 1) one → kind_or_end tokens one.next ≡ colon → Spells tokens from (one.next + 1) (λ rest. text (written test.tree) (question ∷ text (written one.tree) (colon ∷ rest)))
 choice_front names room tokens from test one t k o c =
     spells_more tokens from test.next (one.next + 1) (text (written test.tree)) (λ rest. question ∷ text (written one.tree) (colon ∷ rest)) t.spelled
     (spells_more tokens test.next (test.next + 1) (one.next + 1) (λ rest. question ∷ rest) (λ rest. text (written one.tree) (colon ∷ rest)) (mark_stands tokens test.next mark.Question k)

@@ -41,7 +41,7 @@ use Rattle.cs_expr_parser.proofs.TypedPrefixes.{sizeof_token, cast_full, cast_ty
 keyword_stands : (tokens : List Token) (at : ℕ) → kind_or_end tokens at ≡ token.Keyword keyword.Sizeof → Spells tokens at (at + 1) (λ rest. token.Keyword keyword.Sizeof ∷ rest)
 keyword_stands tokens at e = spells_one tokens at (token.Keyword keyword.Sizeof) e (λ x. cc)
 
-before_stands : (tokens : List Token) (at : ℕ) (b : Before) → kind_or_end tokens at ≡ before_text b → Spells tokens at (at + 1) (λ rest. before_text b ∷ rest)
+pub before_stands : (tokens : List Token) (at : ℕ) (b : Before) → kind_or_end tokens at ≡ before_text b → Spells tokens at (at + 1) (λ rest. before_text b ∷ rest)
 before_stands tokens at (before.Step by) e = spells_one tokens at (before_text (before.Step by)) e (λ x. cc)
 before_stands tokens at (before.Operator op) e = spells_one tokens at (before_text (before.Operator op)) e (λ x. cc)
 before_stands tokens at before.Size e = spells_one tokens at (before_text before.Size) e (λ x. cc)
@@ -132,7 +132,7 @@ cast_none_answer names room tokens from (Err s) none r =
 pub cast_full_stops : (names : Names) (room : ℕ) (tokens : List Token) (from : ℕ) (s : Stop) → from ≤ length tokens → room < 2 → kind_or_end tokens from ≡ open_parenthesis → IsRefusalAt tokens from true s → Stops (Expressions names 13) room tokens from s
 cast_full_stops names room tokens from s within full k is = refused_first (Expressions names 13) room tokens from true s within is (subst (λ (x : TokenKind). Refused (Expressions names 13) room [] x true) (sym k) (cast_full names room full))
 
-parenthesis_stands : (tokens : List Token) (at : ℕ) → kind_or_end tokens at ≡ open_parenthesis → Spells tokens at (at + 1) (λ rest. open_parenthesis ∷ rest)
+pub parenthesis_stands : (tokens : List Token) (at : ℕ) → kind_or_end tokens at ≡ open_parenthesis → Spells tokens at (at + 1) (λ rest. open_parenthesis ∷ rest)
 parenthesis_stands tokens at k = mark_stands tokens at mark.OpenParenthesis k
 
 -- the type of a cast was refused
@@ -155,7 +155,7 @@ first_refused names level room next none = record {
 }
 
 -- a parenthesis and the type behind it
-cast_front : (names : Names) (room : ℕ) (tokens : List Token) (from : ℕ) (taken : TakenType) → kind_or_end tokens from ≡ open_parenthesis → IsTypeFrom names room tokens (from + 1) taken → Spells tokens from taken.next (λ rest. (open_parenthesis ∷ type_closed_text (parts_of taken) []) ++ rest)
+pub cast_front : (names : Names) (room : ℕ) (tokens : List Token) (from : ℕ) (taken : TakenType) → kind_or_end tokens from ≡ open_parenthesis → IsTypeFrom names room tokens (from + 1) taken → Spells tokens from taken.next (λ rest. (open_parenthesis ∷ type_closed_text (parts_of taken) []) ++ rest)
 cast_front names room tokens from taken k t =
     spells_as tokens from taken.next (λ rest. open_parenthesis ∷ type_closed_text (parts_of taken) rest) (λ rest. (open_parenthesis ∷ type_closed_text (parts_of taken) []) ++ rest)
     (spells_more tokens from (from + 1) taken.next (λ rest. open_parenthesis ∷ rest) (type_closed_text (parts_of taken)) (parenthesis_stands tokens from k) t.spelled)
@@ -200,7 +200,7 @@ cast_taken names room tokens from taken operand whole least k t o n =
     (cast_took names room (parts_of taken) least t.exactly (written operand.tree) (kind_or_end tokens operand.next) operand.deep o.took)
 
 -- `sizeof` and a parenthesis
-size_front : (tokens : List Token) (from : ℕ) → kind_or_end tokens from ≡ before_text before.Size → kind_or_end tokens (from + 1) ≡ open_parenthesis → Spells tokens from (from + 2) (λ rest. sizeof_token ∷ open_parenthesis ∷ rest)
+pub size_front : (tokens : List Token) (from : ℕ) → kind_or_end tokens from ≡ before_text before.Size → kind_or_end tokens (from + 1) ≡ open_parenthesis → Spells tokens from (from + 2) (λ rest. sizeof_token ∷ open_parenthesis ∷ rest)
 size_front tokens from k o =
     subst (λ (x : ℕ). Spells tokens from x (λ rest. sizeof_token ∷ open_parenthesis ∷ rest)) (let e : from + 1 + 1 ≡ from + 2 = omega arith in e)
     (spells_more tokens from (from + 1) (from + 1 + 1) (λ rest. sizeof_token ∷ rest) (λ rest. open_parenthesis ∷ rest) (keyword_stands tokens from k) (parenthesis_stands tokens (from + 1) o))

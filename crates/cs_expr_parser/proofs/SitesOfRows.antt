@@ -86,12 +86,15 @@ one_low names room tokens at done last t low =
     omega arith
 
 -- the arguments with one more, and its comma
-one_spelled : (names : Names) (room : ℕ) (tokens : List Token) (from : ℕ) (done : WrittenList) (tall : ℕ) (last : Taken) → ArgumentsSoFar names room tokens from done tall last → kind_or_end tokens last.next ≡ comma_token → Spells tokens from (last.next + 1) (row_text (joined done (More (written last.tree) End)))
+pub one_spelled : (names : Names) (room : ℕ) (tokens : List Token) (from : ℕ) (done : WrittenList) (tall : ℕ) (last : Taken) → ArgumentsSoFar names room tokens from done tall last → kind_or_end tokens last.next ≡ comma_token → Spells tokens from (last.next + 1) (row_text (joined done (More (written last.tree) End)))
 one_spelled names room tokens from done tall last a k =
     spells_as tokens from (last.next + 1) (λ rest. row_text done (text (written last.tree) (comma_token ∷ rest))) (row_text (joined done (More (written last.tree) End)))
     (spells_more tokens from a.at (last.next + 1) (row_text done) (λ rest. text (written last.tree) (comma_token ∷ rest)) a.spelled
     (spells_more tokens a.at last.next (last.next + 1) (text (written last.tree)) (λ rest. comma_token ∷ rest) a.last_is.spelled (mark_stands tokens last.next mark.Comma k)))
     (λ rest. sym (row_more done (written last.tree) rest))
+
+pub one_are : (names : Names) (room : ℕ) (tokens : List Token) (from : ℕ) (done : WrittenList) (tall : ℕ) (last : Taken) → ArgumentsSoFar names room tokens from done tall last → ArePhrases names 1 (joined done (More (written last.tree) End))
+one_are names room tokens from done tall last a = phrases_joined names 1 done (More (written last.tree) End) a.are (a.last_is.took.is_phrase.0, a.last_is.took.is_phrase.1, tt)
 
 -- the argument behind a comma was refused
 pub next_argument_stops : (names : Names) (room : ℕ) (tokens : List Token) (from : ℕ) (done : WrittenList) (tall : ℕ) (last : Taken) → ArgumentsSoFar names room tokens from done tall last → kind_or_end tokens last.next ≡ comma_token → (s : Stop) → Stops (Expressions names 1) room tokens (last.next + 1) s → Stops (Rows arguments_text (ArePhrases names 1)) room tokens from s
@@ -161,7 +164,7 @@ pub bounds_none : (names : Names) (room : ℕ) (tokens : List Token) (from : ℕ
 bounds_none names room tokens from within = record { spelled = spells_none tokens from within; are = tt; goes_on = no_bounds names; height_is = refl; low = omega arith }
 
 -- the bounds so far, and the bracket of the next one
-bracket_spelled : (names : Names) (room : ℕ) (tokens : List Token) (from next : ℕ) (done : WrittenList) (tall : ℕ) → BoundsSoFar names room tokens from next done tall → kind_or_end tokens next ≡ open_bracket → Spells tokens from (next + 1) (λ rest. bounds_text done (open_bracket ∷ rest))
+pub bracket_spelled : (names : Names) (room : ℕ) (tokens : List Token) (from next : ℕ) (done : WrittenList) (tall : ℕ) → BoundsSoFar names room tokens from next done tall → kind_or_end tokens next ≡ open_bracket → Spells tokens from (next + 1) (λ rest. bounds_text done (open_bracket ∷ rest))
 bracket_spelled names room tokens from next done tall b k = spells_more tokens from next (next + 1) (bounds_text done) (λ rest. open_bracket ∷ rest) b.spelled (mark_stands tokens next mark.OpenBracket k)
 
 pub bound_stops : (names : Names) (room : ℕ) (tokens : List Token) (from next : ℕ) (done : WrittenList) (tall : ℕ) → 1 ≤ room → BoundsSoFar names room tokens from next done tall → kind_or_end tokens next ≡ open_bracket → (s : Stop) → Stops (Expressions names 2) room tokens (next + 1) s → Stops (Rows closed_bounds_text (ArePhrases names 2)) room tokens from s

@@ -68,7 +68,7 @@ quiet_front names ws ps room (f ∷ fs) next deep r here behind near =
       | inr l ↦ quiet_first names ws ps f (fs ++ l.more) (fs ++ behind) (subst (IsQuiet names ws ps) l.spelled (bounds_quiet names ws ps l.phrase []))
     ]
 
-words_and_pointers : (names : Names) (tokens : List Token) (from : ℕ) (words : TypeWords) (pointers : PointerWords) → IsWordsFrom names tokens from words → IsPointersFrom tokens words.next pointers → Spells tokens from pointers.next (λ rest. words_text words.words.items (pointers_text pointers.words.items rest))
+pub words_and_pointers : (names : Names) (tokens : List Token) (from : ℕ) (words : TypeWords) (pointers : PointerWords) → IsWordsFrom names tokens from words → IsPointersFrom tokens words.next pointers → Spells tokens from pointers.next (λ rest. words_text words.words.items (pointers_text pointers.words.items rest))
 words_and_pointers names tokens from words pointers w p = spells_more tokens from words.next pointers.next (words_text words.words.items) (pointers_text pointers.words.items) w.spelled p.spelled
 
 -- the bounds were refused

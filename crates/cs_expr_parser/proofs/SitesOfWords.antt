@@ -28,7 +28,7 @@ use Rattle.cs_grammar.proofs.WordsOfTypes.{named_more}
 use Rattle.cs_expr_parser.specs.Positions.{kinds, kind_or_end, name_of, keyword_of}
 use Rattle.cs_expr_parser.specs.Reasons.{plain_reason, reason_of}
 use Rattle.cs_expr_parser.specs.Parts.{Spells, Types, Stops, is_deep}
-use Rattle.cs_expr_parser.specs.Words.{first_of_word, IsStuck, names_some, has_tag, IsWordAt, IsUnusable, NoWord, IsTagMissing, WordAnswer, word_of_tag, TagAnswer, IsIntegerAt, IsJoiningAt, JoiningAnswer, IsWordsFrom, IsPointersFrom, IsPointerAt}
+use Rattle.cs_expr_parser.specs.Words.{first_of_word, IsStuck, names_some, has_tag, last_tagged, IsWordAt, IsUnusable, NoWord, IsTagMissing, WordAnswer, word_of_tag, TagAnswer, IsIntegerAt, IsJoiningAt, JoiningAnswer, IsWordsFrom, IsPointersFrom, IsPointerAt}
 use Rattle.cs_expr_parser.specs.declared.stop.Stop.{Stop}
 use Rattle.cs_expr_parser.specs.declared.stop.Stop.TheVariants as stop
 use Rattle.cs_expr_parser.specs.declared.types.NextWord.{NextWord}
@@ -233,7 +233,7 @@ tag_known names (word.Integer k) t = absurd cc
 tag_known names word.Void t = absurd cc
 tag_known names (word.Typedef name) t = absurd cc
 
-nothing_named : (names : Names) (so_far : TypeSoFar) (words : List TypeWord) → Describes names so_far words → names_some so_far ≡ false → named_by words ≡ []
+pub nothing_named : (names : Names) (so_far : TypeSoFar) (words : List TypeWord) → Describes names so_far words → names_some so_far ≡ false → named_by words ≡ []
 nothing_named names Nothing words d none = d
 nothing_named names (Integers all) words d none = absurd cc
 nothing_named names Whole words d none = absurd cc
@@ -277,6 +277,11 @@ no_word_joins names tokens at so_far words d n = no_word_stuck names so_far word
 pub tag_missing : (names : Names) (tokens : List Token) (at : ℕ) (so_far : TypeSoFar) (words : List TypeWord) (s : Stop) → Describes names so_far words → WordAnswer names tokens at so_far (Err s) → JoiningAnswer names words tokens at (Err s)
 tag_missing names tokens at so_far words stop.Memory d w = tt
 tag_missing names tokens at so_far words (stop.Refused refused reason) d (missing, none, why) = (missing, nothing_named names so_far words d none, why)
+
+pub tagged_more : (ws : List TypeWord) (w : TypeWord) → last_tagged (ws ++ w ∷ []) ≡ has_tag w
+tagged_more [] w = refl
+tagged_more (v ∷ []) w = refl
+tagged_more (v ∷ u ∷ ws) w = tagged_more (u ∷ ws) w
 
 -- the words of a type so far, and the tokens that they are
 pub record WordsSoFar (names : Names) (tokens : List Token) (from next : ℕ) (so_far : TypeSoFar) (words : List TypeWord) : Type 0 where
@@ -344,8 +349,8 @@ some_type names Nothing words d some = absurd cc
 some_type names (Integers all) words (first, others, named, are) some = ap (names_type names) named ∙ integers_named names all first others are
 some_type names Whole words (only, named, whole) some = ap (names_type names) named ∙ whole_named names only whole
 
-pub words_taken : (names : Names) (tokens : List Token) (from : ℕ) (so_far : TypeSoFar) (taken : TypeWords) → WordsSoFar names tokens from taken.next so_far taken.words.items → names_some so_far ≡ true → IsStuck names taken.words.items (kind_or_end tokens taken.next) → IsWordsFrom names tokens from taken
-words_taken names tokens from so_far taken w some stuck = record { spelled = w.spelled; is_type = some_type names so_far taken.words.items w.describes some; stuck = stuck }
+pub words_taken : (names : Names) (tokens : List Token) (from : ℕ) (so_far : TypeSoFar) (taken : TypeWords) → WordsSoFar names tokens from taken.next so_far taken.words.items → names_some so_far ≡ true → IsStuck names taken.words.items (kind_or_end tokens taken.next) → taken.tagged ≡ last_tagged taken.words.items → IsWordsFrom names tokens from taken
+words_taken names tokens from so_far taken w some stuck tagged = record { spelled = w.spelled; is_type = some_type names so_far taken.words.items w.describes some; stuck = stuck; tagged = tagged }
 
 -- behind the words of a type stands no `const`
 pub words_no_const : (names : Names) (tokens : List Token) (from : ℕ) (taken : TypeWords) → IsWordsFrom names tokens from taken → kind_or_end tokens taken.next ≡ token.Keyword keyword.Const → ⊥

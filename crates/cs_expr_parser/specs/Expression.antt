@@ -14,7 +14,8 @@ use Rattle.cs_grammar.specs.declared.refusal.SyntaxRefusal.TheVariants as refusa
 use Rattle.cs_grammar.specs.TypeWords.{Names}
 use Rattle.cs_grammar.specs.Levels.{COMMA, ASSIGN, CHOICE}
 use Rattle.cs_grammar.specs.Text.{Kinds, text}
-use Rattle.cs_grammar.specs.Phrases.{IsPhrase, BeginsPhrase, BeginsLowPhrase, IsLowPhrase}
+use Rattle.cs_grammar.specs.Phrases.{IsPhrase, BeginsLowPhrase, IsLowPhrase}
+use Rattle.cs_grammar.specs.Refusals.{IsReason}
 use Rattle.cs_grammar.specs.Parsing.{Expressions, Took, Refused}
 use Rattle.cs_grammar.specs.Spelling.{left_out_spelling}
 use Rattle.cs_expr_parser.specs.Positions.{kinds, kind_or_end}
@@ -38,13 +39,6 @@ abbrev pub GoesNoFurther : Names → ℕ → ℕ → Kinds → Option TokenKind 
 GoesNoFurther names level room front (Some next) = BeginsLowPhrase names level room (front ++ next ∷ []) → ⊥
 GoesNoFurther names level room front None = Unit {0}
 
--- the next token is refused as too deep exactly where some phrase of the level, of any height, goes on with it
-abbrev pub TellsDepth : Names → ℕ → Kinds → Option TokenKind → Reason → Type 0
-TellsDepth names level front (Some next) TooDeep = BeginsPhrase names level (front ++ next ∷ [])
-TellsDepth names level front (Some next) other = BeginsPhrase names level (front ++ next ∷ []) → ⊥
-TellsDepth names level front None TooDeep = ⊥
-TellsDepth names level front None other = Unit {0}
-
 -- the tokens from a number on begin with this phrase of the level, and no phrase that is low enough goes further; `took` says
 -- the same for parsers that go on
 pub record IsTaken (names : Names) (level room : ℕ) (tokens : List Token) (from : ℕ) (phrase : Phrase) : Type 0 where
@@ -55,7 +49,7 @@ pub record IsTaken (names : Names) (level room : ℕ) (tokens : List Token) (fro
   pub some : from < phrase.next
   pub only : (other : Written) → IsPhrase names level other → text other [] ≡ text (written phrase.tree) [] → other ≡ written phrase.tree
   pub furthest : GoesNoFurther names level room (text (written phrase.tree) []) (kind_at tokens phrase.next)
-  pub otherwise : TellsDepth names level (text (written phrase.tree) []) (kind_at tokens phrase.next) phrase.otherwise
+  pub otherwise : IsReason names level (text (written phrase.tree) []) (kind_at tokens phrase.next) phrase.otherwise
   pub took : Took (Expressions names level) room (written phrase.tree) (kind_or_end tokens phrase.next) (is_deep phrase.otherwise)
 
 -- the tokens from a number on, up to another one, begin a phrase of the level that is low enough, if there are any, but aren't
@@ -66,7 +60,7 @@ pub record IsRefusedAt (names : Names) (level room : ℕ) (tokens : List Token) 
   pub begun : (front ≡ []) ⊎ BeginsLowPhrase names level room front
   pub unfinished : IsLowPhrase names level room front → ⊥
   pub furthest : GoesNoFurther names level room front (kind_at tokens at)
-  pub why : TellsDepth names level front (kind_at tokens at) reason
+  pub why : IsReason names level front (kind_at tokens at) reason
   pub refused : Refused (Expressions names level) room front (kind_or_end tokens at) (is_deep reason)
 
 -- the place of the first of these tokens, or of the end of input

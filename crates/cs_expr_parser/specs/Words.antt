@@ -39,11 +39,29 @@ first_of_word (word.Enum tag) = token.Keyword keyword.Enum
 abbrev pub IsStuck : Names → List TypeWord → TokenKind → Type 0
 IsStuck names words next = (one : TypeWord) (more : List TypeWord) → first_of_word one ≡ next → is_type names (words ++ one ∷ more) ≡ false
 
+-- the word has a tag
+abbrev pub has_tag : TypeWord → Bool
+has_tag (word.Struct tag) = true
+has_tag (word.Enum tag) = true
+has_tag other = false
+
+-- the last of the words has a tag
+abbrev pub last_tagged : List TypeWord → Bool
+last_tagged [] = false
+last_tagged (last ∷ []) = has_tag last
+last_tagged (first ∷ second ∷ words) = last_tagged (second ∷ words)
+
+-- a tag that stood last still does, where these stand behind it
+abbrev pub is_last_tag : {Item : Type 0} → Bool → List Item → Bool
+is_last_tag tagged [] = tagged
+is_last_tag tagged (first ∷ others) = false
+
 -- the words of a type were taken, as many as there are
 pub record IsWordsFrom (names : Names) (tokens : List Token) (from : ℕ) (taken : TypeWords) : Type 0 where
   pub spelled : Spells tokens from taken.next (words_text taken.words.items)
   pub is_type : is_type names taken.words.items ≡ true
   pub stuck : IsStuck names taken.words.items (kind_or_end tokens taken.next)
+  pub tagged : taken.tagged ≡ last_tagged taken.words.items
 
 abbrev pub WordsAnswer : Names → List Token → ℕ → Result TypeWords Stop → Type 0
 WordsAnswer names tokens from (Ok taken) = IsWordsFrom names tokens from taken
@@ -53,12 +71,6 @@ WordsAnswer names tokens from (Err stop) = (room : ℕ) → Stops (Types names) 
 abbrev pub names_some : TypeSoFar → Bool
 names_some Nothing = false
 names_some other = true
-
--- the word has a tag
-abbrev pub has_tag : TypeWord → Bool
-has_tag (word.Struct tag) = true
-has_tag (word.Enum tag) = true
-has_tag other = false
 
 -- a word of a type stands at a number; one with a tag only where the words so far name no type
 pub record IsWordAt (names : Names) (tokens : List Token) (at : ℕ) (so_far : TypeSoFar) (found : NextWord) : Type 0 where

@@ -3,6 +3,7 @@ ghost use Rattle.std.specs.Prelude.{◌≡◌, ◌≤◌, ◌<◌, ◌^◌, leng
 ghost use Rattle.std.specs.Result.{IfErr};
 ghost use Rattle.cs_ast.specs.RawView.{written};
 ghost use Rattle.cs_expr_parser.specs.Positions.{kind_or_end};
+ghost use Rattle.cs_expr_parser.specs.LastTokens.{IsStopTold};
 ghost use Rattle.cs_expr_parser.specs.Parts.{Answers};
 ghost use Rattle.cs_expr_parser.specs.Reasons.{reason_of, ends_in_type};
 ghost use Rattle.cs_expr_parser.specs.Expression.{level_asked, kind_at, reason_there, IsTaken, IsRefusal, IsRefusalFor, IsRefusalBy};
@@ -52,7 +53,8 @@ fn part(
 ) -> Result<Taken, Stop>
     requires within { from ≤ length tokens.now }
     requires few { length tokens.now < 2 ^ 32 }
-    ensures { Answers names.now (level_asked level) room tokens.now from result }
+    ensures parsed { Answers names.now (level_asked level) room tokens.now from result }
+    ensures told { IsStopTold names.now tokens.now from result }
 {
     match level {
         ExprLevel::Expr => comma(alloc, tokens, names, from, room),

@@ -4,6 +4,7 @@ ghost use Rattle.cs_ast.specs.RawTree.{Index, Call, Member, Arrow, StepBehind};
 ghost use Rattle.cs_ast.specs.RawView.{written, written_list};
 ghost use Rattle.cs_grammar.specs.Levels.{POSTFIX};
 ghost use Rattle.cs_ast.specs.declared.token.TokenKind.TheVariants as token;
+ghost use Rattle.cs_expr_parser.specs.LastTokens.{IsStopTold};
 ghost use Rattle.cs_expr_parser.specs.Parts.{IsBounded, IsNode, IsSelected, IsChainFrom, Answers, ChainAnswers};
 ghost use Rattle.cs_expr_parser.specs.Positions.{kind_or_end, IsSuffixAt};
 
@@ -31,6 +32,7 @@ pub fn postfix(
     requires few { length tokens.now < 2 ^ 32 }
     ensures bounds { IsBounded room tokens.now from result }
     ensures parsed { Answers names.now POSTFIX room tokens.now from result }
+    ensures told { IsStopTold names.now tokens.now from result }
 {
     let mut left = primary(alloc, tokens, names, from, room)?;
     'chain: while let Some(mark) = suffix_at(tokens, left.next) {
@@ -96,6 +98,7 @@ fn suffixed(
     requires few { length tokens.now < 2 ^ 32 }
     ensures bounds { IsBounded room tokens.now left.next result }
     ensures chained { (from : ℕ) → IsChainFrom names.now POSTFIX room tokens.now from left → ChainAnswers names.now POSTFIX room tokens.now from result }
+    ensures told { (from : ℕ) → IsChainFrom names.now POSTFIX room tokens.now from left → IsStopTold names.now tokens.now from result }
 {
     match mark {
         Mark::OpenBracket => {

@@ -4,11 +4,12 @@ ghost use Rattle.cs_ast.specs.declared.token.TokenKind.TheVariants as token;
 ghost use Rattle.cs_ast.specs.declared.token.Keyword.TheVariants as keyword;
 ghost use Rattle.cs_ast.specs.declared.raw.written_type.TypeWord.{TypeWord as WordOfType};
 ghost use Rattle.cs_grammar.specs.TypesSoFar.{Describes};
+ghost use Rattle.cs_expr_parser.specs.LastTokens.{IsStopTold};
 ghost use Rattle.cs_expr_parser.specs.Parts.{IsTypeBounded, IsStopBounded, TypeAnswers};
-ghost use Rattle.cs_expr_parser.specs.Words.{IsNextBounded, IsJoiningBounded, IsIntegerAt, IsPointerAt, names_some, word_of_tag, WordsAnswer, WordAnswer, JoiningAnswer, TagAnswer, PointersAnswer};
+ghost use Rattle.cs_expr_parser.specs.Words.{IsNextBounded, IsJoiningBounded, IsIntegerAt, IsPointerAt, names_some, word_of_tag, has_tag as is_tagged, WordsAnswer, WordAnswer, JoiningAnswer, TagAnswer, PointersAnswer};
 ghost use Rattle.cs_expr_parser.specs.Positions.{kind_or_end};
 
-use crate::lists::bounds;
+use crate::lists::{bounds, is_last_word};
 use crate::stop::Stop;
 use crate::tokens::{is_mark, keyword_at, name_at, place_at, refuse, refuse_in_type};
 use cs_ast::raw::expression::RawExpr;
@@ -34,6 +35,8 @@ pub struct TakenType {
 pub struct TypeWords {
     pub words: Vec<TypeWord>,
     pub tag: Option<Place>,
+    /// Whether the last word is a tag.
+    pub tagged: bool,
     pub next: usize,
 }
 
@@ -73,10 +76,12 @@ pub fn parenthesised_type(
     requires least { 1 ≤ room }
     ensures bounds { IsTypeBounded room tokens.now from result }
     ensures parsed { TypeAnswers names.now room tokens.now from result }
+    ensures told { IsStopTold names.now tokens.now from result }
 {
     let words = type_words(alloc, tokens, names, from)?;
     let pointers = pointer_words(alloc, tokens, words.next)?;
-    let listed = bounds(alloc, tokens, names, from, pointers.next, room)?;
+    let behind_tag = is_last_word(words.tagged, &pointers.words);
+    let listed = bounds(alloc, tokens, names, pointers.next, room, behind_tag)?;
     Ok(TakenType {
         ty: WrittenType {
             words: words.words,
@@ -101,21 +106,29 @@ fn type_words(
     ensures bounds { IfOk result (λ taken. (from ≤ taken.next) × (taken.next ≤ length tokens.now)) }
     ensures refused { IsStopBounded tokens.now from result }
     ensures words { WordsAnswer names.now tokens.now from result }
+    ensures told { IsStopTold names.now tokens.now from result }
 {
     let mut words = Vec::new(alloc);
     let mut so_far = TypeSoFar::Nothing;
     let mut tag = None;
+    let mut tagged = false;
     let mut next = from;
     'words: while let Some(joined) = joining_word_at(tokens, names, next, so_far)? {
         so_far = joined.after;
         tag = tag.or(joined.found.tag);
+        tagged = has_tag(&joined.found.word);
         next = joined.found.next;
         words.push(joined.found.word)?;
     }
     if !names_type(so_far) {
         return Err(refuse(tokens, next, false));
     }
-    Ok(TypeWords { words, tag, next })
+    Ok(TypeWords {
+        words,
+        tag,
+        tagged,
+        next,
+    })
 }
 
 /// The word of a type at a number, if one stands there that joins the words so far.
@@ -217,6 +230,16 @@ fn tagged(
         tag: Some(place_at(tokens, at + 1)),
         next: at + 2,
     }))
+}
+
+/// Whether the word has a tag.
+fn has_tag(word: &TypeWord) -> bool
+    ensures { result ≡ is_tagged word.now }
+{
+    match word {
+        TypeWord::Struct(_) | TypeWord::Enum(_) => true,
+        TypeWord::Const | TypeWord::Integer(_) | TypeWord::Void | TypeWord::Typedef(_) => false,
+    }
 }
 
 /// Whether the words so far name a type or are part of one.

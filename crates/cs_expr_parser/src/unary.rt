@@ -6,6 +6,7 @@ ghost use Rattle.cs_grammar.specs.Levels.{CAST, UNARY};
 ghost use Rattle.cs_expr_parser.specs.declared.unary.Before.TheVariants.{Size};
 ghost use Rattle.cs_ast.specs.declared.token.TokenKind.TheVariants as token;
 ghost use Rattle.cs_ast.specs.declared.token.Mark.TheVariants.{OpenParenthesis};
+ghost use Rattle.cs_expr_parser.specs.LastTokens.{IsStopTold};
 ghost use Rattle.cs_expr_parser.specs.Parts.{IsBounded, IsNode, Answers};
 ghost use Rattle.cs_expr_parser.specs.Unary.{opens_type as type_opens, before_text, prefixed_tree, IsOperatorAt};
 ghost use Rattle.cs_expr_parser.specs.Positions.{kind_or_end};
@@ -56,6 +57,7 @@ pub fn cast(
     requires few { length tokens.now < 2 ^ 32 }
     ensures bounds { IsBounded room tokens.now from result }
     ensures parsed { Answers names.now CAST room tokens.now from result }
+    ensures told { IsStopTold names.now tokens.now from result }
 {
     if !opens_type(tokens, names, from) {
         return unary(alloc, tokens, names, from, room);
@@ -106,6 +108,7 @@ pub fn unary(
     requires few { length tokens.now < 2 ^ 32 }
     ensures bounds { IsBounded room tokens.now from result }
     ensures parsed { Answers names.now UNARY room tokens.now from result }
+    ensures told { IsStopTold names.now tokens.now from result }
 {
     let Some(before) = operator_at(tokens, from) else {
         return postfix(alloc, tokens, names, from, room);
@@ -193,6 +196,7 @@ fn sized(
     requires stands { kind_or_end tokens.now from ≡ before_text Size }
     ensures bounds { IsBounded room tokens.now from result }
     ensures parsed { Answers names.now UNARY room tokens.now from result }
+    ensures told { IsStopTold names.now tokens.now from result }
 {
     if opens_type(tokens, names, from + 1) {
         let taken = parenthesised_type(alloc, tokens, names, from + 2, room - 1)?;

@@ -1,6 +1,9 @@
-use Rattle.std.proofs.Common.{◌≡◌, ℕ, ◌+◌, ◌-◌, ◌≤◌, Result, Ok, Err, true, false, refl, sym, ap, ◌∙◌, subst, arith, rules, leb-true, le-leb}
+use Rattle.std.proofs.Common.{◌≡◌, ℕ, Bool, ◌+◌, ◌-◌, ◌≤◌, List, [], Result, Ok, Err, true, false, refl, sym, ap, ◌∙◌, subst, arith, rules, leb-true, le-leb}
 use Rattle.std.proofs.lemmas.Bool.{false≢true}
 use Rattle.cs_ast.specs.declared.token.TokenKind.TheVariants as token
+use Rattle.cs_ast.specs.declared.token.Mark.TheVariants as mark
+use Rattle.cs_grammar.specs.Marks.{infix_mark, assign_mark}
+use Rattle.cs_grammar.specs.Text.{words_text, pointers_text}
 use Rattle.cs_ast.specs.declared.raw.operator.Step.TheVariants.{Up, Down}
 use Rattle.cs_ast.specs.RawTree.{WrittenList, End, More}
 use Rattle.cs_ast.specs.RawView.{written, written_list}
@@ -11,6 +14,10 @@ use Rattle.cs_expr_parser.specs.Positions.{kind_or_end}
 use Rattle.cs_expr_parser.specs.Leaves.{IsLeafOf}
 use Rattle.cs_expr_parser.specs.declared.unary.Before.TheVariants as before
 use Rattle.cs_expr_parser.specs.Parts.{Stops, IsTakenFrom, Answers, RowAnswers, TypeAnswers, ChainAnswers, arguments_text, closed_bounds_text}
+use Rattle.cs_expr_parser.specs.LastTokens.{IsStopTold, IsStopToldBehind, TellsBehind}
+use Rattle.cs_expr_parser.specs.Reasons.{plain_reason}
+use Rattle.cs_expr_parser.specs.Words.{is_last_tag}
+use Rattle.cs_expr_parser.specs.declared.stop.Stop.TheVariants as stop
 use Rattle.cs_expr_parser.proofs.Sites.{primary_none, leaf_full, parenthesis_full, leaf_taken, enclosed_stops, enclosed_unclosed, enclosed_taken}
 use Rattle.cs_expr_parser.proofs.SitesOfChains.{postfix_head_stops, postfix_head, postfix_ends, postfix_full, index_stops, index_unclosed, index_taken, call_stops, call_taken, member_answer, step_taken, infix_head_stops, infix_head, infix_ends, infix_full, right_stops, infix_taken, comma_head_stops, comma_head, comma_ends, comma_full, second_stops, comma_taken}
 use Rattle.cs_expr_parser.proofs.SitesOfLevels.{choice_none, choice_full, one_stops, one_unclosed, other_stops, choice_taken, assign_none, assign_full, value_stops, assign_taken, test_stops, object_stops}
@@ -21,6 +28,7 @@ use Rattle.cs_expr_parser.proofs.SitesOfRows.{ArgumentsSoFar, BoundsSoFar, argum
 use Rattle.cs_expr_parser.proofs.SitesOfTypes.{bounds_stop, type_taken}
 use Rattle.cs_expr_parser.proofs.SitesOfWords.{words_no_const}
 use Rattle.cs_expr_parser.proofs.SitesOfPrefixes.{unary_none_answer, unary_full, operand_stops, operand_taken, opens_is, cast_none_answer, cast_full_stops, cast_type_stops, cast_brace_stops, brace_begins_none, cast_operand_stops, cast_taken, size_type_stops, size_type_taken, size_full_answer, size_stops, size_taken}
+use Rattle.cs_expr_parser.proofs.SitesOfReasons.{told_first, told_behind, told_in_parenthesis, resets_bracket, resets_parenthesis, resets_infix, resets_assign, resets_comma, resets_question, told_in_chain, told_in_operand, told_member, told_other, told_argument, told_behind_argument, told_bound, told_behind_bounds, told_bounds, told_pointers, told_before, told_in_size, told_size_answer, told_in_cast, told_brace, type_tells}
 use Rattle.cs_expr_parser.proofs.+expression.Goals as goal
 
 
@@ -132,7 +140,7 @@ lists::bounds-row-preserved t c =
 
 pub lists::bounds-returns-then-not-is_mark-2-clause-parsed : goal.lists::bounds-returns-then-not-is_mark-2-clause-parsed
 lists::bounds-returns-then-not-is_mark-2-clause-parsed t c =
-    bounds_unclosed c.args.names.now c.args.room c.args.tokens.now c.args.from c.row.next (written_list c.row.trees.items) c.row.height c.refuse_in_type.result c.ends_with_tag.result c.row.invariant.so_far (λ k. false≢true (sym c.row-test.false ∙ c.is_mark.ensures.mark.1 k)) (λ k. false≢true (sym c.if-not-is_mark-2.true ∙ c.is_mark-2.ensures.mark.1 k)) c.refuse_in_type.ensures
+    bounds_unclosed c.args.names.now c.args.room c.args.tokens.now c.args.from c.row.next (written_list c.row.trees.items) c.row.height c.refuse_in_type.result c.is_last_word.result c.row.invariant.so_far (λ k. false≢true (sym c.row-test.false ∙ c.is_mark.ensures.mark.1 k)) (λ k. false≢true (sym c.if-not-is_mark-2.true ∙ c.is_mark-2.ensures.mark.1 k)) c.refuse_in_type.ensures
 
 pub lists::bounds-returns-clause-parsed : goal.lists::bounds-returns-clause-parsed
 lists::bounds-returns-clause-parsed t c =
@@ -436,3 +444,234 @@ pub unary::sized-returns-then-is_narrow-clause-parsed : goal.unary::sized-return
 unary::sized-returns-then-is_narrow-clause-parsed t c =
     let n = c.is_narrow.ensures.0 c.if-is_narrow.true in
     size_full_answer c.args.names.now c.args.room c.args.tokens.now c.args.from c.comma.result n.0 c.requires.stands n.1 (sym c.opens_type.ensures.opens ∙ c.if-opens_type.false) c.comma.ensures.bounds c.comma.ensures.parsed
+
+pub infix::infix-returns-in_err-left-clause-told : goal.infix::infix-returns-in_err-left-clause-told
+infix::infix-returns-in_err-left-clause-told t c =
+    let e : c.from_residual.result ≡ Err c.in_err-left.field-0.0 = search rules in
+    subst (IsStopTold c.args.names.now c.args.tokens.now c.args.from) (sym e)
+    (c.in_err-left.ensures.told)
+
+pub infix::infix-returns-in_err-right-clause-told : goal.infix::infix-returns-in_err-right-clause-told
+infix::infix-returns-in_err-right-clause-told t c =
+    let e : c.from_residual-in_err-right.result ≡ Err c.in_err-right.field-0.0 = search rules in
+    subst (IsStopTold c.args.names.now c.args.tokens.now c.args.from) (sym e)
+    (told_in_chain c.args.names.now c.args.level c.args.room c.args.tokens.now c.args.from c.chain.left (infix_mark c.in-Some.operator) c.chain.invariant.chain c.in-Some.ensures.operator.0 (resets_infix c.args.names.now c.in-Some.operator) c.in_err-right.field-0.0 c.in_err-right.ensures.told)
+
+pub lists::arguments-returns-in_err-last-clause-told : goal.lists::arguments-returns-in_err-last-clause-told
+lists::arguments-returns-in_err-last-clause-told t c =
+    let e : c.from_residual.result ≡ Err c.in_err-last.field-0.0 = search rules in
+    subst (IsStopTold c.args.names.now c.args.tokens.now c.args.from) (sym e)
+    (c.in_err-last.ensures.told)
+
+pub lists::arguments-returns-in_err-following-clause-told : goal.lists::arguments-returns-in_err-following-clause-told
+lists::arguments-returns-in_err-following-clause-told t c =
+    let e : c.from_residual-in_err-following.result ≡ Err c.in_err-following.field-0.0 = search rules in
+    subst (IsStopTold c.args.names.now c.args.tokens.now c.args.from) (sym e)
+    (told_argument c.args.names.now c.args.room c.args.tokens.now c.args.from (written_list c.row.trees.items) c.row.height c.row.last c.row.invariant.so_far (c.is_mark-in-row.ensures.mark.0 c.row-test.true) c.in_err-following.field-0.0 c.in_err-following.ensures.told)
+
+pub lists::arguments-returns-then-not-is_mark-clause-told : goal.lists::arguments-returns-then-not-is_mark-clause-told
+lists::arguments-returns-then-not-is_mark-clause-told t c =
+    told_behind_argument c.args.names.now c.args.room c.args.tokens.now c.args.from (written_list c.row.trees.items) c.row.height c.row.last c.refuse_behind.result c.row.invariant.so_far c.refuse_behind.ensures
+
+pub lists::bounds-returns-in_err-bound-clause-told : goal.lists::bounds-returns-in_err-bound-clause-told
+lists::bounds-returns-in_err-bound-clause-told t c =
+    λ before tells.
+    let e : c.from_residual.result ≡ Err c.in_err-bound.field-0.0 = search rules in
+    subst (IsStopToldBehind c.args.names.now before c.args.tokens.now c.args.from) (sym e)
+    (told_bound c.args.names.now c.args.room c.args.tokens.now c.args.from c.row.next (written_list c.row.trees.items) c.row.height before c.row.invariant.so_far (c.is_mark.ensures.mark.0 c.row-test.true) c.in_err-bound.field-0.0 c.in_err-bound.ensures.told)
+
+pub lists::bounds-returns-then-not-is_mark-clause-told : goal.lists::bounds-returns-then-not-is_mark-clause-told
+lists::bounds-returns-then-not-is_mark-clause-told t c =
+    λ before tells. told_bound c.args.names.now c.args.room c.args.tokens.now c.args.from c.row.next (written_list c.row.trees.items) c.row.height before c.row.invariant.so_far (c.is_mark.ensures.mark.0 c.row-test.true) c.refuse_behind.result (told_behind c.args.names.now 2 c.args.room c.args.tokens.now (c.row.next + 1) c.in_ok-bound.bound c.refuse_behind.result c.in_ok-bound.ensures.parsed c.refuse_behind.ensures)
+
+pub lists::bounds-returns-then-not-is_mark-2-clause-told : goal.lists::bounds-returns-then-not-is_mark-2-clause-told
+lists::bounds-returns-then-not-is_mark-2-clause-told t c =
+    λ before tells. told_behind_bounds c.args.names.now c.args.room c.args.tokens.now c.args.from c.row.next c.row.trees.items c.row.height before c.args.behind_tag c.refuse_in_type.result c.row.invariant.so_far tells
+    (c.refuse_in_type.ensures ∙ ap (λ (b : Bool). stop.Refused c.row.next (plain_reason (kind_or_end c.args.tokens.now c.row.next) b)) (c.is_last_word.ensures ∙ ap (is_last_tag c.args.behind_tag) c.deref.ensures.value))
+
+pub loose::assign-returns-in_err-object-clause-told : goal.loose::assign-returns-in_err-object-clause-told
+loose::assign-returns-in_err-object-clause-told t c =
+    let e : c.from_residual.result ≡ Err c.in_err-object.field-0.0 = search rules in
+    subst (IsStopTold c.args.names.now c.args.tokens.now c.args.from) (sym e)
+    (c.in_err-object.ensures.told)
+
+pub loose::assign-returns-in_err-value-clause-told : goal.loose::assign-returns-in_err-value-clause-told
+loose::assign-returns-in_err-value-clause-told t c =
+    let e : c.from_residual-in_err-value.result ≡ Err c.in_err-value.field-0.0 = search rules in
+    subst (IsStopTold c.args.names.now c.args.tokens.now c.args.from) (sym e)
+    (told_in_operand c.args.names.now 2 c.args.room c.args.tokens.now c.args.from c.in_ok-object.object (assign_mark c.in-Some.operator) c.in_ok-object.ensures.parsed c.in-Some.ensures.operator (resets_assign c.args.names.now c.in-Some.operator) c.in_err-value.field-0.0 c.in_err-value.ensures.told)
+
+pub loose::choice-returns-in_err-test-clause-told : goal.loose::choice-returns-in_err-test-clause-told
+loose::choice-returns-in_err-test-clause-told t c =
+    let e : c.from_residual.result ≡ Err c.in_err-test.field-0.0 = search rules in
+    subst (IsStopTold c.args.names.now c.args.tokens.now c.args.from) (sym e)
+    (c.in_err-test.ensures.told)
+
+pub loose::choice-returns-in_err-one-clause-told : goal.loose::choice-returns-in_err-one-clause-told
+loose::choice-returns-in_err-one-clause-told t c =
+    let e : c.from_residual-in_err-one.result ≡ Err c.in_err-one.field-0.0 = search rules in
+    subst (IsStopTold c.args.names.now c.args.tokens.now c.args.from) (sym e)
+    (told_in_operand c.args.names.now 3 c.args.room c.args.tokens.now c.args.from c.in_ok-test.test mark.Question c.in_ok-test.ensures.parsed (c.is_mark.ensures.mark.0 c.if-not-is_mark.false) (resets_question c.args.names.now) c.in_err-one.field-0.0 c.in_err-one.ensures.told)
+
+pub loose::choice-returns-then-not-is_mark-2-clause-told : goal.loose::choice-returns-then-not-is_mark-2-clause-told
+loose::choice-returns-then-not-is_mark-2-clause-told t c =
+    told_in_operand c.args.names.now 3 c.args.room c.args.tokens.now c.args.from c.in_ok-test.test mark.Question c.in_ok-test.ensures.parsed (c.is_mark.ensures.mark.0 c.if-not-is_mark.false) (resets_question c.args.names.now) c.refuse_behind.result (told_behind c.args.names.now 0 (c.args.room - 1) c.args.tokens.now (c.in_ok-test.test.next + 1) c.in_ok-one.one c.refuse_behind.result c.in_ok-one.ensures.parsed c.refuse_behind.ensures)
+
+pub loose::choice-returns-in_err-other-clause-told : goal.loose::choice-returns-in_err-other-clause-told
+loose::choice-returns-in_err-other-clause-told t c =
+    let e : c.from_residual-in_err-other.result ≡ Err c.in_err-other.field-0.0 = search rules in
+    subst (IsStopTold c.args.names.now c.args.tokens.now c.args.from) (sym e)
+    (told_other c.args.names.now c.args.room c.args.tokens.now c.args.from c.in_ok-test.test c.in_ok-one.one c.in_ok-test.ensures.parsed (c.is_mark.ensures.mark.0 c.if-not-is_mark.false) c.in_ok-one.ensures.parsed (c.is_mark-2.ensures.mark.0 c.if-not-is_mark-2.false) c.in_err-other.field-0.0 c.in_err-other.ensures.told)
+
+pub loose::comma-returns-in_err-first-clause-told : goal.loose::comma-returns-in_err-first-clause-told
+loose::comma-returns-in_err-first-clause-told t c =
+    let e : c.from_residual.result ≡ Err c.in_err-first.field-0.0 = search rules in
+    subst (IsStopTold c.args.names.now c.args.tokens.now c.args.from) (sym e)
+    (c.in_err-first.ensures.told)
+
+pub loose::comma-returns-in_err-second-clause-told : goal.loose::comma-returns-in_err-second-clause-told
+loose::comma-returns-in_err-second-clause-told t c =
+    let e : c.from_residual-in_err-second.result ≡ Err c.in_err-second.field-0.0 = search rules in
+    subst (IsStopTold c.args.names.now c.args.tokens.now c.args.from) (sym e)
+    (told_in_chain c.args.names.now 0 c.args.room c.args.tokens.now c.args.from c.chain.first mark.Comma c.chain.invariant.chain (c.is_mark.ensures.mark.0 c.chain-test.true) (resets_comma c.args.names.now) c.in_err-second.field-0.0 c.in_err-second.ensures.told)
+
+pub postfix::postfix-returns-in_err-left-clause-told : goal.postfix::postfix-returns-in_err-left-clause-told
+postfix::postfix-returns-in_err-left-clause-told t c =
+    let e : c.from_residual.result ≡ Err c.in_err-left.field-0.0 = search rules in
+    subst (IsStopTold c.args.names.now c.args.tokens.now c.args.from) (sym e)
+    (c.in_err-left.ensures.told)
+
+pub postfix::postfix-returns-in_err-left-2-clause-told : goal.postfix::postfix-returns-in_err-left-2-clause-told
+postfix::postfix-returns-in_err-left-2-clause-told t c =
+    let e : c.from_residual-in_err-left-2.result ≡ Err c.in_err-left-2.field-0.0 = search rules in
+    subst (IsStopTold c.args.names.now c.args.tokens.now c.args.from) (sym e)
+    (c.in_err-left-2.ensures.told c.args.from c.chain.invariant.chain)
+
+pub postfix::suffixed-returns-in_err-number-in-OpenBracket-clause-told : goal.postfix::suffixed-returns-in_err-number-in-OpenBracket-clause-told
+postfix::suffixed-returns-in_err-number-in-OpenBracket-clause-told t c =
+    λ from chain.
+    let e : c.from_residual.result ≡ Err c.in_err-number-in-OpenBracket.field-0.0 = search rules in
+    subst (IsStopTold c.args.names.now c.args.tokens.now from) (sym e)
+    (told_in_chain c.args.names.now 15 c.args.room c.args.tokens.now from c.args.left mark.OpenBracket chain (c.requires.stands.0 ∙ ap token.Mark c.in-OpenBracket.is) (resets_bracket c.args.names.now) c.in_err-number-in-OpenBracket.field-0.0 c.in_err-number-in-OpenBracket.ensures.told)
+
+pub postfix::suffixed-returns-then-not-is_mark-clause-told : goal.postfix::suffixed-returns-then-not-is_mark-clause-told
+postfix::suffixed-returns-then-not-is_mark-clause-told t c =
+    λ from chain. told_in_chain c.args.names.now 15 c.args.room c.args.tokens.now from c.args.left mark.OpenBracket chain (c.requires.stands.0 ∙ ap token.Mark c.in-OpenBracket.is) (resets_bracket c.args.names.now) c.refuse_behind.result (told_behind c.args.names.now 0 (c.args.room - 1) c.args.tokens.now (c.args.left.next + 1) c.in_ok-number-in-OpenBracket.number c.refuse_behind.result c.in_ok-number-in-OpenBracket.ensures.parsed c.refuse_behind.ensures)
+
+pub postfix::suffixed-returns-in_err-listed-in-OpenParenthesis-clause-told : goal.postfix::suffixed-returns-in_err-listed-in-OpenParenthesis-clause-told
+postfix::suffixed-returns-in_err-listed-in-OpenParenthesis-clause-told t c =
+    λ from chain.
+    let e : c.from_residual-in_err-listed-in-OpenParenthesis.result ≡ Err c.in_err-listed-in-OpenParenthesis.field-0.0 = search rules in
+    subst (IsStopTold c.args.names.now c.args.tokens.now from) (sym e)
+    (told_in_chain c.args.names.now 15 c.args.room c.args.tokens.now from c.args.left mark.OpenParenthesis chain (c.requires.stands.0 ∙ ap token.Mark c.in-OpenParenthesis.is) (resets_parenthesis c.args.names.now) c.in_err-listed-in-OpenParenthesis.field-0.0 c.in_err-listed-in-OpenParenthesis.ensures.told)
+
+pub postfix::suffixed-returns-in-Dot-clause-told : goal.postfix::suffixed-returns-in-Dot-clause-told
+postfix::suffixed-returns-in-Dot-clause-told t c =
+    λ from chain. told_member c.args.names.now c.args.room c.args.tokens.now from c.args.left false c.selected.result chain (c.requires.stands.0 ∙ ap token.Mark c.in-Dot.is) c.requires.within c.selected.ensures
+
+pub postfix::suffixed-returns-in-Arrow-clause-told : goal.postfix::suffixed-returns-in-Arrow-clause-told
+postfix::suffixed-returns-in-Arrow-clause-told t c =
+    λ from chain. told_member c.args.names.now c.args.room c.args.tokens.now from c.args.left true c.selected-in-Arrow.result chain (c.requires.stands.0 ∙ ap token.Mark c.in-Arrow.is) c.requires.within c.selected-in-Arrow.ensures
+
+pub primary::primary-returns-then-room-lt2-clause-told : goal.primary::primary-returns-then-room-lt2-clause-told
+primary::primary-returns-then-room-lt2-clause-told t c =
+    told_first c.args.names.now c.args.tokens.now c.args.from true c.refuse.result c.requires.within c.refuse.ensures
+
+pub primary::primary-returns-in_err-inner-clause-told : goal.primary::primary-returns-in_err-inner-clause-told
+primary::primary-returns-in_err-inner-clause-told t c =
+    let e : c.from_residual.result ≡ Err c.in_err-inner.field-0.0 = search rules in
+    subst (IsStopTold c.args.names.now c.args.tokens.now c.args.from) (sym e)
+    (told_in_parenthesis c.args.names.now c.args.tokens.now c.args.from (c.is_mark.ensures.mark.0 c.if-is_mark.true) c.in_err-inner.field-0.0 c.in_err-inner.ensures.told)
+
+pub primary::primary-returns-then-not-is_mark-clause-told : goal.primary::primary-returns-then-not-is_mark-clause-told
+primary::primary-returns-then-not-is_mark-clause-told t c =
+    told_in_parenthesis c.args.names.now c.args.tokens.now c.args.from (c.is_mark.ensures.mark.0 c.if-is_mark.true) c.refuse_behind.result (told_behind c.args.names.now 0 (c.args.room - 1) c.args.tokens.now (c.args.from + 1) c.in_ok-inner.inner c.refuse_behind.result c.in_ok-inner.ensures.parsed c.refuse_behind.ensures)
+
+pub primary::primary-returns-in_default-clause-told : goal.primary::primary-returns-in_default-clause-told
+primary::primary-returns-in_default-clause-told t c =
+    told_first c.args.names.now c.args.tokens.now c.args.from false c.refuse-in_default.result c.requires.within c.refuse-in_default.ensures
+
+pub primary::primary-returns-then-room-eq0-clause-told : goal.primary::primary-returns-then-room-eq0-clause-told
+primary::primary-returns-then-room-eq0-clause-told t c =
+    told_first c.args.names.now c.args.tokens.now c.args.from true c.refuse-then-room-eq0.result c.requires.within c.refuse-then-room-eq0.ensures
+
+pub types::parenthesised_type-returns-in_err-words-clause-told : goal.types::parenthesised_type-returns-in_err-words-clause-told
+types::parenthesised_type-returns-in_err-words-clause-told t c =
+    let e : c.from_residual.result ≡ Err c.in_err-words.field-0.0 = search rules in
+    subst (IsStopTold c.args.names.now c.args.tokens.now c.args.from) (sym e)
+    (c.in_err-words.ensures.told)
+
+pub types::parenthesised_type-returns-in_err-pointers-clause-told : goal.types::parenthesised_type-returns-in_err-pointers-clause-told
+types::parenthesised_type-returns-in_err-pointers-clause-told t c =
+    let e : c.from_residual-in_err-pointers.result ≡ Err c.in_err-pointers.field-0.0 = search rules in
+    subst (IsStopTold c.args.names.now c.args.tokens.now c.args.from) (sym e)
+    (told_pointers c.args.names.now c.args.tokens.now c.args.from c.in_ok-words.words.next c.in_err-pointers.field-0.0 c.in_err-pointers.ensures.pointers)
+
+pub types::parenthesised_type-returns-in_err-listed-clause-told : goal.types::parenthesised_type-returns-in_err-listed-clause-told
+types::parenthesised_type-returns-in_err-listed-clause-told t c =
+    let e : c.from_residual-in_err-listed.result ≡ Err c.in_err-listed.field-0.0 = search rules in
+    subst (IsStopTold c.args.names.now c.args.tokens.now c.args.from) (sym e)
+    (told_bounds c.args.names.now c.args.tokens.now c.args.from c.in_ok-words.words c.in_ok-pointers.pointers c.in_ok-words.ensures.words c.in_ok-pointers.ensures.pointers c.in_err-listed.field-0.0
+    (c.in_err-listed.ensures.told (words_text c.in_ok-words.words.words.items (pointers_text c.in_ok-pointers.pointers.words.items []))
+    (subst (TellsBehind c.args.names.now (words_text c.in_ok-words.words.words.items (pointers_text c.in_ok-pointers.pointers.words.items []))) (sym (c.is_last_word-behind_tag.ensures ∙ ap (is_last_tag c.in_ok-words.words.tagged) c.deref.ensures.value)) (type_tells c.args.names.now c.in_ok-words.words.words.items c.in_ok-pointers.pointers.words.items c.in_ok-words.words.tagged c.in_ok-words.ensures.words.tagged))))
+
+pub unary::cast-returns-then-not-opens_type-clause-told : goal.unary::cast-returns-then-not-opens_type-clause-told
+unary::cast-returns-then-not-opens_type-clause-told t c =
+    c.unary.ensures.told
+
+pub unary::cast-returns-then-room-lt2-clause-told : goal.unary::cast-returns-then-room-lt2-clause-told
+unary::cast-returns-then-room-lt2-clause-told t c =
+    told_first c.args.names.now c.args.tokens.now c.args.from true c.refuse.result c.requires.within c.refuse.ensures
+
+pub unary::cast-returns-in_err-taken-clause-told : goal.unary::cast-returns-in_err-taken-clause-told
+unary::cast-returns-in_err-taken-clause-told t c =
+    let e : c.from_residual.result ≡ Err c.in_err-taken.field-0.0 = search rules in
+    subst (IsStopTold c.args.names.now c.args.tokens.now c.args.from) (sym e)
+    (told_in_parenthesis c.args.names.now c.args.tokens.now c.args.from (opens_is c.args.names.now (kind_or_end c.args.tokens.now c.args.from) (kind_or_end c.args.tokens.now (c.args.from + 1)) (sym c.opens_type.ensures.opens ∙ c.if-not-opens_type.false)).0 c.in_err-taken.field-0.0 c.in_err-taken.ensures.told)
+
+pub unary::cast-returns-then-is_brace-clause-told : goal.unary::cast-returns-then-is_brace-clause-told
+unary::cast-returns-then-is_brace-clause-told t c =
+    told_brace c.args.names.now (c.args.room - 1) c.args.tokens.now c.args.from c.in_ok-taken.taken c.refuse_in_type.result (opens_is c.args.names.now (kind_or_end c.args.tokens.now c.args.from) (kind_or_end c.args.tokens.now (c.args.from + 1)) (sym c.opens_type.ensures.opens ∙ c.if-not-opens_type.false)).0 c.in_ok-taken.ensures.parsed c.refuse_in_type.ensures
+
+pub unary::cast-returns-in_err-operand-clause-told : goal.unary::cast-returns-in_err-operand-clause-told
+unary::cast-returns-in_err-operand-clause-told t c =
+    let e : c.from_residual-in_err-operand.result ≡ Err c.in_err-operand.field-0.0 = search rules in
+    subst (IsStopTold c.args.names.now c.args.tokens.now c.args.from) (sym e)
+    (told_in_cast c.args.names.now (c.args.room - 1) c.args.tokens.now c.args.from c.in_ok-taken.taken (opens_is c.args.names.now (kind_or_end c.args.tokens.now c.args.from) (kind_or_end c.args.tokens.now (c.args.from + 1)) (sym c.opens_type.ensures.opens ∙ c.if-not-opens_type.false)).0 c.in_ok-taken.ensures.parsed (sym c.is_brace.ensures ∙ c.if-is_brace.false) c.in_err-operand.field-0.0 c.in_err-operand.ensures.told)
+
+pub unary::sized-returns-in_err-taken-clause-told : goal.unary::sized-returns-in_err-taken-clause-told
+unary::sized-returns-in_err-taken-clause-told t c =
+    let e : c.from_residual.result ≡ Err c.in_err-taken.field-0.0 = search rules in
+    subst (IsStopTold c.args.names.now c.args.tokens.now c.args.from) (sym e)
+    (told_in_size c.args.names.now c.args.tokens.now c.args.from c.requires.stands (opens_is c.args.names.now (kind_or_end c.args.tokens.now (c.args.from + 1)) (kind_or_end c.args.tokens.now (c.args.from + 1 + 1)) (sym c.opens_type.ensures.opens ∙ c.if-opens_type.true)).0 c.in_err-taken.field-0.0 c.in_err-taken.ensures.told)
+
+pub unary::sized-returns-then-is_narrow-clause-told : goal.unary::sized-returns-then-is_narrow-clause-told
+unary::sized-returns-then-is_narrow-clause-told t c =
+    let n = c.is_narrow.ensures.0 c.if-is_narrow.true in
+    told_size_answer c.args.names.now c.args.tokens.now c.args.from c.comma.result c.requires.stands n.1 c.comma.ensures.told
+
+pub unary::sized-returns-in_err-operand-clause-told : goal.unary::sized-returns-in_err-operand-clause-told
+unary::sized-returns-in_err-operand-clause-told t c =
+    let e : c.from_residual-in_err-operand.result ≡ Err c.in_err-operand.field-0.0 = search rules in
+    subst (IsStopTold c.args.names.now c.args.tokens.now c.args.from) (sym e)
+    (told_before c.args.names.now c.args.tokens.now c.args.from before.Size c.requires.stands c.in_err-operand.field-0.0 c.in_err-operand.ensures.told)
+
+pub unary::unary-returns-in_default-clause-told : goal.unary::unary-returns-in_default-clause-told
+unary::unary-returns-in_default-clause-told t c =
+    c.postfix.ensures.told
+
+pub unary::unary-returns-then-room-lt2-clause-told : goal.unary::unary-returns-then-room-lt2-clause-told
+unary::unary-returns-then-room-lt2-clause-told t c =
+    told_first c.args.names.now c.args.tokens.now c.args.from true c.refuse.result c.requires.within c.refuse.ensures
+
+pub unary::unary-returns-in_err-operand-in-Step-clause-told : goal.unary::unary-returns-in_err-operand-in-Step-clause-told
+unary::unary-returns-in_err-operand-in-Step-clause-told t c =
+    let e : c.from_residual.result ≡ Err c.in_err-operand-in-Step.field-0.0 = search rules in
+    subst (IsStopTold c.args.names.now c.args.tokens.now c.args.from) (sym e)
+    (told_before c.args.names.now c.args.tokens.now c.args.from c.in-Some.before c.in-Some.ensures.operator c.in_err-operand-in-Step.field-0.0 c.in_err-operand-in-Step.ensures.told)
+
+pub unary::unary-returns-in_err-operand-in-Operator-clause-told : goal.unary::unary-returns-in_err-operand-in-Operator-clause-told
+unary::unary-returns-in_err-operand-in-Operator-clause-told t c =
+    let e : c.from_residual-in_err-operand-in-Operator.result ≡ Err c.in_err-operand-in-Operator.field-0.0 = search rules in
+    subst (IsStopTold c.args.names.now c.args.tokens.now c.args.from) (sym e)
+    (told_before c.args.names.now c.args.tokens.now c.args.from c.in-Some.before c.in-Some.ensures.operator c.in_err-operand-in-Operator.field-0.0 c.in_err-operand-in-Operator.ensures.told)

@@ -1,4 +1,5 @@
-use Rattle.std.proofs.Common.{◌≤◌, ◌-◌, length}
+use Rattle.std.proofs.Common.{◌≡◌, ◌≤◌, ◌-◌, length}
+use Rattle.cs_expr_parser.specs.Words.{last_tagged}
 use Rattle.cs_expr_parser.proofs.SitesOfWords.{WordsSoFar}
 use Rattle.cs_expr_parser.proofs.types.type_words.Given as goal
 
@@ -7,6 +8,7 @@ invariant-words l = record {
   onward : l.from ≤ l.next;
   inside : l.next ≤ length l.tokens;
   so_far : WordsSoFar l.names l.tokens l.from l.next l.so_far l.words.items;
+  tagged : l.tagged ≡ last_tagged l.words.items;
 }
 
 abbrev pub decreases-words : goal.decreases-words
