@@ -385,4 +385,3 @@ told_no_type names tokens from next words s sp none is =
           tells_plain names (words_text words []) (kind_or_end tokens next) false (λ b. absurd (false≢true b))
           (λ b opened. words_end names opened AnyToken words [] refl (λ e. refl) ∙ ap tag_end (consts_untagged words none));
     })
-

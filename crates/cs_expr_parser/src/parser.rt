@@ -80,13 +80,7 @@ fn phrase(tokens: &[Token], taken: Taken) -> Phrase
 }
 
 /// The refusal of the token with this number, or of the end of input.
-fn refusal(
-    alloc: Global,
-    tokens: &[Token],
-    end: Place,
-    at: usize,
-    reason: Reason,
-) -> SyntaxRefusal
+fn refusal(alloc: Global, tokens: &[Token], end: Place, at: usize, reason: Reason) -> SyntaxRefusal
     ensures { IsRefusalFor tokens.now end at (reason_there (kind_at tokens.now at) reason) result }
 {
     match tokens.get(at) {

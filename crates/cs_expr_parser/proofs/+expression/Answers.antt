@@ -31,7 +31,6 @@ use Rattle.cs_expr_parser.proofs.SitesOfPrefixes.{unary_none_answer, unary_full,
 use Rattle.cs_expr_parser.proofs.SitesOfReasons.{told_first, told_behind, told_in_parenthesis, resets_bracket, resets_parenthesis, resets_infix, resets_assign, resets_comma, resets_question, told_in_chain, told_in_operand, told_member, told_other, told_argument, told_behind_argument, told_bound, told_behind_bounds, told_bounds, told_pointers, told_before, told_in_size, told_size_answer, told_in_cast, told_brace, type_tells}
 use Rattle.cs_expr_parser.proofs.+expression.Goals as goal
 
-
 pub infix::infix-returns-in_err-left-clause-parsed : goal.infix::infix-returns-in_err-left-clause-parsed
 infix::infix-returns-in_err-left-clause-parsed t c =
     let few : c.args.level ≤ 12 = omega arith in
