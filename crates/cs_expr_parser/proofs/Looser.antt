@@ -16,7 +16,7 @@ use Rattle.cs_grammar.specs.Text.{Kinds, text}
 use Rattle.cs_grammar.specs.Phrases.{IsPhrase}
 use Rattle.cs_grammar.specs.Continuing.{join, mark_join, join_of}
 use Rattle.cs_grammar.specs.Parsing.{Class, Expressions, Near, IsOver, Begins, BeginsLow, Took, Refused, Exactly}
-use Rattle.cs_grammar.proofs.Levels.{infix_levels, text_law, pass_took, deepen, assign_join, looser}
+use Rattle.cs_grammar.proofs.Levels.{infix_levels, text_law, pass_took, pass_refused, deepen, assign_join, looser}
 use Rattle.cs_grammar.proofs.Holes.{Lawful, Hole, Filling, Completion, Tail, ClosedBy, closed_law, tail_took, tail_refused, hole_refused, exact_took, closed_refused, closed_wrong, closed_exact}
 use Rattle.cs_grammar.proofs.Texts.{text_append}
 use Rattle.cs_expr_parser.proofs.Closings.{zero, height_some}
@@ -73,6 +73,18 @@ choice_deep names room e deep full t =
       is_phrase = (omega arith, (t.is_phrase.0, t.is_phrase.1, tt, omega arith, tt));
       spelled = sym (text_append e (question ∷ []) (text zero (colon ∷ text zero [])));
     })
+
+-- the test was refused
+pub choice_head_refused : (names : Names) (room : ℕ) (front : Kinds) (next : TokenKind) (deep : Bool) → Refused (Expressions names 3) room front next deep → Refused (Expressions names 2) room front next deep
+choice_head_refused names room front next deep r =
+    pass_refused names 2 3 room front next deep (omega arith) r
+    (λ other after behind is loose shut near same.
+    elim (choice_is names other after is) [
+      | tighter l ↦ absurd (omega arith)
+      | chosen x o y w ix io ir s ↦
+          let over = r.never x (question ∷ text o (colon ∷ text y after)) behind ix (omega arith) near (sym s ∙ same) in
+          record { told = over.told; high = subst (λ (z : Written). room < height z) (sym w) (omega (arith, over.high)); onward = over.onward }
+    ])
 
 -- what begins with a test and a question mark
 choice_test : (names : Names) (room : ℕ) (e : Written) (deep : Bool) → Took (Expressions names 3) room e question deep → (whole : Written) (after behind : Kinds) → IsPhrase names 2 whole → join_of after ≤ 2 → text whole after ≡ text e (question ∷ behind) → (one other : Written) × (whole ≡ Choice e one other) × IsPhrase names 0 one × IsPhrase names 2 other × (behind ≡ text one (colon ∷ text other after))
@@ -180,6 +192,18 @@ assign_passes names room e next deep none t =
                 absurd (elim near [ inl n ↦ let z = k.1 ∙ n in cc | inr m ↦ let z = k.1 ∙ m.1 in none op (cc) bound ])
             | inr over ↦ record { told = over.told; high = subst (λ (y : Written). room < height y) (sym w) (omega (arith, over.high)); onward = over.onward }
           ]
+    ])
+
+-- the object was refused
+pub assign_head_refused : (names : Names) (room : ℕ) (front : Kinds) (next : TokenKind) (deep : Bool) → Refused (Expressions names 2) room front next deep → Refused (Expressions names 1) room front next deep
+assign_head_refused names room front next deep r =
+    pass_refused names 1 2 room front next deep (omega arith) r
+    (λ other after behind is loose shut near same.
+    elim (store_is names other after is) [
+      | firmer l ↦ absurd (omega arith)
+      | stored op o v w io iv s ↦
+          let over = r.never o (token.Mark (assign_mark op) ∷ text v after) behind (looser names 2 14 o (omega arith) io) (store_shut op (text v after)) near (sym s ∙ same) in
+          record { told = over.told; high = subst (λ (z : Written). room < height z) (sym w) (omega (arith, over.high)); onward = over.onward }
     ])
 
 pub assign_deep : (names : Names) (room : ℕ) (e : Written) (op : AssignOp) (deep : Bool) → room ≤ height e → 14 ≤ level_of e → Took (Expressions names 2) room e (token.Mark (assign_mark op)) deep → Took (Expressions names 1) room e (token.Mark (assign_mark op)) true

@@ -117,10 +117,15 @@ one_goes_on names room done last deep go t other after behind is same =
     let f = go other after (text last (comma_token ∷ behind)) is (same ∙ row_more done last behind) in
     step names room done last deep t other after behind f.0 f.1 (subst (ArePhrases names 1) f.1 is) f.2
 
--- the place of an argument
+-- the tokens don't begin with the closing parenthesis
 abbrev pub NotClosed : Kinds → Type 0
 NotClosed behind = (more : Kinds) → behind ≡ close_parenthesis ∷ more → ⊥
 
+-- the first argument doesn't begin with the closing parenthesis
+abbrev pub Unclosed : WrittenList → Kinds → Type 0
+Unclosed done behind = done ≡ End → NotClosed behind
+
+-- the place of an argument
 abbrev pub EndsArgument : Kinds → Type 0
 EndsArgument rest = ((more : Kinds) × (rest ≡ comma_token ∷ more)) ⊎ ((more : Kinds) × (rest ≡ close_parenthesis ∷ more))
 
@@ -128,9 +133,9 @@ ends_argument : (es : WrittenList) (after : Kinds) → EndsArgument (behind_comm
 ends_argument End after = inr (after, refl)
 ends_argument (More e es) after = inl (text e (behind_commas es (close_parenthesis ∷ after)), refl)
 
-argument_filling : (names : Names) (room : ℕ) (done rest : WrittenList) (whole : WrittenList) (after behind : Kinds) → whole ≡ joined done rest → ArePhrases names 1 (joined done rest) → NotClosed behind → arguments_text rest after ≡ behind → Filling (Rows arguments_text (ArePhrases names 1)) (Expressions names 1) room room EndsArgument whole behind
-argument_filling names room done End whole after behind w is unclosed same = absurd (unclosed after (sym same))
-argument_filling names room done (More x xs) whole after behind w is unclosed same =
+argument_filling : (names : Names) (room : ℕ) (done rest : WrittenList) (whole : WrittenList) (after behind : Kinds) → whole ≡ joined done rest → ArePhrases names 1 (joined done rest) → (rest ≡ End → done ≡ End) → Unclosed done behind → arguments_text rest after ≡ behind → Filling (Rows arguments_text (ArePhrases names 1)) (Expressions names 1) room room EndsArgument whole behind
+argument_filling names room done End whole after behind w is ended unclosed same = absurd (unclosed (ended refl) after (sym same))
+argument_filling names room done (More x xs) whole after behind w is ended unclosed same =
     let p = phrases_rest names 1 done (More x xs) is in
     record {
       part = x;
@@ -142,7 +147,7 @@ argument_filling names room done (More x xs) whole after behind w is unclosed sa
       rises = λ high. subst (λ (e : WrittenList). room < highest e) (sym w) (let h = highest_joined done (More x xs) in omega (arith, high));
     }
 
-pub argument_hole : (names : Names) (room : ℕ) (done : WrittenList) → ArePhrases names 1 done → highest done ≤ room → (done ≡ End ⊎ (1 ≤ room)) → ArgumentsGoOn names done → Hole (Rows arguments_text (ArePhrases names 1)) (Expressions names 1) room room (row_text done []) NotClosed EndsArgument
+pub argument_hole : (names : Names) (room : ℕ) (done : WrittenList) → ArePhrases names 1 done → highest done ≤ room → (done ≡ End ⊎ (1 ≤ room)) → ArgumentsGoOn names done → Hole (Rows arguments_text (ArePhrases names 1)) (Expressions names 1) room room (row_text done []) (Unclosed done) EndsArgument
 argument_hole names room done are low some go = record {
   started = elim some [
     | inl e ↦ inl (ap (λ (d : WrittenList). row_text d []) e)
@@ -156,7 +161,7 @@ argument_hole names room done are low some go = record {
   ];
   invert = λ whole after behind is shut fit same.
       let f = go whole after behind is (same ∙ row_append done [] behind) in
-      argument_filling names room done f.0 whole after behind f.1 (subst (ArePhrases names 1) f.1 is) fit f.2;
+      argument_filling names room done f.0 whole after behind f.1 (subst (ArePhrases names 1) f.1 is) f.3 fit f.2;
   complete = λ part is. record {
     whole = joined done (More part End);
     more = close_parenthesis ∷ [];
@@ -181,14 +186,14 @@ refused_open names room (f ∷ fs) next deep r unclosed behind near more same =
           expression_open names l.phrase [] l.is_phrase (fs ++ l.more) (l.spelled ∙ ap (λ (k : TokenKind). k ∷ (fs ++ l.more)) e)
     ]
 
-pub argument_refused : (names : Names) (room : ℕ) (done : WrittenList) → ArePhrases names 1 done → highest done ≤ room → (done ≡ End ⊎ (1 ≤ room)) → ArgumentsGoOn names done → (front : Kinds) (next : TokenKind) (deep : Bool) → (front ≡ [] → next ≡ close_parenthesis → ⊥) → Refused (Expressions names 1) room front next deep → Refused (Rows arguments_text (ArePhrases names 1)) room (row_text done [] ++ front) next deep
+pub argument_refused : (names : Names) (room : ℕ) (done : WrittenList) → ArePhrases names 1 done → highest done ≤ room → (done ≡ End ⊎ (1 ≤ room)) → ArgumentsGoOn names done → (front : Kinds) (next : TokenKind) (deep : Bool) → (done ≡ End → front ≡ [] → next ≡ close_parenthesis → ⊥) → Refused (Expressions names 1) room front next deep → Refused (Rows arguments_text (ArePhrases names 1)) room (row_text done [] ++ front) next deep
 argument_refused names room done are low some go front next deep unclosed r =
-    hole_refused (Rows arguments_text (ArePhrases names 1)) (Expressions names 1) room room (row_text done []) NotClosed EndsArgument (text_law names 1) (argument_hole names room done are low some go) front next deep (refused_open names room front next deep r unclosed) r
+    hole_refused (Rows arguments_text (ArePhrases names 1)) (Expressions names 1) room room (row_text done []) (Unclosed done) EndsArgument (text_law names 1) (argument_hole names room done are low some go) front next deep (λ behind near none. refused_open names room front next deep r (unclosed none) behind near) r
 
 pub argument_wrong : (names : Names) (room : ℕ) (done : WrittenList) → ArePhrases names 1 done → highest done ≤ room → (done ≡ End ⊎ (1 ≤ room)) → ArgumentsGoOn names done → (last : Written) (next : TokenKind) (deep : Bool) → (next ≡ comma_token → ⊥) → (next ≡ close_parenthesis → ⊥) → Took (Expressions names 1) room last next deep → Refused (Rows arguments_text (ArePhrases names 1)) room (row_text done [] ++ text last []) next deep
 argument_wrong names room done are low some go last next deep comma close t =
-    hole_wrong (Rows arguments_text (ArePhrases names 1)) (Expressions names 1) room room (row_text done []) NotClosed EndsArgument (text_law names 1) (argument_hole names room done are low some go) last next deep
-    (λ behind near. expression_open names last behind t.is_phrase) t
+    hole_wrong (Rows arguments_text (ArePhrases names 1)) (Expressions names 1) room room (row_text done []) (Unclosed done) EndsArgument (text_law names 1) (argument_hole names room done are low some go) last next deep
+    (λ behind near none. expression_open names last behind t.is_phrase) t
     (λ a. elim a [ inl m ↦ let z = m.1 in cc | inr m ↦ let z = m.1 in cc ])
     (λ more a. elim a [ inl m ↦ let z = m.1 in comma cc | inr m ↦ let z = m.1 in close cc ])
 

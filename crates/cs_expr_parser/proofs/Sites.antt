@@ -1,5 +1,7 @@
 -- Each return of the parser's parts, over tokens by their numbers: for the contracts of all parts of the parser.
-use Rattle.std.proofs.Common.{◌≡◌, ℕ, suc, ◌+◌, ◌-◌, ◌<◌, ◌≤◌, max, ◌⊎◌, inl, inr, Bool, true, false, List, [], ◌∷◌, ◌++◌, length, drop, refl, sym, ap, ◌∙◌, subst, arith, append_assoc, append-nil}
+use Rattle.std.proofs.Common.{◌≡◌, ℕ, suc, ◌+◌, ◌-◌, ◌<◌, ◌≤◌, max, ◌⊎◌, inl, inr, Bool, true, false, Option, Some, None, List, [], ◌∷◌, ◌++◌, length, drop, refl, sym, ap, ◌∙◌, subst, arith, append_assoc, append-nil}
+use Rattle.std.proofs.lemmas.Bool.{false≢true}
+use Rattle.cs_ast.specs.declared.raw.expression.RawExpr.{RawExpr}
 use Rattle.cs_ast.specs.declared.token.Token.{Token}
 use Rattle.cs_ast.specs.declared.token.TokenKind.{TokenKind}
 use Rattle.cs_ast.specs.declared.token.TokenKind.TheVariants as token
@@ -23,13 +25,14 @@ use Rattle.cs_grammar.proofs.Levels.{text_law, infix_join}
 use Rattle.cs_grammar.proofs.Chains.{Addition, addition_refused, addition_took, grows_head, grows_exit, grows_deep}
 use Rattle.cs_grammar.proofs.Texts.{text_append, text_splits}
 use Rattle.cs_expr_parser.specs.Positions.{kinds, kind_or_end}
+use Rattle.cs_expr_parser.specs.Leaves.{is_leaf, IsLeafOf}
 use Rattle.cs_expr_parser.specs.Parts.{Spells, Stops, IsRefused, IsTakenFrom, IsChainFrom, IsNode, is_deep}
 use Rattle.cs_expr_parser.specs.declared.stop.Stop.{Stop}
 use Rattle.cs_expr_parser.specs.declared.stop.Stop.TheVariants as stop
 use Rattle.cs_expr_parser.specs.declared.stop.Taken.{Taken}
 use Rattle.cs_expr_parser.proofs.Standing.{spells_one, spells_more, spells_as}
-use Rattle.cs_expr_parser.proofs.Stopping.{stops_in, refused_at, refused_first}
-use Rattle.cs_expr_parser.proofs.Closings.{zero, height_some, open_parenthesis, close_parenthesis, enclosed_refused, enclosed_wrong, enclosed_took}
+use Rattle.cs_expr_parser.proofs.Stopping.{IsRefusalBehind, refused_behind, IsRefusalAt, refused_first, stops_in}
+use Rattle.cs_expr_parser.proofs.Closings.{zero, height_some, leaf_refused, leaf_took, leaf_text, leaf_height, enclosed_full, open_parenthesis, close_parenthesis, enclosed_refused, enclosed_wrong, enclosed_took}
 use Rattle.cs_expr_parser.proofs.Suffixes.{index_addition, infix_addition, comma_addition}
 
 -- a node that was taken
@@ -78,11 +81,11 @@ enclosed_stops names room tokens from least k s r =
     (λ front at deep sp x. enclosed_refused names room least front (kind_or_end tokens at) deep x) s r
 
 -- no parenthesis closes the expression
-pub enclosed_unclosed : (names : Names) (room : ℕ) (tokens : List Token) (from : ℕ) (inner : Taken) (reason : Reason) → 2 ≤ room → kind_or_end tokens from ≡ open_parenthesis → IsTakenFrom names 0 (room - 1) tokens (from + 1) inner → (kind_or_end tokens inner.next ≡ close_parenthesis → ⊥) → is_deep reason ≡ inner.deep → Stops (Expressions names 16) room tokens from (stop.Refused inner.next reason)
-enclosed_unclosed names room tokens from inner reason least k t other d =
-    refused_at (Expressions names 16) room tokens from inner.next reason inner.deep (open_parenthesis ∷ text (written inner.tree) [])
+pub enclosed_unclosed : (names : Names) (room : ℕ) (tokens : List Token) (from : ℕ) (inner : Taken) (s : Stop) → 2 ≤ room → kind_or_end tokens from ≡ open_parenthesis → IsTakenFrom names 0 (room - 1) tokens (from + 1) inner → (kind_or_end tokens inner.next ≡ close_parenthesis → ⊥) → IsRefusalBehind tokens inner s → Stops (Expressions names 16) room tokens from s
+enclosed_unclosed names room tokens from inner s least k t other is =
+    refused_behind (Expressions names 16) room tokens from inner s (open_parenthesis ∷ text (written inner.tree) []) is
     (spells_more tokens from (from + 1) inner.next (λ rest. open_parenthesis ∷ rest) (λ rest. text (written inner.tree) [] ++ rest) (mark_stands tokens from mark.OpenParenthesis k) (taken_front tokens (from + 1) inner.next (written inner.tree) t.spelled))
-    d (enclosed_wrong names room least (written inner.tree) (kind_or_end tokens inner.next) inner.deep t.took other)
+    (enclosed_wrong names room least (written inner.tree) (kind_or_end tokens inner.next) inner.deep t.took other)
 
 -- the expression between parentheses
 pub enclosed_taken : (names : Names) (room : ℕ) (tokens : List Token) (from : ℕ) (inner whole : Taken) → 2 ≤ room → kind_or_end tokens from ≡ open_parenthesis → IsTakenFrom names 0 (room - 1) tokens (from + 1) inner → kind_or_end tokens inner.next ≡ close_parenthesis → IsNode (Enclosed (written inner.tree)) (inner.height + 1) (inner.next + 1) false whole → IsTakenFrom names 16 room tokens from whole
@@ -94,6 +97,32 @@ enclosed_taken names room tokens from inner whole least k t close n =
     (spells_more tokens (from + 1) inner.next (inner.next + 1) (text (written inner.tree)) (λ rest. close_parenthesis ∷ rest) t.spelled (mark_stands tokens inner.next mark.CloseParenthesis close)))
     (omega arith)
     (enclosed_took names room least (written inner.tree) inner.deep (kind_or_end tokens (inner.next + 1)) (subst (λ (x : TokenKind). Took (Expressions names 0) (room - 1) (written inner.tree) x inner.deep) close t.took))
+
+-- no primary expression begins with the token
+pub primary_none : (names : Names) (room : ℕ) (tokens : List Token) (from : ℕ) (s : Stop) → from ≤ length tokens → (kind_or_end tokens from ≡ open_parenthesis → ⊥) → IsLeafOf names (kind_or_end tokens from) None → IsRefusalAt tokens from false s → Stops (Expressions names 16) room tokens from s
+primary_none names room tokens from s within closed none is =
+    refused_first (Expressions names 16) room tokens from false s within is
+    (leaf_refused names room (kind_or_end tokens from) false closed none (λ told. absurd (false≢true told)) (λ told. absurd (false≢true told)))
+
+-- no room for a leaf
+pub leaf_full : (names : Names) (room : ℕ) (tokens : List Token) (from : ℕ) (tree : RawExpr) (s : Stop) → from ≤ length tokens → room ≡ 0 → (kind_or_end tokens from ≡ open_parenthesis → ⊥) → IsLeafOf names (kind_or_end tokens from) (Some tree) → IsRefusalAt tokens from true s → Stops (Expressions names 16) room tokens from s
+leaf_full names room tokens from tree s within full closed leaf is =
+    refused_first (Expressions names 16) room tokens from true s within is
+    (leaf_refused names room (kind_or_end tokens from) true closed leaf.0 (λ told. omega arith) (λ told. (written tree, leaf.1)))
+
+-- no room for an expression between parentheses
+pub parenthesis_full : (names : Names) (room : ℕ) (tokens : List Token) (from : ℕ) (s : Stop) → from ≤ length tokens → room < 2 → kind_or_end tokens from ≡ open_parenthesis → IsRefusalAt tokens from true s → Stops (Expressions names 16) room tokens from s
+parenthesis_full names room tokens from s within full k is = refused_first (Expressions names 16) room tokens from true s within is (subst (λ (x : TokenKind). Refused (Expressions names 16) room [] x true) (sym k) (enclosed_full names room full))
+
+leaf_no_end : (names : Names) (kind : TokenKind) → is_leaf names kind ≡ true → kind ≡ token.Attribute → ⊥
+leaf_no_end names kind k e = false≢true (sym (ap (is_leaf names) e) ∙ k)
+
+pub leaf_taken : (names : Names) (room : ℕ) (tokens : List Token) (from : ℕ) (whole : Taken) → 1 ≤ room → IsLeafOf names (kind_or_end tokens from) (Some whole.tree) → whole.height ≡ 1 → whole.next ≡ from + 1 → whole.deep ≡ false → IsTakenFrom names 16 room tokens from whole
+leaf_taken names room tokens from whole some leaf tall next deep =
+    node_taken names 16 room tokens from whole (written whole.tree) 1 (from + 1) false (record { tree_is = refl; height_is = tall; next_is = next; deep_is = deep }) (sym (leaf_height (kind_or_end tokens from) (written whole.tree) leaf.1))
+    (spells_as tokens from (from + 1) (λ rest. kind_or_end tokens from ∷ rest) (text (written whole.tree)) (spells_one tokens from (kind_or_end tokens from) refl (leaf_no_end names (kind_or_end tokens from) leaf.0)) (λ rest. sym (leaf_text (kind_or_end tokens from) (written whole.tree) rest leaf.1)))
+    (omega arith)
+    (exact_took (Expressions names 16) room (written whole.tree) (leaf_took names room (kind_or_end tokens from) (written whole.tree) some leaf.0 leaf.1) (kind_or_end tokens (from + 1)))
 
 -- the rest of a suffix was refused
 pub addition_stops : (names : Names) (level room : ℕ) (tokens : List Token) (from : ℕ) (left : Taken) (m : Mark) (D : Class) (inner : ℕ) (build : D.Tree → Written) → Lawful D → IsChainFrom names level room tokens from left → kind_or_end tokens left.next ≡ token.Mark m → Addition names level (written left.tree) room (token.Mark m) D inner build → (s : Stop) → Stops D inner tokens (left.next + 1) s → Stops (Expressions names level) room tokens from s

@@ -1,4 +1,4 @@
--- The returns of `unary`, `sized`, `cast`, `choice` and `assign`, over tokens by their numbers.
+-- The returns of `choice` and `assign`, over tokens by their numbers.
 use Rattle.std.proofs.Common.{◌≡◌, ℕ, suc, ◌+◌, ◌-◌, ◌<◌, ◌≤◌, max, ◌⊎◌, inl, inr, Bool, true, false, List, [], ◌∷◌, ◌++◌, length, drop, map, refl, sym, ap, ◌∙◌, subst, arith, append_assoc, append-nil}
 use Rattle.std.proofs.lemmas.List.{length-append}
 use Rattle.cs_ast.specs.declared.token.Token.{Token}
@@ -24,14 +24,9 @@ use Rattle.cs_expr_parser.specs.declared.stop.Stop.{Stop}
 use Rattle.cs_expr_parser.specs.declared.stop.Stop.TheVariants as stop
 use Rattle.cs_expr_parser.specs.declared.stop.Taken.{Taken}
 use Rattle.cs_expr_parser.proofs.Standing.{spells_one, spells_more, spells_as}
-use Rattle.cs_expr_parser.proofs.Stopping.{stops_in, refused_at}
+use Rattle.cs_expr_parser.proofs.Stopping.{IsRefusalBehind, refused_behind, stops_in, stops_pass}
 use Rattle.cs_expr_parser.proofs.Sites.{node_taken, mark_stands, taken_front, front_and_mark}
-use Rattle.cs_expr_parser.proofs.Looser.{choice_passes, choice_deep, one_refused, one_wrong, one_exact, other_refused, other_took, assign_passes, assign_deep, value_refused, value_took}
-
--- a refusal on a tighter level is one on a looser level
-pub stops_pass : (C D : Class) (room : ℕ) (tokens : List Token) (from : ℕ) → ((front : Kinds) (at : ℕ) (deep : Bool) → Spells tokens from at (λ rest. front ++ rest) → Refused D room front (kind_or_end tokens at) deep → Refused C room front (kind_or_end tokens at) deep) → (s : Stop) → Stops D room tokens from s → Stops C room tokens from s
-stops_pass C D room tokens from lift stop.Memory s = tt
-stops_pass C D room tokens from lift (stop.Refused at reason) s = record { front = s.front; spelled = s.spelled; refused = lift s.front at (is_deep reason) s.spelled s.refused }
+use Rattle.cs_expr_parser.proofs.Looser.{choice_passes, choice_head_refused, choice_deep, one_refused, one_wrong, one_exact, other_refused, other_took, assign_passes, assign_head_refused, assign_deep, value_refused, value_took}
 
 abbrev question : TokenKind
 question = token.Mark mark.Question
@@ -68,20 +63,20 @@ one_stops names room tokens from test t k low s r =
     (λ front at deep sp x. one_refused names room (written test.tree) test.deep (low_test names room tokens from test t low) (with_question names room tokens from test t k) front (kind_or_end tokens at) deep x) s r
 
 -- no colon stands behind the first choice
-pub one_unclosed : (names : Names) (room : ℕ) (tokens : List Token) (from : ℕ) (test one : Taken) (reason : Reason) → IsTakenFrom names 3 room tokens from test → kind_or_end tokens test.next ≡ question → test.height < room → IsTakenFrom names 0 (room - 1) tokens (test.next + 1) one → (kind_or_end tokens one.next ≡ colon → ⊥) → is_deep reason ≡ one.deep → Stops (Expressions names 2) room tokens from (stop.Refused one.next reason)
-one_unclosed names room tokens from test one reason t k low o other d =
-    refused_at (Expressions names 2) room tokens from one.next reason one.deep (text (written test.tree) (question ∷ []) ++ text (written one.tree) [])
+pub one_unclosed : (names : Names) (room : ℕ) (tokens : List Token) (from : ℕ) (test one : Taken) (s : Stop) → IsTakenFrom names 3 room tokens from test → kind_or_end tokens test.next ≡ question → test.height < room → IsTakenFrom names 0 (room - 1) tokens (test.next + 1) one → (kind_or_end tokens one.next ≡ colon → ⊥) → IsRefusalBehind tokens one s → Stops (Expressions names 2) room tokens from s
+one_unclosed names room tokens from test one s t k low o other is =
+    refused_behind (Expressions names 2) room tokens from one s (text (written test.tree) (question ∷ []) ++ text (written one.tree) []) is
     (spells_as tokens from one.next (λ rest. text (written test.tree) (question ∷ []) ++ (text (written one.tree) [] ++ rest)) (λ rest. (text (written test.tree) (question ∷ []) ++ text (written one.tree) []) ++ rest)
     (spells_more tokens from (test.next + 1) one.next (λ rest. text (written test.tree) (question ∷ []) ++ rest) (λ rest. text (written one.tree) [] ++ rest)
     (front_and_mark tokens from test.next (written test.tree) mark.Question t.spelled k) (taken_front tokens (test.next + 1) one.next (written one.tree) o.spelled))
     (λ rest. sym (append_assoc (text (written test.tree) (question ∷ [])) (text (written one.tree) []) rest)))
-    d (one_wrong names room (written test.tree) test.deep (low_test names room tokens from test t low) (with_question names room tokens from test t k) (written one.tree) (kind_or_end tokens one.next) one.deep o.took other)
+    (one_wrong names room (written test.tree) test.deep (low_test names room tokens from test t low) (with_question names room tokens from test t k) (written one.tree) (kind_or_end tokens one.next) one.deep o.took other)
 
 one_is : (names : Names) (room : ℕ) (tokens : List Token) (from : ℕ) (one : Taken) → IsTakenFrom names 0 room tokens from one → kind_or_end tokens one.next ≡ colon → Exactly (ClosedBy (Expressions names 0) colon) room (written one.tree)
 one_is names room tokens from one o k = one_exact names room (written one.tree) one.deep (subst (λ (x : TokenKind). Took (Expressions names 0) room (written one.tree) x one.deep) k o.took)
 
 -- the tokens of a choice up to its colon
-choice_front : (names : Names) (room : ℕ) (tokens : List Token) (from : ℕ) (test one : Taken) → IsTakenFrom names 3 room tokens from test → kind_or_end tokens test.next ≡ question → IsTakenFrom names 0 (room - 1) tokens (test.next + 1) one → kind_or_end tokens one.next ≡ colon → Spells tokens from (one.next + 1) (λ rest. text (written test.tree) (question ∷ text (written one.tree) (colon ∷ rest)))
+pub choice_front : (names : Names) (room : ℕ) (tokens : List Token) (from : ℕ) (test one : Taken) → IsTakenFrom names 3 room tokens from test → kind_or_end tokens test.next ≡ question → IsTakenFrom names 0 (room - 1) tokens (test.next + 1) one → kind_or_end tokens one.next ≡ colon → Spells tokens from (one.next + 1) (λ rest. text (written test.tree) (question ∷ text (written one.tree) (colon ∷ rest)))
 choice_front names room tokens from test one t k o c =
     spells_more tokens from test.next (one.next + 1) (text (written test.tree)) (λ rest. question ∷ text (written one.tree) (colon ∷ rest)) t.spelled
     (spells_more tokens test.next (test.next + 1) (one.next + 1) (λ rest. question ∷ rest) (λ rest. text (written one.tree) (colon ∷ rest)) (mark_stands tokens test.next mark.Question k)
@@ -143,3 +138,11 @@ assign_taken names room tokens from object value whole op t k bound low v n =
     (spells_more tokens object.next (object.next + 1) value.next (λ rest. token.Mark (assign_mark op) ∷ rest) (text (written value.tree)) (mark_stands tokens object.next (assign_mark op) k) v.spelled))
     (omega arith)
     (value_took names room (written object.tree) op object.deep (omega arith) bound (with_store names room tokens from object op t k) (written value.tree) (kind_or_end tokens value.next) value.deep v.took)
+
+-- the test was refused
+pub test_stops : (names : Names) (room : ℕ) (tokens : List Token) (from : ℕ) (s : Stop) → Stops (Expressions names 3) room tokens from s → Stops (Expressions names 2) room tokens from s
+test_stops names room tokens from s r = stops_pass (Expressions names 2) (Expressions names 3) room tokens from (λ front at deep sp x. choice_head_refused names room front (kind_or_end tokens at) deep x) s r
+
+-- the object was refused
+pub object_stops : (names : Names) (room : ℕ) (tokens : List Token) (from : ℕ) (s : Stop) → Stops (Expressions names 2) room tokens from s → Stops (Expressions names 1) room tokens from s
+object_stops names room tokens from s r = stops_pass (Expressions names 1) (Expressions names 2) room tokens from (λ front at deep sp x. assign_head_refused names room front (kind_or_end tokens at) deep x) s r

@@ -19,7 +19,7 @@ kind_of_some tokens at t e =
     let h : at < length tokens = slice_get_within tokens at t e in
     ap first_kind (drop-cons tokens at t h) ∙ ap (λ (x : Token). x.kind) (get_or_from_slice_get tokens at t t e)
 
-past_end : (tokens : List Token) (at : ℕ) → slice_get tokens at ≡ None → length tokens ≤ at
+pub past_end : (tokens : List Token) (at : ℕ) → slice_get tokens at ≡ None → length tokens ≤ at
 past_end [] at e = omega arith
 past_end (t ∷ ts) at e =
     elim (cases_lt at (length (t ∷ ts))) [
@@ -50,6 +50,11 @@ near_list (t ∷ ts) = inr (kinds ts, refl)
 -- what stands from a number on is at its end, or goes on with its first token
 pub near : (tokens : List Token) (at : ℕ) → Near (kind_or_end tokens at) (kinds (drop at tokens))
 near tokens at = near_list (drop at tokens)
+
+-- the first of some tokens, by their kinds
+pub kinds_first : (tokens : List Token) (kind : TokenKind) (others : Kinds) → kinds tokens ≡ kind ∷ others → first_kind tokens ≡ kind
+kinds_first [] kind others e = absurd cc
+kinds_first (t ∷ ts) kind others e = cc
 
 -- one token
 pub spells_one : (tokens : List Token) (at : ℕ) (kind : TokenKind) → kind_or_end tokens at ≡ kind → (kind ≡ token.Attribute → ⊥) → Spells tokens at (at + 1) (λ rest. kind ∷ rest)

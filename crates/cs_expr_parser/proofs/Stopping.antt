@@ -1,16 +1,19 @@
 -- Refusals inside a phrase, by the numbers of tokens: for the contracts of all parts of the parser.
-use Rattle.std.proofs.Common.{◌≡◌, ℕ, ◌+◌, ◌<◌, ◌≤◌, ◌⊎◌, inl, inr, Bool, true, false, ◌&&◌, ◌||◌, if◌then◌else◌, List, [], ◌∷◌, ◌++◌, length, drop, refl, sym, ap, ◌∙◌, subst, arith, append_assoc}
+use Rattle.std.proofs.Common.{◌≡◌, ℕ, ◌+◌, ◌-◌, ◌<◌, ◌≤◌, ◌⊎◌, inl, inr, Bool, true, false, ◌&&◌, ◌||◌, if◌then◌else◌, List, [], ◌∷◌, ◌++◌, length, drop, refl, sym, ap, ◌∙◌, subst, arith, append_assoc, length-drop}
+use Rattle.std.proofs.lemmas.List.{length-append, length-map}
 use Rattle.cs_ast.specs.declared.token.Token.{Token}
 use Rattle.cs_ast.specs.declared.token.TokenKind.{TokenKind}
+use Rattle.cs_ast.specs.RawView.{written}
 use Rattle.cs_grammar.specs.declared.refusal.Reason.{Reason}
 use Rattle.cs_grammar.specs.declared.refusal.Reason.TheVariants.{Syntax, LeftOut, TooDeep}
 use Rattle.cs_grammar.specs.Text.{Kinds}
 use Rattle.cs_grammar.specs.Parsing.{Class, Refused}
 use Rattle.cs_expr_parser.specs.Positions.{kinds, kind_or_end, is_left_out, is_brace}
-use Rattle.cs_expr_parser.specs.Reasons.{plain_reason, reason_of}
+use Rattle.cs_expr_parser.specs.Reasons.{plain_reason, reason_of, ends_in_type}
 use Rattle.cs_expr_parser.specs.Parts.{Spells, IsRefused, Stops, is_deep}
 use Rattle.cs_expr_parser.specs.declared.stop.Stop.{Stop}
 use Rattle.cs_expr_parser.specs.declared.stop.Stop.TheVariants as stop
+use Rattle.cs_expr_parser.specs.declared.stop.Taken.{Taken}
 use Rattle.cs_expr_parser.proofs.Standing.{spells_none, spells_more}
 
 not_deep : (b : Bool) → is_deep (if b then LeftOut else Syntax) ≡ false
@@ -29,9 +32,48 @@ deep_reason false next behind_type = plain_not_deep next behind_type
 pub refused_at : (C : Class) (room : ℕ) (tokens : List Token) (from at : ℕ) (reason : Reason) (deep : Bool) (front : Kinds) → Spells tokens from at (λ rest. front ++ rest) → is_deep reason ≡ deep → Refused C room front (kind_or_end tokens at) deep → Stops C room tokens from (stop.Refused at reason)
 refused_at C room tokens from at reason deep front spelled is r = record { front = front; spelled = spelled; refused = subst (λ (d : Bool). Refused C room front (kind_or_end tokens at) d) (sym is) r }
 
+-- the refusal of the token behind what was taken
+abbrev pub IsRefusalBehind : List Token → Taken → Stop → Type 0
+IsRefusalBehind tokens taken s = s ≡ stop.Refused taken.next (reason_of taken.deep (kind_or_end tokens taken.next) (ends_in_type (written taken.tree)))
+
+-- the token behind what was taken is refused
+pub refused_behind : (C : Class) (room : ℕ) (tokens : List Token) (from : ℕ) (taken : Taken) (s : Stop) (front : Kinds) → IsRefusalBehind tokens taken s → Spells tokens from taken.next (λ rest. front ++ rest) → Refused C room front (kind_or_end tokens taken.next) taken.deep → Stops C room tokens from s
+refused_behind C room tokens from taken s front is spelled r =
+    subst (Stops C room tokens from) (sym is)
+    (refused_at C room tokens from taken.next (reason_of taken.deep (kind_or_end tokens taken.next) (ends_in_type (written taken.tree))) taken.deep front spelled (deep_reason taken.deep (kind_or_end tokens taken.next) (ends_in_type (written taken.tree))) r)
+
+-- the refusal of the token at a number
+abbrev pub IsRefusalAt : List Token → ℕ → Bool → Stop → Type 0
+IsRefusalAt tokens at deep s = s ≡ stop.Refused at (reason_of deep (kind_or_end tokens at) false)
+
 -- the first token is refused
-pub refused_first : (C : Class) (room : ℕ) (tokens : List Token) (from : ℕ) (reason : Reason) (deep : Bool) → from ≤ length tokens → is_deep reason ≡ deep → Refused C room [] (kind_or_end tokens from) deep → Stops C room tokens from (stop.Refused from reason)
-refused_first C room tokens from reason deep within is r = refused_at C room tokens from from reason deep [] (spells_none tokens from within) is r
+pub refused_first : (C : Class) (room : ℕ) (tokens : List Token) (from : ℕ) (deep : Bool) (s : Stop) → from ≤ length tokens → IsRefusalAt tokens from deep s → Refused C room [] (kind_or_end tokens from) deep → Stops C room tokens from s
+refused_first C room tokens from deep s within is r =
+    subst (Stops C room tokens from) (sym is)
+    (refused_at C room tokens from from (reason_of deep (kind_or_end tokens from) false) deep [] (spells_none tokens from within) (deep_reason deep (kind_or_end tokens from) false) r)
+
+-- a refusal on a tighter level is one on a looser level
+pub stops_pass : (C D : Class) (room : ℕ) (tokens : List Token) (from : ℕ) → ((front : Kinds) (at : ℕ) (deep : Bool) → Spells tokens from at (λ rest. front ++ rest) → Refused D room front (kind_or_end tokens at) deep → Refused C room front (kind_or_end tokens at) deep) → (s : Stop) → Stops D room tokens from s → Stops C room tokens from s
+stops_pass C D room tokens from lift stop.Memory s = tt
+stops_pass C D room tokens from lift (stop.Refused at reason) s = record { front = s.front; spelled = s.spelled; refused = lift s.front at (is_deep reason) s.spelled s.refused }
+
+-- where tokens are refused behind these, they are as many
+pub refused_number : (tokens : List Token) (from at : ℕ) (front : Kinds) → Spells tokens from at (λ rest. front ++ rest) → at ≡ from + length front
+refused_number tokens from at front sp =
+    let a : length (kinds (drop from tokens)) ≡ length tokens - from = length-map (drop from tokens) (λ (t : Token). t.kind) ∙ length-drop from tokens in
+    let b : length (kinds (drop at tokens)) ≡ length tokens - at = length-map (drop at tokens) (λ (t : Token). t.kind) ∙ length-drop at tokens in
+    let c : length (kinds (drop from tokens)) ≡ length front + length (kinds (drop at tokens)) = ap length sp.spelled ∙ length-append front (kinds (drop at tokens)) in
+    let w = sp.within in
+    let o = sp.onward in
+    omega arith
+
+-- behind no tokens, the token with the first number was refused
+pub refused_here : (tokens : List Token) (from at : ℕ) (front : Kinds) → Spells tokens from at (λ rest. front ++ rest) → front ≡ [] → kind_or_end tokens at ≡ kind_or_end tokens from
+refused_here tokens from at front sp none =
+    let n = refused_number tokens from at front sp in
+    let l : length front ≡ 0 = ap length none in
+    let e : at ≡ from = omega arith in
+    ap (kind_or_end tokens) e
 
 -- a part was refused
 pub stops_in : (C D : Class) (room inner : ℕ) (tokens : List Token) (from mid : ℕ) (before : Kinds) → Spells tokens from mid (λ rest. before ++ rest) → ((front : Kinds) (at : ℕ) (deep : Bool) → Spells tokens mid at (λ rest. front ++ rest) → Refused D inner front (kind_or_end tokens at) deep → Refused C room (before ++ front) (kind_or_end tokens at) deep) → (s : Stop) → Stops D inner tokens mid s → Stops C room tokens from s

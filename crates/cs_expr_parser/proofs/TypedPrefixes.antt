@@ -25,7 +25,7 @@ use Rattle.cs_expr_parser.specs.declared.unary.Before.TheVariants as before
 use Rattle.cs_expr_parser.proofs.Closings.{zero, height_some, open_parenthesis, close_parenthesis}
 use Rattle.cs_expr_parser.proofs.Prefixes.{IsUnary, plain, prefixed, measured, unary_is, IsCast, tighter, converted, cast_is, passes_first, types_law, type_text_begins, type_no_expression, no_type_inner, NoType, before_tail, size_is, not_type}
 
-abbrev sizeof_token : TokenKind
+abbrev pub sizeof_token : TokenKind
 sizeof_token = token.Keyword keyword.Sizeof
 
 -- the tokens begin no expression

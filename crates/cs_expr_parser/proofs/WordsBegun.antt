@@ -107,7 +107,7 @@ not_type_refused names room ws next none stuck = record {
   further = λ told. absurd (false≢true told);
 }
 
-tag_first : (is_struct : Bool) (tag : List ℕ) (x : Kinds) → type_word_text (word_of_tag is_struct tag) x ≡ token.Keyword (if is_struct then keyword.Struct else keyword.Enum) ∷ token.Name tag ∷ x
+pub tag_first : (is_struct : Bool) (tag : List ℕ) (x : Kinds) → type_word_text (word_of_tag is_struct tag) x ≡ token.Keyword (if is_struct then keyword.Struct else keyword.Enum) ∷ token.Name tag ∷ x
 tag_first true tag x = refl
 tag_first false tag x = refl
 

@@ -1,18 +1,25 @@
 -- What the parser of expressions answers.
-use Rattle.std.specs.Prelude.{◌≡◌, ℕ, ◌+◌, ◌≤◌, ◌⊎◌, List, [], ◌∷◌, ◌++◌, Option, Some, None, map, take, drop, slice_get}
+use Rattle.std.specs.Prelude.{◌≡◌, ℕ, ◌≤◌, ◌<◌, ◌⊎◌, List, [], ◌∷◌, ◌++◌, Option, Some, None, drop, slice_get}
 use Rattle.std.specs.Option.{option_map}
+use Rattle.cs_ast.specs.declared.place.Place.{Place}
 use Rattle.cs_ast.specs.declared.token.Token.{Token}
 use Rattle.cs_ast.specs.declared.token.TokenKind.{TokenKind}
 use Rattle.cs_ast.specs.RawTree.{Written}
 use Rattle.cs_ast.specs.RawView.{written}
 use Rattle.cs_ast.specs.RawHeight.{height}
 use Rattle.cs_grammar.specs.declared.refusal.Reason.{Reason}
+use Rattle.cs_grammar.specs.declared.refusal.Reason.TheVariants.{Syntax, LeftOut, TooDeep}
+use Rattle.cs_grammar.specs.declared.refusal.SyntaxRefusal.{SyntaxRefusal}
+use Rattle.cs_grammar.specs.declared.refusal.SyntaxRefusal.TheVariants as refusal
 use Rattle.cs_grammar.specs.TypeWords.{Names}
 use Rattle.cs_grammar.specs.Levels.{COMMA, ASSIGN, CHOICE}
 use Rattle.cs_grammar.specs.Text.{Kinds, text}
 use Rattle.cs_grammar.specs.Phrases.{IsPhrase, BeginsLowPhrase, IsLowPhrase}
 use Rattle.cs_grammar.specs.Refusals.{IsReason}
-use Rattle.cs_grammar.specs.Places.{HasPlaces}
+use Rattle.cs_grammar.specs.Parsing.{Expressions, Took, Refused}
+use Rattle.cs_grammar.specs.Spelling.{left_out_spelling}
+use Rattle.cs_expr_parser.specs.Positions.{kinds, kind_or_end}
+use Rattle.cs_expr_parser.specs.Parts.{Spells, is_deep}
 use Rattle.cs_expr_parser.specs.declared.answer.ExprLevel.{ExprLevel}
 use Rattle.cs_expr_parser.specs.declared.answer.ExprLevel.TheVariants.{Expr, Assign, Cond}
 use Rattle.cs_expr_parser.specs.declared.answer.Phrase.{Phrase}
@@ -23,10 +30,6 @@ level_asked Expr = COMMA
 level_asked Assign = ASSIGN
 level_asked Cond = CHOICE
 
--- the kinds of tokens
-abbrev pub kinds : List Token → Kinds
-kinds tokens = map (λ (token : Token). token.kind) tokens
-
 -- the kind of the token with this number, if it is there
 abbrev pub kind_at : List Token → ℕ → Option TokenKind
 kind_at tokens at = option_map (λ (token : Token). token.kind) (slice_get tokens at)
@@ -36,24 +39,61 @@ abbrev pub GoesNoFurther : Names → ℕ → ℕ → Kinds → Option TokenKind 
 GoesNoFurther names level room front (Some next) = BeginsLowPhrase names level room (front ++ next ∷ []) → ⊥
 GoesNoFurther names level room front None = Unit {0}
 
--- the tokens from a number on begin with this phrase of the level, and no phrase that is low enough goes further
+-- the tokens from a number on begin with this phrase of the level, and no phrase that is low enough goes further; `took` says
+-- the same for parsers that go on
 pub record IsTaken (names : Names) (level room : ℕ) (tokens : List Token) (from : ℕ) (phrase : Phrase) : Type 0 where
   pub is_phrase : IsPhrase names level (written phrase.tree)
   pub low : height (written phrase.tree) ≤ room
   pub height_is : phrase.height ≡ height (written phrase.tree)
-  pub onward : from ≤ phrase.next
-  pub spelled : kinds (drop from tokens) ≡ text (written phrase.tree) (kinds (drop phrase.next tokens))
-  pub placed : HasPlaces phrase.tree (drop from tokens)
+  pub spelled : Spells tokens from phrase.next (text (written phrase.tree))
+  pub some : from < phrase.next
   pub only : (other : Written) → IsPhrase names level other → text other [] ≡ text (written phrase.tree) [] → other ≡ written phrase.tree
   pub furthest : GoesNoFurther names level room (text (written phrase.tree) []) (kind_at tokens phrase.next)
   pub otherwise : IsReason names level (text (written phrase.tree) []) (kind_at tokens phrase.next) phrase.otherwise
+  pub took : Took (Expressions names level) room (written phrase.tree) (kind_or_end tokens phrase.next) (is_deep phrase.otherwise)
 
 -- the tokens from a number on, up to another one, begin a phrase of the level that is low enough, if there are any, but aren't
--- one; with the next token they begin none, for this reason
+-- one; with the next token they begin none, for this reason; `refused` says the same for parsers that go on
 pub record IsRefusedAt (names : Names) (level room : ℕ) (tokens : List Token) (from at : ℕ) (reason : Reason) : Type 0 where
   pub front : Kinds
-  pub spelled : kinds (drop from tokens) ≡ front ++ kinds (drop at tokens)
+  pub spelled : Spells tokens from at (λ rest. front ++ rest)
   pub begun : (front ≡ []) ⊎ BeginsLowPhrase names level room front
   pub unfinished : IsLowPhrase names level room front → ⊥
   pub furthest : GoesNoFurther names level room front (kind_at tokens at)
   pub why : IsReason names level front (kind_at tokens at) reason
+  pub refused : Refused (Expressions names level) room front (kind_or_end tokens at) (is_deep reason)
+
+-- the place of the first of these tokens, or of the end of input
+abbrev pub first_place : Place → List Token → Place
+first_place end [] = end
+first_place end (token ∷ tokens) = token.place
+
+-- the place of the token with this number, or of the end of input
+abbrev pub place_or_end : List Token → Place → ℕ → Place
+place_or_end tokens end at = first_place end (drop at tokens)
+
+-- a refusal of this token, for this reason, or want of memory
+abbrev pub IsRefusalBy : Token → Reason → SyntaxRefusal → Type 0
+IsRefusalBy token Syntax (refusal.Syntax place) = place ≡ token.place
+IsRefusalBy token LeftOut (refusal.LeftOut place word) = (place ≡ token.place) × (word ≡ left_out_spelling token.kind)
+IsRefusalBy token TooDeep (refusal.TooDeep place) = place ≡ token.place
+IsRefusalBy token reason refusal.Memory = Unit {0}
+IsRefusalBy token reason other = ⊥
+
+-- a refusal of the token with this number, for this reason, or want of memory
+abbrev pub IsRefusalFor : List Token → Place → ℕ → Reason → SyntaxRefusal → Type 0
+IsRefusalFor tokens end at Syntax (refusal.Syntax place) = place ≡ place_or_end tokens end at
+IsRefusalFor tokens end at LeftOut (refusal.LeftOut place word) = (place ≡ place_or_end tokens end at) × (word ≡ left_out_spelling (kind_or_end tokens at))
+IsRefusalFor tokens end at TooDeep (refusal.TooDeep place) = place ≡ place_or_end tokens end at
+IsRefusalFor tokens end at reason refusal.Memory = Unit {0}
+IsRefusalFor tokens end at reason other = ⊥
+
+-- the reason for a refusal of this token; the end of input is refused as syntax
+abbrev pub reason_there : Option TokenKind → Reason → Reason
+reason_there (Some next) reason = reason
+reason_there None reason = Syntax
+
+-- want of memory, or the refusal of the first token with which no phrase of the level that is low enough goes on
+abbrev pub IsRefusal : Names → ℕ → ℕ → List Token → Place → ℕ → SyntaxRefusal → Type 0
+IsRefusal names level room tokens end from refusal.Memory = Unit {0}
+IsRefusal names level room tokens end from other = (at : ℕ) × (reason : Reason) × IsRefusalFor tokens end at reason other × IsRefusedAt names level room tokens from at reason

@@ -6,3 +6,4 @@ pub mod Operators
 pub mod Unary
 pub mod Words
 pub mod Expression
+pub mod LastTokens

@@ -15,7 +15,7 @@ use Rattle.cs_grammar.specs.TypeWords.{Names, is_type, is_pointer}
 use Rattle.cs_grammar.specs.Levels.{ASSIGN, CHOICE}
 use Rattle.cs_grammar.specs.Text.{Kinds, text, listed, words_text, pointers_text, bounds_text, type_text}
 use Rattle.cs_grammar.specs.Phrases.{ArePhrases}
-use Rattle.cs_grammar.specs.Parsing.{Class, Expressions, Took, Refused}
+use Rattle.cs_grammar.specs.Parsing.{Class, Expressions, Took, Refused, Exactly}
 use Rattle.cs_grammar.specs.Chains.{Grows}
 use Rattle.cs_expr_parser.specs.Positions.{kinds, kind_or_end, name_of}
 use Rattle.cs_expr_parser.specs.Reasons.{reason_of}
@@ -133,7 +133,7 @@ Types names = record {
 pub record IsRowFrom (spell : WrittenList → Kinds → Kinds) (Is : WrittenList → Type 0) (room : ℕ) (tokens : List Token) (from : ℕ) (taken : Listed) : Type 0 where
   pub height_is : taken.height ≡ highest (written_list taken.trees.items)
   pub spelled : Spells tokens from taken.next (spell (written_list taken.trees.items))
-  pub took : Took (Rows spell Is) room (written_list taken.trees.items) (kind_or_end tokens taken.next) false
+  pub exactly : Exactly (Rows spell Is) room (written_list taken.trees.items)
 
 -- phrases in a row were taken, or a token was refused
 abbrev pub RowAnswers : (WrittenList → Kinds → Kinds) → (WrittenList → Type 0) → ℕ → List Token → ℕ → Result Listed Stop → Type 0
@@ -144,7 +144,7 @@ RowAnswers spell Is room tokens from (Err stop) = Stops (Rows spell Is) room tok
 pub record IsTypeFrom (names : Names) (room : ℕ) (tokens : List Token) (from : ℕ) (taken : TakenType) : Type 0 where
   pub height_is : taken.height ≡ highest (written_list taken.bounds.items)
   pub spelled : Spells tokens from taken.next (type_closed_text (parts_of taken))
-  pub took : Took (Types names) room (parts_of taken) (kind_or_end tokens taken.next) false
+  pub exactly : Exactly (Types names) room (parts_of taken)
 
 -- a type was taken, or a token was refused
 abbrev pub TypeAnswers : Names → ℕ → List Token → ℕ → Result TakenType Stop → Type 0

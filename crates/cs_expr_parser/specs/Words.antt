@@ -11,7 +11,7 @@ use Rattle.cs_ast.specs.declared.raw.written_type.TypeWord.TheVariants as word
 use Rattle.cs_ast.specs.declared.raw.written_type.IntegerWord.{IntegerWord}
 use Rattle.cs_ast.specs.declared.raw.written_type.PointerWord.{PointerWord}
 use Rattle.cs_ast.specs.declared.raw.written_type.PointerWord.TheVariants as pointer
-use Rattle.cs_grammar.specs.TypeWords.{Names, is_among, is_type, is_pointer, word_of}
+use Rattle.cs_grammar.specs.TypeWords.{Names, is_among, is_type, is_pointer, named_by, word_of}
 use Rattle.cs_grammar.specs.TypesSoFar.{Describes}
 use Rattle.cs_grammar.specs.declared.type_words.TypeSoFar.{TypeSoFar}
 use Rattle.cs_grammar.specs.declared.type_words.TypeSoFar.TheVariants.{Nothing, Integers, Whole}
@@ -24,6 +24,7 @@ use Rattle.cs_expr_parser.specs.declared.stop.Stop.TheVariants as stop
 use Rattle.cs_expr_parser.specs.declared.types.TypeWords.{TypeWords}
 use Rattle.cs_expr_parser.specs.declared.types.PointerWords.{PointerWords}
 use Rattle.cs_expr_parser.specs.declared.types.NextWord.{NextWord}
+use Rattle.cs_expr_parser.specs.declared.types.JoiningWord.{JoiningWord}
 
 -- the first token of a word of a type
 abbrev pub first_of_word : TypeWord → TokenKind
@@ -38,11 +39,29 @@ first_of_word (word.Enum tag) = token.Keyword keyword.Enum
 abbrev pub IsStuck : Names → List TypeWord → TokenKind → Type 0
 IsStuck names words next = (one : TypeWord) (more : List TypeWord) → first_of_word one ≡ next → is_type names (words ++ one ∷ more) ≡ false
 
+-- the word has a tag
+abbrev pub has_tag : TypeWord → Bool
+has_tag (word.Struct tag) = true
+has_tag (word.Enum tag) = true
+has_tag other = false
+
+-- the last of the words has a tag
+abbrev pub last_tagged : List TypeWord → Bool
+last_tagged [] = false
+last_tagged (last ∷ []) = has_tag last
+last_tagged (first ∷ second ∷ words) = last_tagged (second ∷ words)
+
+-- a tag that stood last still does, where these stand behind it
+abbrev pub is_last_tag : {Item : Type 0} → Bool → List Item → Bool
+is_last_tag tagged [] = tagged
+is_last_tag tagged (first ∷ others) = false
+
 -- the words of a type were taken, as many as there are
 pub record IsWordsFrom (names : Names) (tokens : List Token) (from : ℕ) (taken : TypeWords) : Type 0 where
   pub spelled : Spells tokens from taken.next (words_text taken.words.items)
   pub is_type : is_type names taken.words.items ≡ true
   pub stuck : IsStuck names taken.words.items (kind_or_end tokens taken.next)
+  pub tagged : taken.tagged ≡ last_tagged taken.words.items
 
 abbrev pub WordsAnswer : Names → List Token → ℕ → Result TypeWords Stop → Type 0
 WordsAnswer names tokens from (Ok taken) = IsWordsFrom names tokens from taken
@@ -53,11 +72,12 @@ abbrev pub names_some : TypeSoFar → Bool
 names_some Nothing = false
 names_some other = true
 
--- a word of a type stands at a number
-pub record IsWordAt (names : Names) (tokens : List Token) (at : ℕ) (found : NextWord) : Type 0 where
+-- a word of a type stands at a number; one with a tag only where the words so far name no type
+pub record IsWordAt (names : Names) (tokens : List Token) (at : ℕ) (so_far : TypeSoFar) (found : NextWord) : Type 0 where
   pub spelled : Spells tokens at found.next (type_word_text found.word)
   pub known : (name : List ℕ) → found.word ≡ word.Typedef name → is_among names name ≡ true
   pub later : at + 1 ≤ found.next
+  pub fresh : has_tag found.word ≡ true → names_some so_far ≡ false
 
 -- the word can't be used where the words so far are these
 abbrev pub IsUnusable : Names → TypeSoFar → TypeWord → Type 0
@@ -78,11 +98,24 @@ pub record IsTagMissing (tokens : List Token) (at refused : ℕ) : Type 0 where
   pub refused_is : refused ≡ at + 1
 
 abbrev pub WordAnswer : Names → List Token → ℕ → TypeSoFar → Result (Option NextWord) Stop → Type 0
-WordAnswer names tokens at so_far (Ok (Some found)) = IsWordAt names tokens at found
+WordAnswer names tokens at so_far (Ok (Some found)) = IsWordAt names tokens at so_far found
 WordAnswer names tokens at so_far (Ok None) = NoWord names so_far (kind_or_end tokens at)
 WordAnswer names tokens at so_far (Err stop.Memory) = Unit {0}
 WordAnswer names tokens at so_far (Err (stop.Refused refused reason)) =
     IsTagMissing tokens at refused × (names_some so_far ≡ false) × (reason ≡ plain_reason (kind_or_end tokens refused) true)
+
+-- a word stands at a number that joins the words of a type so far
+pub record IsJoiningAt (names : Names) (words : List TypeWord) (tokens : List Token) (at : ℕ) (joining : JoiningWord) : Type 0 where
+  pub spelled : Spells tokens at joining.found.next (type_word_text joining.found.word)
+  pub described : Describes names joining.after (words ++ joining.found.word ∷ [])
+
+-- the answer for a number: the word there that joins the words of a type so far, none where no type goes on with it
+abbrev pub JoiningAnswer : Names → List TypeWord → List Token → ℕ → Result (Option JoiningWord) Stop → Type 0
+JoiningAnswer names words tokens at (Ok (Some joining)) = IsJoiningAt names words tokens at joining
+JoiningAnswer names words tokens at (Ok None) = IsStuck names words (kind_or_end tokens at)
+JoiningAnswer names words tokens at (Err stop.Memory) = Unit {0}
+JoiningAnswer names words tokens at (Err (stop.Refused refused reason)) =
+    IsTagMissing tokens at refused × (named_by words ≡ []) × (reason ≡ plain_reason (kind_or_end tokens refused) true)
 
 -- the word of a tag
 abbrev pub word_of_tag : Bool → List ℕ → TypeWord
@@ -91,7 +124,7 @@ word_of_tag is_struct tag = if is_struct then word.Struct tag else word.Enum tag
 -- the answer where `struct` or `enum` stands
 abbrev pub TagAnswer : Bool → List Token → ℕ → TypeSoFar → Result (Option NextWord) Stop → Type 0
 TagAnswer is_struct tokens at so_far (Ok (Some found)) =
-    (tag : List ℕ) × (kind_or_end tokens (at + 1) ≡ token.Name tag) × (found.word ≡ word_of_tag is_struct tag) × (found.next ≡ at + 2)
+    (tag : List ℕ) × (kind_or_end tokens (at + 1) ≡ token.Name tag) × (found.word ≡ word_of_tag is_struct tag) × (found.next ≡ at + 2) × (names_some so_far ≡ false)
 TagAnswer is_struct tokens at so_far (Ok None) = names_some so_far ≡ true
 TagAnswer is_struct tokens at so_far (Err stop.Memory) = Unit {0}
 TagAnswer is_struct tokens at so_far (Err (stop.Refused refused reason)) =
@@ -125,3 +158,9 @@ IsNextBounded tokens at (Ok (Some found)) = (at < found.next) × (found.next ≤
 IsNextBounded tokens at (Ok None) = Unit {0}
 IsNextBounded tokens at (Err stop.Memory) = Unit {0}
 IsNextBounded tokens at (Err (stop.Refused refused reason)) = (at ≤ refused) × (refused ≤ length tokens)
+
+abbrev pub IsJoiningBounded : List Token → ℕ → Result (Option JoiningWord) Stop → Type 0
+IsJoiningBounded tokens at (Ok (Some joining)) = (at < joining.found.next) × (joining.found.next ≤ length tokens)
+IsJoiningBounded tokens at (Ok None) = Unit {0}
+IsJoiningBounded tokens at (Err stop.Memory) = Unit {0}
+IsJoiningBounded tokens at (Err (stop.Refused refused reason)) = (at ≤ refused) × (refused ≤ length tokens)

@@ -2,7 +2,8 @@
 ghost use Rattle.std.specs.Prelude.{◌≡◌, ◌≤◌, ◌<◌, ◌^◌, ◌+◌, ◌-◌, length, max, IfOk, IsSome};
 ghost use Rattle.cs_ast.specs.RawTree.{Infix};
 ghost use Rattle.cs_ast.specs.RawView.{written};
-ghost use Rattle.cs_expr_parser.specs.Parts.{IsBounded, IsNode};
+ghost use Rattle.cs_expr_parser.specs.LastTokens.{IsStopTold};
+ghost use Rattle.cs_expr_parser.specs.Parts.{IsBounded, IsNode, Answers};
 ghost use Rattle.cs_expr_parser.specs.Operators.{IsInfixAt};
 ghost use Rattle.cs_expr_parser.specs.Positions.{kind_or_end};
 
@@ -34,6 +35,8 @@ pub fn infix(
     requires infix { 3 ≤ level }
     requires tight { level ≤ 13 }
     ensures bounds { IsBounded room tokens.now from result }
+    ensures parsed { Answers names.now level room tokens.now from result }
+    ensures told { IsStopTold names.now tokens.now from result }
 {
     if level == CASTS {
         return cast(alloc, tokens, names, from, room);

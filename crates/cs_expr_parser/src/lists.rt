@@ -1,10 +1,15 @@
 //! Expressions in a row: arguments of calls, and bounds of arrays.
-ghost use Rattle.std.specs.Prelude.{◌≤◌, ◌<◌, ◌^◌, length};
-ghost use Rattle.cs_expr_parser.specs.Parts.{IsRowBounded};
+ghost use Rattle.std.specs.Prelude.{◌≡◌, ◌≤◌, ◌<◌, ◌^◌, length};
+ghost use Rattle.cs_grammar.specs.Levels.{ASSIGN, CHOICE};
+ghost use Rattle.cs_grammar.specs.Phrases.{ArePhrases};
+ghost use Rattle.cs_grammar.specs.Text.{Kinds};
+ghost use Rattle.cs_expr_parser.specs.LastTokens.{IsStopTold, IsStopToldBehind, TellsBehind};
+ghost use Rattle.cs_expr_parser.specs.Words.{is_last_tag};
+ghost use Rattle.cs_expr_parser.specs.Parts.{IsRowBounded, RowAnswers, arguments_text, closed_bounds_text};
 
 use crate::loose::{assign, choice};
 use crate::stop::Stop;
-use crate::tokens::{ends_with_tag, is_mark, refuse_behind, refuse_in_type};
+use crate::tokens::{is_mark, refuse_behind, refuse_in_type};
 use cs_ast::raw::expression::RawExpr;
 use cs_ast::{Mark, Token};
 use cs_grammar::TypedefNames;
@@ -32,6 +37,8 @@ pub fn arguments(
     requires within { from ≤ length tokens.now }
     requires few { length tokens.now < 2 ^ 32 }
     ensures bounds { IsRowBounded room tokens.now from result }
+    ensures parsed { RowAnswers arguments_text (ArePhrases names.now ASSIGN) room tokens.now from result }
+    ensures told { IsStopTold names.now tokens.now from result }
 {
     let mut trees = Vec::new(alloc);
     if is_mark(tokens, from, Mark::CloseParenthesis) {
@@ -60,23 +67,26 @@ pub fn arguments(
     })
 }
 
-/// The bounds of a type's arrays, each between brackets, to behind the parenthesis that closes the type (C11 6.7.6.2). The type
-/// begins at `start`, which its refusals are told by.
+/// The bounds of a type's arrays, each between brackets, to behind the parenthesis that closes the type (C11 6.7.6.2). Whether
+/// a tag stands before them tells why a brace is refused.
 #[cycle(expression)]
 pub fn bounds(
     alloc: Global,
     tokens: &[Token],
     names: &TypedefNames,
-    start: usize,
     from: usize,
     room: u32,
+    behind_tag: bool,
 ) -> Result<Listed, Stop>
     requires within { from ≤ length tokens.now }
     requires few { length tokens.now < 2 ^ 32 }
+    requires least { 1 ≤ room }
     ensures bounds { IsRowBounded room tokens.now from result }
+    ensures parsed { RowAnswers closed_bounds_text (ArePhrases names.now CHOICE) room tokens.now from result }
+    ensures told { (before : Kinds) → TellsBehind names.now before behind_tag → IsStopToldBehind names.now before tokens.now from result }
 {
     let mut trees = Vec::new(alloc);
-    let mut height = 0;
+    let mut height: u32 = 0;
     let mut next = from;
     'row: while is_mark(tokens, next, Mark::OpenBracket) {
         let bound = choice(alloc, tokens, names, next + 1, room)?;
@@ -88,11 +98,18 @@ pub fn bounds(
         trees.push(bound.tree)?;
     }
     if !is_mark(tokens, next, Mark::CloseParenthesis) {
-        return Err(refuse_in_type(tokens, next, ends_with_tag(tokens, start, next)));
+        return Err(refuse_in_type(tokens, next, is_last_word(behind_tag, &trees)));
     }
     Ok(Listed {
         trees,
         height,
         next: next + 1,
     })
+}
+
+/// Whether what stood last before these still does.
+pub fn is_last_word<T>(last: bool, behind: &[T]) -> bool
+    ensures { result ≡ is_last_tag last behind.now }
+{
+    last && behind.is_empty()
 }

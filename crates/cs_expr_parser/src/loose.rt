@@ -2,7 +2,9 @@
 ghost use Rattle.std.specs.Prelude.{◌≡◌, ◌≤◌, ◌<◌, ◌^◌, ◌+◌, ◌-◌, length, max, IfOk, IsSome};
 ghost use Rattle.cs_ast.specs.RawTree.{Choice, Assign, Comma};
 ghost use Rattle.cs_ast.specs.RawView.{written};
-ghost use Rattle.cs_expr_parser.specs.Parts.{IsBounded, IsNode};
+ghost use Rattle.cs_grammar.specs.Levels.{COMMA, ASSIGN, CHOICE};
+ghost use Rattle.cs_expr_parser.specs.LastTokens.{IsStopTold};
+ghost use Rattle.cs_expr_parser.specs.Parts.{IsBounded, IsNode, Answers};
 ghost use Rattle.cs_expr_parser.specs.Operators.{IsAssignAt};
 ghost use Rattle.cs_expr_parser.specs.Positions.{kind_or_end};
 
@@ -32,6 +34,8 @@ pub fn choice(
     requires within { from ≤ length tokens.now }
     requires few { length tokens.now < 2 ^ 32 }
     ensures bounds { IsBounded room tokens.now from result }
+    ensures parsed { Answers names.now CHOICE room tokens.now from result }
+    ensures told { IsStopTold names.now tokens.now from result }
 {
     let test = infix(alloc, tokens, names, from, room, INFIX)?;
     if !is_mark(tokens, test.next, Mark::Question) {
@@ -82,6 +86,8 @@ pub fn assign(
     requires within { from ≤ length tokens.now }
     requires few { length tokens.now < 2 ^ 32 }
     ensures bounds { IsBounded room tokens.now from result }
+    ensures parsed { Answers names.now ASSIGN room tokens.now from result }
+    ensures told { IsStopTold names.now tokens.now from result }
 {
     let object = choice(alloc, tokens, names, from, room)?;
     let Some(operator) = assign_operator_at(tokens, object.next) else {
@@ -139,6 +145,8 @@ pub fn comma(
     requires within { from ≤ length tokens.now }
     requires few { length tokens.now < 2 ^ 32 }
     ensures bounds { IsBounded room tokens.now from result }
+    ensures parsed { Answers names.now COMMA room tokens.now from result }
+    ensures told { IsStopTold names.now tokens.now from result }
 {
     let mut first = assign(alloc, tokens, names, from, room)?;
     'chain: while is_mark(tokens, first.next, Mark::Comma) {

@@ -1,5 +1,12 @@
 //! The parser of expressions.
-ghost use Rattle.std.specs.Prelude.{◌≤◌, ◌<◌, ◌^◌, length};
+ghost use Rattle.std.specs.Prelude.{◌≡◌, ◌≤◌, ◌<◌, ◌^◌, length, IfOk};
+ghost use Rattle.std.specs.Result.{IfErr};
+ghost use Rattle.cs_ast.specs.RawView.{written};
+ghost use Rattle.cs_expr_parser.specs.Positions.{kind_or_end};
+ghost use Rattle.cs_expr_parser.specs.LastTokens.{IsStopTold};
+ghost use Rattle.cs_expr_parser.specs.Parts.{Answers};
+ghost use Rattle.cs_expr_parser.specs.Reasons.{reason_of, ends_in_type};
+ghost use Rattle.cs_expr_parser.specs.Expression.{level_asked, kind_at, reason_there, IsTaken, IsRefusal, IsRefusalFor, IsRefusalBy};
 
 use crate::answer::{ExprLevel, Phrase};
 use crate::loose::{assign, choice, comma};
@@ -25,20 +32,44 @@ pub fn expression(
 ) -> Result<Phrase, SyntaxRefusal>
     requires within { from ≤ length tokens.now }
     requires few { length tokens.now < 2 ^ 32 }
+    ensures taken { IfOk result (IsTaken names.now (level_asked level) room tokens.now from) }
+    ensures refused { IfErr result (IsRefusal names.now (level_asked level) room tokens.now end from) }
 {
-    let taken = match level {
-        ExprLevel::Expr => comma(alloc, tokens, names, from, room),
-        ExprLevel::Assign => assign(alloc, tokens, names, from, room),
-        ExprLevel::Cond => choice(alloc, tokens, names, from, room),
-    };
-    match taken {
+    match part(alloc, tokens, names, from, room, level) {
         Ok(taken) => Ok(phrase(tokens, taken)),
         Err(Stop::Refused(at, reason)) => Err(refusal(alloc, tokens, end, at, reason)),
         Err(Stop::Memory) => Err(SyntaxRefusal::Memory),
     }
 }
 
-fn phrase(tokens: &[Token], taken: Taken) -> Phrase {
+/// The expression of a level, as the parts of the parser hand it to one another.
+fn part(
+    alloc: Global,
+    tokens: &[Token],
+    names: &TypedefNames,
+    from: usize,
+    room: u32,
+    level: ExprLevel,
+) -> Result<Taken, Stop>
+    requires within { from ≤ length tokens.now }
+    requires few { length tokens.now < 2 ^ 32 }
+    ensures parsed { Answers names.now (level_asked level) room tokens.now from result }
+    ensures told { IsStopTold names.now tokens.now from result }
+{
+    match level {
+        ExprLevel::Expr => comma(alloc, tokens, names, from, room),
+        ExprLevel::Assign => assign(alloc, tokens, names, from, room),
+        ExprLevel::Cond => choice(alloc, tokens, names, from, room),
+    }
+}
+
+/// The expression that was taken, with the reason for which the token behind it is refused where nothing else goes on with it.
+fn phrase(tokens: &[Token], taken: Taken) -> Phrase
+    ensures tree { result.tree ≡ taken.tree }
+    ensures height { result.height ≡ taken.height }
+    ensures next { result.next ≡ taken.next }
+    ensures otherwise { result.otherwise ≡ reason_of taken.deep (kind_or_end tokens.now taken.next) (ends_in_type (written taken.tree)) }
+{
     let otherwise = reason_behind(tokens, &taken);
     Phrase {
         tree: taken.tree,
@@ -49,20 +80,18 @@ fn phrase(tokens: &[Token], taken: Taken) -> Phrase {
 }
 
 /// The refusal of the token with this number, or of the end of input.
-fn refusal(
-    alloc: Global,
-    tokens: &[Token],
-    end: Place,
-    at: usize,
-    reason: Reason,
-) -> SyntaxRefusal {
+fn refusal(alloc: Global, tokens: &[Token], end: Place, at: usize, reason: Reason) -> SyntaxRefusal
+    ensures { IsRefusalFor tokens.now end at (reason_there (kind_at tokens.now at) reason) result }
+{
     match tokens.get(at) {
         None => SyntaxRefusal::Syntax(end),
         Some(token) => refusal_of(alloc, token, reason),
     }
 }
 
-fn refusal_of(alloc: Global, token: &Token, reason: Reason) -> SyntaxRefusal {
+fn refusal_of(alloc: Global, token: &Token, reason: Reason) -> SyntaxRefusal
+    ensures { IsRefusalBy token.now reason result }
+{
     match reason {
         Reason::Syntax => SyntaxRefusal::Syntax(token.place),
         Reason::TooDeep => SyntaxRefusal::TooDeep(token.place),

@@ -1,9 +1,11 @@
 //! Postfix expressions (C11 6.5.2).
-ghost use Rattle.std.specs.Prelude.{◌≡◌, ◌≤◌, ◌<◌, ◌^◌, ◌+◌, ◌-◌, false, true, Some, length, max, IfOk, IsSome};
+ghost use Rattle.std.specs.Prelude.{◌≡◌, ℕ, ◌≤◌, ◌<◌, ◌^◌, ◌+◌, ◌-◌, false, true, Some, length, max, IfOk, IsSome};
 ghost use Rattle.cs_ast.specs.RawTree.{Index, Call, Member, Arrow, StepBehind};
 ghost use Rattle.cs_ast.specs.RawView.{written, written_list};
+ghost use Rattle.cs_grammar.specs.Levels.{POSTFIX};
 ghost use Rattle.cs_ast.specs.declared.token.TokenKind.TheVariants as token;
-ghost use Rattle.cs_expr_parser.specs.Parts.{IsBounded, IsNode, IsSelected};
+ghost use Rattle.cs_expr_parser.specs.LastTokens.{IsStopTold};
+ghost use Rattle.cs_expr_parser.specs.Parts.{IsBounded, IsNode, IsSelected, IsChainFrom, Answers, ChainAnswers};
 ghost use Rattle.cs_expr_parser.specs.Positions.{kind_or_end, IsSuffixAt};
 
 use crate::lists::{Listed, arguments};
@@ -29,6 +31,8 @@ pub fn postfix(
     requires within { from ≤ length tokens.now }
     requires few { length tokens.now < 2 ^ 32 }
     ensures bounds { IsBounded room tokens.now from result }
+    ensures parsed { Answers names.now POSTFIX room tokens.now from result }
+    ensures told { IsStopTold names.now tokens.now from result }
 {
     let mut left = primary(alloc, tokens, names, from, room)?;
     'chain: while let Some(mark) = suffix_at(tokens, left.next) {
@@ -93,6 +97,8 @@ fn suffixed(
     requires some { 1 ≤ left.height }
     requires few { length tokens.now < 2 ^ 32 }
     ensures bounds { IsBounded room tokens.now left.next result }
+    ensures chained { (from : ℕ) → IsChainFrom names.now POSTFIX room tokens.now from left → ChainAnswers names.now POSTFIX room tokens.now from result }
+    ensures told { (from : ℕ) → IsChainFrom names.now POSTFIX room tokens.now from left → IsStopTold names.now tokens.now from result }
 {
     match mark {
         Mark::OpenBracket => {

@@ -2,7 +2,9 @@
 ghost use Rattle.std.specs.Prelude.{◌≤◌, ◌<◌, ◌^◌, ◌+◌, ◌-◌, false, length, IfOk};
 ghost use Rattle.cs_ast.specs.RawTree.{Enclosed};
 ghost use Rattle.cs_ast.specs.RawView.{written};
-ghost use Rattle.cs_expr_parser.specs.Parts.{IsBounded, IsNode};
+ghost use Rattle.cs_grammar.specs.Levels.{PRIMARY};
+ghost use Rattle.cs_expr_parser.specs.LastTokens.{IsStopTold};
+ghost use Rattle.cs_expr_parser.specs.Parts.{IsBounded, IsNode, Answers};
 
 use crate::loose::comma;
 use crate::nodes::{leaf_at, parenthesis};
@@ -24,6 +26,8 @@ pub fn primary(
     requires within { from ≤ length tokens.now }
     requires few { length tokens.now < 2 ^ 32 }
     ensures bounds { IsBounded room tokens.now from result }
+    ensures parsed { Answers names.now PRIMARY room tokens.now from result }
+    ensures told { IsStopTold names.now tokens.now from result }
 {
     if is_mark(tokens, from, Mark::OpenParenthesis) {
         if room < 2 {

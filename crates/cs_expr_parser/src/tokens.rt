@@ -148,17 +148,6 @@ pub fn is_brace(tokens: &[Token], at: usize) -> bool
     }
 }
 
-/// Whether the tokens from a number on end with a tag before another number.
-pub fn ends_with_tag(tokens: &[Token], from: usize, at: usize) -> bool {
-    if at < 2 || at - 2 < from || name_at(tokens, at - 1).is_none() {
-        return false;
-    }
-    match keyword_at(tokens, at - 2) {
-        Some(Keyword::Struct | Keyword::Enum) => true,
-        _ => false,
-    }
-}
-
 /// Why the token at a number is refused where no expression goes on with it, behind a type or a tag or not.
 pub fn reason_at(tokens: &[Token], at: usize, behind_type: bool) -> Reason
     ensures { result ≡ plain_reason (kind_or_end tokens.now at) behind_type }

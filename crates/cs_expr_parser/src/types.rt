@@ -1,10 +1,15 @@
 //! Types between parentheses (C11 6.7.7).
-ghost use Rattle.std.specs.Prelude.{◌≡◌, ◌≤◌, ◌<◌, ◌^◌, ◌+◌, None, length, IfOk, IsSome};
-ghost use Rattle.cs_expr_parser.specs.Parts.{IsTypeBounded, IsStopBounded};
-ghost use Rattle.cs_expr_parser.specs.Words.{IsNextBounded, IsIntegerAt, IsPointerAt, names_some, word_of_tag};
+ghost use Rattle.std.specs.Prelude.{◌≡◌, ◌≤◌, ◌<◌, ◌^◌, ◌+◌, None, List, length, IfOk, IsSome};
+ghost use Rattle.cs_ast.specs.declared.token.TokenKind.TheVariants as token;
+ghost use Rattle.cs_ast.specs.declared.token.Keyword.TheVariants as keyword;
+ghost use Rattle.cs_ast.specs.declared.raw.written_type.TypeWord.{TypeWord as WordOfType};
+ghost use Rattle.cs_grammar.specs.TypesSoFar.{Describes};
+ghost use Rattle.cs_expr_parser.specs.LastTokens.{IsStopTold};
+ghost use Rattle.cs_expr_parser.specs.Parts.{IsTypeBounded, IsStopBounded, TypeAnswers};
+ghost use Rattle.cs_expr_parser.specs.Words.{IsNextBounded, IsJoiningBounded, IsIntegerAt, IsPointerAt, names_some, word_of_tag, has_tag as is_tagged, WordsAnswer, WordAnswer, JoiningAnswer, TagAnswer, PointersAnswer};
 ghost use Rattle.cs_expr_parser.specs.Positions.{kind_or_end};
 
-use crate::lists::bounds;
+use crate::lists::{bounds, is_last_word};
 use crate::stop::Stop;
 use crate::tokens::{is_mark, keyword_at, name_at, place_at, refuse, refuse_in_type};
 use cs_ast::raw::expression::RawExpr;
@@ -30,6 +35,8 @@ pub struct TakenType {
 pub struct TypeWords {
     pub words: Vec<TypeWord>,
     pub tag: Option<Place>,
+    /// Whether the last word is a tag.
+    pub tagged: bool,
     pub next: usize,
 }
 
@@ -48,6 +55,13 @@ pub struct NextWord {
     pub next: usize,
 }
 
+/// A word that joins those before it, and what they leave open with it.
+#[derive(Drop)]
+pub struct JoiningWord {
+    pub found: NextWord,
+    pub after: TypeSoFar,
+}
+
 /// The type from behind an opening parenthesis to behind the closing one.
 #[cycle(expression)]
 pub fn parenthesised_type(
@@ -59,11 +73,15 @@ pub fn parenthesised_type(
 ) -> Result<TakenType, Stop>
     requires within { from ≤ length tokens.now }
     requires few { length tokens.now < 2 ^ 32 }
+    requires least { 1 ≤ room }
     ensures bounds { IsTypeBounded room tokens.now from result }
+    ensures parsed { TypeAnswers names.now room tokens.now from result }
+    ensures told { IsStopTold names.now tokens.now from result }
 {
     let words = type_words(alloc, tokens, names, from)?;
     let pointers = pointer_words(alloc, tokens, words.next)?;
-    let listed = bounds(alloc, tokens, names, from, pointers.next, room)?;
+    let behind_tag = is_last_word(words.tagged, &pointers.words);
+    let listed = bounds(alloc, tokens, names, pointers.next, room, behind_tag)?;
     Ok(TakenType {
         ty: WrittenType {
             words: words.words,
@@ -87,24 +105,51 @@ fn type_words(
     requires few { length tokens.now < 2 ^ 32 }
     ensures bounds { IfOk result (λ taken. (from ≤ taken.next) × (taken.next ≤ length tokens.now)) }
     ensures refused { IsStopBounded tokens.now from result }
+    ensures words { WordsAnswer names.now tokens.now from result }
+    ensures told { IsStopTold names.now tokens.now from result }
 {
     let mut words = Vec::new(alloc);
     let mut so_far = TypeSoFar::Nothing;
     let mut tag = None;
+    let mut tagged = false;
     let mut next = from;
-    'words: while let Some(found) = word_at(tokens, names, next, so_far)? {
-        let Some(after) = so_far.with(&found.word) else {
-            break;
-        };
-        so_far = after;
-        tag = tag.or(found.tag);
-        next = found.next;
-        words.push(found.word)?;
+    'words: while let Some(joined) = joining_word_at(tokens, names, next, so_far)? {
+        so_far = joined.after;
+        tag = tag.or(joined.found.tag);
+        tagged = has_tag(&joined.found.word);
+        next = joined.found.next;
+        words.push(joined.found.word)?;
     }
-    if !so_far.is_type() {
+    if !names_type(so_far) {
         return Err(refuse(tokens, next, false));
     }
-    Ok(TypeWords { words, tag, next })
+    Ok(TypeWords {
+        words,
+        tag,
+        tagged,
+        next,
+    })
+}
+
+/// The word of a type at a number, if one stands there that joins the words so far.
+fn joining_word_at(
+    tokens: &[Token],
+    names: &TypedefNames,
+    at: usize,
+    so_far: TypeSoFar,
+) -> Result<Option<JoiningWord>, Stop>
+    requires within { at ≤ length tokens.now }
+    requires few { length tokens.now < 2 ^ 32 }
+    ensures bounds { IsJoiningBounded tokens.now at result }
+    ensures joining { (words : List WordOfType) → Describes names.now so_far words → JoiningAnswer names.now words tokens.now at result }
+{
+    let Some(found) = word_at(tokens, names, at, so_far)? else {
+        return Ok(None);
+    };
+    let Some(after) = so_far.with(&found.word) else {
+        return Ok(None);
+    };
+    Ok(Some(JoiningWord { found, after }))
 }
 
 /// The word of a type at a number, if one stands there; `struct` and `enum` begin one only where no word names a type yet.
@@ -117,6 +162,7 @@ fn word_at(
     requires within { at ≤ length tokens.now }
     requires few { length tokens.now < 2 ^ 32 }
     ensures bounds { IsNextBounded tokens.now at result }
+    ensures word { WordAnswer names.now tokens.now at so_far result }
 {
     if let Some(name) = name_at(tokens, at) {
         if !names.contains(name) {
@@ -169,6 +215,7 @@ fn tagged(
     requires within { at < length tokens.now }
     requires few { length tokens.now < 2 ^ 32 }
     ensures bounds { IsNextBounded tokens.now at result }
+    ensures tagged { TagAnswer is_struct tokens.now at so_far result }
 {
     if names_type(so_far) {
         return Ok(None);
@@ -183,6 +230,16 @@ fn tagged(
         tag: Some(place_at(tokens, at + 1)),
         next: at + 2,
     }))
+}
+
+/// Whether the word has a tag.
+fn has_tag(word: &TypeWord) -> bool
+    ensures { result ≡ is_tagged word.now }
+{
+    match word {
+        TypeWord::Struct(_) | TypeWord::Enum(_) => true,
+        TypeWord::Const | TypeWord::Integer(_) | TypeWord::Void | TypeWord::Typedef(_) => false,
+    }
 }
 
 /// Whether the words so far name a type or are part of one.
@@ -210,8 +267,10 @@ fn tag_word(tag: Name, is_struct: bool) -> TypeWord
 fn pointer_words(alloc: Global, tokens: &[Token], from: usize) -> Result<PointerWords, Stop>
     requires within { from ≤ length tokens.now }
     requires few { length tokens.now < 2 ^ 32 }
+    requires no_const { kind_or_end tokens.now from ≡ token.Keyword keyword.Const → ⊥ }
     ensures bounds { IfOk result (λ taken. (from ≤ taken.next) × (taken.next ≤ length tokens.now)) }
     ensures refused { IsStopBounded tokens.now from result }
+    ensures pointers { PointersAnswer tokens.now from result }
 {
     let mut words = Vec::new(alloc);
     let mut next = from;

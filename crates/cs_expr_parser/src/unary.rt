@@ -1,10 +1,14 @@
 //! Casts and unary expressions (C11 6.5.3, 6.5.4).
-ghost use Rattle.std.specs.Prelude.{◌≡◌, ◌≤◌, ◌<◌, ◌^◌, ◌+◌, ◌-◌, false, length, max, IfOk, IsSome, IsTrue};
+ghost use Rattle.std.specs.Prelude.{◌≡◌, ◌↔◌, ◌≤◌, ◌<◌, ◌^◌, ◌+◌, ◌-◌, false, length, max, IfOk, IsSome, IsTrue};
 ghost use Rattle.cs_ast.specs.RawTree.{Cast, SizeOfType};
 ghost use Rattle.cs_ast.specs.RawView.{written, written_list};
+ghost use Rattle.cs_grammar.specs.Levels.{CAST, UNARY};
+ghost use Rattle.cs_expr_parser.specs.declared.unary.Before.TheVariants.{Size};
 ghost use Rattle.cs_ast.specs.declared.token.TokenKind.TheVariants as token;
-ghost use Rattle.cs_expr_parser.specs.Parts.{IsBounded, IsNode};
-ghost use Rattle.cs_expr_parser.specs.Unary.{opens_type as type_opens, prefixed_tree, IsOperatorAt};
+ghost use Rattle.cs_ast.specs.declared.token.Mark.TheVariants.{OpenParenthesis};
+ghost use Rattle.cs_expr_parser.specs.LastTokens.{IsStopTold};
+ghost use Rattle.cs_expr_parser.specs.Parts.{IsBounded, IsNode, Answers};
+ghost use Rattle.cs_expr_parser.specs.Unary.{opens_type as type_opens, before_text, prefixed_tree, IsOperatorAt};
 ghost use Rattle.cs_expr_parser.specs.Positions.{kind_or_end};
 
 use crate::loose::comma;
@@ -52,6 +56,8 @@ pub fn cast(
     requires within { from ≤ length tokens.now }
     requires few { length tokens.now < 2 ^ 32 }
     ensures bounds { IsBounded room tokens.now from result }
+    ensures parsed { Answers names.now CAST room tokens.now from result }
+    ensures told { IsStopTold names.now tokens.now from result }
 {
     if !opens_type(tokens, names, from) {
         return unary(alloc, tokens, names, from, room);
@@ -101,6 +107,8 @@ pub fn unary(
     requires within { from ≤ length tokens.now }
     requires few { length tokens.now < 2 ^ 32 }
     ensures bounds { IsBounded room tokens.now from result }
+    ensures parsed { Answers names.now UNARY room tokens.now from result }
+    ensures told { IsStopTold names.now tokens.now from result }
 {
     let Some(before) = operator_at(tokens, from) else {
         return postfix(alloc, tokens, names, from, room);
@@ -108,12 +116,17 @@ pub fn unary(
     if room < 2 {
         return Err(refuse(tokens, from, true));
     }
-    let operand = match before {
-        Before::Step(_) => unary(alloc, tokens, names, from + 1, room - 1)?,
-        Before::Operator(_) => cast(alloc, tokens, names, from + 1, room - 1)?,
-        Before::Size => return sized(alloc, tokens, names, from, room),
-    };
-    Ok(prefixed(alloc, tokens, from, before, operand)?)
+    match before {
+        Before::Step(_) => {
+            let operand = unary(alloc, tokens, names, from + 1, room - 1)?;
+            Ok(prefixed(alloc, tokens, from, before, operand)?)
+        }
+        Before::Operator(_) => {
+            let operand = cast(alloc, tokens, names, from + 1, room - 1)?;
+            Ok(prefixed(alloc, tokens, from, before, operand)?)
+        }
+        Before::Size => sized(alloc, tokens, names, from, room),
+    }
 }
 
 /// What stands at a number, if an operand may stand behind it.
@@ -180,18 +193,28 @@ fn sized(
     requires within { from < length tokens.now }
     requires least { 2 ≤ room }
     requires few { length tokens.now < 2 ^ 32 }
+    requires stands { kind_or_end tokens.now from ≡ before_text Size }
     ensures bounds { IsBounded room tokens.now from result }
+    ensures parsed { Answers names.now UNARY room tokens.now from result }
+    ensures told { IsStopTold names.now tokens.now from result }
 {
     if opens_type(tokens, names, from + 1) {
         let taken = parenthesised_type(alloc, tokens, names, from + 2, room - 1)?;
         return Ok(measured(tokens, from, taken));
     }
     // At a room of 2 the parenthesis may stand for that of a type alone, so that the token behind it is refused.
-    if room == 2 && is_mark(tokens, from + 1, Mark::OpenParenthesis) {
+    if is_narrow(tokens, from + 1, room) {
         return comma(alloc, tokens, names, from + 2, 0);
     }
     let operand = unary(alloc, tokens, names, from + 1, room - 1)?;
     Ok(prefixed(alloc, tokens, from, Before::Size, operand)?)
+}
+
+/// Whether an opening parenthesis stands at a number, and there is room for a type alone behind it.
+fn is_narrow(tokens: &[Token], at: usize, room: u32) -> bool
+    ensures { IsTrue result ↔ ((room ≡ 2) × (kind_or_end tokens.now at ≡ token.Mark OpenParenthesis)) }
+{
+    room == 2 && is_mark(tokens, at, Mark::OpenParenthesis)
 }
 
 /// The `sizeof`, at a number, of a type.

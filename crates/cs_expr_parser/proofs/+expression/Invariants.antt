@@ -1,5 +1,9 @@
 -- How much room and which part are left: the measure of the parser's parts; and what their loops keep.
 use Rattle.std.proofs.Common.{◌≤◌, ◌<◌, ◌+◌, ◌-◌, ◌*◌, length}
+use Rattle.cs_ast.specs.RawView.{written_list}
+use Rattle.cs_grammar.specs.Levels.{COMMA, POSTFIX}
+use Rattle.cs_expr_parser.specs.Parts.{IsChainFrom}
+use Rattle.cs_expr_parser.proofs.SitesOfRows.{ArgumentsSoFar, BoundsSoFar}
 use Rattle.cs_expr_parser.proofs.+expression.Given as goal
 
 abbrev pub decreases-primary::primary : goal.decreases-primary::primary
@@ -45,28 +49,56 @@ abbrev pub decreases-postfix::postfix-chain : goal.decreases-postfix::postfix-ch
 decreases-postfix::postfix-chain l = length l.tokens - l.left.next
 
 abbrev pub invariant-postfix::postfix-chain : goal.invariant-postfix::postfix-chain
-invariant-postfix::postfix-chain l = (l.fn.from < l.left.next) × (l.left.next ≤ length l.tokens) × (1 ≤ l.left.height) × (l.left.height ≤ l.room)
+invariant-postfix::postfix-chain l = record {
+  onward : l.fn.from < l.left.next;
+  inside : l.left.next ≤ length l.tokens;
+  some : 1 ≤ l.left.height;
+  low : l.left.height ≤ l.room;
+  chain : IsChainFrom l.names POSTFIX l.room l.tokens l.fn.from l.left;
+}
 
 abbrev pub decreases-infix::infix-chain : goal.decreases-infix::infix-chain
 decreases-infix::infix-chain l = length l.tokens - l.left.next
 
 abbrev pub invariant-infix::infix-chain : goal.invariant-infix::infix-chain
-invariant-infix::infix-chain l = (l.fn.from < l.left.next) × (l.left.next ≤ length l.tokens) × (1 ≤ l.left.height) × (l.left.height ≤ l.room)
+invariant-infix::infix-chain l = record {
+  onward : l.fn.from < l.left.next;
+  inside : l.left.next ≤ length l.tokens;
+  some : 1 ≤ l.left.height;
+  low : l.left.height ≤ l.room;
+  chain : IsChainFrom l.names l.level l.room l.tokens l.fn.from l.left;
+}
 
 abbrev pub decreases-loose::comma-chain : goal.decreases-loose::comma-chain
 decreases-loose::comma-chain l = length l.tokens - l.first.next
 
 abbrev pub invariant-loose::comma-chain : goal.invariant-loose::comma-chain
-invariant-loose::comma-chain l = (l.fn.from < l.first.next) × (l.first.next ≤ length l.tokens) × (1 ≤ l.first.height) × (l.first.height ≤ l.room)
+invariant-loose::comma-chain l = record {
+  onward : l.fn.from < l.first.next;
+  inside : l.first.next ≤ length l.tokens;
+  some : 1 ≤ l.first.height;
+  low : l.first.height ≤ l.room;
+  chain : IsChainFrom l.names COMMA l.room l.tokens l.fn.from l.first;
+}
 
 abbrev pub decreases-lists::arguments-row : goal.decreases-lists::arguments-row
 decreases-lists::arguments-row l = length l.tokens - l.last.next
 
 abbrev pub invariant-lists::arguments-row : goal.invariant-lists::arguments-row
-invariant-lists::arguments-row l = (l.fn.from < l.last.next) × (l.last.next ≤ length l.tokens) × (l.height ≤ l.room)
+invariant-lists::arguments-row l = record {
+  onward : l.fn.from < l.last.next;
+  inside : l.last.next ≤ length l.tokens;
+  low : l.height ≤ l.room;
+  so_far : ArgumentsSoFar l.names l.room l.tokens l.fn.from (written_list l.trees.items) l.height l.last;
+}
 
 abbrev pub decreases-lists::bounds-row : goal.decreases-lists::bounds-row
 decreases-lists::bounds-row l = length l.tokens - l.next
 
 abbrev pub invariant-lists::bounds-row : goal.invariant-lists::bounds-row
-invariant-lists::bounds-row l = (l.fn.from ≤ l.next) × (l.next ≤ length l.tokens) × (l.height ≤ l.room)
+invariant-lists::bounds-row l = record {
+  onward : l.fn.from ≤ l.next;
+  inside : l.next ≤ length l.tokens;
+  low : l.height ≤ l.room;
+  so_far : BoundsSoFar l.names l.room l.tokens l.fn.from l.next (written_list l.trees.items) l.height;
+}

@@ -1,0 +1,409 @@
+//! Expressions of C, and what the grammar says of them: a table of trees, and one of refusals.
+use super::*;
+use cs_ast::raw::expression::{RawExpr, RawExprKind};
+use cs_ast::raw::written_type::{TypeWord, WrittenType};
+use cs_ast::{IntegerConstant, Keyword, LeftOut, Length, Mark, Place, Token, TokenKind};
+use cs_grammar::{Reason, SyntaxRefusal, TypedefNames};
+use cs_names::{Bytes, Name};
+use std::alloc::{AllocError, Global};
+use std::test::Fail;
+
+fn mark_of(word: &str) -> Option<Mark> {
+    let mark = match word {
+        "[" => Mark::OpenBracket,
+        "]" => Mark::CloseBracket,
+        "(" => Mark::OpenParenthesis,
+        ")" => Mark::CloseParenthesis,
+        "{" => Mark::OpenBrace,
+        "." => Mark::Dot,
+        "->" => Mark::Arrow,
+        "++" => Mark::Increment,
+        "--" => Mark::Decrement,
+        "&" => Mark::Ampersand,
+        "*" => Mark::Star,
+        "+" => Mark::Plus,
+        "-" => Mark::Minus,
+        "!" => Mark::Exclamation,
+        "<<" => Mark::ShiftLeft,
+        "<" => Mark::Less,
+        "==" => Mark::EqualEqual,
+        "&&" => Mark::AndAnd,
+        "||" => Mark::BarBar,
+        "?" => Mark::Question,
+        ":" => Mark::Colon,
+        ";" => Mark::Semicolon,
+        "=" => Mark::Equal,
+        "+=" => Mark::PlusEqual,
+        "," => Mark::Comma,
+        "..." => Mark::Ellipsis,
+        _ => return None,
+    };
+    Some(mark)
+}
+
+fn keyword_of(word: &str) -> Option<Keyword> {
+    let keyword = match word {
+        "char" => Keyword::Char,
+        "const" => Keyword::Const,
+        "enum" => Keyword::Enum,
+        "int" => Keyword::Int,
+        "long" => Keyword::Long,
+        "short" => Keyword::Short,
+        "unsigned" => Keyword::Unsigned,
+        "sizeof" => Keyword::Sizeof,
+        "static" => Keyword::Static,
+        "struct" => Keyword::Struct,
+        "void" => Keyword::Void,
+        _ => return None,
+    };
+    Some(keyword)
+}
+
+fn kind_of(alloc: Global, word: &str) -> Result<TokenKind, AllocError> {
+    if let Some(mark) = mark_of(word) {
+        return Ok(TokenKind::Mark(mark));
+    }
+    if let Some(keyword) = keyword_of(word) {
+        return Ok(TokenKind::Keyword(keyword));
+    }
+    match word {
+        "float" => Ok(TokenKind::LeftOut(LeftOut::Float)),
+        "1" => Ok(TokenKind::Number(IntegerConstant {
+            value: 1,
+            decimal: true,
+            unsigned: false,
+            length: Length::Plain,
+        })),
+        "'c'" => Ok(TokenKind::Character(99)),
+        "text" => Ok(TokenKind::Text(Bytes::from_slice(alloc, word.as_bytes())?)),
+        _ => Ok(TokenKind::Name(Name::from_slice(alloc, word.as_bytes())?)),
+    }
+}
+
+// The tokens of words with one space between them; the column of a token is its number.
+fn tokens_of(alloc: Global, words: &str) -> Result<Vec<Token>, AllocError> {
+    let mut tokens = Vec::new(alloc);
+    let mut column = 0;
+    for word in words.split(' ') {
+        let place = Place {
+            file: 0,
+            line: 1,
+            column,
+        };
+        let kind = kind_of(alloc, word)?;
+        tokens.push(Token { kind, place })?;
+        column = column.saturating_add(1);
+    }
+    Ok(tokens)
+}
+
+fn type_text(out: &mut String, ty: &WrittenType) -> Result<(), AllocError> {
+    out.push_str(" ")?;
+    for word in &ty.words {
+        match word {
+            TypeWord::Typedef(_) => out.push_str("T")?,
+            TypeWord::Struct(_) => out.push_str("s")?,
+            _ => out.push_str("i")?,
+        }
+    }
+    for _pointer in &ty.pointers {
+        out.push_str("*")?;
+    }
+    Ok(())
+}
+
+fn name_of(kind: &RawExprKind) -> &'static str {
+    match kind {
+        RawExprKind::Name(_) => "x",
+        RawExprKind::Number(_) => "1",
+        RawExprKind::Character(_) => "c",
+        RawExprKind::Text(_) => "t",
+        RawExprKind::Parenthesis(_) => "par",
+        RawExprKind::Index(_, _) => "idx",
+        RawExprKind::Call(_, _) => "call",
+        RawExprKind::Member(_, _) => "dot",
+        RawExprKind::Arrow(_, _) => "arr",
+        RawExprKind::StepBehind(_, _) => "post",
+        RawExprKind::StepBefore(_, _) => "pre",
+        RawExprKind::Prefix(_, _) => "op",
+        RawExprKind::SizeOf(_) => "size",
+        RawExprKind::SizeOfType(_, _) => "sizet",
+        RawExprKind::Cast(_, _, _) => "cast",
+        RawExprKind::Infix(_, _, _) => "in",
+        RawExprKind::Choice(_, _, _) => "cho",
+        RawExprKind::Assign(_, _, _) => "ass",
+        RawExprKind::Comma(_, _) => "com",
+    }
+}
+
+// A node's kind and the column of its place.
+fn head(out: &mut String, tree: &RawExpr) -> Result<(), AllocError> {
+    let name = name_of(&tree.kind);
+    let column = tree.place.column;
+    write!(out, "{name}@{column}")
+}
+
+fn part(out: &mut String, tree: &RawExpr) -> Result<(), AllocError> {
+    out.push_str(" ")?;
+    head(out, tree)
+}
+
+fn row(out: &mut String, trees: &[RawExpr]) -> Result<(), AllocError> {
+    for tree in trees {
+        part(out, tree)?;
+    }
+    Ok(())
+}
+
+// The parts of a node.
+fn parts(out: &mut String, kind: &RawExprKind) -> Result<(), AllocError> {
+    match kind {
+        RawExprKind::Name(_) | RawExprKind::Number(_) => Ok(()),
+        RawExprKind::Character(_) | RawExprKind::Text(_) => Ok(()),
+        RawExprKind::Parenthesis(one) | RawExprKind::SizeOf(one) => part(out, one),
+        RawExprKind::Member(one, _) | RawExprKind::Arrow(one, _) => part(out, one),
+        RawExprKind::StepBehind(_, one) | RawExprKind::StepBefore(_, one) => part(out, one),
+        RawExprKind::Prefix(_, one) => part(out, one),
+        RawExprKind::Index(left, right) | RawExprKind::Infix(_, left, right) => {
+            two_parts(out, left, right)
+        }
+        RawExprKind::Assign(_, left, right) | RawExprKind::Comma(left, right) => {
+            two_parts(out, left, right)
+        }
+        RawExprKind::Choice(test, one, other) => {
+            part(out, test)?;
+            two_parts(out, one, other)
+        }
+        RawExprKind::Call(function, trees) => {
+            part(out, function)?;
+            row(out, trees)
+        }
+        RawExprKind::SizeOfType(ty, trees) => {
+            type_text(out, ty)?;
+            row(out, trees)
+        }
+        RawExprKind::Cast(ty, trees, operand) => {
+            type_text(out, ty)?;
+            row(out, trees)?;
+            part(out, operand)
+        }
+    }
+}
+
+fn two_parts(out: &mut String, left: &RawExpr, right: &RawExpr) -> Result<(), AllocError> {
+    part(out, left)?;
+    part(out, right)
+}
+
+fn show_reason(reason: Reason) -> &'static str {
+    match reason {
+        Reason::Syntax => "syntax",
+        Reason::LeftOut => "left-out",
+        Reason::TooDeep => "deep",
+    }
+}
+
+// What the parser says of the words: the tree, its height, the number behind it and why the token there is refused, or the
+// refusal.
+fn answer(alloc: Global, words: &str, room: u32, level: ExprLevel) -> Result<String, AllocError> {
+    let tokens = tokens_of(alloc, words)?;
+    let mut names = TypedefNames::new(alloc);
+    let typedef_name = Name::from_slice(alloc, b"T".as_slice())?;
+    names.add(typedef_name)?;
+    let end = Place {
+        file: 0,
+        line: 1,
+        column: 99,
+    };
+    let said = expression(alloc, tokens.as_slice(), end, 0, &names, room, level);
+    match &said {
+        Ok(phrase) => phrase_text(alloc, phrase),
+        Err(refusal) => refusal_text(alloc, refusal),
+    }
+}
+
+fn phrase_text(alloc: Global, phrase: &Phrase) -> Result<String, AllocError> {
+    let mut out = String::new(alloc);
+    head(&mut out, &phrase.tree)?;
+    parts(&mut out, &phrase.tree.kind)?;
+    let why = show_reason(phrase.otherwise);
+    let height = phrase.height;
+    let next = phrase.next;
+    write!(out, " {height} {next} {why}")?;
+    Ok(out)
+}
+
+fn refusal_text(alloc: Global, refusal: &SyntaxRefusal) -> Result<String, AllocError> {
+    match refusal {
+        SyntaxRefusal::Syntax(place) => place_text(alloc, "syntax", *place),
+        SyntaxRefusal::LeftOut(place, _) => place_text(alloc, "left-out", *place),
+        SyntaxRefusal::TooDeep(place) => place_text(alloc, "deep", *place),
+        SyntaxRefusal::Memory => String::from_str(alloc, "memory"),
+    }
+}
+
+fn place_text(alloc: Global, why: &str, place: Place) -> Result<String, AllocError> {
+    let column = place.column;
+    format!(in alloc; "{why} {column}")
+}
+
+#[test]
+fn expressions_have_these_trees(rt: HostRuntime) -> Result<(), Fail> {
+    for (words, level, expected) in [
+        ("a", ExprLevel::Expr, "x@0 1 1 syntax"),
+        ("a < b < c ;", ExprLevel::Expr, "in@3 in@1 x@4 3 5 syntax"),
+        ("a + b * c", ExprLevel::Expr, "in@1 x@0 in@3 3 5 syntax"),
+        ("a * b + c", ExprLevel::Expr, "in@3 in@1 x@4 3 5 syntax"),
+        (
+            "a || b && c == d",
+            ExprLevel::Cond,
+            "in@1 x@0 in@3 4 7 syntax",
+        ),
+        ("a = b = c", ExprLevel::Expr, "ass@1 x@0 ass@3 3 5 syntax"),
+        ("a , b , c", ExprLevel::Expr, "com@3 com@1 x@4 3 5 syntax"),
+        ("a , b", ExprLevel::Assign, "x@0 1 1 syntax"),
+        ("a = b", ExprLevel::Cond, "x@0 1 1 syntax"),
+        ("a + b = c", ExprLevel::Expr, "in@1 x@0 x@2 2 3 syntax"),
+        ("( T ) a = b", ExprLevel::Expr, "cast@0 T x@3 2 4 syntax"),
+        ("* a = b", ExprLevel::Expr, "ass@2 op@0 x@3 3 4 syntax"),
+        (
+            "a ? b , c : d ? e : f",
+            ExprLevel::Expr,
+            "cho@1 x@0 com@3 cho@7 3 11 syntax",
+        ),
+        (
+            "a ? b : c = d",
+            ExprLevel::Expr,
+            "cho@1 x@0 x@2 x@4 2 5 syntax",
+        ),
+        ("f ( )", ExprLevel::Expr, "call@1 x@0 2 3 syntax"),
+        (
+            "f ( a , b = 1 )",
+            ExprLevel::Expr,
+            "call@1 x@0 x@2 ass@5 4 8 syntax",
+        ),
+        (
+            "a [ b ] [ 1 ] . T -> c ++",
+            ExprLevel::Expr,
+            "post@11 arr@9 6 12 syntax",
+        ),
+        ("- ++ a", ExprLevel::Expr, "op@0 pre@1 3 3 syntax"),
+        ("sizeof a [ 1 ]", ExprLevel::Expr, "size@0 idx@2 3 5 syntax"),
+        (
+            "sizeof ( a ) [ 1 ]",
+            ExprLevel::Expr,
+            "size@0 idx@4 4 7 syntax",
+        ),
+        ("sizeof ( int )", ExprLevel::Expr, "sizet@0 i 2 4 syntax"),
+        (
+            "sizeof ( int ) ( a )",
+            ExprLevel::Expr,
+            "sizet@0 i 2 4 syntax",
+        ),
+        (
+            "sizeof ( int ) * a",
+            ExprLevel::Expr,
+            "in@4 sizet@0 x@5 3 6 syntax",
+        ),
+        (
+            "sizeof ( T * const [ 1 + 1 ] ) {",
+            ExprLevel::Expr,
+            "sizet@0 T** in@7 3 11 left-out",
+        ),
+        (
+            "a + sizeof ( T ) {",
+            ExprLevel::Expr,
+            "in@1 x@0 sizet@2 3 6 left-out",
+        ),
+        ("a {", ExprLevel::Expr, "x@0 1 1 syntax"),
+        ("f ( a ) {", ExprLevel::Expr, "call@1 x@0 x@2 3 4 syntax"),
+        ("a ...", ExprLevel::Expr, "x@0 1 1 left-out"),
+        ("a static", ExprLevel::Expr, "x@0 1 1 left-out"),
+        (
+            "( const unsigned long const int ) ( T ) a",
+            ExprLevel::Expr,
+            "cast@0 iiiii cast@7 3 11 syntax",
+        ),
+        (
+            "( struct s * ) text",
+            ExprLevel::Expr,
+            "cast@0 s* t@5 2 6 syntax",
+        ),
+        (
+            "( a ) ( 'c' )",
+            ExprLevel::Expr,
+            "call@3 par@0 c@4 3 6 syntax",
+        ),
+        ("( T ) ( a )", ExprLevel::Expr, "cast@0 T par@3 3 6 syntax"),
+        ("a T", ExprLevel::Expr, "x@0 1 1 syntax"),
+        ("& a & b", ExprLevel::Expr, "in@2 op@0 x@3 3 4 syntax"),
+    ] {
+        let got = answer(rt.alloc(), words, 200, level)?;
+        assert_eq!(rt; got.as_str(), expected, "{words}");
+    }
+    Ok(())
+}
+
+#[test]
+fn other_tokens_are_refused_here(rt: HostRuntime) -> Result<(), Fail> {
+    for (words, room, expected) in [
+        ("+", 200, "syntax 99"),
+        ("T", 200, "syntax 0"),
+        ("a", 0, "deep 0"),
+        ("; a", 0, "syntax 0"),
+        ("float", 9, "left-out 0"),
+        ("( int", 200, "syntax 99"),
+        ("( int T )", 200, "syntax 2"),
+        ("( int char )", 200, "syntax 2"),
+        ("( long long long )", 200, "syntax 3"),
+        ("( const )", 200, "syntax 2"),
+        ("( const * )", 200, "syntax 2"),
+        ("( struct )", 200, "syntax 2"),
+        ("( struct {", 200, "left-out 2"),
+        ("( struct s {", 200, "left-out 3"),
+        ("( int struct {", 200, "syntax 2"),
+        ("( int ) {", 200, "left-out 3"),
+        ("( int ) ;", 200, "syntax 3"),
+        ("( int * * a )", 200, "syntax 4"),
+        ("( int [ ] )", 200, "syntax 3"),
+        ("( int [ a = 1 ] )", 200, "syntax 4"),
+        ("( sizeof ( int ) {", 200, "left-out 5"),
+        ("( f ( a ) {", 200, "syntax 5"),
+        ("( static", 200, "left-out 1"),
+        ("a [ b ;", 200, "syntax 3"),
+        ("a . 1", 200, "syntax 2"),
+        ("f ( a , )", 200, "syntax 4"),
+        ("f ( , )", 200, "syntax 2"),
+        ("a ? b ;", 200, "syntax 3"),
+        ("++ ( int ) a", 200, "syntax 2"),
+        ("a + T", 200, "syntax 2"),
+        ("a + * ;", 200, "syntax 3"),
+        ("( a )", 1, "deep 0"),
+        ("sizeof a", 1, "deep 0"),
+        ("sizeof ( a )", 2, "deep 2"),
+        ("sizeof ( ; )", 2, "syntax 2"),
+        ("sizeof ( int )", 2, "sizet@0 i 2 4 syntax"),
+        ("a + b + c", 2, "in@1 x@0 x@2 2 3 deep"),
+        ("a + b * c", 2, "in@1 x@0 x@2 2 3 deep"),
+        ("a + - c", 2, "deep 2"),
+        ("f ( a )", 2, "deep 2"),
+        ("f ( )", 2, "call@1 x@0 2 3 syntax"),
+        ("f ( )", 1, "x@0 1 1 deep"),
+        ("f ( ) ( )", 2, "call@1 x@0 2 3 deep"),
+        ("a = b = c", 2, "ass@1 x@0 x@2 2 3 deep"),
+        ("a ? b : c , d", 2, "cho@1 x@0 x@2 x@4 2 5 deep"),
+        ("a ? b , c : d", 2, "deep 3"),
+        ("( ( a ) )", 2, "deep 1"),
+        ("( a + b )", 2, "deep 2"),
+        ("a . b . c", 2, "dot@1 x@0 2 3 deep"),
+        ("( int ) - a", 2, "deep 3"),
+        ("( int [ - 1 ] ) a", 2, "deep 3"),
+        ("sizeof ( int ) ( a )", 2, "sizet@0 i 2 4 syntax"),
+        ("a , b = c", 2, "com@1 x@0 x@2 2 3 deep"),
+        ("a + b = c", 2, "in@1 x@0 x@2 2 3 syntax"),
+    ] {
+        let got = answer(rt.alloc(), words, room, ExprLevel::Expr)?;
+        assert_eq!(rt; got.as_str(), expected, "{words}");
+    }
+    Ok(())
+}
