@@ -11,3 +11,5 @@ pub mod Continuing
 pub mod Parsing
 pub mod FirstTokens
 pub mod Chains
+pub mod FileText
+pub mod FilePhrases
