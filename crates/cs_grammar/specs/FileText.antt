@@ -173,7 +173,11 @@ external_text (Function specs head) rest = specs_text specs (head_text head (mar
 external_text (Definition specs head body) rest =
     specs_text specs (head_text head (mark_text mark.OpenBrace (items_text body (mark_text mark.CloseBrace rest))))
 
+-- parts of a file, one behind another
+abbrev pub externals_text : List External → Kinds → Kinds
+externals_text [] rest = rest
+externals_text (external ∷ externals) rest = external_text external (externals_text externals rest)
+
 -- a file
 abbrev pub file_text : List External → Kinds
-file_text [] = []
-file_text (external ∷ externals) = external_text external (file_text externals)
+file_text externals = externals_text externals []

@@ -13,3 +13,5 @@ pub mod FirstTokens
 pub mod Chains
 pub mod FileText
 pub mod FilePhrases
+pub mod Roles
+pub mod FileRefusals
