@@ -4,3 +4,5 @@ pub mod Holes
 pub mod Levels
 pub mod Chains
 pub mod Beginnings
+pub mod Tails
+pub mod Sequences

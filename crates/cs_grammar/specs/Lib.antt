@@ -15,3 +15,4 @@ pub mod FileText
 pub mod FilePhrases
 pub mod Roles
 pub mod FileRefusals
+pub mod Composed
