@@ -6,3 +6,5 @@ pub mod Chains
 pub mod Beginnings
 pub mod Tails
 pub mod Sequences
+pub mod Optional
+pub mod Rows

@@ -15,7 +15,7 @@ Joins C D = (c : C.Tree) (d : D.Tree) (after : Kinds) → C.Is c → D.Is d → 
 pub sequence_law : (C D : Class) → Lawful C → Lawful D → Lawful (Sequence C D)
 sequence_law C D lc ld = λ pair x y. lc pair.0 (D.spell pair.1 x) y ∙ ap (λ (r : Kinds). C.spell pair.0 r) (ld pair.1 x y)
 
-pub sequence_least : (C D : Class) → Least C → Least D → Least (Sequence C D)
+abbrev pub sequence_least : (C D : Class) → Least C → Least D → Least (Sequence C D)
 sequence_least C D lc ld = record {
   tree = (lc.tree, ld.tree);
   is_phrase = (lc.is_phrase, ld.is_phrase);
@@ -103,13 +103,13 @@ second_wrong C D room law joins least fits c next deep t some none = record {
 pub behind_law : (t : TokenKind) (D : Class) → Lawful D → Lawful (Behind t D)
 behind_law t D law = λ tree x y. ap (λ (r : Kinds). t ∷ r) (law tree x y)
 
-pub behind_least : (t : TokenKind) (D : Class) → Least D → Least (Behind t D)
+abbrev pub behind_least : (t : TokenKind) (D : Class) → Least D → Least (Behind t D)
 behind_least t D least = record { tree = least.tree; is_phrase = least.is_phrase; below = least.below }
 
-pub closed_least : (D : Class) (t : TokenKind) → Least D → Least (ClosedBy D t)
+abbrev pub closed_least : (D : Class) (t : TokenKind) → Least D → Least (ClosedBy D t)
 closed_least D t least = record { tree = least.tree; is_phrase = least.is_phrase; below = least.below }
 
-pub ended_least : Least Ended
+abbrev pub ended_least : Least Ended
 ended_least = record { tree = tt; is_phrase = tt; below = λ other is. omega arith }
 
 -- the token stands there: what is left is the phrase behind it

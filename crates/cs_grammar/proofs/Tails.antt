@@ -95,21 +95,21 @@ pub record Production (C D : Class) (plus : ℕ) (before : Kinds) (build : D.Tre
   pub taller : (part : D.Tree) → C.tall (build part) ≡ plus + D.tall part
 
 -- where there is room for the least of them, they are a tail
-pub production_tail : (C D : Class) (plus : ℕ) (before : Kinds) (build : D.Tree → C.Tree) (Fit : Kinds → Type 0) (room : ℕ) → Production C D plus before build Fit → (least : Least D) → plus + D.tall least.tree ≤ room → Tail C D room (room - plus) before build Fit
-production_tail C D plus before build Fit room p least fits = record {
+pub production_tail : (C D : Class) (plus : ℕ) (before : Kinds) (build : D.Tree → C.Tree) (Fit : Kinds → Type 0) (room inner : ℕ) → room ≡ plus + inner → Production C D plus before build Fit → (least : Least D) → D.tall least.tree ≤ inner → Tail C D room inner before build Fit
+production_tail C D plus before build Fit room inner less p least fits = record {
   started = inr (record {
     phrase = build least.tree;
     more = D.spell least.tree [];
     is_phrase = p.is_phrase least.tree least.is_phrase;
-    low = let t = p.taller least.tree in omega (arith, t, fits);
+    low = let t = p.taller least.tree in omega (arith, t, fits, less);
     spelled = p.spelled least.tree [];
   });
   invert = λ whole after behind is shut fit same. p.invert whole after behind is fit same;
   shut = p.shut;
   spelled = p.spelled;
   is_phrase = p.is_phrase;
-  low = λ part is low. let t = p.taller part in omega (arith, t, low, fits);
-  rises = λ part high. let t = p.taller part in omega (arith, t, high, fits);
+  low = λ part is low. let t = p.taller part in omega (arith, t, low, fits, less);
+  rises = λ part high. let t = p.taller part in omega (arith, t, high, fits, less);
 }
 
 -- where there is none, the first of the tokens is refused, if all phrases that begin with it are at least so high

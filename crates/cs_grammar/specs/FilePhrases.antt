@@ -1,6 +1,5 @@
 -- Which written declarations, statements and files the grammar has (C11 6.7, 6.8, 6.9), and which tokens begin a file.
 use Rattle.std.specs.Prelude.{◌≡◌, ◌≢◌, ◌≤◌, ℕ, Bool, true, false, not, ◌&&◌, IsTrue, IsFalse, List, [], ◌∷◌, ◌++◌, map, Option, Some, None, IfSome, IsSome, MatchOption, if◌then◌else◌}
-use Rattle.std.specs.List.{All}
 use Rattle.std.specs.Option.{option_map}
 use Rattle.cs_ast.specs.declared.token.TokenKind.{TokenKind}
 use Rattle.cs_ast.specs.declared.raw.written_type.TypeWord.{TypeWord}
@@ -14,6 +13,11 @@ use Rattle.cs_grammar.specs.Levels.{COMMA, ASSIGN, CHOICE}
 use Rattle.cs_grammar.specs.Text.{Kinds}
 use Rattle.cs_grammar.specs.Phrases.{IsPhrase}
 use Rattle.cs_grammar.specs.FileText.{file_text}
+
+-- each of these is one
+abbrev pub AreAll : {A : Type 0} → (A → Type 0) → List A → Type 0
+AreAll Is [] = Unit {0}
+AreAll Is (a ∷ all) = Is a × AreAll Is all
 
 -- there is one at least
 abbrev pub IsSomeList : {A : Type 0} → List A → Type 0
@@ -52,16 +56,19 @@ IsBound names bound = MatchOption bound (Unit {0}) (IsPhrase names CHOICE)
 abbrev pub IsFullBound : Names → Option Written → Type 0
 IsFullBound names bound = MatchOption bound ⊥ (IsPhrase names CHOICE)
 
--- the declarator of an object, a typedef or a local
-pub record IsDeclarator (names : Names) (d : Declarator) : Type 0 where
+-- a declarator with such a name and such bounds
+pub record IsDeclaratorOf (IsName : List ℕ → Type 0) (IsBoundHere : Option Written → Type 0) (d : Declarator) : Type 0 where
   pub pointers : IsTrue (is_pointer d.pointers)
-  pub free : IsFree names d.name
-  pub bounds : All (IsBound names) d.bounds
+  pub named : IsName d.name
+  pub bounds : AreAll IsBoundHere d.bounds
+
+-- the declarator of an object, a typedef or a local
+abbrev pub IsDeclarator : Names → Declarator → Type 0
+IsDeclarator names = IsDeclaratorOf (IsFree names) (IsBound names)
 
 -- the declarator of a member, whose name may be a typedef name, and whose bounds aren't empty
-pub record IsMember (names : Names) (d : Declarator) : Type 0 where
-  pub pointers : IsTrue (is_pointer d.pointers)
-  pub bounds : All (IsFullBound names) d.bounds
+abbrev pub IsMember : Names → Declarator → Type 0
+IsMember names = IsDeclaratorOf (λ name. Unit {0}) (IsFullBound names)
 
 -- an enumeration constant
 pub record IsConstant (names : Names) (c : Constant) : Type 0 where
@@ -79,12 +86,12 @@ abbrev mutual
   HasBody names Static = Unit {0}
   HasBody names (Plain w) = Unit {0}
   HasBody names (StructBody tag members) = AreMembers names members
-  HasBody names (EnumBody tag constants comma) = IsSomeList constants × All (IsConstant names) constants
+  HasBody names (EnumBody tag constants comma) = IsSomeList constants × AreAll (IsConstant names) constants
 
   pub AreMembers : Names → Members → Type 0
   AreMembers names NoMember = Unit {0}
   AreMembers names (MoreMembers specs declarators others) =
-      NameOneType names (naming specs) × HaveBodies names specs × IsSomeList declarators × All (IsMember names) declarators × AreMembers names others
+      NameOneType names (naming specs) × HaveBodies names specs × IsSomeList declarators × AreAll (IsMember names) declarators × AreMembers names others
 
 -- what stands before declarators outside blocks
 abbrev pub AreSpecs : Names → Specs → Type 0
@@ -112,14 +119,14 @@ pub record IsDeclared (names : Names) (d : Declared) : Type 0 where
 
 -- declared objects, one at least
 abbrev pub AreDeclared : Names → List Declared → Type 0
-AreDeclared names objects = IsSomeList objects × All (IsDeclared names) objects
+AreDeclared names objects = IsSomeList objects × AreAll (IsDeclared names) objects
 
 -- a parameter
 pub record IsParameter (names : Names) (p : Parameter) : Type 0 where
   pub specs : AreSpecs names p.specs
   pub pointers : IsTrue (is_pointer p.pointers)
   pub free : MatchOption p.name (Unit {0}) (IsFree names)
-  pub bounds : All (IsBound names) p.bounds
+  pub bounds : AreAll (IsBound names) p.bounds
 
 -- the parameter whose one token is `void`
 abbrev pub lone_void : Parameter
@@ -129,7 +136,7 @@ lone_void = record { specs = MoreSpecs (Plain Void) NoSpec; pointers = []; name 
 abbrev pub AreParameters : Names → Parameters → Type 0
 AreParameters names NoParameter = Unit {0}
 AreParameters names VoidAlone = Unit {0}
-AreParameters names (ParameterList list) = IsSomeList list × (list ≢ lone_void ∷ []) × All (IsParameter names) list
+AreParameters names (ParameterList list) = IsSomeList list × (list ≢ lone_void ∷ []) × AreAll (IsParameter names) list
 
 -- a function's declared name with its parameters
 pub record IsHead (names : Names) (h : Head) : Type 0 where
@@ -141,7 +148,7 @@ pub record IsHead (names : Names) (h : Head) : Type 0 where
 abbrev pub AreNamed : Parameters → Type 0
 AreNamed NoParameter = Unit {0}
 AreNamed VoidAlone = Unit {0}
-AreNamed (ParameterList list) = All (λ (p : Parameter). IsSome p.name) list
+AreNamed (ParameterList list) = AreAll (λ (p : Parameter). IsSome p.name) list
 
 -- an `else` behind the statement would belong to an `if` in it
 abbrev pub is_open : Sentence → Bool
@@ -199,7 +206,7 @@ abbrev mutual
 -- a part of a file; every parameter of a function with a body has a name
 abbrev pub IsExternal : Names → External → Type 0
 IsExternal names (TypeAlone specs) = AreSpecs names specs
-IsExternal names (Typedef specs declarators) = AreSpecs names specs × IsSomeList declarators × All (IsDeclarator names) declarators
+IsExternal names (Typedef specs declarators) = AreSpecs names specs × IsSomeList declarators × AreAll (IsDeclarator names) declarators
 IsExternal names (Objects specs objects) = AreSpecs names specs × AreDeclared names objects
 IsExternal names (Function specs head) = AreSpecs names specs × IsHead names head
 IsExternal names (Definition specs head body) = AreSpecs names specs × IsHead names head × AreNamed head.parameters × AreItems names body
@@ -225,7 +232,7 @@ IsFile names (external ∷ externals) = IsExternal names external × IsFile (nam
 
 -- each part of a file is no higher than the room
 abbrev pub AreLow : ℕ → List External → Type 0
-AreLow room externals = All (λ external. external_height external ≤ room) externals
+AreLow room externals = AreAll (λ external. external_height external ≤ room) externals
 
 -- a file whose tokens these begin
 pub record BeginsFile (front : Kinds) : Type 0 where
