@@ -6,7 +6,7 @@ use Rattle.cs_grammar.specs.Text.{Kinds}
 use Rattle.cs_grammar.specs.Parsing.{Class, Near, IsOver, Begins, BeginsLow, Took, Refused, Exactly}
 use Rattle.cs_grammar.specs.Composed.{Sequence, Behind}
 use Rattle.cs_grammar.proofs.Holes.{Lawful, splits, Tail, tail_refused, tail_took, ClosedBy, Ended}
-use Rattle.cs_grammar.proofs.Tails.{Least, none_refused}
+use Rattle.cs_grammar.proofs.Tails.{first_or, near_first, Least, Production, production_tail, none_refused}
 
 -- a phrase of C may stand before any of D
 abbrev pub Joins : Class → Class → Type 0
@@ -127,3 +127,68 @@ behind_tail t D room least fits = record {
 -- another token stands there
 pub behind_wrong : (t : TokenKind) (D : Class) (room : ℕ) (next : TokenKind) → (next ≡ t → ⊥) → Refused (Behind t D) room [] next false
 behind_wrong t D room next other = none_refused (Behind t D) room next (λ o after is same. cc) (λ o after more is same. other cc)
+
+-- the first of two was taken, whatever stands behind it: what is left is the second
+pub exact_tail : (C D : Class) (room : ℕ) → Lawful C → (least : Least D) → D.tall least.tree ≤ room → (c : C.Tree) → Exactly C room c → Tail (Sequence C D) D room room (C.spell c []) (λ d. (c, d)) (λ rest. Unit {0})
+exact_tail C D room law least fits c e =
+    let low' = e.low in
+    record {
+      started = inr (record {
+        phrase = (c, least.tree);
+        more = D.spell least.tree [];
+        is_phrase = (e.is_phrase, least.is_phrase);
+        low = omega (arith, low', fits);
+        spelled = splits C law c (D.spell least.tree []);
+      });
+      invert = λ whole after behind is shut fit same.
+          let k = e.exact whole.0 (D.spell whole.1 after) behind is.0 (same ∙ sym (splits C law c behind)) in
+          (whole.1, ap (λ (x : C.Tree). (x, whole.1)) k.0, is.1, sym k.1);
+      shut = λ part after shut. shut;
+      spelled = λ part after. splits C law c (D.spell part after);
+      is_phrase = λ part is. (e.is_phrase, is);
+      low = λ part is low. omega (arith, low', low);
+      rises = λ part high. omega (arith, high);
+    }
+
+-- the first of two was taken, the second refused
+pub exact_then_refused : (C D : Class) (room : ℕ) → Lawful C → Lawful D → (least : Least D) → D.tall least.tree ≤ room → (c : C.Tree) → Exactly C room c → (front : Kinds) (next : TokenKind) (deep : Bool) → Refused D room front next deep → Refused (Sequence C D) room (C.spell c [] ++ front) next deep
+exact_then_refused C D room lc ld least fits c e front next deep r =
+    tail_refused (Sequence C D) D room room (C.spell c []) (λ d. (c, d)) (λ rest. Unit {0}) ld (exact_tail C D room lc least fits c e) front next deep (λ behind near. tt) r
+
+-- both were taken
+pub exact_then_took : (C D : Class) (room : ℕ) → Lawful C → Lawful D → (least : Least D) → D.tall least.tree ≤ room → (c : C.Tree) → Exactly C room c → (d : D.Tree) (next : TokenKind) (deep : Bool) → Took D room d next deep → Took (Sequence C D) room (c, d) next deep
+exact_then_took C D room lc ld least fits c e d next deep t =
+    tail_took (Sequence C D) D room room (C.spell c []) (λ d. (c, d)) (λ rest. Unit {0}) ld (exact_tail C D room lc least fits c e) d next deep (λ behind near. tt) t
+
+-- both were taken, whatever stands behind them
+pub exact_both : (C D : Class) (room : ℕ) → (c : C.Tree) (d : D.Tree) → Exactly C room c → Exactly D room d → Exactly (Sequence C D) room (c, d)
+exact_both C D room c d ec ed =
+    let lc = ec.low in
+    let ld = ed.low in
+    record {
+      is_phrase = (ec.is_phrase, ed.is_phrase);
+      low = omega (arith, lc, ld);
+      exact = λ other after behind is same.
+          let k = ec.exact other.0 (D.spell other.1 after) (D.spell d behind) is.0 same in
+          let l = ed.exact other.1 after behind is.1 k.1 in
+          (ap (λ (x : C.Tree). (x, other.1)) k.0 ∙ ap (λ (y : D.Tree). (c, y)) l.0, l.1);
+    }
+
+-- the same where the first of two was taken before a token that may stand behind it
+pub then_refused : (C D : Class) (room : ℕ) → Lawful C → Lawful D → Joins C D → (least : Least D) → D.tall least.tree ≤ room → (c : C.Tree) (first : TokenKind) (deep : Bool) → Took C room c first deep → (deep ≡ true → C.Shut c (first ∷ [])) → (front : Kinds) (next : TokenKind) (deep' : Bool) → first_or front next ≡ first → Refused D room front next deep' → Refused (Sequence C D) room (C.spell c [] ++ front) next deep'
+then_refused C D room lc ld joins least fits c first deep t settled front next deep' starts r =
+    tail_refused (Sequence C D) D room room (C.spell c []) (λ d. (c, d)) (Near first) ld (second_tail C D room lc joins least fits c first deep t settled) front next deep' (near_first front next first starts) r
+
+pub then_took : (C D : Class) (room : ℕ) → Lawful C → Lawful D → Joins C D → (least : Least D) → D.tall least.tree ≤ room → (c : C.Tree) (first : TokenKind) (deep : Bool) → Took C room c first deep → (deep ≡ true → C.Shut c (first ∷ [])) → (d : D.Tree) (next : TokenKind) (deep' : Bool) → first_or (D.spell d []) next ≡ first → Took D room d next deep' → Took (Sequence C D) room (c, d) next deep'
+then_took C D room lc ld joins least fits c first deep t settled d next deep' starts t' =
+    tail_took (Sequence C D) D room room (C.spell c []) (λ d. (c, d)) (Near first) ld (second_tail C D room lc joins least fits c first deep t settled) d next deep'
+    (λ behind near. subst (λ (x : Kinds). Near first x) (ld d [] behind) (near_first (D.spell d []) next first starts behind near)) t'
+
+-- a phrase of D was taken, and nothing of C but D begins so: for productions
+pub made_refused : (C D : Class) (plus : ℕ) (before : Kinds) (build : D.Tree → C.Tree) (Fit : Kinds → Type 0) (room inner : ℕ) → room ≡ plus + inner → Production C D plus before build Fit → (least : Least D) → D.tall least.tree ≤ inner → Lawful D → (front : Kinds) (next : TokenKind) (deep : Bool) → ((behind : Kinds) → Near next behind → Fit (front ++ behind)) → Refused D inner front next deep → Refused C room (before ++ front) next deep
+made_refused C D plus before build Fit room inner less p least fits law front next deep fit r =
+    tail_refused C D room inner before build Fit law (production_tail C D plus before build Fit room inner less p least fits) front next deep fit r
+
+pub made_took : (C D : Class) (plus : ℕ) (before : Kinds) (build : D.Tree → C.Tree) (Fit : Kinds → Type 0) (room inner : ℕ) → room ≡ plus + inner → Production C D plus before build Fit → (least : Least D) → D.tall least.tree ≤ inner → Lawful D → (part : D.Tree) (next : TokenKind) (deep : Bool) → ((behind : Kinds) → Near next behind → Fit (D.spell part behind)) → Took D inner part next deep → Took C room (build part) next deep
+made_took C D plus before build Fit room inner less p least fits law part next deep fit t =
+    tail_took C D room inner before build Fit law (production_tail C D plus before build Fit room inner less p least fits) part next deep fit t

@@ -16,3 +16,4 @@ pub mod FilePhrases
 pub mod Roles
 pub mod FileRefusals
 pub mod Composed
+pub mod FileClasses
