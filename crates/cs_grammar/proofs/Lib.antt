@@ -8,3 +8,4 @@ pub mod Tails
 pub mod Sequences
 pub mod Optional
 pub mod Rows
+pub mod FileTexts
