@@ -9,3 +9,4 @@ pub mod Sequences
 pub mod Optional
 pub mod Rows
 pub mod FileTexts
+pub mod FileBeginnings

@@ -17,3 +17,4 @@ pub mod Roles
 pub mod FileRefusals
 pub mod Composed
 pub mod FileClasses
+pub mod FileFirstTokens
