@@ -10,3 +10,4 @@ pub mod Optional
 pub mod Rows
 pub mod FileTexts
 pub mod FileBeginnings
+pub mod Statements

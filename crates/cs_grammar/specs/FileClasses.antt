@@ -8,19 +8,23 @@ use Rattle.cs_ast.specs.declared.token.Mark.{Mark}
 use Rattle.cs_ast.specs.declared.token.Mark.TheVariants as mark
 use Rattle.cs_ast.specs.RawTree.{Written}
 use Rattle.cs_ast.specs.RawHeight.{height}
-use Rattle.cs_ast.specs.RawStatements.{Sentence, Item, Declares, Does, Items, SwitchItem, Case, Default, Inside, SwitchItems}
-use Rattle.cs_ast.specs.RawFileHeight.{sentence_height, item_height, items_height, switch_item_height, switch_height}
+use Rattle.cs_ast.specs.RawStatements.{First, Sentence, Item, Declares, Does, Items, SwitchItem, Case, Default, Inside, SwitchItems}
+use Rattle.cs_ast.specs.RawFileHeight.{first_height, sentence_height, item_height, items_height, switch_item_height, switch_height}
 use Rattle.cs_grammar.specs.TypeWords.{Names}
 use Rattle.cs_grammar.specs.Levels.{COMMA}
 use Rattle.cs_grammar.specs.Text.{Kinds}
 use Rattle.cs_grammar.specs.Phrases.{IsPhrase}
-use Rattle.cs_grammar.specs.FileText.{test_text, word_text, mark_text, sentence_text, item_text, items_text, switch_item_text, switch_text}
-use Rattle.cs_grammar.specs.FilePhrases.{is_open, IsSentence, IsItem, AreItems, IsSwitchItem, AreSwitchItems}
+use Rattle.cs_grammar.specs.FileText.{test_text, word_text, mark_text, first_text, sentence_text, item_text, items_text, switch_item_text, switch_text}
+use Rattle.cs_grammar.specs.FilePhrases.{is_open, IsFirst, IsSentence, IsItem, AreItems, IsSwitchItem, AreSwitchItems}
 use Rattle.cs_grammar.specs.Parsing.{Class}
 
 -- expressions between parentheses
 abbrev pub Tests : Names → Class
 Tests names = record { Tree = Written; spell = test_text; tall = height; Is = IsPhrase names COMMA; Shut = λ tree after. Unit {0} }
+
+-- the first part of a `for`, with its semicolon
+abbrev pub Firsts : Names → Class
+Firsts names = record { Tree = First; spell = first_text; tall = first_height; Is = IsFirst names; Shut = λ tree after. Unit {0} }
 
 -- no `else` is the first of these tokens
 abbrev pub HasNoElse : Kinds → Type 0
