@@ -11,3 +11,5 @@ pub mod Rows
 pub mod FileTexts
 pub mod FileBeginnings
 pub mod Statements
+pub mod Pairs
+pub mod StatementParts
