@@ -13,3 +13,4 @@ pub mod FileBeginnings
 pub mod Statements
 pub mod Pairs
 pub mod StatementParts
+pub mod StatementSites

@@ -120,7 +120,7 @@ switch_rows_law names = λ items x y. switch_append items (close_brace ∷ x) y
 pub switch_bodies_law : (names : Names) → Lawful (SwitchBodies names)
 switch_bodies_law names = λ items x y. ap (λ (r : Kinds). open_brace ∷ r) (switch_append items (close_brace ∷ x) y)
 
-pub while_pair : (names : Names) → Pair (Sentences names) (Tests names) (Sentences names) 1 (word keyword.While ∷ []) (λ part. While part.0 part.1)
+abbrev pub while_pair : (names : Names) → Pair (Sentences names) (Tests names) (Sentences names) 1 (word keyword.While ∷ []) (λ part. While part.0 part.1)
 while_pair names = record {
   production = while_production names;
   law_first = tests_law names;
@@ -130,7 +130,7 @@ while_pair names = record {
   least_second = sentences_least names;
 }
 
-pub if_pair : (names : Names) → Pair (Sentences names) (Tests names) (Branches names) 1 (word keyword.If ∷ []) (λ part. if_of part.0 part.1.0 part.1.1)
+abbrev pub if_pair : (names : Names) → Pair (Sentences names) (Tests names) (Branches names) 1 (word keyword.If ∷ []) (λ part. if_of part.0 part.1.0 part.1.1)
 if_pair names = record {
   production = if_production names;
   law_first = tests_law names;
@@ -140,7 +140,7 @@ if_pair names = record {
   least_second = branches_least names;
 }
 
-pub do_pair : (names : Names) → Pair (Sentences names) (ClosedBy (Sentences names) (word keyword.While)) (ClosedBy (Tests names) semicolon) 1 (word keyword.Do ∷ []) (λ part. Do part.0 part.1)
+abbrev pub do_pair : (names : Names) → Pair (Sentences names) (ClosedBy (Sentences names) (word keyword.While)) (ClosedBy (Tests names) semicolon) 1 (word keyword.Do ∷ []) (λ part. Do part.0 part.1)
 do_pair names = record {
   production = do_production names;
   law_first = closed_law (Sentences names) (word keyword.While) (sentences_law names);
@@ -150,7 +150,7 @@ do_pair names = record {
   least_second = closed_least (Tests names) semicolon (tests_least names);
 }
 
-pub switch_pair : (names : Names) → Pair (Sentences names) (Tests names) (SwitchBodies names) 1 (word keyword.Switch ∷ []) (λ part. Switch part.0 part.1)
+abbrev pub switch_pair : (names : Names) → Pair (Sentences names) (Tests names) (SwitchBodies names) 1 (word keyword.Switch ∷ []) (λ part. Switch part.0 part.1)
 switch_pair names = record {
   production = switch_production names;
   law_first = tests_law names;
@@ -160,29 +160,29 @@ switch_pair names = record {
   least_second = switch_bodies_least names;
 }
 
-pub switch_body_single : (names : Names) → Single (SwitchBodies names) (SwitchRows names) 1 (open_brace ∷ []) (λ part. part) (λ rest. Unit {0})
+abbrev pub switch_body_single : (names : Names) → Single (SwitchBodies names) (SwitchRows names) 1 (open_brace ∷ []) (λ part. part) (λ rest. Unit {0})
 switch_body_single names = record { production = switch_body_production names; law = switch_rows_law names; least = switch_rows_least names }
 
-pub block_single : (names : Names) → Single (Sentences names) (BlockRows names) 1 (open_brace ∷ []) Block (λ rest. Unit {0})
+abbrev pub block_single : (names : Names) → Single (Sentences names) (BlockRows names) 1 (open_brace ∷ []) Block (λ rest. Unit {0})
 block_single names = record { production = block_production names; law = block_rows_law names; least = block_rows_least names }
 
-pub nothing_single : (names : Names) → Single (Sentences names) Ended 1 (semicolon ∷ []) (λ part. Nothing) (λ rest. Unit {0})
+abbrev pub nothing_single : (names : Names) → Single (Sentences names) Ended 1 (semicolon ∷ []) (λ part. Nothing) (λ rest. Unit {0})
 nothing_single names = record { production = nothing_production names; law = ended_law; least = ended_least }
 
-pub goto_single : (names : Names) → Single (Sentences names) (ClosedBy AnyName semicolon) 1 (word keyword.Goto ∷ []) Goto (λ rest. Unit {0})
+abbrev pub goto_single : (names : Names) → Single (Sentences names) (ClosedBy AnyName semicolon) 1 (word keyword.Goto ∷ []) Goto (λ rest. Unit {0})
 goto_single names = record { production = goto_production names; law = closed_law AnyName semicolon name_law; least = record { tree = []; is_phrase = tt; below = λ other is. omega arith } }
 
-pub continue_single : (names : Names) → Single (Sentences names) (ClosedBy Ended semicolon) 1 (word keyword.Continue ∷ []) (λ part. Continue) (λ rest. Unit {0})
+abbrev pub continue_single : (names : Names) → Single (Sentences names) (ClosedBy Ended semicolon) 1 (word keyword.Continue ∷ []) (λ part. Continue) (λ rest. Unit {0})
 continue_single names = record { production = continue_production names; law = closed_law Ended semicolon ended_law; least = closed_least Ended semicolon ended_least }
 
-pub break_single : (names : Names) → Single (Sentences names) (ClosedBy Ended semicolon) 1 (word keyword.Break ∷ []) (λ part. Break) (λ rest. Unit {0})
+abbrev pub break_single : (names : Names) → Single (Sentences names) (ClosedBy Ended semicolon) 1 (word keyword.Break ∷ []) (λ part. Break) (λ rest. Unit {0})
 break_single names = record { production = break_production names; law = closed_law Ended semicolon ended_law; least = closed_least Ended semicolon ended_least }
 
-pub return_single : (names : Names) → Single (Sentences names) (SomeBefore names semicolon) 1 (word keyword.Return ∷ []) Return (λ rest. Unit {0})
+abbrev pub return_single : (names : Names) → Single (Sentences names) (SomeBefore names semicolon) 1 (word keyword.Return ∷ []) Return (λ rest. Unit {0})
 return_single names = record { production = return_production names; law = some_law names 0 (Unit {0}) semicolon; least = some_least names 0 (Unit {0}) semicolon tt }
 
-pub runs_single : (names : Names) → Single (Sentences names) (ClosedBy (Expressions names 0) semicolon) 1 [] Runs IsRun
+abbrev pub runs_single : (names : Names) → Single (Sentences names) (ClosedBy (Expressions names 0) semicolon) 1 [] Runs IsRun
 runs_single names = record { production = runs_production names; law = closed_law (Expressions names 0) semicolon (text_law names 0); least = closed_least (Expressions names 0) semicolon (expression_least names 0 (omega arith)) }
 
-pub label_single : (names : Names) (n : List ℕ) → Single (Sentences names) (Sentences names) 1 (token.Name n ∷ colon ∷ []) (Label n) (λ rest. Unit {0})
+abbrev pub label_single : (names : Names) (n : List ℕ) → Single (Sentences names) (Sentences names) 1 (token.Name n ∷ colon ∷ []) (Label n) (λ rest. Unit {0})
 label_single names n = record { production = label_production names n; law = sentences_law names; least = sentences_least names }
