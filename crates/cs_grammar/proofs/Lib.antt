@@ -14,3 +14,4 @@ pub mod Statements
 pub mod Pairs
 pub mod StatementParts
 pub mod StatementSites
+pub mod StatementFirsts
