@@ -15,3 +15,4 @@ pub mod Pairs
 pub mod StatementParts
 pub mod StatementSites
 pub mod StatementFirsts
+pub mod Declarators

@@ -192,3 +192,17 @@ made_refused C D plus before build Fit room inner less p least fits law front ne
 pub made_took : (C D : Class) (plus : ℕ) (before : Kinds) (build : D.Tree → C.Tree) (Fit : Kinds → Type 0) (room inner : ℕ) → room ≡ plus + inner → Production C D plus before build Fit → (least : Least D) → D.tall least.tree ≤ inner → Lawful D → (part : D.Tree) (next : TokenKind) (deep : Bool) → ((behind : Kinds) → Near next behind → Fit (D.spell part behind)) → Took D inner part next deep → Took C room (build part) next deep
 made_took C D plus before build Fit room inner less p least fits law part next deep fit t =
     tail_took C D room inner before build Fit law (production_tail C D plus before build Fit room inner less p least fits) part next deep fit t
+
+-- what was taken before a token that may stand behind it was taken in a smaller room too, if it fits
+pub took_lower : (C : Class) (room inner : ℕ) (c : C.Tree) (next : TokenKind) (deep : Bool) → Took C room c next deep → (deep ≡ true → C.Shut c (next ∷ [])) → C.tall c ≤ inner → Took C inner c next false
+took_lower C room inner c next deep t settled fits = record {
+  is_phrase = t.is_phrase;
+  low = fits;
+  only = λ other after behind is shut near same.
+      elim (t.only other after behind is shut near same) [
+        | inl e ↦ inl e
+        | inr over ↦ absurd (t.joined over.told [] (settled over.told))
+      ];
+  further = λ told. absurd (false≢true told);
+  joined = λ told more shut. false≢true told;
+}

@@ -18,3 +18,4 @@ pub mod FileRefusals
 pub mod Composed
 pub mod FileClasses
 pub mod FileFirstTokens
+pub mod DeclarationClasses
