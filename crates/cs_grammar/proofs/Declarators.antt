@@ -230,3 +230,12 @@ name_missing IsName names MayLack room some i fits ps p next none = record {
       absurd (name_never IsName next none ps other.pointers other.name (brackets_text other.bounds after) behind is.named near (same ∙ pointers_append ps [] behind));
   further = λ told. absurd (false≢true told);
 }
+
+-- what stands behind the bracket of a bound was refused
+pub bound_refused : (names : Names) (MayLack : Type 0) (room : ℕ) → (least : Least (ClosedSome names 2 MayLack (token.Mark mark.CloseBracket))) → (ClosedSome names 2 MayLack (token.Mark mark.CloseBracket)).tall least.tree ≤ room → (front : Kinds) (next : TokenKind) (deep : Bool) → Refused (ClosedSome names 2 MayLack (token.Mark mark.CloseBracket)) room front next deep → Refused (Bounds names MayLack) room (token.Mark mark.OpenBracket ∷ front) next deep
+bound_refused names MayLack room least fits front next deep r =
+    tail_refused (Bounds names MayLack) (ClosedSome names 2 MayLack (token.Mark mark.CloseBracket)) room room (token.Mark mark.OpenBracket ∷ []) (λ d. d) (λ rest. Unit {0}) (some_law names 2 MayLack (token.Mark mark.CloseBracket)) (behind_tail (token.Mark mark.OpenBracket) (ClosedSome names 2 MayLack (token.Mark mark.CloseBracket)) room least fits) front next deep (λ behind near. tt) r
+
+-- a bound was taken
+pub bound_exact : (names : Names) (MayLack : Type 0) (room : ℕ) (b : Option Written) → Exactly (ClosedSome names 2 MayLack (token.Mark mark.CloseBracket)) room b → Exactly (Bounds names MayLack) room b
+bound_exact names MayLack room b x = record { is_phrase = x.is_phrase; low = x.low; exact = λ other after behind is same. x.exact other after behind is cc }

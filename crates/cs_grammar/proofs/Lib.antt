@@ -16,3 +16,5 @@ pub mod StatementParts
 pub mod StatementSites
 pub mod StatementFirsts
 pub mod Declarators
+pub mod FreshNames
+pub mod TrailingRows
