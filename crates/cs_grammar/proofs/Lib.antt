@@ -18,3 +18,5 @@ pub mod StatementFirsts
 pub mod Declarators
 pub mod FreshNames
 pub mod TrailingRows
+pub mod InitialValues
+pub mod DeclaredObjects
