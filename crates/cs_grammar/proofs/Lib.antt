@@ -20,3 +20,5 @@ pub mod FreshNames
 pub mod TrailingRows
 pub mod InitialValues
 pub mod DeclaredObjects
+pub mod GrowingRows
+pub mod BlockItems
