@@ -196,7 +196,7 @@ second_no_colon (word_of.Typedef n) x first more none same = none more cc
 second_no_colon (word_of.Struct t) x first more none same = cc
 second_no_colon (word_of.Enum t) x first more none same = cc
 
-declared_no_colon : (names : Names) (ws : List TypeWord) (rest : Kinds) (first : TokenKind) (more : Kinds) → is_type names ws ≡ true → Starts rest → words_text ws rest ≡ first ∷ colon ∷ more → ⊥
+pub declared_no_colon : (names : Names) (ws : List TypeWord) (rest : Kinds) (first : TokenKind) (more : Kinds) → is_type names ws ≡ true → Starts rest → words_text ws rest ≡ first ∷ colon ∷ more → ⊥
 declared_no_colon names [] rest first more type s same = false≢true type
 declared_no_colon names (w ∷ ws) rest first more type s same = second_no_colon w (words_text ws rest) first more (λ m e. words_no_colon ws rest m s e) same
 

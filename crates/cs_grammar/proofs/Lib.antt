@@ -22,3 +22,4 @@ pub mod InitialValues
 pub mod DeclaredObjects
 pub mod GrowingRows
 pub mod BlockItems
+pub mod ItemSites

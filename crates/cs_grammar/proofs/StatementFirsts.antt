@@ -145,7 +145,7 @@ begins_low other = false
 not_low : (first t : TokenKind) (rest more : Kinds) → first ∷ rest ≡ t ∷ more → begins_low t ≡ false → begins_low first ≡ true → ⊥
 not_low first t rest more same e l = let k : first ≡ t = cc in false≢true (sym e ∙ ap begins_low (sym k) ∙ l)
 
-two_high : (names : Names) (s : Sentence) (after : Kinds) (t : TokenKind) (more : Kinds) → sentence_text s after ≡ t ∷ more → begins_low t ≡ false → 2 ≤ sentence_height s
+pub two_high : (names : Names) (s : Sentence) (after : Kinds) (t : TokenKind) (more : Kinds) → sentence_text s after ≡ t ∷ more → begins_low t ≡ false → 2 ≤ sentence_height s
 two_high names (Runs e) after t more same l = let h = expression_height e in omega (arith, h)
 two_high names (If e b) after t more same l = let h = expression_height e in omega (arith, h)
 two_high names (IfElse e b o) after t more same l = let h = expression_height e in omega (arith, h)
@@ -208,7 +208,7 @@ run_none next behind p near = record {
       ];
 }
 
-colon_near : (next : TokenKind) (behind more : Kinds) → (next ≡ colon → ⊥) → Near next behind → behind ≡ colon ∷ more → ⊥
+pub colon_near : (next : TokenKind) (behind more : Kinds) → (next ≡ colon → ⊥) → Near next behind → behind ≡ colon ∷ more → ⊥
 colon_near next behind more other near same =
     elim near [ inl none ↦ let z = sym same ∙ none in cc | inr m ↦ let z : colon ∷ more ≡ next ∷ m.0 = sym same ∙ m.1 in other cc ]
 
