@@ -23,3 +23,4 @@ pub mod DeclaredObjects
 pub mod GrowingRows
 pub mod BlockItems
 pub mod ItemSites
+pub mod ForParts

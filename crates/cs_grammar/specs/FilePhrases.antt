@@ -3,12 +3,12 @@ use Rattle.std.specs.Prelude.{◌≡◌, ◌≢◌, ◌≤◌, ℕ, Bool, true, 
 use Rattle.std.specs.Option.{option_map}
 use Rattle.cs_ast.specs.declared.token.TokenKind.{TokenKind}
 use Rattle.cs_ast.specs.declared.raw.written_type.TypeWord.{TypeWord}
-use Rattle.cs_ast.specs.declared.raw.written_type.TypeWord.TheVariants.{Void}
+use Rattle.cs_ast.specs.declared.raw.written_type.TypeWord.TheVariants.{Void, Struct, Enum}
 use Rattle.cs_ast.specs.RawTree.{Written}
 use Rattle.cs_ast.specs.RawDeclarations.{Declarator, Constant, Spec, Static, Plain, StructBody, EnumBody, Specs, NoSpec, MoreSpecs, Members, NoMember, MoreMembers, Initial, Single, Listed, Initials, NoItem as NoInitial, MoreItems as MoreInitials, Declared, Parameter, Parameters, NoParameter, VoidAlone, ParameterList, Head}
 use Rattle.cs_ast.specs.RawStatements.{First, NoFirst, FirstRuns, FirstDeclares, Sentence, Block, Nothing, Runs, If, IfElse, While, Do, For, Switch, Goto, Continue, Break, Return, Label, Item, Declares, Does, Items, NoItem, MoreItems, SwitchItem, Case, Default, Inside, SwitchItems, NoSwitchItem, MoreSwitchItems, External, TypeAlone, Typedef, Objects, Function, Definition}
 use Rattle.cs_ast.specs.RawFileHeight.{external_height}
-use Rattle.cs_grammar.specs.TypeWords.{Names, is_among, is_const, is_type, is_pointer, names_type}
+use Rattle.cs_grammar.specs.TypeWords.{Names, is_among, is_type, is_pointer}
 use Rattle.cs_grammar.specs.Levels.{COMMA, ASSIGN, CHOICE}
 use Rattle.cs_grammar.specs.Text.{Kinds}
 use Rattle.cs_grammar.specs.Phrases.{IsPhrase}
@@ -24,25 +24,19 @@ abbrev pub IsSomeList : {A : Type 0} → List A → Type 0
 IsSomeList [] = ⊥
 IsSomeList (a ∷ all) = Unit {0}
 
--- the words that name the type: all but `const` and `static`
-abbrev pub naming : Specs → Specs
-naming NoSpec = NoSpec
-naming (MoreSpecs Static others) = naming others
-naming (MoreSpecs (Plain w) others) = if is_const w then naming others else MoreSpecs (Plain w) (naming others)
-naming (MoreSpecs (StructBody tag members) others) = MoreSpecs (StructBody tag members) (naming others)
-naming (MoreSpecs (EnumBody tag constants comma) others) = MoreSpecs (EnumBody tag constants comma) (naming others)
+-- the words of the type: all but `static`; a type with a body counts as one with a tag
+abbrev pub words_of : Specs → List TypeWord
+words_of NoSpec = []
+words_of (MoreSpecs Static others) = words_of others
+words_of (MoreSpecs (Plain w) others) = w ∷ words_of others
+words_of (MoreSpecs (StructBody tag members) others) = Struct [] ∷ words_of others
+words_of (MoreSpecs (EnumBody tag constants comma) others) = Enum [] ∷ words_of others
 
 -- the words, if none of them is `static` or has a body
 abbrev pub plain_words : Specs → Option (List TypeWord)
 plain_words NoSpec = Some []
 plain_words (MoreSpecs (Plain w) others) = option_map (λ words. w ∷ words) (plain_words others)
 plain_words (MoreSpecs other others) = None
-
--- naming words name one type: one with a body alone, or plain words that do
-abbrev pub NameOneType : Names → Specs → Type 0
-NameOneType names (MoreSpecs (StructBody tag members) NoSpec) = Unit {0}
-NameOneType names (MoreSpecs (EnumBody tag constants comma) NoSpec) = Unit {0}
-NameOneType names words = MatchOption (plain_words words) ⊥ (λ plain. IsTrue (names_type names plain))
 
 -- a name that is no typedef name
 abbrev pub IsFree : Names → List ℕ → Type 0
@@ -91,11 +85,11 @@ abbrev mutual
   pub AreMembers : Names → Members → Type 0
   AreMembers names NoMember = Unit {0}
   AreMembers names (MoreMembers specs declarators others) =
-      NameOneType names (naming specs) × HaveBodies names specs × IsSomeList declarators × AreAll (IsMember names) declarators × AreMembers names others
+      IsTrue (is_type names (words_of specs)) × HaveBodies names specs × IsSomeList declarators × AreAll (IsMember names) declarators × AreMembers names others
 
 -- what stands before declarators outside blocks
 abbrev pub AreSpecs : Names → Specs → Type 0
-AreSpecs names specs = NameOneType names (naming specs) × HaveBodies names specs
+AreSpecs names specs = IsTrue (is_type names (words_of specs)) × HaveBodies names specs
 
 -- what stands before declarators inside a block: no `static`, and no body
 abbrev pub AreBlockSpecs : Names → Specs → Type 0
