@@ -24,3 +24,4 @@ pub mod GrowingRows
 pub mod BlockItems
 pub mod ItemSites
 pub mod ForParts
+pub mod TypeNames

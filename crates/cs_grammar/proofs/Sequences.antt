@@ -206,3 +206,17 @@ took_lower C room inner c next deep t settled fits = record {
   further = λ told. absurd (false≢true told);
   joined = λ told more shut. false≢true told;
 }
+
+each_took : (C : Class) (room : ℕ) (c : C.Tree) → ((next : TokenKind) → Took C room c next false) → ((other : C.Tree) (after : Kinds) → C.Shut other after) → (some : TokenKind) → (other : C.Tree) (after behind : Kinds) → C.Is other → C.spell other after ≡ C.spell c behind → (other ≡ c) × (after ≡ behind)
+each_took C room c took shut some other after [] is same =
+    elim ((took some).only other after [] is (shut other after) (inl refl) same) [ inl e ↦ e | inr over ↦ absurd (false≢true over.told) ]
+each_took C room c took shut some other after (t ∷ behind) is same =
+    elim ((took t).only other after (t ∷ behind) is (shut other after) (inr (behind, refl)) same) [ inl e ↦ e | inr over ↦ absurd (false≢true over.told) ]
+
+-- what was taken before every token, and may stand before any, is told by its tokens
+pub took_exact : (C : Class) (room : ℕ) (c : C.Tree) → ((next : TokenKind) → Took C room c next false) → ((other : C.Tree) (after : Kinds) → C.Shut other after) → (some : TokenKind) → Exactly C room c
+took_exact C room c took shut some = record {
+  is_phrase = (took some).is_phrase;
+  low = (took some).low;
+  exact = λ other after behind is same. each_took C room c took shut some other after behind is same;
+}
