@@ -25,3 +25,4 @@ pub mod BlockItems
 pub mod ItemSites
 pub mod ForParts
 pub mod TypeNames
+pub mod SpecRows

@@ -4,16 +4,17 @@ use Rattle.cs_ast.specs.declared.token.TokenKind.{TokenKind}
 use Rattle.cs_ast.specs.declared.token.TokenKind.TheVariants as token
 use Rattle.cs_ast.specs.declared.token.Mark.{Mark}
 use Rattle.cs_ast.specs.declared.token.Mark.TheVariants as mark
+use Rattle.cs_ast.specs.declared.raw.written_type.TypeWord.TheVariants.{Struct, Enum}
 use Rattle.cs_ast.specs.RawTree.{Written}
-use Rattle.cs_ast.specs.RawDeclarations.{Declarator, Constant, Specs, Members, Initial, Declared, Parameter, Parameters, Head}
+use Rattle.cs_ast.specs.RawDeclarations.{Declarator, Constant, Spec, Plain, Specs, Members, Initial, Declared, Parameter, Parameters, Head}
 use Rattle.cs_ast.specs.RawStatements.{External}
-use Rattle.cs_ast.specs.RawFileHeight.{height_of_some, highest_by, declarator_height, constant_height, specs_height, members_height, initial_height, declared_height, parameter_height, parameters_height, head_height, external_height}
+use Rattle.cs_ast.specs.RawFileHeight.{height_of_some, highest_by, declarator_height, constant_height, spec_height, specs_height, members_height, initial_height, declared_height, parameter_height, parameters_height, head_height, external_height}
 use Rattle.cs_grammar.specs.TypeWords.{Names}
 use Rattle.cs_grammar.specs.Levels.{CHOICE}
 use Rattle.cs_grammar.specs.Text.{Kinds}
 use Rattle.cs_grammar.specs.Phrases.{IsPhrase}
-use Rattle.cs_grammar.specs.FileText.{brackets_text, declarator_text, constant_text, specs_text, members_text, initial_text, declared_text, parameter_text, parameters_text, head_text, external_text}
-use Rattle.cs_grammar.specs.FilePhrases.{AreAll, IsFree, IsDeclaratorOf, IsConstant, AreMembers, AreSpecs, AreBlockSpecs, IsInitial, IsDeclared, IsParameter, AreParameters, IsHead, IsExternal}
+use Rattle.cs_grammar.specs.FileText.{with_commas, brackets_text, declarator_text, constant_text, spec_text, specs_text, members_text, initial_text, declared_text, parameter_text, parameters_text, head_text, external_text}
+use Rattle.cs_grammar.specs.FilePhrases.{AreAll, IsSomeList, HasBody, IsMember, IsFree, IsDeclaratorOf, IsConstant, AreMembers, AreSpecs, AreBlockSpecs, IsInitial, IsDeclared, IsParameter, AreParameters, IsHead, IsExternal}
 use Rattle.cs_grammar.specs.Parsing.{Class}
 use Rattle.cs_grammar.specs.Composed.{Behind, ClosedSome}
 
@@ -98,6 +99,31 @@ FileSpecs names = record { Tree = Specs; spell = specs_text; tall = specs_height
 -- what stands before declarators inside a block
 abbrev pub BlockSpecs : Names → Class
 BlockSpecs names = record { Tree = Specs; spell = specs_text; tall = specs_height; Is = AreBlockSpecs names; Shut = λ tree after. Follows ends_specs after }
+
+-- no opening brace stands first
+abbrev pub HasNoOpenBrace : Kinds → Type 0
+HasNoOpenBrace (token.Mark mark.OpenBrace ∷ others) = ⊥
+HasNoOpenBrace tokens = Unit {0}
+
+-- no opening brace stands behind a tag
+abbrev pub IsQuiet : Spec → Kinds → Type 0
+IsQuiet (Plain (Struct tag)) after = HasNoOpenBrace after
+IsQuiet (Plain (Enum tag)) after = HasNoOpenBrace after
+IsQuiet other after = Unit {0}
+
+-- the words before declarators outside blocks, and the types with bodies
+abbrev pub SpecElements : Names → Class
+SpecElements names = record { Tree = Spec; spell = spec_text; tall = spec_height; Is = HasBody names; Shut = IsQuiet }
+
+-- members of one type, with their semicolon
+abbrev pub MemberGroups : Names → Class
+MemberGroups names = record {
+  Tree = Specs × List Declarator;
+  spell = λ group after. specs_text group.0 (with_commas declarator_text group.1 (token.Mark mark.Semicolon ∷ after));
+  tall = λ group. 1 + max (specs_height group.0) (highest_by declarator_height group.1);
+  Is = λ group. AreSpecs names group.0 × (IsSomeList group.1 × AreAll (IsMember names) group.1);
+  Shut = λ group after. Unit {0};
+}
 
 -- a comma or a closing parenthesis
 abbrev pub ends_parameter : TokenKind → Bool
