@@ -26,3 +26,4 @@ pub mod ItemSites
 pub mod ForParts
 pub mod TypeNames
 pub mod SpecRows
+pub mod Bodies
