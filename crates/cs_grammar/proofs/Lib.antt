@@ -27,3 +27,5 @@ pub mod ForParts
 pub mod TypeNames
 pub mod SpecRows
 pub mod Bodies
+pub mod ParameterRules
+pub mod HeadRules

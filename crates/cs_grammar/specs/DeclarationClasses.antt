@@ -1,20 +1,21 @@
 -- The classes of phrases that declarations are made of.
-use Rattle.std.specs.Prelude.{◌≡◌, ℕ, ◌+◌, max, Bool, true, false, List, [], ◌∷◌, Option, Some, None, MatchOption}
+use Rattle.std.specs.Prelude.{◌≡◌, ◌≢◌, IsTrue, ℕ, ◌+◌, max, Bool, true, false, List, [], ◌∷◌, Option, Some, None, MatchOption}
 use Rattle.cs_ast.specs.declared.token.TokenKind.{TokenKind}
 use Rattle.cs_ast.specs.declared.token.TokenKind.TheVariants as token
 use Rattle.cs_ast.specs.declared.token.Mark.{Mark}
 use Rattle.cs_ast.specs.declared.token.Mark.TheVariants as mark
 use Rattle.cs_ast.specs.declared.raw.written_type.TypeWord.TheVariants.{Struct, Enum}
+use Rattle.cs_ast.specs.declared.raw.written_type.PointerWord.{PointerWord}
 use Rattle.cs_ast.specs.RawTree.{Written}
 use Rattle.cs_ast.specs.RawDeclarations.{Declarator, Constant, Spec, Plain, Specs, Members, Initial, Declared, Parameter, Parameters, Head}
 use Rattle.cs_ast.specs.RawStatements.{External}
 use Rattle.cs_ast.specs.RawFileHeight.{height_of_some, highest_by, declarator_height, constant_height, spec_height, specs_height, members_height, initial_height, declared_height, parameter_height, parameters_height, head_height, external_height}
-use Rattle.cs_grammar.specs.TypeWords.{Names}
+use Rattle.cs_grammar.specs.TypeWords.{Names, is_pointer}
 use Rattle.cs_grammar.specs.Levels.{CHOICE}
-use Rattle.cs_grammar.specs.Text.{Kinds}
+use Rattle.cs_grammar.specs.Text.{Kinds, pointers_text}
 use Rattle.cs_grammar.specs.Phrases.{IsPhrase}
-use Rattle.cs_grammar.specs.FileText.{with_commas, brackets_text, declarator_text, constant_text, spec_text, specs_text, members_text, initial_text, declared_text, parameter_text, parameters_text, head_text, external_text}
-use Rattle.cs_grammar.specs.FilePhrases.{AreAll, IsSomeList, HasBody, IsMember, IsFree, IsDeclaratorOf, IsConstant, AreMembers, AreSpecs, AreBlockSpecs, IsInitial, IsDeclared, IsParameter, AreParameters, IsHead, IsExternal}
+use Rattle.cs_grammar.specs.FileText.{name_text, with_commas, brackets_text, declarator_text, constant_text, spec_text, specs_text, members_text, initial_text, declared_text, parameter_text, parameters_text, head_text, external_text}
+use Rattle.cs_grammar.specs.FilePhrases.{AreAll, IsSomeList, HasBody, IsMember, IsFree, IsBound, lone_void, IsDeclaratorOf, IsConstant, AreMembers, AreSpecs, AreBlockSpecs, IsInitial, IsDeclared, IsParameter, AreParameters, IsHead, IsExternal}
 use Rattle.cs_grammar.specs.Parsing.{Class}
 use Rattle.cs_grammar.specs.Composed.{Behind, ClosedSome}
 
@@ -134,6 +135,29 @@ ends_parameter other = false
 -- parameters
 abbrev pub ParameterClass : Names → Class
 ParameterClass names = record { Tree = Parameter; spell = parameter_text; tall = parameter_height; Is = IsParameter names; Shut = λ tree after. Follows ends_parameter after }
+
+-- the pointers, the name if there is one, and the bounds of a parameter
+abbrev pub ParameterTail : Type 0
+ParameterTail = List PointerWord × (Option (List ℕ) × List (Option Written))
+
+abbrev pub ParameterTails : Names → Class
+ParameterTails names = record {
+  Tree = ParameterTail;
+  spell = λ tree after. pointers_text tree.0 (name_text tree.1.0 (brackets_text tree.1.1 after));
+  tall = λ tree. highest_by height_of_some tree.1.1;
+  Is = λ tree. IsTrue (is_pointer tree.0) × (MatchOption tree.1.0 (Unit {0}) (IsFree names) × AreAll (IsBound names) tree.1.1);
+  Shut = λ tree after. Follows ends_parameter after;
+}
+
+-- parameters, one at least and not `void` alone, with commas between them and the closing parenthesis
+abbrev pub ParameterRows : Names → Class
+ParameterRows names = record {
+  Tree = List Parameter;
+  spell = λ tree after. with_commas parameter_text tree (token.Mark mark.CloseParenthesis ∷ after);
+  tall = highest_by parameter_height;
+  Is = λ tree. IsSomeList tree × ((tree ≢ lone_void ∷ []) × AreAll (IsParameter names) tree);
+  Shut = λ tree after. Unit {0};
+}
 
 -- what stands between a function's parentheses, with the closing one
 abbrev pub ParameterLists : Names → Class
