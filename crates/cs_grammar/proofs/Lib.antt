@@ -29,3 +29,4 @@ pub mod SpecRows
 pub mod Bodies
 pub mod ParameterRules
 pub mod HeadRules
+pub mod FileRules

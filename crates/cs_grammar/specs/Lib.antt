@@ -19,3 +19,4 @@ pub mod Composed
 pub mod FileClasses
 pub mod FileFirstTokens
 pub mod DeclarationClasses
+pub mod FileParts
