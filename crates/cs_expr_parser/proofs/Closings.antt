@@ -178,7 +178,7 @@ enclosed_tail names room least = record {
         | leaf kind k a t ↦ let s = sym t ∙ same in absurd (leaf_no_parenthesis names kind k cc)
         | around inner w well t ↦ let s = sym t ∙ same in (inner, w, (omega arith, well), cc)
       ];
-  shut = λ after shut. tt;
+  shut = λ part after shut. tt;
   spelled = λ part after. refl;
   is_phrase = λ part is. (omega arith, is.1);
   low = λ part is low. omega arith;
@@ -209,14 +209,14 @@ enclosed_full names room full = record {
 pub enclosed_refused : (names : Names) (room : ℕ) → 2 ≤ room → (front : Kinds) (next : TokenKind) (deep : Bool) → Refused (Expressions names 0) (room - 1) front next deep → Refused (Expressions names 16) room (open_parenthesis ∷ front) next deep
 enclosed_refused names room least front next deep r =
     tail_refused (Expressions names 16) (ClosedBy (Expressions names 0) close_parenthesis) room (room - 1) (open_parenthesis ∷ []) Enclosed (λ rest. Unit {0}) (closed_law (Expressions names 0) close_parenthesis (text_law names 0)) (enclosed_tail names room least) front next deep (λ behind near. tt)
-    (closed_refused (Expressions names 0) close_parenthesis (room - 1) (text_law names 0) (λ more. omega arith) front next deep r)
+    (closed_refused (Expressions names 0) close_parenthesis (room - 1) (text_law names 0) (λ part more. omega arith) front next deep r)
 
 pub enclosed_wrong : (names : Names) (room : ℕ) → 2 ≤ room → (part : Written) (next : TokenKind) (deep : Bool) → Took (Expressions names 0) (room - 1) part next deep → (next ≡ close_parenthesis → ⊥) → Refused (Expressions names 16) room (open_parenthesis ∷ text part []) next deep
 enclosed_wrong names room least part next deep t other =
     tail_refused (Expressions names 16) (ClosedBy (Expressions names 0) close_parenthesis) room (room - 1) (open_parenthesis ∷ []) Enclosed (λ rest. Unit {0}) (closed_law (Expressions names 0) close_parenthesis (text_law names 0)) (enclosed_tail names room least) (text part []) next deep (λ behind near. tt)
-    (closed_wrong (Expressions names 0) close_parenthesis (room - 1) (text_law names 0) (λ more. omega arith) part next deep t other)
+    (closed_wrong (Expressions names 0) close_parenthesis (room - 1) (text_law names 0) (λ part more. omega arith) part next deep t other)
 
 pub enclosed_took : (names : Names) (room : ℕ) → 2 ≤ room → (part : Written) (deep : Bool) (next : TokenKind) → Took (Expressions names 0) (room - 1) part close_parenthesis deep → Took (Expressions names 16) room (Enclosed part) next false
 enclosed_took names room least part deep next t =
     tail_took (Expressions names 16) (ClosedBy (Expressions names 0) close_parenthesis) room (room - 1) (open_parenthesis ∷ []) Enclosed (λ rest. Unit {0}) (closed_law (Expressions names 0) close_parenthesis (text_law names 0)) (enclosed_tail names room least) part next false (λ behind near. tt)
-    (exact_took (ClosedBy (Expressions names 0) close_parenthesis) (room - 1) part (closed_exact (Expressions names 0) close_parenthesis (room - 1) (λ more. omega arith) part deep t) next)
+    (exact_took (ClosedBy (Expressions names 0) close_parenthesis) (room - 1) part (closed_exact (Expressions names 0) close_parenthesis (room - 1) (λ part more. omega arith) part deep t) next)

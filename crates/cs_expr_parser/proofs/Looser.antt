@@ -122,15 +122,15 @@ one_hole names room e deep low t = record {
 pub one_refused : (names : Names) (room : ℕ) (e : Written) (deep : Bool) → height e < room → Took (Expressions names 3) room e question deep → (front : Kinds) (next : TokenKind) (deep' : Bool) → Refused (Expressions names 0) (room - 1) front next deep' → Refused (Expressions names 2) room (text e (question ∷ []) ++ front) next deep'
 one_refused names room e deep low t front next deep' r =
     hole_refused (Expressions names 2) (ClosedBy (Expressions names 0) colon) room (room - 1) (text e (question ∷ [])) (λ rest. Unit {0}) (λ rest. Unit {0}) (closed_law (Expressions names 0) colon (text_law names 0)) (one_hole names room e deep low t) front next deep' (λ behind near. tt)
-    (closed_refused (Expressions names 0) colon (room - 1) (text_law names 0) (λ more. omega arith) front next deep' r)
+    (closed_refused (Expressions names 0) colon (room - 1) (text_law names 0) (λ part more. omega arith) front next deep' r)
 
 pub one_wrong : (names : Names) (room : ℕ) (e : Written) (deep : Bool) → height e < room → Took (Expressions names 3) room e question deep → (part : Written) (next : TokenKind) (deep' : Bool) → Took (Expressions names 0) (room - 1) part next deep' → (next ≡ colon → ⊥) → Refused (Expressions names 2) room (text e (question ∷ []) ++ text part []) next deep'
 one_wrong names room e deep low t part next deep' t' other =
     hole_refused (Expressions names 2) (ClosedBy (Expressions names 0) colon) room (room - 1) (text e (question ∷ [])) (λ rest. Unit {0}) (λ rest. Unit {0}) (closed_law (Expressions names 0) colon (text_law names 0)) (one_hole names room e deep low t) (text part []) next deep' (λ behind near. tt)
-    (closed_wrong (Expressions names 0) colon (room - 1) (text_law names 0) (λ more. omega arith) part next deep' t' other)
+    (closed_wrong (Expressions names 0) colon (room - 1) (text_law names 0) (λ part more. omega arith) part next deep' t' other)
 
 pub one_exact : (names : Names) (room : ℕ) (part : Written) (deep : Bool) → Took (Expressions names 0) room part colon deep → Exactly (ClosedBy (Expressions names 0) colon) room part
-one_exact names room part deep t = closed_exact (Expressions names 0) colon room (λ more. omega arith) part deep t
+one_exact names room part deep t = closed_exact (Expressions names 0) colon room (λ part more. omega arith) part deep t
 
 other_tail : (names : Names) (room : ℕ) (e one : Written) (deep : Bool) → height e < room → Took (Expressions names 3) room e question deep → Exactly (ClosedBy (Expressions names 0) colon) (room - 1) one → Tail (Expressions names 2) (Expressions names 2) room (room - 1) (text e (question ∷ text one (colon ∷ []))) (Choice e one) (λ rest. Unit {0})
 other_tail names room e one deep low t x =
@@ -149,7 +149,7 @@ other_tail names room e one deep low t x =
           let f = choice_test names room e deep t whole after (text one (colon ∷ behind)) is shut (same ∙ apart behind) in
           let k = x.exact f.0 (text f.1 after) behind f.3 (sym f.5) in
           (f.1, f.2 ∙ ap (λ (y : Written). Choice e y f.1) k.0, f.4, sym k.1);
-      shut = λ after shut. shut;
+      shut = λ part after shut. shut;
       spelled = λ part after. sym (apart (text part after));
       is_phrase = λ part is. (omega arith, (t.is_phrase.0, t.is_phrase.1, x.is_phrase.1, is.0, is.1));
       low = λ part is le. omega arith;
@@ -280,7 +280,7 @@ value_tail names room e op deep low bound t =
                   | inr over ↦ absurd (t.joined over.told [] (store_shut op []))
                 ]
           ];
-      shut = λ after shut. shut;
+      shut = λ part after shut. shut;
       spelled = λ part after. sym (text_append e (token.Mark (assign_mark op) ∷ []) (text part after));
       is_phrase = λ part is. (omega arith, (bound, t.is_phrase.1, is.0, is.1));
       low = λ part is le. omega arith;

@@ -216,7 +216,7 @@ before_tail names room b least = record {
             let s : before_text before.Size ∷ open_parenthesis ∷ type_closed_text parts after ≡ before_text b ∷ behind = sym t ∙ same in
             absurd (fit (sym (before_same before.Size b cc)) parts after ty cc)
       ];
-  shut = λ after shut. operand_shut b after shut;
+  shut = λ part after shut. operand_shut b after shut;
   spelled = λ part after. prefixed_text b part after;
   is_phrase = λ part is. prefixed_phrase names b part is;
   low = λ part is le. let h = prefixed_height b part in omega arith;

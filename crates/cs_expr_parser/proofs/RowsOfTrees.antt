@@ -307,15 +307,15 @@ bound_hole names room done are low least go =
 pub bound_refused : (names : Names) (room : ℕ) (done : WrittenList) → ArePhrases names 2 done → highest done ≤ room → 1 ≤ room → BoundsGoOn names done → (front : Kinds) (next : TokenKind) (deep : Bool) → Refused (Expressions names 2) room front next deep → Refused (Rows closed_bounds_text (ArePhrases names 2)) room (bounds_text done (open_bracket ∷ []) ++ front) next deep
 bound_refused names room done are low least go front next deep r =
     hole_refused (Rows closed_bounds_text (ArePhrases names 2)) (ClosedBy (Expressions names 2) close_bracket) room room (bounds_text done (open_bracket ∷ [])) (λ rest. Unit {0}) (λ rest. Unit {0}) (closed_law (Expressions names 2) close_bracket (text_law names 2)) (bound_hole names room done are low least go) front next deep (λ behind near. tt)
-    (closed_refused (Expressions names 2) close_bracket room (text_law names 2) (λ more. omega arith) front next deep r)
+    (closed_refused (Expressions names 2) close_bracket room (text_law names 2) (λ part more. omega arith) front next deep r)
 
 pub bound_wrong : (names : Names) (room : ℕ) (done : WrittenList) → ArePhrases names 2 done → highest done ≤ room → 1 ≤ room → BoundsGoOn names done → (last : Written) (next : TokenKind) (deep : Bool) → Took (Expressions names 2) room last next deep → (next ≡ close_bracket → ⊥) → Refused (Rows closed_bounds_text (ArePhrases names 2)) room (bounds_text done (open_bracket ∷ []) ++ text last []) next deep
 bound_wrong names room done are low least go last next deep t other =
     hole_refused (Rows closed_bounds_text (ArePhrases names 2)) (ClosedBy (Expressions names 2) close_bracket) room room (bounds_text done (open_bracket ∷ [])) (λ rest. Unit {0}) (λ rest. Unit {0}) (closed_law (Expressions names 2) close_bracket (text_law names 2)) (bound_hole names room done are low least go) (text last []) next deep (λ behind near. tt)
-    (closed_wrong (Expressions names 2) close_bracket room (text_law names 2) (λ more. omega arith) last next deep t other)
+    (closed_wrong (Expressions names 2) close_bracket room (text_law names 2) (λ part more. omega arith) last next deep t other)
 
 pub bound_exact : (names : Names) (room : ℕ) (last : Written) (deep : Bool) → Took (Expressions names 2) room last close_bracket deep → Exactly (ClosedBy (Expressions names 2) close_bracket) room last
-bound_exact names room last deep t = closed_exact (Expressions names 2) close_bracket room (λ more. omega arith) last deep t
+bound_exact names room last deep t = closed_exact (Expressions names 2) close_bracket room (λ part more. omega arith) last deep t
 
 bounds_closed : (names : Names) (done : WrittenList) (other : WrittenList) (after behind : Kinds) (rest : WrittenList) → other ≡ joined done rest → closed_bounds_text rest after ≡ close_parenthesis ∷ behind → (other ≡ joined done End) × (after ≡ behind)
 bounds_closed names done other after behind End o same = (o, cc)

@@ -49,7 +49,7 @@ index_addition names left room is low = record {
         | joined op r l w b ↦ absurd (let i = (infix_levels op).1 in omega arith)
         | continued f l w b ↦ absurd (omega arith)
       ];
-  shut = λ after shut. tt;
+  shut = λ part after shut. tt;
   spelled = λ part after. refl;
   is_phrase = λ part is'. (omega arith, (is.0, is.1, is'.1));
   low = λ part is' le. omega arith;
@@ -73,7 +73,7 @@ call_addition names left room is low = record {
         | joined op r l w b ↦ absurd (let i = (infix_levels op).1 in omega arith)
         | continued f l w b ↦ absurd (omega arith)
       ];
-  shut = λ after shut. tt;
+  shut = λ part after shut. tt;
   spelled = λ part after. refl;
   is_phrase = λ part is'. (omega arith, (is.0, is.1, is'));
   low = λ part is' le. let h = height_some left in omega arith;
@@ -95,7 +95,7 @@ member_addition names left room is low = record {
         | joined op r l w b ↦ absurd (let i = (infix_levels op).1 in omega arith)
         | continued f l w b ↦ absurd (omega arith)
       ];
-  shut = λ after shut. tt;
+  shut = λ part after shut. tt;
   spelled = λ part after. refl;
   is_phrase = λ part is'. (omega arith, (is.0, is.1));
   low = λ part is' le. omega arith;
@@ -117,7 +117,7 @@ arrow_addition names left room is low = record {
         | joined op r l w b ↦ absurd (let i = (infix_levels op).1 in omega arith)
         | continued f l w b ↦ absurd (omega arith)
       ];
-  shut = λ after shut. tt;
+  shut = λ part after shut. tt;
   spelled = λ part after. refl;
   is_phrase = λ part is'. (omega arith, (is.0, is.1));
   low = λ part is' le. omega arith;
@@ -153,7 +153,7 @@ step_addition names left room by is low = record {
         | joined op r l w b ↦ absurd (let i = (infix_levels op).1 in omega arith)
         | continued f l w b ↦ absurd (omega arith)
       ];
-  shut = λ after shut. tt;
+  shut = λ part after shut. tt;
   spelled = λ part after. refl;
   is_phrase = λ part is'. (omega arith, (is.0, is.1));
   low = λ part is' le. omega arith;
@@ -232,7 +232,7 @@ infix_addition names left room op is low = record {
         | stepped k l w b ↦ absurd (omega arith)
         | continued f l w b ↦ absurd (omega arith)
       ];
-  shut = λ after shut. shut;
+  shut = λ part after shut. shut;
   spelled = λ part after. refl;
   is_phrase = λ part is'. (omega arith, (is.0, is.1, is'.0, is'.1));
   low = λ part is' le. omega arith;
@@ -256,7 +256,7 @@ comma_addition names left room is low = record {
         | followed_by n l w b ↦ absurd (omega arith)
         | stepped k l w b ↦ absurd (omega arith)
       ];
-  shut = λ after shut. shut;
+  shut = λ part after shut. shut;
   spelled = λ part after. refl;
   is_phrase = λ part is'. (omega arith, (is.1, is'.0, is'.1));
   low = λ part is' le. omega arith;

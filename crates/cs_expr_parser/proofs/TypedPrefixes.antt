@@ -101,7 +101,7 @@ cast_tail names room parts least e =
                 let x = e.exact parts' (text o after) behind ty cc in
                 (o, w ∙ ap (λ (p : TypeParts). Cast p.words p.pointers p.bounds o) x.0, i, sym x.1)
           ];
-      shut = λ after shut. shut;
+      shut = λ part after shut. shut;
       spelled = λ part after. ap (λ (x : Kinds). open_parenthesis ∷ x) (sym (types_law names parts [] (text part after)));
       is_phrase = λ part is. (omega arith, (e.is_phrase.words, e.is_phrase.pointers, e.is_phrase.bounds, is.0, is.1));
       low = λ part is le. omega (arith, low');
@@ -149,7 +149,7 @@ size_tail names room least = record {
             absurd (fit (subst (BeginsWith (begins_expression names)) (sym i.are) (expression_begins names i.inner (close_parenthesis ∷ i.rest) i.is_well)))
         | inr y ↦ let s = y.3 in (y.0, y.1, y.2, cc)
       ];
-  shut = λ after shut. tt;
+  shut = λ part after shut. tt;
   spelled = λ part after. refl;
   is_phrase = λ part is. (omega arith, (is.words, is.pointers, is.bounds));
   low = λ part is le. omega arith;

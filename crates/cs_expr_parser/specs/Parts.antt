@@ -89,7 +89,7 @@ ChainAnswers names level room tokens from (Err stop) = Stops (Expressions names 
 
 -- phrases in a row, with what closes them
 abbrev pub Rows : (WrittenList → Kinds → Kinds) → (WrittenList → Type 0) → Class
-Rows spell Is = record { Tree = WrittenList; spell = spell; tall = highest; Is = Is; Shut = λ after. Unit {0} }
+Rows spell Is = record { Tree = WrittenList; spell = spell; tall = highest; Is = Is; Shut = λ tree after. Unit {0} }
 
 -- the tokens of arguments, with the parenthesis that closes them
 abbrev pub arguments_text : WrittenList → Kinds → Kinds
@@ -126,7 +126,7 @@ Types names = record {
   spell = type_closed_text;
   tall = λ parts. highest parts.bounds;
   Is = IsTypeOf names;
-  Shut = λ after. Unit {0};
+  Shut = λ tree after. Unit {0};
 }
 
 -- phrases in a row were taken

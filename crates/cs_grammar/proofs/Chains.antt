@@ -197,7 +197,7 @@ pub record Addition (names : Names) (level : ℕ) (left : Written) (room : ℕ) 
   pub chain : join first ≡ suc level
   pub started : BeginsLow (Expressions names level) room (text left (first ∷ []))
   pub invert : (whole : Written) (after behind : Kinds) → IsPhrase names level whole → Suffix level whole after left (first ∷ behind) → (part : D.Tree) × (whole ≡ build part) × D.Is part × (behind ≡ D.spell part after)
-  pub shut : (after : Kinds) → join_of after ≤ suc level → D.Shut after
+  pub shut : (part : D.Tree) (after : Kinds) → join_of after ≤ suc level → D.Shut part after
   pub spelled : (part : D.Tree) (after : Kinds) → text (build part) after ≡ text left (first ∷ D.spell part after)
   pub is_phrase : (part : D.Tree) → D.Is part → IsPhrase names level (build part)
   pub low : (part : D.Tree) → D.Is part → D.tall part ≤ inner → height (build part) ≤ room
@@ -209,10 +209,10 @@ addition_hole names level left room first D inner build deep g a = record {
   invert = λ whole after behind is shut fit same.
       elim (g.stems whole after (first ∷ behind) is shut (inr (behind, refl)) (same ∙ text_append left (first ∷ []) behind)) [
         | inl stem ↦
-            elim (stem_fold names level left (first ∷ behind) (λ w rest. (part : D.Tree) × (rest' : Kinds) × D.Is part × (behind ≡ D.spell part rest') × D.Shut rest' × (inner < D.tall part → room < height w))
+            elim (stem_fold names level left (first ∷ behind) (λ w rest. (part : D.Tree) × (rest' : Kinds) × D.Is part × (behind ≡ D.spell part rest') × D.Shut part rest' × (inner < D.tall part → room < height w))
             (λ w rest is' shut' s.
             let f = a.invert w rest behind is' s in
-            (f.0, rest, f.2, f.3, a.shut rest shut', λ high. subst (λ (x : Written). room < height x) (sym f.1) (a.rises f.0 high)))
+            (f.0, rest, f.2, f.3, a.shut f.0 rest shut', λ high. subst (λ (x : Written). room < height x) (sym f.1) (a.rises f.0 high)))
             (λ w rest smaller rest' s c.
             let h : height smaller < height w = suffix_height level w rest smaller rest' s in
             (c.0, c.1, c.2, c.3, c.4, λ high. let k : room < height smaller = c.5 high in omega arith))
@@ -247,7 +247,7 @@ addition_took names level left room first D inner build deep g a part next deep'
             elim (stem_fold names level left (first ∷ D.spell part behind) (λ w rest. Stem level (build part) behind w rest ⊎ IsOver (Expressions names level) room deep' w behind)
             (λ w rest is' shut' s.
             let f = a.invert w rest (D.spell part behind) is' s in
-            elim (t.only f.0 rest behind f.2 (a.shut rest shut') near (sym f.3)) [
+            elim (t.only f.0 rest behind f.2 (a.shut f.0 rest shut') near (sym f.3)) [
               | inl e ↦ inl (bare (f.1 ∙ ap build e.0) e.1)
               | inr over ↦ inr (record { told = over.told; high = subst (λ (x : Written). room < height x) (sym f.1) (a.rises f.0 over.high); onward = over.onward })
             ])
@@ -276,6 +276,6 @@ addition_took names level left room first D inner build deep g a part next deep'
   joined = λ told.
       elim (cases_lt (suc level) (join next)) [
         | inl more ↦ more
-        | inr less ↦ absurd (t.joined told [] (a.shut (next ∷ []) less))
+        | inr less ↦ absurd (t.joined told [] (a.shut part (next ∷ []) less))
       ];
 }

@@ -21,7 +21,7 @@ pub record Filling (C D : Class) (room inner : ℕ) (After : Kinds → Type 0) (
   pub rest : Kinds
   pub is_phrase : D.Is part
   pub spelled : behind ≡ D.spell part rest
-  pub shut : D.Shut rest
+  pub shut : D.Shut part rest
   pub after : After rest
   pub rises : inner < D.tall part → room < C.tall whole
 
@@ -36,7 +36,7 @@ pub record Completion (C D : Class) (room inner : ℕ) (before : Kinds) (part : 
 -- a place for a phrase of D in phrases of C, behind these tokens and before those, where what fills it has to fit
 pub record Hole (C D : Class) (room inner : ℕ) (before : Kinds) (Fit After : Kinds → Type 0) : Type 0 where
   pub started : (before ≡ []) ⊎ BeginsLow C room before
-  pub invert : (whole : C.Tree) (after behind : Kinds) → C.Is whole → C.Shut after → Fit behind → C.spell whole after ≡ before ++ behind → Filling C D room inner After whole behind
+  pub invert : (whole : C.Tree) (after behind : Kinds) → C.Is whole → C.Shut whole after → Fit behind → C.spell whole after ≡ before ++ behind → Filling C D room inner After whole behind
   pub complete : (part : D.Tree) → D.Is part → Completion C D room inner before part
 
 over_whole : (C D : Class) (room inner : ℕ) (deep : Bool) (whole : C.Tree) (part : D.Tree) (behind : Kinds) → (inner < D.tall part → room < C.tall whole) → IsOver D inner deep part behind → IsOver C room deep whole behind
@@ -125,8 +125,8 @@ hole_wrong C D room inner before Fit After law hole part next deep fits t ended 
 -- a hole at the end of phrases of C: the whole is made of the part, which has to fit, and both end together
 pub record Tail (C D : Class) (room inner : ℕ) (before : Kinds) (build : D.Tree → C.Tree) (Fit : Kinds → Type 0) : Type 0 where
   pub started : (before ≡ []) ⊎ BeginsLow C room before
-  pub invert : (whole : C.Tree) (after behind : Kinds) → C.Is whole → C.Shut after → Fit behind → C.spell whole after ≡ before ++ behind → (part : D.Tree) × (whole ≡ build part) × D.Is part × (behind ≡ D.spell part after)
-  pub shut : (after : Kinds) → C.Shut after → D.Shut after
+  pub invert : (whole : C.Tree) (after behind : Kinds) → C.Is whole → C.Shut whole after → Fit behind → C.spell whole after ≡ before ++ behind → (part : D.Tree) × (whole ≡ build part) × D.Is part × (behind ≡ D.spell part after)
+  pub shut : (part : D.Tree) (after : Kinds) → C.Shut (build part) after → D.Shut part after
   pub spelled : (part : D.Tree) (after : Kinds) → C.spell (build part) after ≡ before ++ D.spell part after
   pub is_phrase : (part : D.Tree) → D.Is part → C.Is (build part)
   pub low : (part : D.Tree) → D.Is part → D.tall part ≤ inner → C.tall (build part) ≤ room
@@ -142,7 +142,7 @@ tail_hole C D room inner before build Fit tail = record {
         rest = after;
         is_phrase = f.2;
         spelled = f.3;
-        shut = tail.shut after shut;
+        shut = tail.shut f.0 after (subst (λ (w : C.Tree). C.Shut w after) f.1 shut);
         after = tt;
         rises = λ high. subst (λ (w : C.Tree). room < C.tall w) (sym f.1) (tail.rises f.0 high);
       };
@@ -166,7 +166,7 @@ tail_took C D room inner before build Fit law tail part next deep fits t = recor
   low = tail.low part t.is_phrase t.low;
   only = λ other after behind is shut near same.
       let f = tail.invert other after (D.spell part behind) is shut (fits behind near) (same ∙ tail.spelled part behind) in
-      elim (t.only f.0 after behind f.2 (tail.shut after shut) near (sym f.3)) [
+      elim (t.only f.0 after behind f.2 (tail.shut f.0 after (subst (λ (w : C.Tree). C.Shut w after) f.1 shut)) near (sym f.3)) [
         | inl e ↦ inl (f.1 ∙ ap build e.0, e.1)
         | inr over ↦ inr (over_whole C D room inner deep other f.0 behind (λ high. subst (λ (w : C.Tree). room < C.tall w) (sym f.1) (tail.rises f.0 high)) over)
       ];
@@ -180,17 +180,17 @@ tail_took C D room inner before build Fit law tail part next deep fits t = recor
             tail.spelled b.phrase [] ∙ ap (λ x. before ++ x) b.spelled ∙ sym (append_assoc before (D.spell part (next ∷ [])) b.more)
             ∙ ap (λ x. x ++ b.more) (sym (tail.spelled part (next ∷ [])));
       };
-  joined = λ told more shut. t.joined told more (tail.shut (next ∷ more) shut);
+  joined = λ told more shut. t.joined told more (tail.shut part (next ∷ more) shut);
 }
 
 -- phrases of D with this token behind each
 abbrev pub ClosedBy : Class → TokenKind → Class
-ClosedBy D close = record { Tree = D.Tree; spell = λ tree after. D.spell tree (close ∷ after); tall = D.tall; Is = D.Is; Shut = λ after. Unit {0} }
+ClosedBy D close = record { Tree = D.Tree; spell = λ tree after. D.spell tree (close ∷ after); tall = D.tall; Is = D.Is; Shut = λ tree after. Unit {0} }
 
 pub closed_law : (D : Class) (close : TokenKind) → Lawful D → Lawful (ClosedBy D close)
 closed_law D close law = λ tree x y. law tree (close ∷ x) y
 
-closed_hole : (D : Class) (close : TokenKind) (room : ℕ) → ((more : Kinds) → D.Shut (close ∷ more)) → Hole (ClosedBy D close) D room room [] (λ rest. Unit {0}) (λ rest. (more : Kinds) × (rest ≡ close ∷ more))
+closed_hole : (D : Class) (close : TokenKind) (room : ℕ) → ((part : D.Tree) (more : Kinds) → D.Shut part (close ∷ more)) → Hole (ClosedBy D close) D room room [] (λ rest. Unit {0}) (λ rest. (more : Kinds) × (rest ≡ close ∷ more))
 closed_hole D close room shut = record {
   started = inl refl;
   invert = λ whole after behind is none fit same. record {
@@ -198,7 +198,7 @@ closed_hole D close room shut = record {
     rest = close ∷ after;
     is_phrase = is;
     spelled = sym same;
-    shut = shut after;
+    shut = shut whole after;
     after = (after, refl);
     rises = λ high. high;
   };
@@ -206,24 +206,24 @@ closed_hole D close room shut = record {
 }
 
 -- the phrase was refused
-pub closed_refused : (D : Class) (close : TokenKind) (room : ℕ) → Lawful D → ((more : Kinds) → D.Shut (close ∷ more)) → (front : Kinds) (next : TokenKind) (deep : Bool) → Refused D room front next deep → Refused (ClosedBy D close) room front next deep
+pub closed_refused : (D : Class) (close : TokenKind) (room : ℕ) → Lawful D → ((part : D.Tree) (more : Kinds) → D.Shut part (close ∷ more)) → (front : Kinds) (next : TokenKind) (deep : Bool) → Refused D room front next deep → Refused (ClosedBy D close) room front next deep
 closed_refused D close room law shut front next deep r = hole_refused (ClosedBy D close) D room room [] (λ rest. Unit {0}) (λ rest. (more : Kinds) × (rest ≡ close ∷ more)) law (closed_hole D close room shut) front next deep (λ behind near. tt) r
 
 -- another token stands behind the phrase
-pub closed_wrong : (D : Class) (close : TokenKind) (room : ℕ) → Lawful D → ((more : Kinds) → D.Shut (close ∷ more)) → (part : D.Tree) (next : TokenKind) (deep : Bool) → Took D room part next deep → (next ≡ close → ⊥) → Refused (ClosedBy D close) room (D.spell part []) next deep
+pub closed_wrong : (D : Class) (close : TokenKind) (room : ℕ) → Lawful D → ((part : D.Tree) (more : Kinds) → D.Shut part (close ∷ more)) → (part : D.Tree) (next : TokenKind) (deep : Bool) → Took D room part next deep → (next ≡ close → ⊥) → Refused (ClosedBy D close) room (D.spell part []) next deep
 closed_wrong D close room law shut part next deep t other =
     hole_wrong (ClosedBy D close) D room room [] (λ rest. Unit {0}) (λ rest. (more : Kinds) × (rest ≡ close ∷ more)) law (closed_hole D close room shut) part next deep (λ behind near. tt) t
     (λ m. let e = m.1 in cc) (λ more m. let e = m.1 in other cc)
 
 -- the token stands behind the phrase
-pub closed_exact : (D : Class) (close : TokenKind) (room : ℕ) → ((more : Kinds) → D.Shut (close ∷ more)) → (part : D.Tree) (deep : Bool) → Took D room part close deep → Exactly (ClosedBy D close) room part
+pub closed_exact : (D : Class) (close : TokenKind) (room : ℕ) → ((part : D.Tree) (more : Kinds) → D.Shut part (close ∷ more)) → (part : D.Tree) (deep : Bool) → Took D room part close deep → Exactly (ClosedBy D close) room part
 closed_exact D close room shut part deep t = record {
   is_phrase = t.is_phrase;
   low = t.low;
   exact = λ other after behind is same.
-      elim (t.only other (close ∷ after) (close ∷ behind) is (shut after) (inr (behind, refl)) same) [
+      elim (t.only other (close ∷ after) (close ∷ behind) is (shut other after) (inr (behind, refl)) same) [
         | inl e ↦ let rest = e.1 in (e.0, cc)
-        | inr over ↦ absurd (t.joined over.told [] (shut []))
+        | inr over ↦ absurd (t.joined over.told [] (shut part []))
       ];
 }
 
@@ -239,7 +239,7 @@ exact_took C room part e next = record {
 
 -- the end of a phrase: no token of it is left
 abbrev pub Ended : Class
-Ended = record { Tree = Unit {0}; spell = λ tree after. after; tall = λ tree. 0; Is = λ tree. Unit {0}; Shut = λ after. Unit {0} }
+Ended = record { Tree = Unit {0}; spell = λ tree after. after; tall = λ tree. 0; Is = λ tree. Unit {0}; Shut = λ tree after. Unit {0} }
 
 pub ended_law : Lawful Ended
 ended_law = λ tree x y. refl
@@ -249,7 +249,7 @@ ended_exact room = record { is_phrase = tt; low = omega arith; exact = λ other 
 
 -- a name of any kind
 abbrev pub AnyName : Class
-AnyName = record { Tree = List ℕ; spell = λ name after. token.Name name ∷ after; tall = λ name. 0; Is = λ name. Unit {0}; Shut = λ after. Unit {0} }
+AnyName = record { Tree = List ℕ; spell = λ name after. token.Name name ∷ after; tall = λ name. 0; Is = λ name. Unit {0}; Shut = λ tree after. Unit {0} }
 
 pub name_law : Lawful AnyName
 name_law = λ tree x y. refl

@@ -11,3 +11,12 @@ pub mod Continuing
 pub mod Parsing
 pub mod FirstTokens
 pub mod Chains
+pub mod FileText
+pub mod FilePhrases
+pub mod Roles
+pub mod FileRefusals
+pub mod Composed
+pub mod FileClasses
+pub mod FileFirstTokens
+pub mod DeclarationClasses
+pub mod FileParts

@@ -9,17 +9,17 @@ use Rattle.cs_grammar.specs.Phrases.{IsPhrase}
 use Rattle.cs_grammar.specs.Continuing.{join_of}
 
 -- a class of phrases: their trees, the tokens of a tree before others, its height, which trees are phrases, and which tokens
--- may stand behind one
+-- may stand behind a phrase
 pub record Class : Type 1 where
   pub Tree : Type 0
   pub spell : Tree → Kinds → Kinds
   pub tall : Tree → ℕ
   pub Is : Tree → Type 0
-  pub Shut : Kinds → Type 0
+  pub Shut : Tree → Kinds → Type 0
 
 -- the expressions of a level: none that goes on with it stands behind
 abbrev pub Expressions : Names → ℕ → Class
-Expressions names level = record { Tree = Written; spell = text; tall = height; Is = IsPhrase names level; Shut = λ behind. join_of behind ≤ level }
+Expressions names level = record { Tree = Written; spell = text; tall = height; Is = IsPhrase names level; Shut = λ tree behind. join_of behind ≤ level }
 
 -- the tokens are at an end, or go on with this one
 abbrev pub Near : TokenKind → Kinds → Type 0
@@ -51,15 +51,15 @@ pub record BeginsLow (C : Class) (room : ℕ) (front : Kinds) : Type 0 where
 pub record Took (C : Class) (room : ℕ) (phrase : C.Tree) (next : TokenKind) (deep : Bool) : Type 0 where
   pub is_phrase : C.Is phrase
   pub low : C.tall phrase ≤ room
-  pub only : (other : C.Tree) (after behind : Kinds) → C.Is other → C.Shut after → Near next behind → C.spell other after ≡ C.spell phrase behind → ((other ≡ phrase) × (after ≡ behind)) ⊎ IsOver C room deep other behind
+  pub only : (other : C.Tree) (after behind : Kinds) → C.Is other → C.Shut other after → Near next behind → C.spell other after ≡ C.spell phrase behind → ((other ≡ phrase) × (after ≡ behind)) ⊎ IsOver C room deep other behind
   pub further : deep ≡ true → Begins C (C.spell phrase (next ∷ []))
-  pub joined : deep ≡ true → (more : Kinds) → C.Shut (next ∷ more) → ⊥
+  pub joined : deep ≡ true → (more : Kinds) → C.Shut phrase (next ∷ more) → ⊥
 
 -- a token was refused behind these: a phrase that is low enough begins with them, and none with the token too; a higher one does
 -- exactly where that is told
 pub record Refused (C : Class) (room : ℕ) (front : Kinds) (next : TokenKind) (deep : Bool) : Type 0 where
   pub begun : (front ≡ []) ⊎ BeginsLow C room front
-  pub never : (other : C.Tree) (after behind : Kinds) → C.Is other → C.Shut after → Near next behind → C.spell other after ≡ front ++ behind → IsOver C room deep other behind
+  pub never : (other : C.Tree) (after behind : Kinds) → C.Is other → C.Shut other after → Near next behind → C.spell other after ≡ front ++ behind → IsOver C room deep other behind
   pub further : deep ≡ true → Begins C (front ++ next ∷ [])
 
 -- a phrase that is low enough, and the only one that begins so, whatever stands behind it

@@ -1,0 +1,49 @@
+-- Rows that grow at their end: for the loops of every parser of declarations, statements and files.
+use Rattle.std.proofs.Common.{◌≡◌, ℕ, ◌+◌, ◌<◌, ◌≤◌, max, ◌⊎◌, inl, inr, Bool, true, false, List, [], ◌∷◌, ◌++◌, refl, sym, ap, ◌∙◌, subst, arith}
+use Rattle.std.proofs.lemmas.Bool.{false≢true}
+use Rattle.cs_ast.specs.declared.token.TokenKind.{TokenKind}
+use Rattle.cs_grammar.specs.Text.{Kinds}
+use Rattle.cs_grammar.specs.Parsing.{Class, Near, Took, Refused, Exactly}
+use Rattle.cs_grammar.proofs.Holes.{Lawful, splits, Tail, tail_refused, tail_took, exact_took}
+use Rattle.cs_grammar.proofs.Tails.{first_or, near_first, tail_start, tail_then, tail_as}
+use Rattle.cs_grammar.proofs.Rows.{Listing, row_tail, row_refused}
+
+-- a row behind another one, and the tokens of a row without what closes it
+pub record Growing (L C : Class) (all : Listing L C) : Type 0 where
+  pub append : L.Tree → L.Tree → L.Tree
+  pub row_text : L.Tree → Kinds → Kinds
+  pub append_more : (done : L.Tree) (c : C.Tree) (rest : L.Tree) → append (append done (all.more c all.none)) rest ≡ append done (all.more c rest)
+  pub append_none : (done : L.Tree) → append done all.none ≡ done
+  pub none_append : (rest : L.Tree) → append all.none rest ≡ rest
+  pub none_text : (x : Kinds) → row_text all.none x ≡ x
+  pub text_more : (done : L.Tree) (c : C.Tree) (x : Kinds) → row_text (append done (all.more c all.none)) x ≡ row_text done (C.spell c x)
+  pub row_append : (done : L.Tree) (x y : Kinds) → row_text done x ++ y ≡ row_text done (x ++ y)
+  pub law : Lawful L
+
+-- a row so far was taken, and what fits may stand behind it
+abbrev pub GrownSoFar : {L C : Class} {all : Listing L C} → Growing L C all → ℕ → L.Tree → (Kinds → Type 0) → Type 0
+GrownSoFar {L} grow room done Fit = Tail L L room room (grow.row_text done []) (grow.append done) Fit
+
+-- nothing was taken so far
+pub grown_none : {L C : Class} {all : Listing L C} (grow : Growing L C all) (room : ℕ) → GrownSoFar grow room all.none (λ rest. Unit {0})
+grown_none {L} {C} {all} grow room =
+    tail_as L L room room [] (grow.row_text all.none []) (λ rest. rest) (grow.append all.none) (λ rest. Unit {0}) (λ rest. Unit {0}) (tail_start L room) (sym (grow.none_text [])) (λ rest. sym (grow.none_append rest)) (λ behind fit. tt)
+
+-- one phrase more was taken
+pub grown_more : {L C : Class} {all : Listing L C} (grow : Growing L C all) (room : ℕ) (done : L.Tree) (Fit : Kinds → Type 0) → GrownSoFar grow room done Fit → (c : C.Tree) (next : TokenKind) (deep : Bool) → Took C room c next deep → (deep ≡ true → C.Shut c (next ∷ [])) → ((behind : Kinds) → Near next behind → Fit (C.spell c behind)) → GrownSoFar grow room (grow.append done (all.more c all.none)) (Near next)
+grown_more {L} {C} {all} grow room done Fit so_far c next deep t settled fits =
+    tail_as L L room room (grow.row_text done [] ++ C.spell c []) (grow.row_text (grow.append done (all.more c all.none)) []) (λ rest. grow.append done (all.more c rest)) (grow.append (grow.append done (all.more c all.none))) (Near next) (Near next)
+    (tail_then L L L room room room (grow.row_text done []) (C.spell c []) (grow.append done) (all.more c) Fit (Near next) grow.law so_far (row_tail L C room all c next deep t settled) (λ behind near. subst Fit (splits C all.law c behind) (fits behind near)))
+    (grow.row_append done [] (C.spell c []) ∙ sym (grow.text_more done c []))
+    (λ rest. sym (grow.append_more done c rest)) (λ behind fit. fit)
+
+-- a phrase of the row was refused, and not at what ends the row
+pub grown_refused : {L C : Class} {all : Listing L C} (grow : Growing L C all) (room : ℕ) (done : L.Tree) (Fit : Kinds → Type 0) → GrownSoFar grow room done Fit → (front : Kinds) (next : TokenKind) (deep : Bool) → ((behind : Kinds) → Near next behind → Fit (front ++ behind)) → ((after behind : Kinds) → L.Shut all.none after → Near next behind → L.spell all.none after ≡ front ++ behind → ⊥) → Refused C room front next deep → Refused L room (grow.row_text done [] ++ front) next deep
+grown_refused {L} {C} {all} grow room done Fit so_far front next deep fits unended r =
+    tail_refused L L room room (grow.row_text done []) (grow.append done) Fit grow.law so_far front next deep fits (row_refused L C room all front next deep unended r)
+
+-- the row ends
+pub grown_took : {L C : Class} {all : Listing L C} (grow : Growing L C all) (room : ℕ) (done : L.Tree) (Fit : Kinds → Type 0) → GrownSoFar grow room done Fit → ((behind : Kinds) → Fit (L.spell all.none behind)) → Exactly L room all.none → (next : TokenKind) → Took L room done next false
+grown_took {L} {C} {all} grow room done Fit so_far fits x next =
+    subst (λ (w : L.Tree). Took L room w next false) (grow.append_none done)
+    (tail_took L L room room (grow.row_text done []) (grow.append done) Fit grow.law so_far all.none next false (λ behind near. fits behind) (exact_took L room all.none x next))

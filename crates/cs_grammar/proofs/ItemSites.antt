@@ -1,0 +1,228 @@
+-- Returns of functions that read what stands in a block or in a `switch`: for the contracts of every parser of statements.
+use Rattle.std.proofs.Common.{◌≡◌, ℕ, suc, ◌+◌, ◌-◌, ◌<◌, ◌≤◌, max, ◌⊎◌, inl, inr, Bool, true, false, ◌||◌, List, [], ◌∷◌, ◌++◌, Option, Some, None, refl, sym, ap, ◌∙◌, subst, arith}
+use Rattle.std.proofs.lemmas.Bool.{false≢true, both_ways, not-true, or_cases}
+use Rattle.cs_ast.specs.declared.token.TokenKind.{TokenKind}
+use Rattle.cs_ast.specs.declared.token.TokenKind.TheVariants as token
+use Rattle.cs_ast.specs.declared.token.Keyword.{Keyword}
+use Rattle.cs_ast.specs.declared.token.Keyword.TheVariants as keyword
+use Rattle.cs_ast.specs.declared.token.Mark.TheVariants as mark
+use Rattle.cs_ast.specs.declared.raw.written_type.TypeWord.{TypeWord}
+use Rattle.cs_ast.specs.declared.raw.written_type.TypeWord.TheVariants as word_of
+use Rattle.cs_ast.specs.declared.raw.written_type.IntegerWord.TheVariants.{Char, Short, Int, Long, Signed, Unsigned}
+use Rattle.cs_ast.specs.RawDeclarations.{Declared, Specs}
+use Rattle.cs_ast.specs.RawStatements.{Sentence, Nothing, Item, Declares, Does, Items, NoItem, SwitchItem, Case, Default, Inside}
+use Rattle.cs_ast.specs.RawFileHeight.{sentence_height, item_height}
+use Rattle.cs_grammar.specs.TypeWords.{Names, is_among, is_type}
+use Rattle.cs_grammar.specs.Text.{Kinds, words_text, type_word_text}
+use Rattle.cs_grammar.specs.FirstTokens.{begins_type, keyword_begins_type}
+use Rattle.cs_grammar.specs.FileFirstTokens.{begins_sentence, begins_item, is_case, begins_switch_part}
+use Rattle.cs_grammar.specs.FileText.{declared_text, with_commas, specs_text, declaration_text, sentence_text, item_text, switch_item_text}
+use Rattle.cs_grammar.specs.FilePhrases.{AreAll, IsSomeList, IsDeclared, AreBlockSpecs, IsSentence, IsItem, IsSwitchItem}
+use Rattle.cs_grammar.specs.FileClasses.{Sentences, BlockItems, SwitchParts}
+use Rattle.cs_grammar.specs.Parsing.{Class, Near, IsOver, Begins, BeginsLow, Took, Refused, Exactly}
+use Rattle.cs_grammar.proofs.FileBeginnings.{specs_of, plain_text, block_words, plain_are, block_specs_begin, sentence_begins, item_begins, switch_part_begins, some_first, first_passes}
+use Rattle.cs_grammar.proofs.Tails.{first_or, near_first, full_refused, none_refused}
+use Rattle.cs_grammar.proofs.Pairs.{single_refused, single_took}
+use Rattle.cs_grammar.proofs.Statements.{semicolon, colon, word}
+use Rattle.cs_grammar.proofs.StatementParts.{sentence_some}
+use Rattle.cs_grammar.proofs.StatementFirsts.{begins_low, two_high, sentence_example, colon_near}
+use Rattle.cs_grammar.proofs.DeclaredObjects.{least_object, least_is, objects_below}
+use Rattle.cs_grammar.proofs.BlockItems.{IsDeclaration, IsStatement, HasNoCase, BlockDeclarations, Declaration, declares_single, does_single, inside_single, both_begin, name_sentence, objects_start, declared_no_colon, block_specs_height, item_some, items_least}
+
+-- a type that begins with a token
+pub record TypeExample (names : Names) (t : TokenKind) : Type 0 where
+  pub first : TypeWord
+  pub others : List TypeWord
+  pub type : is_type names (first ∷ others) ≡ true
+  pub more : Kinds
+  pub spelled : (rest : Kinds) → words_text (first ∷ others) rest ≡ t ∷ (more ++ rest)
+
+one_word : (names : Names) (t : TokenKind) (w : TypeWord) → is_type names (w ∷ []) ≡ true → ((rest : Kinds) → type_word_text w rest ≡ t ∷ rest) → TypeExample names t
+one_word names t w type same = record { first = w; others = []; type = type; more = []; spelled = same }
+
+keyword_type : (names : Names) (k : Keyword) → keyword_begins_type k ≡ true → TypeExample names (token.Keyword k)
+keyword_type names keyword.Const e = record { first = word_of.Const; others = word_of.Void ∷ []; type = refl; more = word keyword.Void ∷ []; spelled = λ rest. refl }
+keyword_type names keyword.Void e = one_word names (word keyword.Void) word_of.Void refl (λ rest. refl)
+keyword_type names keyword.Struct e = record { first = word_of.Struct []; others = []; type = refl; more = token.Name [] ∷ []; spelled = λ rest. refl }
+keyword_type names keyword.Enum e = record { first = word_of.Enum []; others = []; type = refl; more = token.Name [] ∷ []; spelled = λ rest. refl }
+keyword_type names keyword.Char e = one_word names (word keyword.Char) (word_of.Integer Char) refl (λ rest. refl)
+keyword_type names keyword.Short e = one_word names (word keyword.Short) (word_of.Integer Short) refl (λ rest. refl)
+keyword_type names keyword.Int e = one_word names (word keyword.Int) (word_of.Integer Int) refl (λ rest. refl)
+keyword_type names keyword.Long e = one_word names (word keyword.Long) (word_of.Integer Long) refl (λ rest. refl)
+keyword_type names keyword.Signed e = one_word names (word keyword.Signed) (word_of.Integer Signed) refl (λ rest. refl)
+keyword_type names keyword.Unsigned e = one_word names (word keyword.Unsigned) (word_of.Integer Unsigned) refl (λ rest. refl)
+keyword_type names _ e = absurd cc
+
+pub type_example : (names : Names) (t : TokenKind) → begins_type names t ≡ true → TypeExample names t
+type_example names (token.Name n) e = one_word names (token.Name n) (word_of.Typedef n) e (λ rest. refl)
+type_example names (token.Keyword k) e = keyword_type names k e
+type_example names (token.Number c) e = absurd cc
+type_example names (token.Character v) e = absurd cc
+type_example names (token.Text b) e = absurd cc
+type_example names (token.Mark m) e = absurd cc
+type_example names (token.LeftOut w) e = absurd cc
+type_example names token.Attribute e = absurd cc
+
+declaration_example : (names : Names) (t : TokenKind) → begins_type names t ≡ true → Begins (BlockItems names) (t ∷ [])
+declaration_example names t e =
+    let x = type_example names t e in
+    record {
+      phrase = Declares (specs_of (x.first ∷ x.others)) (least_object names ∷ []);
+      more = x.more ++ with_commas declared_text (least_object names ∷ []) (semicolon ∷ []);
+      is_phrase = (plain_are names (x.first ∷ x.others) x.type, (tt, (least_is names, tt)));
+      spelled = plain_text (x.first ∷ x.others) (with_commas declared_text (least_object names ∷ []) (semicolon ∷ [])) ∙ x.spelled (with_commas declared_text (least_object names ∷ []) (semicolon ∷ []));
+    }
+
+-- what stands in a block that begins with this token
+pub item_example : (names : Names) (t : TokenKind) → begins_item names t ≡ true → Begins (BlockItems names) (t ∷ [])
+item_example names t e =
+    elim (or_cases (begins_sentence t) (begins_type names t) e) [
+      | inl s ↦ let b = sentence_example names t s in record { phrase = Does b.phrase; more = b.more; is_phrase = b.is_phrase; spelled = b.spelled }
+      | inr d ↦ declaration_example names t d
+    ]
+
+pub item_has : (names : Names) (i : Item) (after : Kinds) → IsItem names i → item_text i after ≡ [] → ⊥
+item_has names i after is same = some_first (begins_item names) (item_text i after) (item_begins names i after is) same
+
+-- nothing that may stand in a block begins with the token
+pub item_not : (names : Names) (room : ℕ) (next : TokenKind) → begins_item names next ≡ false → Refused (BlockItems names) room [] next false
+item_not names room next e =
+    none_refused (BlockItems names) room next (item_has names) (λ i after more is same. false≢true (sym e ∙ first_passes (begins_item names) (item_text i after) next more (item_begins names i after is) same))
+
+-- there is no room for anything
+pub item_none : (names : Names) (room : ℕ) (next : TokenKind) → room < 1 → begins_item names next ≡ true → Refused (BlockItems names) room [] next true
+item_none names room next full e = full_refused (BlockItems names) room next (item_has names) (λ i after more is same. let h = item_some names i is in omega (arith, h, full)) (item_example names next e)
+
+item_two : (names : Names) (i : Item) (after : Kinds) (t : TokenKind) (more : Kinds) → IsItem names i → item_text i after ≡ t ∷ more → begins_low t ≡ false → 2 ≤ item_height i
+item_two names (Does s) after t more is same l = two_high names s after t more same l
+item_two names (Declares specs objects) after t more is same l = let h = block_specs_height names specs is.0 in omega (arith, h)
+
+-- there is room for a statement without parts alone, and the token begins none
+pub item_low : (names : Names) (room : ℕ) (next : TokenKind) → room < 2 → begins_item names next ≡ true → begins_low next ≡ false → Refused (BlockItems names) room [] next true
+item_low names room next full e l = full_refused (BlockItems names) room next (item_has names) (λ i after more is same. let h = item_two names i after next more is same l in omega (arith, h, full)) (item_example names next e)
+
+second_near : (fs behind more : Kinds) (next : TokenKind) → (first_or fs next ≡ colon → ⊥) → Near next behind → fs ++ behind ≡ colon ∷ more → ⊥
+second_near [] behind more next other near same = colon_near next behind more other near same
+second_near (g ∷ gs) behind more next other near same = other cc
+
+-- tokens of a declaration that was refused
+pub declaration_fits : (names : Names) (f : TokenKind) (fs : Kinds) (next : TokenKind) → begins_type names f ≡ true → ((n : List ℕ) → f ≡ token.Name n → first_or fs next ≡ colon → ⊥) → (behind : Kinds) → Near next behind → IsDeclaration names ((f ∷ fs) ++ behind)
+declaration_fits names f fs next e other behind near = record {
+  typed = λ first more same. let k : f ≡ first = cc in ap (begins_type names) (sym k) ∙ e;
+  unlabelled = λ n more same. let k : f ≡ token.Name n = cc in second_near fs behind more next (other n k) near cc;
+  some = λ none. cc;
+}
+
+-- a declaration was refused
+pub declares_refused : (names : Names) (room inner : ℕ) → room ≡ 1 + inner → 1 ≤ inner → (f : TokenKind) (fs : Kinds) (next : TokenKind) (deep : Bool) → begins_type names f ≡ true → ((n : List ℕ) → f ≡ token.Name n → first_or fs next ≡ colon → ⊥) → Refused (BlockDeclarations names) inner (f ∷ fs) next deep → Refused (BlockItems names) room (f ∷ fs) next deep
+declares_refused names room inner less some f fs next deep e other r =
+    single_refused (declares_single names) room inner (less, omega (arith, some)) (f ∷ fs) next deep (declaration_fits names f fs next e other) r
+
+declaration_is : (names : Names) (specs : Specs) (objects : List Declared) (x : Kinds) → AreBlockSpecs names specs → IsSomeList objects → AreAll (IsDeclared names) objects → IsDeclaration names (declaration_text specs objects x)
+declaration_is names specs objects x is some are =
+    let rest = with_commas declared_text objects (semicolon ∷ x) in
+    let b = block_specs_begin names specs rest is in
+    let w = block_words names specs is in
+    record {
+      typed = λ first more same. first_passes (begins_type names) (declaration_text specs objects x) first more b same;
+      unlabelled = λ n more same.
+          declared_no_colon names w.words rest (token.Name n) more w.type (objects_start names objects (semicolon ∷ x) some are) (sym (plain_text w.words rest) ∙ ap (λ (y : Specs). specs_text y rest) (sym w.are) ∙ same);
+      some = λ none. some_first (begins_type names) (declaration_text specs objects x) b none;
+    }
+
+-- a declaration was taken
+pub declares_took : (names : Names) (room inner : ℕ) → room ≡ 1 + inner → 1 ≤ inner → (part : Declaration) (next : TokenKind) (deep : Bool) → Took (BlockDeclarations names) inner part next deep → Took (BlockItems names) room (Declares part.0 part.1) next deep
+declares_took names room inner less some part next deep t =
+    single_took (declares_single names) room inner (less, omega (arith, some)) part next deep (λ behind near. declaration_is names part.0 part.1 behind t.is_phrase.0 t.is_phrase.1.0 t.is_phrase.1.1) t
+
+either_type : (b : Bool) → (b ≡ false) ⊎ (b ≡ true)
+either_type false = inl refl
+either_type true = inr refl
+
+-- a statement's tokens
+pub statement_is : (names : Names) (s : Sentence) (x : Kinds) → IsSentence names s → IsStatement names (sentence_text s x)
+statement_is names s x is first more same =
+    elim (either_type (begins_type names first)) [
+      | inl no_type ↦ inl no_type
+      | inr typed ↦
+          let n = both_begin names first (first_passes begins_sentence (sentence_text s x) first more (sentence_begins names s x is) same) typed in
+          inr (name_sentence names s x n.0 more is n.2 (same ∙ ap (λ (t : TokenKind). t ∷ more) n.1))
+    ]
+
+statement_front : (names : Names) (room : ℕ) (f : TokenKind) (fs behind : Kinds) → BeginsLow (Sentences names) room (f ∷ fs) → ((n : List ℕ) → f ∷ fs ≡ token.Name n ∷ [] → is_among names n ≡ false) → begins_type names f ≡ true → (m : Kinds) × (fs ++ behind ≡ colon ∷ m)
+statement_front names room f [] behind b lone typed =
+    let n = both_begin names f (first_passes begins_sentence (sentence_text b.phrase []) f b.more (sentence_begins names b.phrase [] b.is_phrase) b.spelled) typed in
+    absurd (both_ways (is_among names n.0) (lone n.0 (ap (λ (t : TokenKind). t ∷ []) n.1)) n.2)
+statement_front names room f (g ∷ gs) behind b lone typed =
+    let n = both_begin names f (first_passes begins_sentence (sentence_text b.phrase []) f ((g ∷ gs) ++ b.more) (sentence_begins names b.phrase [] b.is_phrase) b.spelled) typed in
+    let m = name_sentence names b.phrase [] n.0 ((g ∷ gs) ++ b.more) b.is_phrase n.2 (b.spelled ∙ ap (λ (t : TokenKind). t ∷ ((g ∷ gs) ++ b.more)) n.1) in
+    let s : g ∷ (gs ++ b.more) ≡ colon ∷ m.0 = m.1 in
+    let k : g ≡ colon = cc in
+    (gs ++ behind, ap (λ (t : TokenKind). t ∷ (gs ++ behind)) k)
+
+statement_fits : (names : Names) (room : ℕ) (front : Kinds) (next : TokenKind) (deep : Bool) → (front ≡ [] → begins_type names next ≡ false) → ((n : List ℕ) → front ≡ token.Name n ∷ [] → is_among names n ≡ false) → Refused (Sentences names) room front next deep → (behind : Kinds) → Near next behind → IsStatement names (front ++ behind)
+statement_fits names room [] next deep first lone r behind near t more same =
+    elim near [
+      | inl none ↦ let z = sym same ∙ none in absurd cc
+      | inr m ↦
+          let z : t ∷ more ≡ next ∷ m.0 = sym same ∙ m.1 in
+          let k : t ≡ next = cc in
+          inl (ap (begins_type names) k ∙ first refl)
+    ]
+statement_fits names room (f ∷ fs) next deep first lone r behind near t more same =
+    let k : f ≡ t = cc in
+    let z : fs ++ behind ≡ more = cc in
+    elim r.begun [
+      | inl none ↦ absurd cc
+      | inr b ↦
+          elim (either_type (begins_type names t)) [
+            | inl no_type ↦ inl no_type
+            | inr typed ↦
+                let m = statement_front names room f fs behind b lone (ap (begins_type names) k ∙ typed) in
+                inr (m.0, sym z ∙ m.1)
+          ]
+    ]
+
+-- a statement was refused; a typedef name without a colon begins no statement in a block
+pub does_refused : (names : Names) (room : ℕ) → 1 ≤ room → (front : Kinds) (next : TokenKind) (deep : Bool) → (front ≡ [] → begins_type names next ≡ false) → ((n : List ℕ) → front ≡ token.Name n ∷ [] → is_among names n ≡ false) → Refused (Sentences names) room front next deep → Refused (BlockItems names) room front next deep
+does_refused names room some front next deep first lone r = single_refused (does_single names) room room (omega arith, some) front next deep (statement_fits names room front next deep first lone r) r
+
+-- a statement was taken
+pub does_took : (names : Names) (room : ℕ) → 1 ≤ room → (s : Sentence) (next : TokenKind) (deep : Bool) → Took (Sentences names) room s next deep → Took (BlockItems names) room (Does s) next deep
+does_took names room some s next deep t = single_took (does_single names) room room (omega arith, some) s next deep (λ behind near. statement_is names s behind t.is_phrase) t
+
+keyword_no_case : (names : Names) (k : Keyword) → begins_item names (token.Keyword k) ≡ true → is_case (token.Keyword k) ≡ false
+keyword_no_case names keyword.Case e = absurd cc
+keyword_no_case names keyword.Default e = absurd cc
+keyword_no_case names _ e = refl
+
+no_case : (names : Names) (t : TokenKind) → begins_item names t ≡ true → is_case t ≡ false
+no_case names (token.Keyword k) e = keyword_no_case names k e
+no_case names _ e = refl
+
+item_no_case : (names : Names) (i : Item) (x : Kinds) → IsItem names i → HasNoCase (item_text i x)
+item_no_case names i x is first more same = no_case names first (first_passes (begins_item names) (item_text i x) first more (item_begins names i x is) same)
+
+case_fits : (names : Names) (room : ℕ) (front : Kinds) (next : TokenKind) (deep : Bool) → (front ≡ [] → is_case next ≡ false) → Refused (BlockItems names) room front next deep → (behind : Kinds) → Near next behind → HasNoCase (front ++ behind)
+case_fits names room [] next deep first r behind near t more same =
+    elim near [
+      | inl none ↦ let z = sym same ∙ none in absurd cc
+      | inr m ↦
+          let z : t ∷ more ≡ next ∷ m.0 = sym same ∙ m.1 in
+          let k : t ≡ next = cc in
+          ap is_case k ∙ first refl
+    ]
+case_fits names room (f ∷ fs) next deep first r behind near t more same =
+    let k : f ≡ t = cc in
+    elim r.begun [
+      | inl none ↦ absurd cc
+      | inr b ↦ ap is_case (sym k) ∙ item_no_case names b.phrase [] b.is_phrase f (fs ++ b.more) b.spelled
+    ]
+
+-- what any block may have was refused in a `switch`
+pub inside_refused : (names : Names) (room : ℕ) → 1 ≤ room → (front : Kinds) (next : TokenKind) (deep : Bool) → (front ≡ [] → is_case next ≡ false) → Refused (BlockItems names) room front next deep → Refused (SwitchParts names) room front next deep
+inside_refused names room some front next deep first r = single_refused (inside_single names) room room (omega arith, some) front next deep (case_fits names room front next deep first r) r
+
+-- it was taken
+pub inside_took : (names : Names) (room : ℕ) → 1 ≤ room → (i : Item) (next : TokenKind) (deep : Bool) → Took (BlockItems names) room i next deep → Took (SwitchParts names) room (Inside i) next deep
+inside_took names room some i next deep t = single_took (inside_single names) room room (omega arith, some) i next deep (λ behind near. item_no_case names i behind t.is_phrase) t

@@ -1,0 +1,222 @@
+-- One phrase behind another, and a token before or behind: for the contracts of every parser of declarations, statements and files.
+use Rattle.std.proofs.Common.{◌≡◌, ℕ, suc, ◌+◌, ◌-◌, ◌<◌, ◌≤◌, max, ◌⊎◌, inl, inr, Bool, true, false, List, [], ◌∷◌, ◌++◌, refl, sym, ap, ◌∙◌, subst, arith, append_assoc, append-nil}
+use Rattle.std.proofs.lemmas.Bool.{false≢true}
+use Rattle.cs_ast.specs.declared.token.TokenKind.{TokenKind}
+use Rattle.cs_grammar.specs.Text.{Kinds}
+use Rattle.cs_grammar.specs.Parsing.{Class, Near, IsOver, Begins, BeginsLow, Took, Refused, Exactly}
+use Rattle.cs_grammar.specs.Composed.{Sequence, Behind}
+use Rattle.cs_grammar.proofs.Holes.{Lawful, splits, Tail, tail_refused, tail_took, ClosedBy, Ended}
+use Rattle.cs_grammar.proofs.Tails.{first_or, near_first, Least, Production, production_tail, none_refused}
+
+-- a phrase of C may stand before any of D
+abbrev pub Joins : Class → Class → Type 0
+Joins C D = (c : C.Tree) (d : D.Tree) (after : Kinds) → C.Is c → D.Is d → D.Shut d after → C.Shut c (D.spell d after)
+
+pub sequence_law : (C D : Class) → Lawful C → Lawful D → Lawful (Sequence C D)
+sequence_law C D lc ld = λ pair x y. lc pair.0 (D.spell pair.1 x) y ∙ ap (λ (r : Kinds). C.spell pair.0 r) (ld pair.1 x y)
+
+abbrev pub sequence_least : (C D : Class) → Least C → Least D → Least (Sequence C D)
+sequence_least C D lc ld = record {
+  tree = (lc.tree, ld.tree);
+  is_phrase = (lc.is_phrase, ld.is_phrase);
+  below = λ other is. let c = lc.below other.0 is.0 in let d = ld.below other.1 is.1 in omega (arith, c, d);
+}
+
+front_text : (C D : Class) → Lawful C → (c : C.Tree) (d : D.Tree) (front more : Kinds) → C.spell c [] ≡ front ++ more → C.spell c (D.spell d []) ≡ front ++ (more ++ D.spell d [])
+front_text C D law c d front more same = splits C law c (D.spell d []) ∙ ap (λ (x : Kinds). x ++ D.spell d []) same ∙ append_assoc front more (D.spell d [])
+
+-- the first of two was refused
+pub first_refused : (C D : Class) (room : ℕ) → Lawful C → Joins C D → (least : Least D) → D.tall least.tree ≤ room → (front : Kinds) (next : TokenKind) (deep : Bool) → Refused C room front next deep → Refused (Sequence C D) room front next deep
+first_refused C D room law joins least fits front next deep r = record {
+  begun = elim r.begun [
+    | inl none ↦ inl none
+    | inr b ↦ inr (record {
+      phrase = (b.phrase, least.tree);
+      more = b.more ++ D.spell least.tree [];
+      is_phrase = (b.is_phrase, least.is_phrase);
+      low = let l = b.low in omega (arith, l, fits);
+      spelled = front_text C D law b.phrase least.tree front b.more b.spelled;
+    })
+  ];
+  never = λ other after behind is shut near same.
+      let v = r.never other.0 (D.spell other.1 after) behind is.0 (joins other.0 other.1 after is.0 is.1 shut) near same in
+      record { told = v.told; high = let h = v.high in omega (arith, h); onward = v.onward };
+  further = λ told.
+      let b = r.further told in
+      record {
+        phrase = (b.phrase, least.tree);
+        more = b.more ++ D.spell least.tree [];
+        is_phrase = (b.is_phrase, least.is_phrase);
+        spelled = front_text C D law b.phrase least.tree (front ++ next ∷ []) b.more b.spelled;
+      };
+}
+
+-- the first of two was taken before a token that may stand behind it: what is left is the second
+pub second_tail : (C D : Class) (room : ℕ) → Lawful C → Joins C D → (least : Least D) → D.tall least.tree ≤ room → (c : C.Tree) (next : TokenKind) (deep : Bool) → Took C room c next deep → (deep ≡ true → C.Shut c (next ∷ [])) → Tail (Sequence C D) D room room (C.spell c []) (λ d. (c, d)) (Near next)
+second_tail C D room law joins least fits c next deep t settled =
+    let low' = t.low in
+    record {
+      started = inr (record {
+        phrase = (c, least.tree);
+        more = D.spell least.tree [];
+        is_phrase = (t.is_phrase, least.is_phrase);
+        low = omega (arith, low', fits);
+        spelled = splits C law c (D.spell least.tree []);
+      });
+      invert = λ whole after behind is shut near same.
+          elim (t.only whole.0 (D.spell whole.1 after) behind is.0 (joins whole.0 whole.1 after is.0 is.1 shut) near (same ∙ sym (splits C law c behind))) [
+            | inl e ↦ (whole.1, ap (λ (x : C.Tree). (x, whole.1)) e.0, is.1, sym e.1)
+            | inr over ↦ absurd (t.joined over.told [] (settled over.told))
+          ];
+      shut = λ part after shut. shut;
+      spelled = λ part after. splits C law c (D.spell part after);
+      is_phrase = λ part is. (t.is_phrase, is);
+      low = λ part is low. omega (arith, low', low);
+      rises = λ part high. omega (arith, high);
+    }
+
+-- the first of two was taken, and a token came with which none of the second begins
+pub second_wrong : (C D : Class) (room : ℕ) → Lawful C → Joins C D → (least : Least D) → D.tall least.tree ≤ room → (c : C.Tree) (next : TokenKind) (deep : Bool) → Took C room c next deep → ((d : D.Tree) (after : Kinds) → D.Is d → D.spell d after ≡ [] → ⊥) → ((d : D.Tree) (after more : Kinds) → D.Is d → D.spell d after ≡ next ∷ more → ⊥) → Refused (Sequence C D) room (C.spell c []) next deep
+second_wrong C D room law joins least fits c next deep t some none = record {
+  begun = inr (record {
+    phrase = (c, least.tree);
+    more = D.spell least.tree [];
+    is_phrase = (t.is_phrase, least.is_phrase);
+    low = let l = t.low in omega (arith, l, fits);
+    spelled = splits C law c (D.spell least.tree []);
+  });
+  never = λ other after behind is shut near same.
+      elim (t.only other.0 (D.spell other.1 after) behind is.0 (joins other.0 other.1 after is.0 is.1 shut) near (same ∙ sym (splits C law c behind))) [
+        | inl e ↦ absurd (elim near [ inl z ↦ some other.1 after is.1 (e.1 ∙ z) | inr m ↦ none other.1 after m.0 is.1 (e.1 ∙ m.1) ])
+        | inr over ↦ record { told = over.told; high = let h = over.high in omega (arith, h); onward = over.onward }
+      ];
+  further = λ told.
+      let b = t.further told in
+      record {
+        phrase = (b.phrase, least.tree);
+        more = b.more ++ D.spell least.tree [];
+        is_phrase = (b.is_phrase, least.is_phrase);
+        spelled = front_text C D law b.phrase least.tree (C.spell c [] ++ next ∷ []) b.more (b.spelled ∙ ap (λ (x : Kinds). x ++ b.more) (splits C law c (next ∷ [])));
+      };
+}
+
+pub behind_law : (t : TokenKind) (D : Class) → Lawful D → Lawful (Behind t D)
+behind_law t D law = λ tree x y. ap (λ (r : Kinds). t ∷ r) (law tree x y)
+
+abbrev pub behind_least : (t : TokenKind) (D : Class) → Least D → Least (Behind t D)
+behind_least t D least = record { tree = least.tree; is_phrase = least.is_phrase; below = least.below }
+
+abbrev pub closed_least : (D : Class) (t : TokenKind) → Least D → Least (ClosedBy D t)
+closed_least D t least = record { tree = least.tree; is_phrase = least.is_phrase; below = least.below }
+
+abbrev pub ended_least : Least Ended
+ended_least = record { tree = tt; is_phrase = tt; below = λ other is. omega arith }
+
+-- the token stands there: what is left is the phrase behind it
+pub behind_tail : (t : TokenKind) (D : Class) (room : ℕ) → (least : Least D) → D.tall least.tree ≤ room → Tail (Behind t D) D room room (t ∷ []) (λ d. d) (λ rest. Unit {0})
+behind_tail t D room least fits = record {
+  started = inr (record { phrase = least.tree; more = D.spell least.tree []; is_phrase = least.is_phrase; low = fits; spelled = refl });
+  invert = λ whole after behind is shut fit same. (whole, refl, is, cc);
+  shut = λ part after shut. shut;
+  spelled = λ part after. refl;
+  is_phrase = λ part is. is;
+  low = λ part is low. low;
+  rises = λ part high. high;
+}
+
+-- another token stands there
+pub behind_wrong : (t : TokenKind) (D : Class) (room : ℕ) (next : TokenKind) → (next ≡ t → ⊥) → Refused (Behind t D) room [] next false
+behind_wrong t D room next other = none_refused (Behind t D) room next (λ o after is same. cc) (λ o after more is same. other cc)
+
+-- the first of two was taken, whatever stands behind it: what is left is the second
+pub exact_tail : (C D : Class) (room : ℕ) → Lawful C → (least : Least D) → D.tall least.tree ≤ room → (c : C.Tree) → Exactly C room c → Tail (Sequence C D) D room room (C.spell c []) (λ d. (c, d)) (λ rest. Unit {0})
+exact_tail C D room law least fits c e =
+    let low' = e.low in
+    record {
+      started = inr (record {
+        phrase = (c, least.tree);
+        more = D.spell least.tree [];
+        is_phrase = (e.is_phrase, least.is_phrase);
+        low = omega (arith, low', fits);
+        spelled = splits C law c (D.spell least.tree []);
+      });
+      invert = λ whole after behind is shut fit same.
+          let k = e.exact whole.0 (D.spell whole.1 after) behind is.0 (same ∙ sym (splits C law c behind)) in
+          (whole.1, ap (λ (x : C.Tree). (x, whole.1)) k.0, is.1, sym k.1);
+      shut = λ part after shut. shut;
+      spelled = λ part after. splits C law c (D.spell part after);
+      is_phrase = λ part is. (e.is_phrase, is);
+      low = λ part is low. omega (arith, low', low);
+      rises = λ part high. omega (arith, high);
+    }
+
+-- the first of two was taken, the second refused
+pub exact_then_refused : (C D : Class) (room : ℕ) → Lawful C → Lawful D → (least : Least D) → D.tall least.tree ≤ room → (c : C.Tree) → Exactly C room c → (front : Kinds) (next : TokenKind) (deep : Bool) → Refused D room front next deep → Refused (Sequence C D) room (C.spell c [] ++ front) next deep
+exact_then_refused C D room lc ld least fits c e front next deep r =
+    tail_refused (Sequence C D) D room room (C.spell c []) (λ d. (c, d)) (λ rest. Unit {0}) ld (exact_tail C D room lc least fits c e) front next deep (λ behind near. tt) r
+
+-- both were taken
+pub exact_then_took : (C D : Class) (room : ℕ) → Lawful C → Lawful D → (least : Least D) → D.tall least.tree ≤ room → (c : C.Tree) → Exactly C room c → (d : D.Tree) (next : TokenKind) (deep : Bool) → Took D room d next deep → Took (Sequence C D) room (c, d) next deep
+exact_then_took C D room lc ld least fits c e d next deep t =
+    tail_took (Sequence C D) D room room (C.spell c []) (λ d. (c, d)) (λ rest. Unit {0}) ld (exact_tail C D room lc least fits c e) d next deep (λ behind near. tt) t
+
+-- both were taken, whatever stands behind them
+pub exact_both : (C D : Class) (room : ℕ) → (c : C.Tree) (d : D.Tree) → Exactly C room c → Exactly D room d → Exactly (Sequence C D) room (c, d)
+exact_both C D room c d ec ed =
+    let lc = ec.low in
+    let ld = ed.low in
+    record {
+      is_phrase = (ec.is_phrase, ed.is_phrase);
+      low = omega (arith, lc, ld);
+      exact = λ other after behind is same.
+          let k = ec.exact other.0 (D.spell other.1 after) (D.spell d behind) is.0 same in
+          let l = ed.exact other.1 after behind is.1 k.1 in
+          (ap (λ (x : C.Tree). (x, other.1)) k.0 ∙ ap (λ (y : D.Tree). (c, y)) l.0, l.1);
+    }
+
+-- the same where the first of two was taken before a token that may stand behind it
+pub then_refused : (C D : Class) (room : ℕ) → Lawful C → Lawful D → Joins C D → (least : Least D) → D.tall least.tree ≤ room → (c : C.Tree) (first : TokenKind) (deep : Bool) → Took C room c first deep → (deep ≡ true → C.Shut c (first ∷ [])) → (front : Kinds) (next : TokenKind) (deep' : Bool) → first_or front next ≡ first → Refused D room front next deep' → Refused (Sequence C D) room (C.spell c [] ++ front) next deep'
+then_refused C D room lc ld joins least fits c first deep t settled front next deep' starts r =
+    tail_refused (Sequence C D) D room room (C.spell c []) (λ d. (c, d)) (Near first) ld (second_tail C D room lc joins least fits c first deep t settled) front next deep' (near_first front next first starts) r
+
+pub then_took : (C D : Class) (room : ℕ) → Lawful C → Lawful D → Joins C D → (least : Least D) → D.tall least.tree ≤ room → (c : C.Tree) (first : TokenKind) (deep : Bool) → Took C room c first deep → (deep ≡ true → C.Shut c (first ∷ [])) → (d : D.Tree) (next : TokenKind) (deep' : Bool) → first_or (D.spell d []) next ≡ first → Took D room d next deep' → Took (Sequence C D) room (c, d) next deep'
+then_took C D room lc ld joins least fits c first deep t settled d next deep' starts t' =
+    tail_took (Sequence C D) D room room (C.spell c []) (λ d. (c, d)) (Near first) ld (second_tail C D room lc joins least fits c first deep t settled) d next deep'
+    (λ behind near. subst (λ (x : Kinds). Near first x) (ld d [] behind) (near_first (D.spell d []) next first starts behind near)) t'
+
+-- a phrase of D was taken, and nothing of C but D begins so: for productions
+pub made_refused : (C D : Class) (plus : ℕ) (before : Kinds) (build : D.Tree → C.Tree) (Fit : Kinds → Type 0) (room inner : ℕ) → room ≡ plus + inner → Production C D plus before build Fit → (least : Least D) → D.tall least.tree ≤ inner → Lawful D → (front : Kinds) (next : TokenKind) (deep : Bool) → ((behind : Kinds) → Near next behind → Fit (front ++ behind)) → Refused D inner front next deep → Refused C room (before ++ front) next deep
+made_refused C D plus before build Fit room inner less p least fits law front next deep fit r =
+    tail_refused C D room inner before build Fit law (production_tail C D plus before build Fit room inner less p least fits) front next deep fit r
+
+pub made_took : (C D : Class) (plus : ℕ) (before : Kinds) (build : D.Tree → C.Tree) (Fit : Kinds → Type 0) (room inner : ℕ) → room ≡ plus + inner → Production C D plus before build Fit → (least : Least D) → D.tall least.tree ≤ inner → Lawful D → (part : D.Tree) (next : TokenKind) (deep : Bool) → ((behind : Kinds) → Near next behind → Fit (D.spell part behind)) → Took D inner part next deep → Took C room (build part) next deep
+made_took C D plus before build Fit room inner less p least fits law part next deep fit t =
+    tail_took C D room inner before build Fit law (production_tail C D plus before build Fit room inner less p least fits) part next deep fit t
+
+-- what was taken before a token that may stand behind it was taken in a smaller room too, if it fits
+pub took_lower : (C : Class) (room inner : ℕ) (c : C.Tree) (next : TokenKind) (deep : Bool) → Took C room c next deep → (deep ≡ true → C.Shut c (next ∷ [])) → C.tall c ≤ inner → Took C inner c next false
+took_lower C room inner c next deep t settled fits = record {
+  is_phrase = t.is_phrase;
+  low = fits;
+  only = λ other after behind is shut near same.
+      elim (t.only other after behind is shut near same) [
+        | inl e ↦ inl e
+        | inr over ↦ absurd (t.joined over.told [] (settled over.told))
+      ];
+  further = λ told. absurd (false≢true told);
+  joined = λ told more shut. false≢true told;
+}
+
+each_took : (C : Class) (room : ℕ) (c : C.Tree) → ((next : TokenKind) → Took C room c next false) → ((other : C.Tree) (after : Kinds) → C.Shut other after) → (some : TokenKind) → (other : C.Tree) (after behind : Kinds) → C.Is other → C.spell other after ≡ C.spell c behind → (other ≡ c) × (after ≡ behind)
+each_took C room c took shut some other after [] is same =
+    elim ((took some).only other after [] is (shut other after) (inl refl) same) [ inl e ↦ e | inr over ↦ absurd (false≢true over.told) ]
+each_took C room c took shut some other after (t ∷ behind) is same =
+    elim ((took t).only other after (t ∷ behind) is (shut other after) (inr (behind, refl)) same) [ inl e ↦ e | inr over ↦ absurd (false≢true over.told) ]
+
+-- what was taken before every token, and may stand before any, is told by its tokens
+pub took_exact : (C : Class) (room : ℕ) (c : C.Tree) → ((next : TokenKind) → Took C room c next false) → ((other : C.Tree) (after : Kinds) → C.Shut other after) → (some : TokenKind) → Exactly C room c
+took_exact C room c took shut some = record {
+  is_phrase = (took some).is_phrase;
+  low = (took some).low;
+  exact = λ other after behind is same. each_took C room c took shut some other after behind is same;
+}

@@ -1,0 +1,283 @@
+-- Statements that are refused at their first token, expression statements, and names without a colon: for the contracts of every
+-- parser of statements.
+use Rattle.std.proofs.Common.{◌≡◌, ℕ, suc, ◌+◌, ◌-◌, ◌<◌, ◌≤◌, max, ◌⊎◌, inl, inr, Bool, true, false, not, List, [], ◌∷◌, ◌++◌, Option, Some, None, refl, sym, ap, ◌∙◌, subst, arith}
+use Rattle.std.proofs.lemmas.Bool.{false≢true, both_ways, not-true}
+use Rattle.cs_ast.specs.declared.token.TokenKind.{TokenKind}
+use Rattle.cs_ast.specs.declared.token.TokenKind.TheVariants as token
+use Rattle.cs_ast.specs.declared.token.Keyword.{Keyword}
+use Rattle.cs_ast.specs.declared.token.Keyword.TheVariants as keyword
+use Rattle.cs_ast.specs.declared.token.Mark.{Mark}
+use Rattle.cs_ast.specs.declared.token.Mark.TheVariants as mark
+use Rattle.cs_ast.specs.declared.raw.operator.Step.TheVariants.{Up, Down}
+use Rattle.cs_ast.specs.declared.raw.operator.PrefixOp.{PrefixOp}
+use Rattle.cs_ast.specs.declared.raw.operator.PrefixOp.TheVariants as prefix
+use Rattle.cs_ast.specs.RawTree.{Written, Named, Numeral, Character, Literal, Enclosed, StepBefore, Prefix, SizeOf}
+use Rattle.cs_ast.specs.RawHeight.{height}
+use Rattle.cs_ast.specs.RawStatements.{First, NoFirst, Sentence, Block, Nothing, Runs, If, IfElse, While, Do, For, Switch, Goto, Continue, Break, Return, Label, NoItem, NoSwitchItem}
+use Rattle.cs_ast.specs.RawFileHeight.{sentence_height}
+use Rattle.cs_grammar.specs.TypeWords.{Names, is_among}
+use Rattle.cs_grammar.specs.Text.{Kinds, text}
+use Rattle.cs_grammar.specs.Marks.{prefix_mark}
+use Rattle.cs_grammar.specs.Phrases.{IsPhrase}
+use Rattle.cs_grammar.specs.FirstTokens.{begins_expression, opens_expression, is_sizeof}
+use Rattle.cs_grammar.specs.FileFirstTokens.{begins_sentence, mark_begins_sentence, keyword_begins_sentence}
+use Rattle.cs_grammar.specs.FileText.{some_text, sentence_text, items_text}
+use Rattle.cs_grammar.specs.FilePhrases.{IsSentence}
+use Rattle.cs_grammar.specs.FileClasses.{Sentences}
+use Rattle.cs_grammar.specs.Parsing.{Class, Expressions, Near, IsOver, Begins, BeginsLow, Took, Refused, Exactly}
+use Rattle.cs_grammar.proofs.Levels.{text_law}
+use Rattle.cs_grammar.proofs.Texts.{text_append}
+use Rattle.cs_grammar.proofs.Beginnings.{BeginsWith, expression_begins}
+use Rattle.cs_grammar.proofs.FileBeginnings.{sentence_begins, some_first, first_passes}
+use Rattle.cs_grammar.proofs.Holes.{Lawful, ClosedBy, closed_law, closed_refused, closed_wrong, closed_exact, exact_took}
+use Rattle.cs_grammar.proofs.Tails.{full_refused, none_refused}
+use Rattle.cs_grammar.proofs.Pairs.{single_refused, single_took}
+use Rattle.cs_grammar.proofs.Statements.{semicolon, colon, word, runs_first, name_colon, begins_other_sentence, IsRun}
+use Rattle.cs_grammar.proofs.StatementParts.{nought, expression_height, sentence_some, runs_single}
+
+-- an expression that begins with this token
+prefix_example : (names : Names) (op : PrefixOp) → Begins (Expressions names 0) (token.Mark (prefix_mark op) ∷ [])
+prefix_example names op = record { phrase = Prefix op nought; more = text nought []; is_phrase = (omega arith, (omega arith, tt)); spelled = refl }
+
+mark_example : (names : Names) (m : Mark) → opens_expression m ≡ true → Begins (Expressions names 0) (token.Mark m ∷ [])
+mark_example names mark.OpenParenthesis e = record { phrase = Enclosed nought; more = text nought (token.Mark mark.CloseParenthesis ∷ []); is_phrase = (omega arith, tt); spelled = refl }
+mark_example names mark.Increment e = record { phrase = StepBefore Up nought; more = text nought []; is_phrase = (omega arith, (omega arith, tt)); spelled = refl }
+mark_example names mark.Decrement e = record { phrase = StepBefore Down nought; more = text nought []; is_phrase = (omega arith, (omega arith, tt)); spelled = refl }
+mark_example names mark.Ampersand e = prefix_example names prefix.Address
+mark_example names mark.Star e = prefix_example names prefix.Through
+mark_example names mark.Plus e = prefix_example names prefix.Plus
+mark_example names mark.Minus e = prefix_example names prefix.Minus
+mark_example names mark.Tilde e = prefix_example names prefix.Complement
+mark_example names mark.Exclamation e = prefix_example names prefix.Not
+mark_example names _ e = absurd cc
+
+keyword_example : (names : Names) (k : Keyword) → is_sizeof k ≡ true → Begins (Expressions names 0) (token.Keyword k ∷ [])
+keyword_example names keyword.Sizeof e = record { phrase = SizeOf nought; more = text nought []; is_phrase = (omega arith, (omega arith, tt)); spelled = refl }
+keyword_example names _ e = absurd cc
+
+pub expression_example : (names : Names) (t : TokenKind) → begins_expression names t ≡ true → Begins (Expressions names 0) (t ∷ [])
+expression_example names (token.Name n) e = record { phrase = Named n; more = []; is_phrase = (omega arith, not-true (is_among names n) e); spelled = refl }
+expression_example names (token.Number n) e = record { phrase = Numeral n; more = []; is_phrase = (omega arith, tt); spelled = refl }
+expression_example names (token.Character v) e = record { phrase = Character v; more = []; is_phrase = (omega arith, tt); spelled = refl }
+expression_example names (token.Text b) e = record { phrase = Literal b; more = []; is_phrase = (omega arith, tt); spelled = refl }
+expression_example names (token.Mark m) e = mark_example names m e
+expression_example names (token.Keyword k) e = keyword_example names k e
+expression_example names (token.LeftOut w) e = absurd cc
+expression_example names token.Attribute e = absurd cc
+
+-- an expression statement that begins with this token
+run_example : (names : Names) (t : TokenKind) → begins_expression names t ≡ true → Begins (Sentences names) (t ∷ [])
+run_example names t e =
+    let b = expression_example names t e in
+    record { phrase = Runs b.phrase; more = b.more ++ semicolon ∷ []; is_phrase = b.is_phrase; spelled = sym (text_append b.phrase [] (semicolon ∷ [])) ∙ ap (λ (x : Kinds). x ++ semicolon ∷ []) b.spelled }
+
+made_example : (names : Names) (t : TokenKind) (s : Sentence) (more : Kinds) → IsSentence names s → sentence_text s [] ≡ t ∷ more → Begins (Sentences names) (t ∷ [])
+made_example names t s more is same = record { phrase = s; more = more; is_phrase = is; spelled = same }
+
+mark_sentence : (names : Names) (m : Mark) → mark_begins_sentence m ≡ true → Begins (Sentences names) (token.Mark m ∷ [])
+mark_sentence names mark.OpenBrace e = made_example names (token.Mark mark.OpenBrace) (Block NoItem) (token.Mark mark.CloseBrace ∷ []) tt refl
+mark_sentence names mark.Semicolon e = made_example names semicolon Nothing [] tt refl
+mark_sentence names mark.OpenParenthesis e = run_example names (token.Mark mark.OpenParenthesis) refl
+mark_sentence names mark.Increment e = run_example names (token.Mark mark.Increment) refl
+mark_sentence names mark.Decrement e = run_example names (token.Mark mark.Decrement) refl
+mark_sentence names mark.Ampersand e = run_example names (token.Mark mark.Ampersand) refl
+mark_sentence names mark.Star e = run_example names (token.Mark mark.Star) refl
+mark_sentence names mark.Plus e = run_example names (token.Mark mark.Plus) refl
+mark_sentence names mark.Minus e = run_example names (token.Mark mark.Minus) refl
+mark_sentence names mark.Tilde e = run_example names (token.Mark mark.Tilde) refl
+mark_sentence names mark.Exclamation e = run_example names (token.Mark mark.Exclamation) refl
+mark_sentence names _ e = absurd cc
+
+keyword_sentence : (names : Names) (k : Keyword) → keyword_begins_sentence k ≡ true → Begins (Sentences names) (token.Keyword k ∷ [])
+keyword_sentence names keyword.Break e = record { phrase = Break; more = semicolon ∷ []; is_phrase = tt; spelled = refl }
+keyword_sentence names keyword.Continue e = record { phrase = Continue; more = semicolon ∷ []; is_phrase = tt; spelled = refl }
+keyword_sentence names keyword.Goto e = record { phrase = Goto []; more = token.Name [] ∷ semicolon ∷ []; is_phrase = tt; spelled = refl }
+keyword_sentence names keyword.Return e = record { phrase = Return None; more = semicolon ∷ []; is_phrase = tt; spelled = refl }
+keyword_sentence names keyword.Sizeof e = run_example names (word keyword.Sizeof) refl
+keyword_sentence names keyword.If e =
+    record { phrase = If nought Nothing; more = token.Mark mark.OpenParenthesis ∷ text nought (token.Mark mark.CloseParenthesis ∷ semicolon ∷ []); is_phrase = ((omega arith, tt), tt); spelled = refl }
+keyword_sentence names keyword.While e =
+    record { phrase = While nought Nothing; more = token.Mark mark.OpenParenthesis ∷ text nought (token.Mark mark.CloseParenthesis ∷ semicolon ∷ []); is_phrase = ((omega arith, tt), tt); spelled = refl }
+keyword_sentence names keyword.Do e =
+    record { phrase = Do Nothing nought; more = semicolon ∷ word keyword.While ∷ token.Mark mark.OpenParenthesis ∷ text nought (token.Mark mark.CloseParenthesis ∷ semicolon ∷ []); is_phrase = (tt, (omega arith, tt)); spelled = refl }
+keyword_sentence names keyword.For e =
+    record { phrase = For NoFirst None None Nothing; more = token.Mark mark.OpenParenthesis ∷ semicolon ∷ semicolon ∷ token.Mark mark.CloseParenthesis ∷ semicolon ∷ []; is_phrase = (tt, tt, tt, tt); spelled = refl }
+keyword_sentence names keyword.Switch e =
+    record { phrase = Switch nought NoSwitchItem; more = token.Mark mark.OpenParenthesis ∷ text nought (token.Mark mark.CloseParenthesis ∷ token.Mark mark.OpenBrace ∷ token.Mark mark.CloseBrace ∷ []); is_phrase = ((omega arith, tt), tt); spelled = refl }
+keyword_sentence names _ e = absurd cc
+
+-- a statement that begins with this token
+pub sentence_example : (names : Names) (t : TokenKind) → begins_sentence t ≡ true → Begins (Sentences names) (t ∷ [])
+sentence_example names (token.Name n) e = record { phrase = Label n Nothing; more = colon ∷ semicolon ∷ []; is_phrase = tt; spelled = refl }
+sentence_example names (token.Number n) e = run_example names (token.Number n) refl
+sentence_example names (token.Character v) e = run_example names (token.Character v) refl
+sentence_example names (token.Text b) e = run_example names (token.Text b) refl
+sentence_example names (token.Mark m) e = mark_sentence names m e
+sentence_example names (token.Keyword k) e = keyword_sentence names k e
+sentence_example names (token.LeftOut w) e = absurd cc
+sentence_example names token.Attribute e = absurd cc
+
+-- a statement has some token
+pub sentence_has : (names : Names) (s : Sentence) (after : Kinds) → IsSentence names s → sentence_text s after ≡ [] → ⊥
+sentence_has names s after is same = some_first begins_sentence (sentence_text s after) (sentence_begins names s after is) same
+
+-- no statement begins with the token
+pub sentence_not : (names : Names) (room : ℕ) (next : TokenKind) → begins_sentence next ≡ false → Refused (Sentences names) room [] next false
+sentence_not names room next e =
+    none_refused (Sentences names) room next (sentence_has names)
+    (λ s after more is same. false≢true (sym e ∙ first_passes begins_sentence (sentence_text s after) next more (sentence_begins names s after is) same))
+
+-- there is no room for a statement
+pub sentence_none : (names : Names) (room : ℕ) (next : TokenKind) → room < 1 → begins_sentence next ≡ true → Refused (Sentences names) room [] next true
+sentence_none names room next full e =
+    full_refused (Sentences names) room next (sentence_has names) (λ s after more is same. let h = sentence_some s in omega (arith, h, full)) (sentence_example names next e)
+
+-- the token begins statements with no expression and no statement inside
+abbrev pub begins_low : TokenKind → Bool
+begins_low (token.Mark mark.OpenBrace) = true
+begins_low (token.Mark mark.Semicolon) = true
+begins_low (token.Keyword keyword.Goto) = true
+begins_low (token.Keyword keyword.Continue) = true
+begins_low (token.Keyword keyword.Break) = true
+begins_low (token.Keyword keyword.Return) = true
+begins_low other = false
+
+not_low : (first t : TokenKind) (rest more : Kinds) → first ∷ rest ≡ t ∷ more → begins_low t ≡ false → begins_low first ≡ true → ⊥
+not_low first t rest more same e l = let k : first ≡ t = cc in false≢true (sym e ∙ ap begins_low (sym k) ∙ l)
+
+pub two_high : (names : Names) (s : Sentence) (after : Kinds) (t : TokenKind) (more : Kinds) → sentence_text s after ≡ t ∷ more → begins_low t ≡ false → 2 ≤ sentence_height s
+two_high names (Runs e) after t more same l = let h = expression_height e in omega (arith, h)
+two_high names (If e b) after t more same l = let h = expression_height e in omega (arith, h)
+two_high names (IfElse e b o) after t more same l = let h = expression_height e in omega (arith, h)
+two_high names (While e b) after t more same l = let h = expression_height e in omega (arith, h)
+two_high names (Do b e) after t more same l = let h = expression_height e in omega (arith, h)
+two_high names (For f e k b) after t more same l = let h = sentence_some b in omega (arith, h)
+two_high names (Switch e i) after t more same l = let h = expression_height e in omega (arith, h)
+two_high names (Label n b) after t more same l = let h = sentence_some b in omega (arith, h)
+two_high names (Block i) after t more same l = absurd (not_low (token.Mark mark.OpenBrace) t (items_text i (token.Mark mark.CloseBrace ∷ after)) more same l refl)
+two_high names Nothing after t more same l = absurd (not_low semicolon t after more same l refl)
+two_high names (Goto n) after t more same l = absurd (not_low (word keyword.Goto) t (token.Name n ∷ semicolon ∷ after) more same l refl)
+two_high names Continue after t more same l = absurd (not_low (word keyword.Continue) t (semicolon ∷ after) more same l refl)
+two_high names Break after t more same l = absurd (not_low (word keyword.Break) t (semicolon ∷ after) more same l refl)
+two_high names (Return v) after t more same l = absurd (not_low (word keyword.Return) t (some_text v (semicolon ∷ after)) more same l refl)
+
+-- there is room for a statement without parts alone, and the token begins none
+pub sentence_low : (names : Names) (room : ℕ) (next : TokenKind) → room < 2 → begins_sentence next ≡ true → begins_low next ≡ false → Refused (Sentences names) room [] next true
+sentence_low names room next full e l =
+    full_refused (Sentences names) room next (sentence_has names) (λ s after more is same. let h = two_high names s after next more same l in omega (arith, h, full)) (sentence_example names next e)
+
+other_mark : (m : Mark) → opens_expression m ≡ true → begins_other_sentence (token.Mark m) ≡ false
+other_mark mark.OpenBrace e = absurd cc
+other_mark mark.Semicolon e = absurd cc
+other_mark _ e = refl
+
+other_word : (k : Keyword) → is_sizeof k ≡ true → begins_other_sentence (token.Keyword k) ≡ false
+other_word keyword.Sizeof e = refl
+other_word _ e = absurd cc
+
+-- what begins an expression begins no other statement
+pub no_other : (names : Names) (t : TokenKind) → begins_expression names t ≡ true → begins_other_sentence t ≡ false
+no_other names (token.Name n) e = refl
+no_other names (token.Number n) e = refl
+no_other names (token.Character v) e = refl
+no_other names (token.Text b) e = refl
+no_other names (token.Mark m) e = other_mark m e
+no_other names (token.Keyword k) e = other_word k e
+no_other names (token.LeftOut w) e = absurd cc
+no_other names token.Attribute e = absurd cc
+
+-- the next token begins no other statement and is no name
+pub record IsPlainNext (next : TokenKind) : Type 0 where
+  pub plain : begins_other_sentence next ≡ false
+  pub no_name : (n : List ℕ) → next ≡ token.Name n → ⊥
+
+run_none : (next : TokenKind) (behind : Kinds) → IsPlainNext next → Near next behind → IsRun behind
+run_none next behind p near = record {
+  plain = λ first more same.
+      elim near [
+        | inl none ↦ let z = sym same ∙ none in absurd cc
+        | inr m ↦
+            let z : first ∷ more ≡ next ∷ m.0 = sym same ∙ m.1 in
+            let k : first ≡ next = cc in
+            ap begins_other_sentence k ∙ p.plain
+      ];
+  unlabelled = λ n more same.
+      elim near [
+        | inl none ↦ let z = sym same ∙ none in cc
+        | inr m ↦ let z : token.Name n ∷ colon ∷ more ≡ next ∷ m.0 = sym same ∙ m.1 in p.no_name n cc
+      ];
+}
+
+pub colon_near : (next : TokenKind) (behind more : Kinds) → (next ≡ colon → ⊥) → Near next behind → behind ≡ colon ∷ more → ⊥
+colon_near next behind more other near same =
+    elim near [ inl none ↦ let z = sym same ∙ none in cc | inr m ↦ let z : colon ∷ more ≡ next ∷ m.0 = sym same ∙ m.1 in other cc ]
+
+second_colon : (names : Names) (room : ℕ) (n : List ℕ) (g : TokenKind) (gs : Kinds) → BeginsLow (Expressions names 0) room (token.Name n ∷ g ∷ gs) → g ≡ colon → ⊥
+second_colon names room n g gs b e =
+    let s : text b.phrase [] ≡ token.Name n ∷ colon ∷ (gs ++ b.more) = b.spelled ∙ ap (λ (x : TokenKind). token.Name n ∷ x ∷ (gs ++ b.more)) e in
+    let f = name_colon b.phrase [] n (gs ++ b.more) s in
+    let z = f.1 in
+    cc
+
+run_label : (names : Names) (room : ℕ) (f : TokenKind) (fs behind : Kinds) (next : TokenKind) (n : List ℕ) (more : Kinds) → BeginsLow (Expressions names 0) room (f ∷ fs) → (fs ≡ [] → next ≡ colon → ⊥) → Near next behind → f ∷ (fs ++ behind) ≡ token.Name n ∷ colon ∷ more → ⊥
+run_label names room f [] behind next n more b other near same = colon_near next behind more (other refl) near cc
+run_label names room f (g ∷ gs) behind next n more b other near same =
+    let k : f ≡ token.Name n = cc in
+    second_colon names room n g gs (subst (λ (x : TokenKind). BeginsLow (Expressions names 0) room (x ∷ g ∷ gs)) k b) cc
+
+-- tokens of an expression that was refused begin no other statement and no label
+run_fits : (names : Names) (room : ℕ) (front : Kinds) (next : TokenKind) (deep : Bool) → (front ≡ [] → IsPlainNext next) → ((n : List ℕ) → front ≡ token.Name n ∷ [] → next ≡ colon → ⊥) → Refused (Expressions names 0) room front next deep → (behind : Kinds) → Near next behind → IsRun (front ++ behind)
+run_fits names room [] next deep p other r behind near = run_none next behind (p refl) near
+run_fits names room (f ∷ fs) next deep p other r behind near =
+    elim r.begun [
+      | inl none ↦ absurd cc
+      | inr b ↦ record {
+        plain = λ first more same.
+            let k : f ≡ first = cc in
+            no_other names first (ap (begins_expression names) (sym k) ∙ runs_first names b.phrase [] f (fs ++ b.more) b.is_phrase b.spelled);
+        unlabelled = λ n more same.
+            let k : f ≡ token.Name n = cc in
+            run_label names room f fs behind next n more b (λ none. other n (ap (λ (x : Kinds). f ∷ x) none ∙ ap (λ (x : TokenKind). x ∷ []) k)) near same;
+      }
+    ]
+
+-- the expression of a statement was refused
+pub runs_refused : (names : Names) (room inner : ℕ) → room ≡ 1 + inner → 1 ≤ inner → (front : Kinds) (next : TokenKind) (deep : Bool) → (front ≡ [] → IsPlainNext next) → ((n : List ℕ) → front ≡ token.Name n ∷ [] → next ≡ colon → ⊥) → Refused (Expressions names 0) inner front next deep → Refused (Sentences names) room front next deep
+runs_refused names room inner less some front next deep p other r =
+    single_refused (runs_single names) room inner (less, some) front next deep (run_fits names inner front next deep p other r)
+    (closed_refused (Expressions names 0) semicolon inner (text_law names 0) (λ part more. omega arith) front next deep r)
+
+text_run : (names : Names) (e : Written) (x behind : Kinds) → IsPhrase names 0 e → ((n : List ℕ) (more : Kinds) → e ≡ Named n → x ≡ colon ∷ more → ⊥) → IsRun (text e x)
+text_run names e x behind is other = record {
+  plain = λ first more same. no_other names first (runs_first names e x first more is same);
+  unlabelled = λ n more same. let f = name_colon e x n more same in other n more f.0 f.1;
+}
+
+-- the expression was taken, and no semicolon stands behind it
+pub runs_wrong : (names : Names) (room inner : ℕ) → room ≡ 1 + inner → 1 ≤ inner → (e : Written) (next : TokenKind) (deep : Bool) → Took (Expressions names 0) inner e next deep → (next ≡ semicolon → ⊥) → ((n : List ℕ) → e ≡ Named n → next ≡ colon → ⊥) → Refused (Sentences names) room (text e []) next deep
+runs_wrong names room inner less some e next deep t other label =
+    single_refused (runs_single names) room inner (less, some) (text e []) next deep
+    (λ behind near. subst IsRun (sym (text_append e [] behind)) (text_run names e behind behind t.is_phrase (λ n more same c. colon_near next behind more (label n same) near c)))
+    (closed_wrong (Expressions names 0) semicolon inner (text_law names 0) (λ part more. omega arith) e next deep t other)
+
+-- an expression statement was taken
+pub runs_took : (names : Names) (room inner : ℕ) → room ≡ 1 + inner → 1 ≤ inner → (e : Written) (deep : Bool) (next : TokenKind) → Took (Expressions names 0) inner e semicolon deep → Took (Sentences names) room (Runs e) next false
+runs_took names room inner less some e deep next t =
+    single_took (runs_single names) room inner (less, some) e next false
+    (λ behind near. text_run names e (semicolon ∷ behind) behind t.is_phrase (λ n more same c. cc))
+    (exact_took (ClosedBy (Expressions names 0) semicolon) inner e (closed_exact (Expressions names 0) semicolon inner (λ part more. omega arith) e deep t) next)
+
+lone_never : (names : Names) (n : List ℕ) (next : TokenKind) → is_among names n ≡ true → (next ≡ colon → ⊥) → (other : Sentence) (after behind : Kinds) → IsSentence names other → Near next behind → sentence_text other after ≡ token.Name n ∷ behind → ⊥
+lone_never names n next among no_colon (Runs e) after behind is near same =
+    let f = runs_first names e (semicolon ∷ after) (token.Name n) behind is same in
+    both_ways (is_among names n) (not-true (is_among names n) f) among
+lone_never names n next among no_colon (Label m b) after behind is near same = colon_near next behind (sentence_text b after) no_colon near cc
+lone_never names n next among no_colon _ after behind is near same = cc
+
+-- a typedef name begins a statement as a label alone
+pub lone_refused : (names : Names) (room : ℕ) (n : List ℕ) (next : TokenKind) → 2 ≤ room → is_among names n ≡ true → (next ≡ colon → ⊥) → Refused (Sentences names) room (token.Name n ∷ []) next false
+lone_refused names room n next some among no_colon = record {
+  begun = inr (record { phrase = Label n Nothing; more = colon ∷ semicolon ∷ []; is_phrase = tt; low = omega (arith, some); spelled = refl });
+  never = λ other after behind is shut near same. absurd (lone_never names n next among no_colon other after behind is near same);
+  further = λ told. absurd (false≢true told);
+}

@@ -1,0 +1,134 @@
+-- What is left of a phrase behind its first tokens: for the contracts of every parser of declarations, statements and files. A `Tail`
+-- says that the phrases of C that begin with some tokens are made of those of D; tails are put one behind another, and at each
+-- return a refusal or a phrase of D gives one of C (`tail_refused`, `tail_took`).
+use Rattle.std.proofs.Common.{◌≡◌, ℕ, suc, ◌+◌, ◌-◌, ◌<◌, ◌≤◌, max, ◌⊎◌, inl, inr, Bool, true, false, List, [], ◌∷◌, ◌++◌, refl, sym, ap, ◌∙◌, subst, arith, append_assoc, append-nil}
+use Rattle.std.proofs.lemmas.Bool.{false≢true}
+use Rattle.cs_ast.specs.declared.token.TokenKind.{TokenKind}
+use Rattle.cs_grammar.specs.Text.{Kinds}
+use Rattle.cs_grammar.specs.Parsing.{Class, Near, IsOver, Begins, BeginsLow, Took, Refused, Exactly}
+use Rattle.cs_grammar.proofs.Holes.{Lawful, splits, Tail, tail_refused, tail_took}
+
+-- the first of these tokens, or the next one where there is none
+abbrev pub first_or : Kinds → TokenKind → TokenKind
+first_or [] next = next
+first_or (t ∷ tokens) next = t
+
+-- what is near to the next token is near to the first one
+pub near_first : (front : Kinds) (next first : TokenKind) → first_or front next ≡ first → (behind : Kinds) → Near next behind → Near first (front ++ behind)
+near_first [] next first e behind near = elim near [ inl none ↦ inl none | inr m ↦ inr (m.0, m.1 ∙ ap (λ (t : TokenKind). t ∷ m.0) e) ]
+near_first (t ∷ tokens) next first e behind near = inr (tokens ++ behind, ap (λ (x : TokenKind). x ∷ (tokens ++ behind)) e)
+
+-- a tail of a tail
+pub tail_then : (C D E : Class) (room mid inner : ℕ) (before next : Kinds) (build : D.Tree → C.Tree) (build' : E.Tree → D.Tree) (Fit Fit' : Kinds → Type 0) → Lawful D → Tail C D room mid before build Fit → Tail D E mid inner next build' Fit' → ((behind : Kinds) → Fit' behind → Fit (next ++ behind)) → Tail C E room inner (before ++ next) (λ part. build (build' part)) Fit'
+tail_then C D E room mid inner before next build build' Fit Fit' law t t' fits = record {
+  started = elim t'.started [
+    | inl none ↦ elim t.started [
+      | inl empty ↦ inl (ap (λ (x : Kinds). x ++ next) empty ∙ none)
+      | inr b ↦ inr (record {
+        phrase = b.phrase;
+        more = b.more;
+        is_phrase = b.is_phrase;
+        low = b.low;
+        spelled = b.spelled ∙ ap (λ (x : Kinds). x ++ b.more) (sym (ap (λ (x : Kinds). before ++ x) none ∙ append-nil before));
+      })
+    ]
+    | inr b ↦ inr (record {
+      phrase = build b.phrase;
+      more = b.more;
+      is_phrase = t.is_phrase b.phrase b.is_phrase;
+      low = t.low b.phrase b.is_phrase b.low;
+      spelled = t.spelled b.phrase [] ∙ ap (λ (x : Kinds). before ++ x) b.spelled ∙ sym (append_assoc before next b.more);
+    })
+  ];
+  invert = λ whole after behind is shut fit same.
+      let f = t.invert whole after (next ++ behind) is shut (fits behind fit) (same ∙ append_assoc before next behind) in
+      let g = t'.invert f.0 after behind f.2 (t.shut f.0 after (subst (λ (w : C.Tree). C.Shut w after) f.1 shut)) fit (sym f.3) in
+      (g.0, f.1 ∙ ap build g.1, g.2, g.3);
+  shut = λ part after shut. t'.shut part after (t.shut (build' part) after shut);
+  spelled = λ part after. t.spelled (build' part) after ∙ ap (λ (x : Kinds). before ++ x) (t'.spelled part after) ∙ sym (append_assoc before next (E.spell part after));
+  is_phrase = λ part is. t.is_phrase (build' part) (t'.is_phrase part is);
+  low = λ part is low. t.low (build' part) (t'.is_phrase part is) (t'.low part is low);
+  rises = λ part high. t.rises (build' part) (t'.rises part high);
+}
+
+-- the same tail in other words
+pub tail_as : (C D : Class) (room inner : ℕ) (before before' : Kinds) (build build' : D.Tree → C.Tree) (Fit Fit' : Kinds → Type 0) → Tail C D room inner before build Fit → before ≡ before' → ((part : D.Tree) → build part ≡ build' part) → ((behind : Kinds) → Fit' behind → Fit behind) → Tail C D room inner before' build' Fit'
+tail_as C D room inner before before' build build' Fit Fit' t b same fits = record {
+  started = elim t.started [
+    | inl none ↦ inl (sym b ∙ none)
+    | inr l ↦ inr (record { phrase = l.phrase; more = l.more; is_phrase = l.is_phrase; low = l.low; spelled = l.spelled ∙ ap (λ (x : Kinds). x ++ l.more) b })
+  ];
+  invert = λ whole after behind is shut fit eq.
+      let f = t.invert whole after behind is shut (fits behind fit) (eq ∙ ap (λ (x : Kinds). x ++ behind) (sym b)) in
+      (f.0, f.1 ∙ same f.0, f.2, f.3);
+  shut = λ part after shut. t.shut part after (subst (λ (w : C.Tree). C.Shut w after) (sym (same part)) shut);
+  spelled = λ part after. ap (λ (w : C.Tree). C.spell w after) (sym (same part)) ∙ t.spelled part after ∙ ap (λ (x : Kinds). x ++ D.spell part after) b;
+  is_phrase = λ part is. subst C.Is (same part) (t.is_phrase part is);
+  low = λ part is low. subst (λ (w : C.Tree). C.tall w ≤ room) (same part) (t.low part is low);
+  rises = λ part high. subst (λ (w : C.Tree). room < C.tall w) (same part) (t.rises part high);
+}
+
+-- nothing was read yet
+pub tail_start : (C : Class) (room : ℕ) → Tail C C room room [] (λ part. part) (λ rest. Unit {0})
+tail_start C room = record {
+  started = inl refl;
+  invert = λ whole after behind is shut fit same. (whole, refl, is, sym same);
+  shut = λ part after shut. shut;
+  spelled = λ part after. refl;
+  is_phrase = λ part is. is;
+  low = λ part is low. low;
+  rises = λ part high. high;
+}
+
+-- a phrase than which none is lower
+pub record Least (C : Class) : Type 0 where
+  pub tree : C.Tree
+  pub is_phrase : C.Is tree
+  pub below : (other : C.Tree) → C.Is other → C.tall tree ≤ C.tall other
+
+-- the phrases of C that begin with these tokens are made of phrases of D, and so much higher than these
+pub record Production (C D : Class) (plus : ℕ) (before : Kinds) (build : D.Tree → C.Tree) (Fit : Kinds → Type 0) : Type 0 where
+  pub invert : (whole : C.Tree) (after behind : Kinds) → C.Is whole → Fit behind → C.spell whole after ≡ before ++ behind → (part : D.Tree) × (whole ≡ build part) × D.Is part × (behind ≡ D.spell part after)
+  pub shut : (part : D.Tree) (after : Kinds) → C.Shut (build part) after → D.Shut part after
+  pub spelled : (part : D.Tree) (after : Kinds) → C.spell (build part) after ≡ before ++ D.spell part after
+  pub is_phrase : (part : D.Tree) → D.Is part → C.Is (build part)
+  pub taller : (part : D.Tree) → C.tall (build part) ≡ plus + D.tall part
+
+-- where there is room for the least of them, they are a tail
+pub production_tail : (C D : Class) (plus : ℕ) (before : Kinds) (build : D.Tree → C.Tree) (Fit : Kinds → Type 0) (room inner : ℕ) → room ≡ plus + inner → Production C D plus before build Fit → (least : Least D) → D.tall least.tree ≤ inner → Tail C D room inner before build Fit
+production_tail C D plus before build Fit room inner less p least fits = record {
+  started = inr (record {
+    phrase = build least.tree;
+    more = D.spell least.tree [];
+    is_phrase = p.is_phrase least.tree least.is_phrase;
+    low = let t = p.taller least.tree in omega (arith, t, fits, less);
+    spelled = p.spelled least.tree [];
+  });
+  invert = λ whole after behind is shut fit same. p.invert whole after behind is fit same;
+  shut = p.shut;
+  spelled = p.spelled;
+  is_phrase = p.is_phrase;
+  low = λ part is low. let t = p.taller part in omega (arith, t, low, fits, less);
+  rises = λ part high. let t = p.taller part in omega (arith, t, high, fits, less);
+}
+
+-- where there is none, the first of the tokens is refused, if all phrases that begin with it are at least so high
+pub full_refused : (C : Class) (room : ℕ) (next : TokenKind) → ((other : C.Tree) (after : Kinds) → C.Is other → C.spell other after ≡ [] → ⊥) → ((other : C.Tree) (after more : Kinds) → C.Is other → C.spell other after ≡ next ∷ more → room < C.tall other) → Begins C (next ∷ []) → Refused C room [] next true
+full_refused C room next some high begins = record {
+  begun = inl refl;
+  never = λ other after behind is shut near same.
+      elim near [
+        | inl none ↦ absurd (some other after is (same ∙ none))
+        | inr m ↦ record { told = refl; high = high other after m.0 is (same ∙ m.1); onward = λ none. let e : next ∷ m.0 ≡ [] = sym m.1 ∙ none in cc }
+      ];
+  further = λ told. begins;
+}
+
+-- no phrase begins with the token
+pub none_refused : (C : Class) (room : ℕ) (next : TokenKind) → ((other : C.Tree) (after : Kinds) → C.Is other → C.spell other after ≡ [] → ⊥) → ((other : C.Tree) (after more : Kinds) → C.Is other → C.spell other after ≡ next ∷ more → ⊥) → Refused C room [] next false
+none_refused C room next some none = record {
+  begun = inl refl;
+  never = λ other after behind is shut near same.
+      absurd (elim near [ inl e ↦ some other after is (same ∙ e) | inr m ↦ none other after m.0 is (same ∙ m.1) ]);
+  further = λ told. absurd (false≢true told);
+}
