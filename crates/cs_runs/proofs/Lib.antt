@@ -1,3 +1,4 @@
 pub mod RunLaws
 pub mod LogGrowth
+pub mod PendingLaws
 pub mod Endings
