@@ -1,14 +1,15 @@
 -- Where related states answer one another, runs from them end alike and have the same pending: in the direction of the answer, and
 -- back where every run ends.
-use Rattle.std.proofs.Common.{◌≡◌, ℕ, Bool, true, false, Option, Some, None, if◌then◌else◌, refl, sym, ap, ◌∙◌, subst}
+use Rattle.std.proofs.Common.{◌≡◌, ℕ, Bool, true, false, Some, None, if◌then◌else◌, refl, sym, ap, ◌∙◌, subst}
 use Rattle.cs_runs.specs.declared.outcome.Outcome.{Outcome}
 use Rattle.cs_runs.specs.Operations.{is_true}
-use Rattle.cs_runs.specs.Acts.{Act, Goes, Stops, Reads, Asks, Allocates, Reaches, Touches}
-use Rattle.cs_runs.specs.Runs.{Setting, Log, empty, Performed, Continues, Finishes, perform, with_event, with_read, with_touch, has_room, operation_event, number_of, allocation_event, access_event, Leads, stays, goes, EndsFrom, Ends}
+use Rattle.cs_runs.specs.Acts.{Act, Goes}
+use Rattle.cs_runs.specs.Runs.{Setting, Log, empty, Performed, Continues, Finishes, perform, with_event, with_read, with_touch, has_room, operation_event, number_of, allocation_event, access_event, Leads, stays, goes, EndsFrom}
 use Rattle.cs_runs.specs.Pending.{Pending, Operates, Tries, Accesses, is_next, pending_in, IsPending}
 use Rattle.cs_runs.specs.Silence.{Ending}
 use Rattle.cs_runs.specs.Simulation.{Tells, both_go, both_stop, both_read, both_ask, both_allocate, both_reach, both_touch, Answers, alone, together, first, Simulates}
-use Rattle.cs_runs.proofs.RunLaws.{one_end}
+use Rattle.cs_runs.proofs.RunLaws.{one_end, left_after}
+use Rattle.cs_runs.proofs.PendingLaws.{passed_at_end, ended_pends, is_event, one_pending}
 
 module _ {S T : Type 0} (R : S → T → Type 0) (setting : Setting) where
   -- what two acts lead to that do the same
@@ -41,13 +42,13 @@ module _ {S T : Type 0} (R : S → T → Type 0) (setting : Setting) where
   pends_alike event log (both_read {path = path} same) = pends_alike event (with_read log path) (same (setting.inputs path))
   pends_alike event log (both_ask {at = at} {operation = operation} same) =
       ap (λ rest. if has_room setting log then (if is_next log event then Some (Operates at operation) else rest) else None)
-        (pends_alike event (with_event log (operation_event setting log at operation)) (same (number_of setting log operation)))
+      (pends_alike event (with_event log (operation_event setting log at operation)) (same (number_of setting log operation)))
   pends_alike event log (both_allocate {at = at} {path = path} same) =
       ap (λ rest. if has_room setting log then (if is_next log event then Some (Tries at path) else rest) else None)
-        (pends_alike event (with_event (with_read log path) (allocation_event setting at path)) (same (is_true (setting.inputs path))))
+      (pends_alike event (with_event (with_read log path) (allocation_event setting at path)) (same (is_true (setting.inputs path))))
   pends_alike event log (both_reach {at = at} {object = object} {offset = offset} same) =
       ap (λ rest. if has_room setting log then (if is_next log event then Some (Accesses at object offset) else rest) else None)
-        (pends_alike event (with_event log (access_event at offset)) same)
+      (pends_alike event (with_event log (access_event at offset)) same)
   pends_alike event log (both_touch {touch = touch} same) = pends_alike event (with_touch log touch) same
 
   -- where one act continues or finishes, so does one that does the same
@@ -113,7 +114,7 @@ module _ {S T : Type 0} (R : S → T → Type 0) (setting : Setting) where
     unfolding perform
     ends_too simulates {end = end} {outcome = outcome} related one =
         let come = comes_along (λ log a. perform setting log a ≡ Finishes outcome end) (λ log b. perform setting log b ≡ Finishes outcome end)
-            (λ log a b tells it. finishes_alike (performs_alike log tells) it) (λ log next it. cc) simulates related one.leads one.finishes in
+        (λ log a b tells it. finishes_alike (performs_alike log tells) it) (λ log next it. cc) simulates related one.leads one.finishes in
         record { other = record { last = come.last; before = one.before; leads = come.leads; finishes = come.here }; related = come.related }
 
     -- what is pending in a run is pending in the answering one
@@ -121,7 +122,7 @@ module _ {S T : Type 0} (R : S → T → Type 0) (setting : Setting) where
     unfolding pending_in
     pends_too simulates {event = event} {pending = pending} related one =
         let come = comes_along (λ log a. pending_in setting log event a ≡ Some pending) (λ log b. pending_in setting log event b ≡ Some pending)
-            (λ log a b tells it. pends_alike event log tells ∙ it) (λ log next it. cc) simulates related one.leads one.pends in
+        (λ log a b tells it. pends_alike event log tells ∙ it) (λ log next it. cc) simulates related one.leads one.pends in
         record { last = come.last; before = one.before; leads = come.leads; pends = come.here }
 
     -- where the run ends that is answered, it ends as the answering one does
@@ -129,3 +130,14 @@ module _ {S T : Type 0} (R : S → T → Type 0) (setting : Setting) where
     ends_back simulates {s = s} {log = log} related ending other =
         let same = one_end step' setting (ends_too simulates related ending.ended).other other in
         subst (λ o. EndsFrom step setting s log o _) (sym same.0) (subst (λ l. EndsFrom step setting s log ending.outcome l) (sym same.1) ending.ended)
+
+    -- where the run ends that is answered, what is pending in the answering one is pending in it
+    pub pends_back : Simulates R step step' → {s : S} {t : T} {event : ℕ} {pending : Pending} → R s t → Ending step setting s empty → IsPending step' setting t event pending → IsPending step setting s event pending
+    pends_back simulates {s = s} {t = t} {event = event} {pending = pending} related ending other =
+        let ended = (ends_too simulates related ending.ended).other in
+        let left = left_after step' setting other.leads ended.leads ended.finishes in
+        let there = passed_at_end setting event step' pending other.pends left in
+        let one = ended_pends setting event step ending.ended (is_event setting event step' t pending other) there in
+        let known : IsPending step setting s event one.pending = record { last = one.last; before = one.before; leads = one.leads; pends = one.pends } in
+        let same = one_pending setting event step' t pending one.pending other (pends_too simulates related known) in
+        subst (IsPending step setting s event) same known
