@@ -3,3 +3,4 @@ pub mod RawDeclarationRows
 pub mod RawRows
 pub mod RawStatementRows
 pub mod RowLemmas
+pub mod TypedRows

@@ -1,5 +1,5 @@
 -- Typed programs as plain data: what the meaning of a program is stated over.
-use Rattle.std.specs.Prelude.{ℕ, ℤ, Bool, List, [], ◌∷◌, Option, map, option_map}
+use Rattle.std.specs.Prelude.{ℕ, ℤ, Bool, List, Option, map, option_map}
 use Rattle.cs_types.specs.declared.data_model.DataModel.{DataModel}
 use Rattle.cs_types.specs.declared.structs.StructType.{StructType}
 use Rattle.cs_types.specs.Shape.{Shape, shape_of}

@@ -1,7 +1,6 @@
 -- Typed expressions and statements of the program seen as plain data.
-use Rattle.std.specs.Prelude.{ℕ, List, [], ◌∷◌, Option, Some, None}
+use Rattle.std.specs.Prelude.{List, [], ◌∷◌, Option}
 use Rattle.std.specs.Option.{option_map}
-use Rattle.cs_types.specs.declared.ctype.CType.{CType}
 use Rattle.cs_types.specs.Shape.{shape_of}
 use Rattle.cs_ast.specs.declared.place.Place.{Place}
 use Rattle.cs_ast.specs.declared.typed.expression.Expr.{Expr}
@@ -94,3 +93,16 @@ abbrev mutual
 
 abbrev pub statement : Stmt → Statement
 statement s = statement_at s.place s.kind
+
+-- the expressions, initializers and statements of a list
+abbrev pub typed_list : List Expr → TypedList
+typed_list [] = NoMore
+typed_list (e ∷ others) = Further (typed e) (typed_list others)
+
+abbrev pub initial_list : List initials.Initial → Initials
+initial_list [] = NoPart
+initial_list (first ∷ others) = Part (initial first) (initial_list others)
+
+abbrev pub statement_list : List Stmt → Statements
+statement_list [] = Empty
+statement_list (first ∷ others) = Then (statement first) (statement_list others)

@@ -1,15 +1,16 @@
 -- Samples of arithmetic.
-use Rattle.std.proofs.Common.{pos, negsuc, [], ◌∷◌, Some, refl}
+use Rattle.std.proofs.Common.{pos, negsuc, [], ◌∷◌, true, Some, refl}
 use Rattle.cs_types.specs.declared.int_type.IntType.TheVariants.{Int, UChar}
 use Rattle.cs_types.specs.Shape.{integer}
-use Rattle.cs_ast.specs.declared.typed.operator.BinOp.TheVariants.{Sub, Div, Shl}
-use Rattle.cs_ast.specs.declared.typed.operator.UnOp.TheVariants.{Complement}
+use Rattle.cs_ast.specs.declared.typed.operator.BinOp.TheVariants.{Sub, Mul, Div, Shl}
+use Rattle.cs_ast.specs.declared.typed.operator.UnOp.TheVariants.{Negate, Complement}
+use Rattle.cs_ast.specs.declared.typed.operator.CmpOp.TheVariants.{Equal}
 use Rattle.cs_ast.specs.declared.typed.operator.Gives.TheVariants.{Old}
-use Rattle.cs_ast.specs.TypedTree.{Of, Binary, Unary, Update, Return}
+use Rattle.cs_ast.specs.TypedTree.{Of, Binary, Unary, Compare, Update, Return}
 use Rattle.cs_ast.specs.TypedProgram.{TypedProgram}
 use Rattle.cs_model.specs.declared.kind.Kind.TheVariants.{Divide, Shift}
-use Rattle.cs_runs.specs.declared.event.Label.TheVariants.{Wrap}
-use Rattle.cs_runs.specs.declared.event.Wrap.TheVariants.{Under, Same, Past}
+use Rattle.cs_runs.specs.declared.event.Label.TheVariants.{Truth, Wrap}
+use Rattle.cs_runs.specs.declared.event.Wrap.TheVariants.{Under, Same, Past, Far}
 use Rattle.cs_runs.specs.declared.outcome.Outcome.TheVariants.{Done, Fault}
 use Rattle.cs_runs.specs.declared.outcome.Returned.TheVariants.{Number}
 use Rattle.cs_runs.specs.Runs as runs
@@ -60,3 +61,19 @@ steps_down = functions (defined 15 (integer UChar) 1 (named 120 (integer UChar) 
 steps_below_zero : RunEnds steps_down 0 (plain []) USUAL (event 42 (Wrap Same) ∷ event 42 (Wrap Under) ∷ []) (Done (Number (pos 0)))
 unfolding runs.perform
 steps_below_zero = ends_so steps_down 0 (plain []) USUAL 20 refl
+
+-- int f(int x){return -x==x;}, which the least number meets by one turn of its type
+abbrev equals_its_negative : TypedProgram
+equals_its_negative = functions (defined 5 int 1 (named 120 int ∷ []) 27 (Return (at 14) (Some (Of (at 23) int (Compare Equal (Of (at 21) int (Unary Negate (value 22 int 0))) (value 25 int 0)))) ∷ []) ∷ [])
+
+least_equals_its_negative : RunEnds equals_its_negative 0 (plain (given 120 (negsuc 2147483647) ∷ [])) USUAL (event 21 (Wrap Past) ∷ event 23 (Truth true) ∷ []) (Done (Number (pos 1)))
+unfolding runs.perform
+least_equals_its_negative = ends_so equals_its_negative 0 (plain (given 120 (negsuc 2147483647) ∷ [])) USUAL 20 refl
+
+-- int f(int x){return x*x;}, whose exact result lies far off
+abbrev squares : TypedProgram
+squares = functions (defined 5 int 1 (named 120 int ∷ []) 24 (Return (at 14) (Some (Of (at 22) int (Binary Mul (value 21 int 0) (value 23 int 0)))) ∷ []) ∷ [])
+
+squares_far : RunEnds squares 0 (plain (given 120 (pos 1000003) ∷ [])) USUAL (event 22 (Wrap Far) ∷ []) (Done (Number (negsuc 721379958)))
+unfolding runs.perform
+squares_far = ends_so squares 0 (plain (given 120 (pos 1000003) ∷ [])) USUAL 20 refl

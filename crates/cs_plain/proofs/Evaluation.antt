@@ -1,30 +1,25 @@
 -- Samples of evaluation: what is evaluated, in which order, and what is looked at.
-use Rattle.std.proofs.Common.{◌≡◌, ℕ, ℤ, pos, negsuc, List, [], ◌∷◌, ◌++◌, Option, Some, None, true, false, refl}
-use Rattle.cs_types.specs.declared.int_type.IntType.TheVariants.{Int, UInt, UChar, Char, Long, ULong}
-use Rattle.cs_types.specs.Shape.{Shape, void, integer, pointer, array, struct}
-use Rattle.cs_types.specs.declared.ctype.CType.{Int as IntOf}
-use Rattle.cs_types.specs.declared.structs.StructType.{StructType}
+use Rattle.std.proofs.Common.{ℕ, ℤ, pos, [], ◌∷◌, Some, None, true, false, refl}
+use Rattle.cs_types.specs.Shape.{void}
 use Rattle.cs_inputs.specs.declared.path.Path.{Path}
 use Rattle.cs_inputs.specs.declared.path.Root.TheVariants as root
-use Rattle.cs_ast.specs.declared.typed.operator.BinOp.TheVariants.{Rem, Add, Sub, Mul, Div}
-use Rattle.cs_ast.specs.declared.typed.operator.CmpOp.TheVariants.{Differs, Less, AtMost, Equal}
-use Rattle.cs_ast.specs.declared.typed.operator.Order.TheVariants.{PointerFirst, AmountFirst}
-use Rattle.cs_ast.specs.declared.typed.operator.Direction.TheVariants.{Forward, Back}
-use Rattle.cs_ast.specs.declared.typed.operator.Gives.TheVariants.{Old, New}
-use Rattle.cs_ast.specs.declared.typed.operator.Allocator.TheVariants.{Malloc, Calloc}
-use Rattle.cs_ast.specs.declared.typed.statement.Case.{Case}
-use Rattle.cs_ast.specs.TypedTree.{Typed, Of, Number, Null, Text, Local, Global, Load, Index, Through, Member, Address, Decay, Convert, Not, Binary, Compare, Sum, And, Or, Choice, Comma, Move, For, Assign, Update, Call, Allocate, Free, Value, Parts, Bytes, NoPart, Part, Statement, Block, Declare, Run, If, While, Do, Switch, Goto, Label, Break, Continue, Return}
-use Rattle.cs_ast.specs.TypedProgram.{TypedProgram, FileObject}
+use Rattle.cs_ast.specs.declared.typed.operator.BinOp.TheVariants.{Add, Sub}
+use Rattle.cs_ast.specs.declared.typed.operator.CmpOp.TheVariants.{Differs}
+use Rattle.cs_ast.specs.declared.typed.operator.Order.TheVariants.{PointerFirst}
+use Rattle.cs_ast.specs.declared.typed.operator.Direction.TheVariants.{Forward}
+use Rattle.cs_ast.specs.declared.typed.operator.Gives.TheVariants.{Old}
+use Rattle.cs_ast.specs.TypedTree.{Typed, Of, Index, Through, Address, Convert, Binary, Compare, Sum, And, Comma, Move, For, Assign, Call, Free, Statement, Block, Declare, Run, While, Switch, Goto, Label, Break, Continue, Return}
+use Rattle.cs_ast.specs.TypedProgram.{TypedProgram}
 use Rattle.cs_model.specs.declared.kind.Kind.TheVariants as kind
-use Rattle.cs_runs.specs.declared.event.Label.TheVariants.{Truth, Branch, Case as CaseOf, Wrap, Look, Offset, Callee, Alloc}
-use Rattle.cs_runs.specs.declared.event.Wrap.TheVariants.{Same, Past, Far, Guessed}
+use Rattle.cs_runs.specs.declared.event.Label.TheVariants.{Truth, Branch, Case as CaseOf, Wrap, Look, Offset, Callee}
+use Rattle.cs_runs.specs.declared.event.Wrap.TheVariants.{Same}
 use Rattle.cs_runs.specs.declared.outcome.Outcome.TheVariants.{Done, Fault, Over}
-use Rattle.cs_runs.specs.declared.outcome.Budget.TheVariants.{Visits, Depth, Events}
+use Rattle.cs_runs.specs.declared.outcome.Budget.TheVariants.{Visits}
 use Rattle.cs_runs.specs.declared.outcome.Returned.TheVariants as returned
 use Rattle.cs_types.specs.declared.data_model.DataModel.TheVariants.{Ilp32}
 use Rattle.cs_runs.specs.Runs as runs
 use Rattle.cs_plain.specs.PlainRuns.{RunEnds}
-use Rattle.cs_plain.proofs.Building.{at, int, to_int, literal, local, loaded, value, row, sequence, named, defined, declared, functions, given, input, event, guess, USUAL, plain, ends_so}
+use Rattle.cs_plain.proofs.Building.{at, int, to_int, literal, local, loaded, value, row, sequence, named, defined, declared, functions, given, input, event, USUAL, plain, ends_so}
 
 -- int f(int*p,int*q){return p&&q;}
 abbrev both : TypedProgram

@@ -5,6 +5,7 @@ mod Blocks
 mod Control
 mod Guesses
 mod Initializers
+mod Lists
 mod Evaluation
 mod Touching
 pub mod Weights

@@ -1,5 +1,5 @@
 -- Samples of what a run touches and reads.
-use Rattle.std.proofs.Common.{◌≡◌, ℕ, ℤ, pos, List, [], ◌∷◌, Option, Some, None, false, refl}
+use Rattle.std.proofs.Common.{◌≡◌, List, [], ◌∷◌, Option, Some, None, false, refl}
 use Rattle.cs_inputs.specs.declared.path.Root.TheVariants as root
 use Rattle.cs_inputs.specs.declared.path.Path.{Path}
 use Rattle.cs_ast.specs.declared.typed.operator.BinOp.TheVariants.{Add}

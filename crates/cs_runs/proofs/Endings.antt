@@ -1,13 +1,13 @@
 -- Every run ends of a machine whose silent steps leave fewer turns, or as many and less weight: by the events left, then the turns,
 -- then the weight.
-use Rattle.std.proofs.Common.{◌≡◌, ℕ, zero, suc, ◌+◌, ◌<◌, ◌≤◌, ◌⊎◌, Bool, true, false, List, [], ◌∷◌, ◌++◌, length, nat_lt, if◌then◌else◌, inl, inr, refl, ap, ◌∙◌, arith}
+use Rattle.std.proofs.Common.{◌≡◌, ℕ, zero, suc, ◌+◌, ◌<◌, ◌≤◌, ◌⊎◌, Bool, true, false, [], ◌∷◌, ◌++◌, length, if◌then◌else◌, inl, inr, refl, ap, ◌∙◌, arith}
 use Rattle.std.proofs.lemmas.Bool.Decides.{nat_tests}
 use Rattle.std.proofs.lemmas.List.{length-append}
 use Rattle.cs_runs.specs.declared.event.Event.{Event}
 use Rattle.cs_runs.specs.declared.outcome.Outcome.{Outcome}
 use Rattle.cs_runs.specs.Operations.{is_true}
-use Rattle.cs_runs.specs.Acts.{Act, Goes, Stops, Reads, Asks, Allocates, Reaches, Touches}
-use Rattle.cs_runs.specs.Runs.{Setting, Log, Performed, Continues, Finishes, perform, with_event, with_read, with_touch, has_room, operation_event, number_of, allocation_event, access_event, Leads, stays, goes, EndsFrom}
+use Rattle.cs_runs.specs.Acts.{Act}
+use Rattle.cs_runs.specs.Runs.{Setting, Log, Performed, Continues, Finishes, perform, with_event, with_read, with_touch, has_room, operation_event, number_of, allocation_event, access_event, stays, goes}
 use Rattle.cs_runs.specs.Growth.{GoesOn, log_of}
 use Rattle.cs_runs.specs.Silence.{Owes, owes_next, stops, reads, asks, allocates, reaches, touches, IsBelow, Lessens, Ending}
 use Rattle.cs_runs.proofs.LogGrowth.{act_adds}

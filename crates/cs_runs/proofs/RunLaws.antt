@@ -1,13 +1,18 @@
 -- Runs are determined, and go on from where they have come to: for every machine whose steps are acts.
 use Rattle.std.proofs.Common.{◌≡◌, ℕ, zero, suc, refl, sym, ◌∙◌, subst}
 use Rattle.cs_runs.specs.declared.outcome.Outcome.{Outcome}
+use Rattle.cs_ast.specs.declared.place.Place.{Place}
+use Rattle.cs_model.specs.declared.kind.Kind.{Kind}
+use Rattle.cs_runs.specs.declared.outcome.Outcome.TheVariants.{Done, Fault, Over}
+use Rattle.cs_runs.specs.declared.outcome.Returned.{Returned}
+use Rattle.cs_runs.specs.declared.outcome.Budget.{Budget}
 use Rattle.cs_runs.specs.Acts.{Act}
 use Rattle.cs_runs.specs.Runs.{Setting, Log, Performed, Continues, Finishes, perform, Leads, stays, goes, EndsFrom}
 use Rattle.cs_runs.specs.Counted.{onward, followed}
 
 module _ {State : Type 0} (step : State → Act State) (setting : Setting) where
   -- a way from where another one ends is one from its equal
-  moved : {m m' last : State} {log log' end : Log} → m ≡ m' → log ≡ log' → Leads step setting m' log' last end → Leads step setting m log last end
+  pub moved : {m m' last : State} {log log' end : Log} → m ≡ m' → log ≡ log' → Leads step setting m' log' last end → Leads step setting m log last end
   moved {m = m} {last = last} {log' = log'} {end = end} e f way =
       subst (λ l. Leads step setting m l last end) (sym f) (subst (λ x. Leads step setting x log' last end) (sym e) way)
 
@@ -52,3 +57,19 @@ module _ {State : Type 0} (step : State → Act State) (setting : Setting) where
   ends_by zero m log end outcome h = cc
   ends_by (suc steps) m log end outcome h =
       ends_onward (followed step setting steps) (λ next later. ends_by steps next later end outcome) (perform setting log (step m)) refl h
+
+  -- done, a fault and a budget that is met exclude each other
+  pub done_or_fault : {m : State} {log end end' : Log} {returned : Returned} {kind : Kind} {at : Place} → EndsFrom step setting m log (Done returned) end → EndsFrom step setting m log (Fault kind at) end' → ⊥
+  done_or_fault one other =
+      let same = (one_end one other).0 in
+      absurd (cc)
+
+  pub done_or_over : {m : State} {log end end' : Log} {returned : Returned} {budget : Budget} {at : Place} → EndsFrom step setting m log (Done returned) end → EndsFrom step setting m log (Over budget at) end' → ⊥
+  done_or_over one other =
+      let same = (one_end one other).0 in
+      absurd (cc)
+
+  pub fault_or_over : {m : State} {log end end' : Log} {kind : Kind} {budget : Budget} {at at' : Place} → EndsFrom step setting m log (Fault kind at) end → EndsFrom step setting m log (Over budget at') end' → ⊥
+  fault_or_over one other =
+      let same = (one_end one other).0 in
+      absurd (cc)

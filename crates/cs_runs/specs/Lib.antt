@@ -7,3 +7,4 @@ pub mod Pending
 pub mod Counted
 pub mod Growth
 pub mod Silence
+pub mod Simulation
