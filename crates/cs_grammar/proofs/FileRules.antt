@@ -178,7 +178,7 @@ external_single names = record {
   least = sequence_least (FileSpecs names) (ExternalRests names) (file_specs_least names) (rests_least names);
 }
 
-starts_semicolon : (tokens more : Kinds) → Starts tokens → tokens ≡ semicolon ∷ more → ⊥
+pub starts_semicolon : (tokens more : Kinds) → Starts tokens → tokens ≡ semicolon ∷ more → ⊥
 starts_semicolon tokens more (with_star m e) same = let z = sym e ∙ same in cc
 starts_semicolon tokens more (with_name n m e) same = let z = sym e ∙ same in cc
 
@@ -237,7 +237,7 @@ objects_no_parenthesis : (list : List Declared) (after more : Kinds) → each_be
 objects_no_parenthesis [] after more same = cc
 objects_no_parenthesis (d ∷ ds) after more same = cc
 
-no_objects : (list : List Declared) (after : Kinds) (ps : List PointerWord) (n : List ℕ) (more : Kinds) → IsSomeList list → with_commas declared_text list (semicolon ∷ after) ≡ pointers_text ps (token.Name n ∷ open_parenthesis ∷ more) → ⊥
+pub no_objects : (list : List Declared) (after : Kinds) (ps : List PointerWord) (n : List ℕ) (more : Kinds) → IsSomeList list → with_commas declared_text list (semicolon ∷ after) ≡ pointers_text ps (token.Name n ∷ open_parenthesis ∷ more) → ⊥
 no_objects [] after ps n more some same = some
 no_objects (d ∷ ds) after ps n more some same =
     let rest = each_behind_comma declared_text ds (semicolon ∷ after) in

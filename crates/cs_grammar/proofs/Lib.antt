@@ -30,3 +30,5 @@ pub mod Bodies
 pub mod ParameterRules
 pub mod HeadRules
 pub mod FileRules
+pub mod ExternalSites
+pub mod RoleLengths
