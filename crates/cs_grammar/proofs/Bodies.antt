@@ -206,7 +206,7 @@ enum_word (word.Integer Long) tag x y quiet same = cc
 enum_word (word.Integer Signed) tag x y quiet same = cc
 enum_word (word.Integer Unsigned) tag x y quiet same = cc
 
-struct_is : (names : Names) (tag : Option (List ℕ)) (s : Spec) (x behind : Kinds) → HasBody names s → IsQuiet s x → spec_text s x ≡ tag_word true ∷ name_text tag (open_brace ∷ behind) → (part : Members) × (s ≡ StructBody tag part) × AreMembers names part × (behind ≡ members_text part (close_brace ∷ x))
+pub struct_is : (names : Names) (tag : Option (List ℕ)) (s : Spec) (x behind : Kinds) → HasBody names s → IsQuiet s x → spec_text s x ≡ tag_word true ∷ name_text tag (open_brace ∷ behind) → (part : Members) × (s ≡ StructBody tag part) × AreMembers names part × (behind ≡ members_text part (close_brace ∷ x))
 struct_is names tag (StructBody tag' members) x behind has quiet same =
     let k = tag_same tag tag' (members_text members (close_brace ∷ x)) behind cc in
     (members, ap (λ (t : Option (List ℕ)). StructBody t members) k.0, has, sym k.1)
@@ -218,7 +218,7 @@ struct_is names tag (EnumBody tag' constants comma) x behind has quiet same = ab
 abbrev pub ConstantRow : Type 0
 ConstantRow = List Constant × Bool
 
-enum_is : (names : Names) (tag : Option (List ℕ)) (s : Spec) (x behind : Kinds) → HasBody names s → IsQuiet s x → spec_text s x ≡ tag_word false ∷ name_text tag (open_brace ∷ behind) → (part : ConstantRow) × (s ≡ EnumBody tag part.0 part.1) × (IsSomeList part.0 × AreAll (IsConstant names) part.0) × (behind ≡ with_commas constant_text part.0 (comma_text part.1 (close_brace ∷ x)))
+pub enum_is : (names : Names) (tag : Option (List ℕ)) (s : Spec) (x behind : Kinds) → HasBody names s → IsQuiet s x → spec_text s x ≡ tag_word false ∷ name_text tag (open_brace ∷ behind) → (part : ConstantRow) × (s ≡ EnumBody tag part.0 part.1) × (IsSomeList part.0 × AreAll (IsConstant names) part.0) × (behind ≡ with_commas constant_text part.0 (comma_text part.1 (close_brace ∷ x)))
 enum_is names tag (EnumBody tag' constants comma) x behind has quiet same =
     let k = tag_same tag tag' (with_commas constant_text constants (comma_text comma (close_brace ∷ x))) behind cc in
     ((constants, comma), ap (λ (t : Option (List ℕ)). EnumBody t constants comma) k.0, has, sym k.1)

@@ -32,3 +32,4 @@ pub mod HeadRules
 pub mod FileRules
 pub mod ExternalSites
 pub mod RoleLengths
+pub mod SmallRooms
