@@ -1,9 +1,8 @@
 -- Types with bodies: enumeration constants and members. For the contracts of every parser of declarations.
-use Rattle.std.proofs.Common.{◌≡◌, ℕ, suc, ◌+◌, ◌<◌, ◌≤◌, max, ◌⊎◌, inl, inr, Bool, true, false, IsTrue, List, [], ◌∷◌, ◌++◌, Option, Some, None, MatchOption, refl, sym, ap, ◌∙◌, subst, arith, append_assoc, append-nil}
+use Rattle.std.proofs.Common.{◌≡◌, ℕ, ◌+◌, ◌≤◌, ◌⊎◌, inl, inr, Bool, true, false, List, [], ◌∷◌, ◌++◌, Option, Some, None, MatchOption, refl, sym, ap, ◌∙◌, subst, arith}
 use Rattle.std.proofs.lemmas.Bool.{false≢true}
 use Rattle.cs_ast.specs.declared.token.TokenKind.{TokenKind}
 use Rattle.cs_ast.specs.declared.token.TokenKind.TheVariants as token
-use Rattle.cs_ast.specs.declared.token.Keyword.TheVariants as keyword
 use Rattle.cs_ast.specs.declared.token.Mark.{Mark}
 use Rattle.cs_ast.specs.declared.token.Mark.TheVariants as mark
 use Rattle.cs_ast.specs.declared.raw.written_type.TypeWord.{TypeWord}
@@ -11,32 +10,31 @@ use Rattle.cs_ast.specs.declared.raw.written_type.TypeWord.TheVariants as word
 use Rattle.cs_ast.specs.declared.raw.written_type.IntegerWord.TheVariants.{Char, Short, Int, Long, Signed, Unsigned}
 use Rattle.cs_ast.specs.RawTree.{Written}
 use Rattle.cs_ast.specs.RawDeclarations.{Declarator, Constant, Spec, Static, Plain, StructBody, EnumBody, Specs, NoSpec, MoreSpecs, Members, NoMember, MoreMembers}
-use Rattle.cs_ast.specs.RawFileHeight.{height_of_some, highest_by, declarator_height, constant_height, spec_height, specs_height, members_height}
-use Rattle.cs_grammar.specs.TypeWords.{Names, is_type}
+use Rattle.cs_ast.specs.RawFileHeight.{height_of_some, constant_height, spec_height, specs_height}
+use Rattle.cs_grammar.specs.TypeWords.{Names}
 use Rattle.cs_grammar.specs.Text.{Kinds, text}
 use Rattle.cs_grammar.specs.Phrases.{IsPhrase}
 use Rattle.cs_grammar.specs.Continuing.{join_of}
 use Rattle.cs_grammar.specs.FileText.{name_text, comma_text, with_commas, each_behind_comma, brackets_text, declarator_text, value_text, constant_text, spec_text, specs_text, members_text}
-use Rattle.cs_grammar.specs.FilePhrases.{AreAll, IsSomeList, IsFree, IsConstant, IsMember, words_of, HaveBodies, HasBody, AreMembers, AreSpecs}
-use Rattle.cs_grammar.specs.DeclarationClasses.{Follows, ends_specs, ends_value, HasNoOpenBrace, IsQuiet, Constants, MemberDeclarators, SpecElements, FileSpecs, MemberGroups, MemberRows}
-use Rattle.cs_grammar.specs.Parsing.{Class, Expressions, Near, IsOver, Begins, BeginsLow, Took, Refused, Exactly}
-use Rattle.cs_grammar.specs.Composed.{Sequence, Separated, Trailing}
+use Rattle.cs_grammar.specs.FilePhrases.{AreAll, IsSomeList, IsFree, IsConstant, IsMember, HasBody, AreMembers, AreSpecs}
+use Rattle.cs_grammar.specs.DeclarationClasses.{Follows, ends_value, HasNoOpenBrace, IsQuiet, Constants, MemberDeclarators, SpecElements, FileSpecs, MemberGroups, MemberRows}
+use Rattle.cs_grammar.specs.Parsing.{Class, Expressions, Near, IsOver, BeginsLow, Took, Refused, Exactly}
+use Rattle.cs_grammar.specs.Composed.{Separated, Trailing}
 use Rattle.cs_grammar.proofs.Levels.{text_law}
-use Rattle.cs_grammar.proofs.FileTexts.{value_append, constant_append, spec_append, specs_append, members_append, with_commas_append, declarator_append}
-use Rattle.cs_grammar.proofs.Holes.{Lawful, Tail, tail_refused, tail_took, exact_took}
-use Rattle.cs_grammar.proofs.Tails.{Least, Production, none_refused}
-use Rattle.cs_grammar.proofs.Sequences.{Joins, took_exact}
+use Rattle.cs_grammar.proofs.FileTexts.{value_append, constant_append, specs_append, members_append, with_commas_append, declarator_append}
+use Rattle.cs_grammar.proofs.Holes.{Lawful, Tail, tail_refused, tail_took}
+use Rattle.cs_grammar.proofs.Tails.{Least, none_refused}
 use Rattle.cs_grammar.proofs.Rows.{Separates, Listing, separated_law, separated_least}
 use Rattle.cs_grammar.proofs.GrowingRows.{Growing}
-use Rattle.cs_grammar.proofs.TrailingRows.{NoneCloses, trailing_law, trailing_least}
-use Rattle.cs_grammar.proofs.Pairs.{Pair, Single, single_refused, single_took}
+use Rattle.cs_grammar.proofs.TrailingRows.{NoneCloses, trailing_law}
+use Rattle.cs_grammar.proofs.Pairs.{Pair, Single}
 use Rattle.cs_grammar.proofs.FreshNames.{fresh, fresh_free}
 use Rattle.cs_grammar.proofs.Statements.{open_brace, close_brace, semicolon}
-use Rattle.cs_grammar.proofs.StatementParts.{nought, expression_height, expression_least}
-use Rattle.cs_grammar.proofs.Declarators.{declarator_of, declarators_law, declarators_least}
+use Rattle.cs_grammar.proofs.StatementParts.{nought, expression_height}
+use Rattle.cs_grammar.proofs.Declarators.{declarators_law, declarators_least}
 use Rattle.cs_grammar.proofs.InitialValues.{brace_differs}
 use Rattle.cs_grammar.proofs.DeclaredObjects.{equal_token, semicolon_differs}
-use Rattle.cs_grammar.proofs.BlockItems.{Starts, with_star, with_name, pointers_start, starts_end_specs}
+use Rattle.cs_grammar.proofs.BlockItems.{Starts, pointers_start, starts_end_specs}
 use Rattle.cs_grammar.proofs.TypeNames.{tag_word}
 use Rattle.cs_grammar.proofs.SpecRows.{first_of, spec_starts, IsExactSpec}
 
@@ -338,7 +336,6 @@ tag_missing names room some is_struct next no_name no_brace = record {
   never = λ other after behind is shut near same. absurd (tag_never is_struct next no_name no_brace other after behind near same);
   further = λ told. absurd (false≢true told);
 }
-
 
 -- members behind what stands before them
 pub member_list_law : (names : Names) → Lawful (Separated (MemberDeclarators names) semicolon)

@@ -1,32 +1,28 @@
 -- Declarators: their pointers, their name and their bounds. For the contracts of every parser of declarations.
-use Rattle.std.proofs.Common.{◌≡◌, ℕ, suc, ◌+◌, ◌-◌, ◌<◌, ◌≤◌, max, ◌⊎◌, inl, inr, Bool, true, false, ◌||◌, IsTrue, List, [], ◌∷◌, ◌++◌, Option, Some, None, MatchOption, refl, sym, ap, ◌∙◌, subst, arith, append_assoc, append-nil}
+use Rattle.std.proofs.Common.{◌≡◌, ℕ, ◌≤◌, ◌⊎◌, inl, inr, Bool, true, false, IsTrue, List, [], ◌∷◌, ◌++◌, Option, Some, None, refl, sym, ap, ◌∙◌, subst, arith, append_assoc, append-nil}
 use Rattle.std.proofs.lemmas.Bool.{false≢true}
 use Rattle.cs_ast.specs.declared.token.TokenKind.{TokenKind}
 use Rattle.cs_ast.specs.declared.token.TokenKind.TheVariants as token
 use Rattle.cs_ast.specs.declared.token.Keyword.TheVariants as keyword
-use Rattle.cs_ast.specs.declared.token.Mark.{Mark}
 use Rattle.cs_ast.specs.declared.token.Mark.TheVariants as mark
 use Rattle.cs_ast.specs.declared.raw.written_type.PointerWord.{PointerWord}
 use Rattle.cs_ast.specs.declared.raw.written_type.PointerWord.TheVariants as pointer
 use Rattle.cs_ast.specs.RawTree.{Written}
 use Rattle.cs_ast.specs.RawDeclarations.{Declarator}
-use Rattle.cs_ast.specs.RawFileHeight.{height_of_some, highest_by, declarator_height}
-use Rattle.cs_grammar.specs.TypeWords.{Names, is_among, is_pointer}
+use Rattle.cs_grammar.specs.TypeWords.{Names, is_pointer}
 use Rattle.cs_grammar.specs.Text.{Kinds, text, pointers_text}
-use Rattle.cs_grammar.specs.Phrases.{IsPhrase}
 use Rattle.cs_grammar.specs.FileText.{some_text, brackets_text, declarator_text}
-use Rattle.cs_grammar.specs.FilePhrases.{AreAll, IsFree, IsDeclaratorOf}
 use Rattle.cs_grammar.specs.DeclarationClasses.{HasNoBracket, Bounds, Brackets, Declarators}
-use Rattle.cs_grammar.specs.Parsing.{Class, Expressions, Near, IsOver, Begins, BeginsLow, Took, Refused, Exactly}
-use Rattle.cs_grammar.specs.Composed.{Sequence, Behind, ClosedSome}
+use Rattle.cs_grammar.specs.Parsing.{Near, IsOver, Took, Refused, Exactly}
+use Rattle.cs_grammar.specs.Composed.{ClosedSome}
 use Rattle.cs_grammar.proofs.Texts.{pointers_append}
 use Rattle.cs_grammar.proofs.FileTexts.{brackets_append, declarator_append}
-use Rattle.cs_grammar.proofs.Holes.{Lawful, splits, Tail, tail_refused, tail_took, exact_took}
-use Rattle.cs_grammar.proofs.Tails.{Least, Production, tail_start, tail_then, tail_as}
+use Rattle.cs_grammar.proofs.Holes.{Lawful, Tail, tail_refused, tail_took}
+use Rattle.cs_grammar.proofs.Tails.{Least, tail_start, tail_then, tail_as}
 use Rattle.cs_grammar.proofs.Sequences.{behind_law, behind_tail}
 use Rattle.cs_grammar.proofs.Optional.{some_law}
-use Rattle.cs_grammar.proofs.Rows.{Listing, row_tail, row_refused}
-use Rattle.cs_grammar.proofs.Pairs.{Single, single_refused, single_took}
+use Rattle.cs_grammar.proofs.Rows.{Listing, row_refused}
+use Rattle.cs_grammar.proofs.Pairs.{Single}
 use Rattle.cs_grammar.proofs.StatementParts.{nought, expression_height}
 
 pub bracket_form : (names : Names) (MayLack : Type 0) (list : List (Option Written)) → (Brackets names MayLack).Is list → (list ≡ []) ⊎ ((c : Option Written) × (rest : List (Option Written)) × (list ≡ c ∷ rest) × (Bounds names MayLack).Is c × (Brackets names MayLack).Is rest)

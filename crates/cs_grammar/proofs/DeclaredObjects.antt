@@ -1,18 +1,17 @@
 -- Declared objects: a declarator, and what stands behind its `=`. For the contracts of every parser of declarations.
-use Rattle.std.proofs.Common.{◌≡◌, ℕ, suc, ◌+◌, ◌-◌, ◌<◌, ◌≤◌, max, ◌⊎◌, inl, inr, Bool, true, false, List, [], ◌∷◌, ◌++◌, Option, Some, None, MatchOption, refl, sym, ap, ◌∙◌, subst, arith, append_assoc, append-nil}
+use Rattle.std.proofs.Common.{◌≡◌, ℕ, ◌+◌, ◌<◌, ◌≤◌, ◌⊎◌, inl, inr, Bool, true, [], ◌∷◌, ◌++◌, Option, Some, None, MatchOption, refl, sym, ap, ◌∙◌, subst, arith}
 use Rattle.std.proofs.lemmas.Bool.{false≢true}
 use Rattle.cs_ast.specs.declared.token.TokenKind.{TokenKind}
 use Rattle.cs_ast.specs.declared.token.TokenKind.TheVariants as token
-use Rattle.cs_ast.specs.declared.token.Mark.{Mark}
 use Rattle.cs_ast.specs.declared.token.Mark.TheVariants as mark
 use Rattle.cs_ast.specs.RawDeclarations.{Declarator, Declared, Initial, Single as One}
-use Rattle.cs_ast.specs.RawFileHeight.{declarator_height, declared_height, initial_height}
+use Rattle.cs_ast.specs.RawFileHeight.{declarator_height, declared_height}
 use Rattle.cs_grammar.specs.TypeWords.{Names}
 use Rattle.cs_grammar.specs.Text.{Kinds, text}
-use Rattle.cs_grammar.specs.FileText.{declarator_text, first_value_text, initial_text, declared_text}
+use Rattle.cs_grammar.specs.FileText.{declarator_text, first_value_text, initial_text}
 use Rattle.cs_grammar.specs.FilePhrases.{IsDeclarator, IsInitial, IsDeclared}
 use Rattle.cs_grammar.specs.DeclarationClasses.{Follows, HasNoBracket, ObjectDeclarators, ends_declared, Objects, ends_value, Values}
-use Rattle.cs_grammar.specs.Parsing.{Class, Near, IsOver, Begins, BeginsLow, Took, Refused, Exactly}
+use Rattle.cs_grammar.specs.Parsing.{Near, IsOver, Took, Refused}
 use Rattle.cs_grammar.proofs.FileTexts.{declarator_append, declared_append}
 use Rattle.cs_grammar.proofs.Holes.{Lawful, Tail, tail_refused, tail_took}
 use Rattle.cs_grammar.proofs.Tails.{Least}

@@ -1,26 +1,22 @@
 -- Returns of functions that read parts of files, and what has no room: for the contracts of every parser of files.
-use Rattle.std.proofs.Common.{◌≡◌, ℕ, suc, ◌+◌, ◌<◌, ◌≤◌, max, ◌⊎◌, inl, inr, Bool, true, false, ◌||◌, IsTrue, List, [], ◌∷◌, ◌++◌, Option, Some, None, MatchOption, refl, sym, ap, ◌∙◌, subst, arith, append_assoc, append-nil}
+use Rattle.std.proofs.Common.{◌≡◌, ℕ, ◌+◌, ◌≤◌, inl, inr, Bool, true, false, IsTrue, List, [], ◌∷◌, ◌++◌, refl, sym, ap, ◌∙◌, arith}
 use Rattle.std.proofs.lemmas.Bool.{false≢true}
 use Rattle.cs_ast.specs.declared.token.TokenKind.{TokenKind}
 use Rattle.cs_ast.specs.declared.token.TokenKind.TheVariants as token
-use Rattle.cs_ast.specs.declared.token.Keyword.{Keyword}
 use Rattle.cs_ast.specs.declared.token.Keyword.TheVariants as keyword
 use Rattle.cs_ast.specs.declared.token.Mark.TheVariants as mark
-use Rattle.cs_ast.specs.declared.raw.written_type.TypeWord.{TypeWord}
 use Rattle.cs_ast.specs.declared.raw.written_type.TypeWord.TheVariants as word
 use Rattle.cs_ast.specs.declared.raw.written_type.IntegerWord.TheVariants.{Char, Short, Int, Long, Signed, Unsigned}
 use Rattle.cs_ast.specs.declared.raw.written_type.PointerWord.{PointerWord}
 use Rattle.cs_ast.specs.declared.raw.written_type.PointerWord.TheVariants as pointer
-use Rattle.cs_ast.specs.RawDeclarations.{Declared, Spec, Static, Plain, StructBody, EnumBody, Specs, NoSpec, MoreSpecs, Members, NoMember}
-use Rattle.cs_ast.specs.RawStatements.{External, TypeAlone}
-use Rattle.cs_ast.specs.RawFileHeight.{spec_height, specs_height, declared_height, highest_by}
-use Rattle.cs_grammar.specs.TypeWords.{Names, is_among, is_pointer, is_type}
+use Rattle.cs_ast.specs.RawDeclarations.{Declared, Spec, Static, Plain, StructBody, EnumBody, Specs, NoSpec, MoreSpecs}
+use Rattle.cs_grammar.specs.TypeWords.{Names, is_pointer}
 use Rattle.cs_grammar.specs.Text.{Kinds, pointers_text}
-use Rattle.cs_grammar.specs.FileText.{brackets_text, first_value_text, declared_text, each_behind_comma, with_commas, specs_text, external_text}
-use Rattle.cs_grammar.specs.FilePhrases.{AreAll, IsSomeList, IsFree, IsDeclared, AreSpecs, IsExternal}
+use Rattle.cs_grammar.specs.FileText.{declared_text, with_commas, specs_text}
+use Rattle.cs_grammar.specs.FilePhrases.{IsFree, AreSpecs}
 use Rattle.cs_grammar.specs.DeclarationClasses.{Objects as ObjectClass, FileSpecs, Externals}
 use Rattle.cs_grammar.specs.FileParts.{objects, ExternalRests, external_from}
-use Rattle.cs_grammar.specs.Parsing.{Class, Near, IsOver, Begins, BeginsLow, Took, Refused, Exactly}
+use Rattle.cs_grammar.specs.Parsing.{Near, Took, Refused}
 use Rattle.cs_grammar.specs.Composed.{Sequence, Separated}
 use Rattle.cs_grammar.proofs.Texts.{pointers_append}
 use Rattle.cs_grammar.proofs.BlockItems.{objects_start}
@@ -29,7 +25,7 @@ use Rattle.cs_grammar.proofs.Pairs.{single_refused, single_took}
 use Rattle.cs_grammar.proofs.Statements.{open_parenthesis, semicolon}
 use Rattle.cs_grammar.proofs.Declarators.{pointers_name}
 use Rattle.cs_grammar.proofs.SpecRows.{first_of, spec_starts}
-use Rattle.cs_grammar.proofs.FileRules.{starts_semicolon, no_objects, HasNoTypedef, IsObjects, ExternalParts, external_single, objects_single, external_has}
+use Rattle.cs_grammar.proofs.FileRules.{starts_semicolon, no_objects, HasNoTypedef, ExternalParts, external_single, objects_single}
 
 -- the token begins what stands before declarators outside blocks, if a name is a typedef name
 abbrev pub begins_spec : TokenKind → Bool

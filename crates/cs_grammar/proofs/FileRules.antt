@@ -1,21 +1,16 @@
 -- The parts of a file, and files: for the contracts of every parser of files.
-use Rattle.std.proofs.Common.{◌≡◌, ℕ, suc, ◌+◌, ◌<◌, ◌≤◌, max, ◌⊎◌, inl, inr, Bool, true, false, IsTrue, List, [], ◌∷◌, ◌++◌, Option, Some, None, MatchOption, refl, sym, ap, ◌∙◌, subst, arith, append_assoc, append-nil}
+use Rattle.std.proofs.Common.{◌≡◌, ℕ, ◌+◌, ◌<◌, ◌≤◌, max, ◌⊎◌, inl, inr, Bool, true, false, IsTrue, List, [], ◌∷◌, ◌++◌, Option, Some, None, refl, sym, ap, ◌∙◌, subst, arith, append_assoc, append-nil}
 use Rattle.std.proofs.lemmas.Bool.{false≢true}
 use Rattle.cs_ast.specs.declared.token.TokenKind.{TokenKind}
 use Rattle.cs_ast.specs.declared.token.TokenKind.TheVariants as token
-use Rattle.cs_ast.specs.declared.token.Keyword.{Keyword}
 use Rattle.cs_ast.specs.declared.token.Keyword.TheVariants as keyword
-use Rattle.cs_ast.specs.declared.token.Mark.{Mark}
-use Rattle.cs_ast.specs.declared.token.Mark.TheVariants as mark
-use Rattle.cs_ast.specs.declared.raw.written_type.TypeWord.{TypeWord}
 use Rattle.cs_ast.specs.declared.raw.written_type.TypeWord.TheVariants as word
 use Rattle.cs_ast.specs.declared.raw.written_type.IntegerWord.TheVariants.{Char, Short, Int, Long, Signed, Unsigned}
 use Rattle.cs_ast.specs.declared.raw.written_type.PointerWord.{PointerWord}
-use Rattle.cs_ast.specs.declared.raw.written_type.PointerWord.TheVariants as pointer
 use Rattle.cs_ast.specs.RawTree.{Written}
-use Rattle.cs_ast.specs.RawDeclarations.{Declarator, Initial, Declared, Spec, Static, Plain, StructBody, EnumBody, Specs, NoSpec, MoreSpecs, Parameters, Head}
-use Rattle.cs_ast.specs.RawStatements.{Items, NoItem, External, TypeAlone, Typedef, Objects, Function, Definition}
-use Rattle.cs_ast.specs.RawFileHeight.{highest_by, specs_height, declared_height, declarator_height, head_height, items_height, external_height}
+use Rattle.cs_ast.specs.RawDeclarations.{Declarator, Initial, Declared, Spec, Static, Plain, StructBody, EnumBody, Specs, NoSpec, MoreSpecs, Head}
+use Rattle.cs_ast.specs.RawStatements.{Items, External, TypeAlone, Typedef, Objects, Function, Definition}
+use Rattle.cs_ast.specs.RawFileHeight.{highest_by, specs_height, head_height, external_height}
 use Rattle.cs_grammar.specs.TypeWords.{Names, is_pointer}
 use Rattle.cs_grammar.specs.Text.{Kinds, pointers_text}
 use Rattle.cs_grammar.specs.FileText.{brackets_text, declarator_text, first_value_text, declared_text, each_behind_comma, with_commas, specs_text, parameters_text, head_text, items_text, external_text, externals_text, file_text}
@@ -23,25 +18,23 @@ use Rattle.cs_grammar.specs.FilePhrases.{AreAll, IsSomeList, IsFree, IsDeclarato
 use Rattle.cs_grammar.specs.DeclarationClasses.{Follows, ends_specs, ObjectDeclarators, Objects as ObjectClass, FileSpecs, Heads, Externals}
 use Rattle.cs_grammar.specs.FileClasses.{BlockRows}
 use Rattle.cs_grammar.specs.FileParts.{ExternalRest, no_name, objects, function, definition, rest_text, rest_height, IsRest, ExternalRests, external_from, end_text, end_height, IsEnd, FunctionEnds, FilesFrom}
-use Rattle.cs_grammar.specs.Parsing.{Class, Near, IsOver, Begins, BeginsLow, Took, Refused, Exactly}
+use Rattle.cs_grammar.specs.Parsing.{Near, IsOver, BeginsLow, Refused, Exactly}
 use Rattle.cs_grammar.specs.Composed.{Sequence, Separated}
 use Rattle.cs_grammar.proofs.Texts.{pointers_append}
-use Rattle.cs_grammar.proofs.FileTexts.{specs_append, declarator_append, declared_append, with_commas_append, head_append, items_append, external_append, externals_append}
-use Rattle.cs_grammar.proofs.Holes.{Lawful, splits, Tail, tail_refused, tail_took, exact_took}
-use Rattle.cs_grammar.proofs.Tails.{Least, Production, tail_start, tail_then, tail_as, none_refused, full_refused}
+use Rattle.cs_grammar.proofs.FileTexts.{declared_append, with_commas_append, head_append, items_append, external_append, externals_append}
+use Rattle.cs_grammar.proofs.Holes.{Lawful, Tail}
+use Rattle.cs_grammar.proofs.Tails.{Least, Production, tail_start, tail_then, tail_as, none_refused}
 use Rattle.cs_grammar.proofs.Sequences.{Joins, sequence_law, sequence_least}
 use Rattle.cs_grammar.proofs.Rows.{Separates, separated_law, separated_least}
-use Rattle.cs_grammar.proofs.Pairs.{Pair, Single, single_refused, single_took}
+use Rattle.cs_grammar.proofs.Pairs.{Pair, Single}
 use Rattle.cs_grammar.proofs.Statements.{open_parenthesis, close_parenthesis, open_brace, close_brace, semicolon}
 use Rattle.cs_grammar.proofs.StatementParts.{block_rows_law, block_rows_least}
 use Rattle.cs_grammar.proofs.FreshNames.{fresh, fresh_free}
 use Rattle.cs_grammar.proofs.Declarators.{pointers_name, declarators_law, declarators_least}
-use Rattle.cs_grammar.proofs.DeclaredObjects.{objects_law, objects_least, semicolon_differs}
+use Rattle.cs_grammar.proofs.DeclaredObjects.{semicolon_differs}
 use Rattle.cs_grammar.proofs.BlockItems.{Starts, with_star, with_name, pointers_start, objects_start, starts_end_specs, object_list_law, object_list_least}
 use Rattle.cs_grammar.proofs.SpecRows.{first_of, spec_starts}
-use Rattle.cs_grammar.proofs.Bodies.{file_specs_law, file_specs_least, file_specs_height, specs_no_mark}
-use Rattle.cs_grammar.proofs.HeadRules.{heads_law}
-
+use Rattle.cs_grammar.proofs.Bodies.{file_specs_law, file_specs_least}
 
 spec_no_typedef : (s : Spec) → first_of s ≡ token.Keyword keyword.Typedef → ⊥
 spec_no_typedef Static e = cc
@@ -244,7 +237,6 @@ no_objects (d ∷ ds) after ps n more some same =
     let k = pointers_name d.declarator.pointers ps d.declarator.name n (brackets_text d.declarator.bounds (first_value_text d.initial rest)) (open_parenthesis ∷ more) same in
     brackets_no_parenthesis d.declarator.bounds (first_value_text d.initial rest) more
     (λ m e. value_no_parenthesis d.initial rest m (λ m' e'. objects_no_parenthesis ds after m' e') e) k.2
-
 
 -- the head of a function was refused behind its name and its parenthesis
 heads_begun : (names : Names) (room : ℕ) (front : Kinds) → BeginsLow (Heads names) room front → BeginsLow (ExternalRests names) room front
@@ -532,8 +524,11 @@ rest_ends names (e ∷ es) is same = absurd (external_has names e (externals_tex
 pub file_took : (names : Names) (room : ℕ) (done : List External) → FileSoFar names room done → IsFile [] done × AreLow room done × ((file : List External) → IsFile [] file → file_text file ≡ file_text done → file ≡ done)
 file_took names room done so_far =
     let is = subst (IsFile []) (append-nil done) (so_far.is_phrase [] tt) in
-    let low = subst (λ (x : List External). highest_by external_height x ≤ room) (append-nil done) (so_far.low [] tt (omega arith)) in
-    (is, are_low room done low, λ file is' same.
-    let f = so_far.invert file [] [] is' refl tt (same ∙ sym (append-nil (externals_text done []))) in
-    let e = rest_ends names f.0 f.2 (sym f.3) in
-    f.1 ∙ ap (λ (x : List External). done ++ x) e ∙ append-nil done)
+    let low = subst (λ (x : List External). highest_by external_height x ≤ room) (append-nil done) (so_far.low [] tt (omega arith)) in (
+      is,
+      are_low room done low,
+      λ file is' same.
+          let f = so_far.invert file [] [] is' refl tt (same ∙ sym (append-nil (externals_text done []))) in
+          let e = rest_ends names f.0 f.2 (sym f.3) in
+          f.1 ∙ ap (λ (x : List External). done ++ x) e ∙ append-nil done,
+    )

@@ -1,11 +1,10 @@
 -- Rows that grow at their end: for the loops of every parser of declarations, statements and files.
-use Rattle.std.proofs.Common.{◌≡◌, ℕ, ◌+◌, ◌<◌, ◌≤◌, max, ◌⊎◌, inl, inr, Bool, true, false, List, [], ◌∷◌, ◌++◌, refl, sym, ap, ◌∙◌, subst, arith}
-use Rattle.std.proofs.lemmas.Bool.{false≢true}
+use Rattle.std.proofs.Common.{◌≡◌, ℕ, Bool, true, false, [], ◌∷◌, ◌++◌, sym, ◌∙◌, subst}
 use Rattle.cs_ast.specs.declared.token.TokenKind.{TokenKind}
 use Rattle.cs_grammar.specs.Text.{Kinds}
 use Rattle.cs_grammar.specs.Parsing.{Class, Near, Took, Refused, Exactly}
 use Rattle.cs_grammar.proofs.Holes.{Lawful, splits, Tail, tail_refused, tail_took, exact_took}
-use Rattle.cs_grammar.proofs.Tails.{first_or, near_first, tail_start, tail_then, tail_as}
+use Rattle.cs_grammar.proofs.Tails.{tail_start, tail_then, tail_as}
 use Rattle.cs_grammar.proofs.Rows.{Listing, row_tail, row_refused}
 
 -- a row behind another one, and the tokens of a row without what closes it

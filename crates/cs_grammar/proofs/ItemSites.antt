@@ -1,33 +1,31 @@
 -- Returns of functions that read what stands in a block or in a `switch`: for the contracts of every parser of statements.
-use Rattle.std.proofs.Common.{◌≡◌, ℕ, suc, ◌+◌, ◌-◌, ◌<◌, ◌≤◌, max, ◌⊎◌, inl, inr, Bool, true, false, ◌||◌, List, [], ◌∷◌, ◌++◌, Option, Some, None, refl, sym, ap, ◌∙◌, subst, arith}
-use Rattle.std.proofs.lemmas.Bool.{false≢true, both_ways, not-true, or_cases}
+use Rattle.std.proofs.Common.{◌≡◌, ℕ, ◌+◌, ◌<◌, ◌≤◌, ◌⊎◌, inl, inr, Bool, true, false, List, [], ◌∷◌, ◌++◌, refl, sym, ap, ◌∙◌, arith}
+use Rattle.std.proofs.lemmas.Bool.{false≢true, both_ways, or_cases}
 use Rattle.cs_ast.specs.declared.token.TokenKind.{TokenKind}
 use Rattle.cs_ast.specs.declared.token.TokenKind.TheVariants as token
 use Rattle.cs_ast.specs.declared.token.Keyword.{Keyword}
 use Rattle.cs_ast.specs.declared.token.Keyword.TheVariants as keyword
-use Rattle.cs_ast.specs.declared.token.Mark.TheVariants as mark
 use Rattle.cs_ast.specs.declared.raw.written_type.TypeWord.{TypeWord}
 use Rattle.cs_ast.specs.declared.raw.written_type.TypeWord.TheVariants as word_of
 use Rattle.cs_ast.specs.declared.raw.written_type.IntegerWord.TheVariants.{Char, Short, Int, Long, Signed, Unsigned}
 use Rattle.cs_ast.specs.RawDeclarations.{Declared, Specs}
-use Rattle.cs_ast.specs.RawStatements.{Sentence, Nothing, Item, Declares, Does, Items, NoItem, SwitchItem, Case, Default, Inside}
-use Rattle.cs_ast.specs.RawFileHeight.{sentence_height, item_height}
+use Rattle.cs_ast.specs.RawStatements.{Sentence, Item, Declares, Does, Inside}
+use Rattle.cs_ast.specs.RawFileHeight.{item_height}
 use Rattle.cs_grammar.specs.TypeWords.{Names, is_among, is_type}
 use Rattle.cs_grammar.specs.Text.{Kinds, words_text, type_word_text}
 use Rattle.cs_grammar.specs.FirstTokens.{begins_type, keyword_begins_type}
-use Rattle.cs_grammar.specs.FileFirstTokens.{begins_sentence, begins_item, is_case, begins_switch_part}
-use Rattle.cs_grammar.specs.FileText.{declared_text, with_commas, specs_text, declaration_text, sentence_text, item_text, switch_item_text}
-use Rattle.cs_grammar.specs.FilePhrases.{AreAll, IsSomeList, IsDeclared, AreBlockSpecs, IsSentence, IsItem, IsSwitchItem}
+use Rattle.cs_grammar.specs.FileFirstTokens.{begins_sentence, begins_item, is_case}
+use Rattle.cs_grammar.specs.FileText.{declared_text, with_commas, specs_text, declaration_text, sentence_text, item_text}
+use Rattle.cs_grammar.specs.FilePhrases.{AreAll, IsSomeList, IsDeclared, AreBlockSpecs, IsSentence, IsItem}
 use Rattle.cs_grammar.specs.FileClasses.{Sentences, BlockItems, SwitchParts}
-use Rattle.cs_grammar.specs.Parsing.{Class, Near, IsOver, Begins, BeginsLow, Took, Refused, Exactly}
-use Rattle.cs_grammar.proofs.FileBeginnings.{specs_of, plain_text, block_words, plain_are, block_specs_begin, sentence_begins, item_begins, switch_part_begins, some_first, first_passes}
-use Rattle.cs_grammar.proofs.Tails.{first_or, near_first, full_refused, none_refused}
+use Rattle.cs_grammar.specs.Parsing.{Near, Begins, BeginsLow, Took, Refused}
+use Rattle.cs_grammar.proofs.FileBeginnings.{specs_of, plain_text, block_words, plain_are, block_specs_begin, sentence_begins, item_begins, some_first, first_passes}
+use Rattle.cs_grammar.proofs.Tails.{first_or, full_refused, none_refused}
 use Rattle.cs_grammar.proofs.Pairs.{single_refused, single_took}
 use Rattle.cs_grammar.proofs.Statements.{semicolon, colon, word}
-use Rattle.cs_grammar.proofs.StatementParts.{sentence_some}
 use Rattle.cs_grammar.proofs.StatementFirsts.{begins_low, two_high, sentence_example, colon_near}
-use Rattle.cs_grammar.proofs.DeclaredObjects.{least_object, least_is, objects_below}
-use Rattle.cs_grammar.proofs.BlockItems.{IsDeclaration, IsStatement, HasNoCase, BlockDeclarations, Declaration, declares_single, does_single, inside_single, both_begin, name_sentence, objects_start, declared_no_colon, block_specs_height, item_some, items_least}
+use Rattle.cs_grammar.proofs.DeclaredObjects.{least_object, least_is}
+use Rattle.cs_grammar.proofs.BlockItems.{IsDeclaration, IsStatement, HasNoCase, BlockDeclarations, Declaration, declares_single, does_single, inside_single, both_begin, name_sentence, objects_start, declared_no_colon, block_specs_height, item_some}
 
 -- a type that begins with a token
 pub record TypeExample (names : Names) (t : TokenKind) : Type 0 where

@@ -1,6 +1,5 @@
 -- The roles of the tokens of a file run beside its tokens: each list is as long as the other.
-use Rattle.std.proofs.Common.{◌≡◌, ℕ, suc, ◌+◌, Bool, true, false, List, [], ◌∷◌, ◌++◌, Option, Some, None, length, refl, sym, ap, ◌∙◌, subst, arith}
-use Rattle.std.proofs.lemmas.List.{length-append}
+use Rattle.std.proofs.Common.{◌≡◌, ℕ, Bool, true, false, List, [], ◌∷◌, ◌++◌, Option, Some, None, length, refl, ap, ◌∙◌, subst, arith}
 use Rattle.cs_ast.specs.declared.token.TokenKind.{TokenKind}
 use Rattle.cs_ast.specs.declared.token.TokenKind.TheVariants as token
 use Rattle.cs_ast.specs.declared.token.Keyword.TheVariants as keyword
@@ -8,11 +7,11 @@ use Rattle.cs_ast.specs.declared.token.Mark.TheVariants as mark
 use Rattle.cs_ast.specs.declared.raw.written_type.TypeWord.{TypeWord}
 use Rattle.cs_ast.specs.declared.raw.written_type.PointerWord.{PointerWord}
 use Rattle.cs_ast.specs.RawTree.{Written, WrittenList, Named, Numeral, Character, Literal, Enclosed, Index, Call, Member, Arrow, StepBehind, StepBefore, Prefix, SizeOf, SizeOfType, Cast, Infix, Choice, Assign, Comma, End, More}
-use Rattle.cs_ast.specs.RawDeclarations.{Declarator, Constant, Spec, Static, Plain, StructBody, EnumBody, Specs, NoSpec, MoreSpecs, Members, NoMember, MoreMembers, Initial, Single, Listed, Initials, NoItem as NoInitial, MoreItems as MoreInitials, Declared, Parameter, Parameters, NoParameter, VoidAlone, ParameterList, Head}
+use Rattle.cs_ast.specs.RawDeclarations.{Spec, Static, Plain, StructBody, EnumBody, Specs, NoSpec, MoreSpecs, Members, NoMember, MoreMembers, Initial, Single, Listed, Initials, NoItem as NoInitial, MoreItems as MoreInitials, Declared, Parameters, NoParameter, VoidAlone, ParameterList, Head}
 use Rattle.cs_ast.specs.RawStatements.{First, NoFirst, FirstRuns, FirstDeclares, Sentence, Block, Nothing, Runs, If, IfElse, While, Do, For, Switch, Goto, Continue, Break, Return, Label, Item, Declares, Does, Items, NoItem, MoreItems, SwitchItem, Case, Default, Inside, SwitchItems, NoSwitchItem, MoreSwitchItems, External, TypeAlone, Typedef, Objects, Function, Definition}
-use Rattle.cs_grammar.specs.Marks.{step_mark, prefix_mark, infix_mark, assign_mark}
+use Rattle.cs_grammar.specs.Marks.{step_mark, infix_mark, assign_mark}
 use Rattle.cs_grammar.specs.Text.{Kinds, text, listed, behind_commas, bounds_text, words_text, pointers_text, type_word_text}
-use Rattle.cs_grammar.specs.FileText.{mark_text, word_text, name_text, some_text, comma_text, each_behind_comma, with_commas, brackets_text, declarator_text, value_text, constant_text, spec_text, specs_text, members_text, initial_text, initials_text, further_initials_text, first_value_text, declared_text, declaration_text, parameter_text, parameters_text, head_text, first_text, test_text, sentence_text, item_text, items_text, switch_item_text, switch_text, external_text, externals_text, file_text}
+use Rattle.cs_grammar.specs.FileText.{mark_text, word_text, name_text, some_text, comma_text, each_behind_comma, with_commas, brackets_text, declarator_text, value_text, constant_text, spec_text, specs_text, members_text, initial_text, initials_text, further_initials_text, first_value_text, declared_text, declaration_text, parameter_text, parameters_text, head_text, first_text, test_text, sentence_text, item_text, items_text, switch_item_text, switch_text, external_text, file_text}
 use Rattle.cs_grammar.specs.Roles.{Role, closes_type, in_expression, another, behind_member, declared_name, Roles, each, type_roles, roles, roles_listed, roles_behind_commas, roles_of_bounds, some_roles, comma_roles, each_behind, between, brackets_roles, declarator_roles, value_roles, constant_roles, spec_roles, specs_roles, members_roles, initial_roles, initials_roles, further_initials_roles, first_value_roles, declared_roles, declaration_roles, name_roles, parameter_roles, parameters_roles, head_roles, first_roles, test_roles, sentence_roles, item_roles, items_roles, switch_item_roles, switch_roles, external_roles, file_roles}
 use Rattle.cs_grammar.proofs.Texts.{word_append, words_append, pointers_append}
 use Rattle.cs_grammar.proofs.FileTexts.{name_append}

@@ -1,34 +1,33 @@
 -- Types with bodies for which there is no room, and words that go no further: for the contracts of every parser of declarations.
-use Rattle.std.proofs.Common.{◌≡◌, ℕ, suc, ◌+◌, ◌<◌, ◌≤◌, max, ◌⊎◌, inl, inr, Bool, true, false, ◌||◌, List, [], ◌∷◌, ◌++◌, Option, Some, None, refl, sym, ap, ◌∙◌, subst, arith, append-nil}
-use Rattle.std.proofs.lemmas.Bool.{false≢true, or_cases}
+use Rattle.std.proofs.Common.{◌≡◌, ℕ, ◌<◌, ◌≤◌, ◌⊎◌, inl, inr, Bool, true, false, List, [], ◌∷◌, ◌++◌, Option, Some, None, refl, sym, ap, ◌∙◌, subst, arith, append-nil}
+use Rattle.std.proofs.lemmas.Bool.{false≢true}
 use Rattle.cs_ast.specs.declared.token.TokenKind.{TokenKind}
 use Rattle.cs_ast.specs.declared.token.TokenKind.TheVariants as token
 use Rattle.cs_ast.specs.declared.token.Keyword.{Keyword}
 use Rattle.cs_ast.specs.declared.token.Keyword.TheVariants as keyword
-use Rattle.cs_ast.specs.declared.token.Mark.TheVariants as mark
 use Rattle.cs_ast.specs.declared.raw.written_type.TypeWord.{TypeWord}
 use Rattle.cs_ast.specs.declared.raw.written_type.TypeWord.TheVariants as word
 use Rattle.cs_ast.specs.declared.raw.written_type.IntegerWord.TheVariants.{Char, Short, Int, Long, Signed, Unsigned}
-use Rattle.cs_ast.specs.RawDeclarations.{Declarator, Constant, Spec, Static, Plain, StructBody, EnumBody, Specs, NoSpec, MoreSpecs, Members, NoMember, MoreMembers}
+use Rattle.cs_ast.specs.RawDeclarations.{Declarator, Constant, Spec, Static, Plain, StructBody, EnumBody, Specs, NoSpec, MoreSpecs}
 use Rattle.cs_ast.specs.RawFileHeight.{highest_by, constant_height, spec_height, specs_height}
-use Rattle.cs_grammar.specs.TypeWords.{Names, is_among, named_by, is_type}
-use Rattle.cs_grammar.specs.Text.{Kinds, words_text}
+use Rattle.cs_grammar.specs.TypeWords.{Names, named_by, is_type}
+use Rattle.cs_grammar.specs.Text.{Kinds}
 use Rattle.cs_grammar.specs.FirstTokens.{begins_type}
-use Rattle.cs_grammar.specs.FileText.{name_text, comma_text, with_commas, constant_text, declarator_text, spec_text, specs_text, members_text}
-use Rattle.cs_grammar.specs.FilePhrases.{AreAll, IsSomeList, IsConstant, words_of, HaveBodies, HasBody, AreMembers, AreSpecs}
-use Rattle.cs_grammar.specs.DeclarationClasses.{Follows, ends_specs, HasNoOpenBrace, IsQuiet, SpecElements, FileSpecs, MemberGroups, MemberRows}
-use Rattle.cs_grammar.specs.Parsing.{Class, Near, IsOver, Begins, BeginsLow, Took, Refused, Exactly}
+use Rattle.cs_grammar.specs.FileText.{name_text, with_commas, declarator_text, spec_text, specs_text}
+use Rattle.cs_grammar.specs.FilePhrases.{IsSomeList, words_of, HaveBodies, HasBody, AreSpecs}
+use Rattle.cs_grammar.specs.DeclarationClasses.{Follows, ends_specs, IsQuiet, SpecElements, FileSpecs, MemberGroups, MemberRows}
+use Rattle.cs_grammar.specs.Parsing.{Near, IsOver, BeginsLow, Took, Refused}
 use Rattle.cs_grammar.proofs.Tails.{none_refused, full_refused}
 use Rattle.cs_grammar.proofs.Rows.{row_refused}
 use Rattle.cs_grammar.proofs.FreshNames.{fresh, fresh_free}
 use Rattle.cs_grammar.proofs.FileBeginnings.{specs_of, plain_text}
 use Rattle.cs_grammar.proofs.Statements.{open_brace, close_brace, semicolon}
 use Rattle.cs_grammar.proofs.Declarators.{declarator_of}
-use Rattle.cs_grammar.proofs.ItemSites.{TypeExample, type_example}
+use Rattle.cs_grammar.proofs.ItemSites.{type_example}
 use Rattle.cs_grammar.proofs.FileTexts.{specs_append}
-use Rattle.cs_grammar.proofs.TypeNames.{first_token, MayGoOn, tag_word, IsStuckAt}
-use Rattle.cs_grammar.proofs.SpecRows.{first_of, spec_starts, spec_words, IsStuckAfter, joined_specs, joined_text, joined_words, joined_tall, specs_joined_none, rest_bodies, AreExact, exact_more, plain_exact, specs_go_on, quiet_plain, quiet_end, specs_no_brace, with_spec, with_is, tag_quiet, tag_spec_type}
-use Rattle.cs_grammar.proofs.Bodies.{ConstantRow, MemberGroup, opened, constant_of, constant_some, file_specs_height, member_listing, enum_is}
+use Rattle.cs_grammar.proofs.TypeNames.{MayGoOn, tag_word, IsStuckAt}
+use Rattle.cs_grammar.proofs.SpecRows.{first_of, spec_starts, IsStuckAfter, joined_specs, joined_text, joined_words, joined_tall, specs_joined_none, rest_bodies, AreExact, exact_more, plain_exact, specs_go_on, quiet_plain, quiet_end, specs_no_brace, with_spec, with_is, tag_quiet, tag_spec_type}
+use Rattle.cs_grammar.proofs.Bodies.{MemberGroup, constant_of, constant_some, file_specs_height, member_listing, enum_is}
 use Rattle.cs_grammar.proofs.ExternalSites.{begins_spec, first_begins}
 
 -- where no word goes on with others, none with a body and no `static` does, if the next token is no `static`

@@ -1,24 +1,22 @@
 -- What stands before declarators outside blocks, word by word: for the contracts of every parser of declarations.
-use Rattle.std.proofs.Common.{◌≡◌, ℕ, suc, ◌+◌, ◌<◌, ◌≤◌, max, ◌⊎◌, inl, inr, Bool, true, false, List, [], ◌∷◌, ◌++◌, Option, Some, None, refl, sym, ap, ◌∙◌, subst, arith, append_assoc, append-nil}
+use Rattle.std.proofs.Common.{◌≡◌, ℕ, ◌<◌, ◌≤◌, max, inl, inr, Bool, true, false, List, [], ◌∷◌, ◌++◌, Option, Some, None, refl, sym, ap, ◌∙◌, subst, arith, append_assoc, append-nil}
 use Rattle.std.proofs.lemmas.Bool.{false≢true, both_ways}
 use Rattle.cs_ast.specs.declared.token.TokenKind.{TokenKind}
 use Rattle.cs_ast.specs.declared.token.TokenKind.TheVariants as token
 use Rattle.cs_ast.specs.declared.token.Keyword.TheVariants as keyword
-use Rattle.cs_ast.specs.declared.token.Mark.{Mark}
 use Rattle.cs_ast.specs.declared.token.Mark.TheVariants as mark
 use Rattle.cs_ast.specs.declared.raw.written_type.TypeWord.{TypeWord}
 use Rattle.cs_ast.specs.declared.raw.written_type.TypeWord.TheVariants as word
 use Rattle.cs_ast.specs.declared.raw.written_type.IntegerWord.TheVariants.{Char, Short, Int, Long, Signed, Unsigned}
 use Rattle.cs_ast.specs.RawDeclarations.{Constant, Spec, Static, Plain, StructBody, EnumBody, Specs, NoSpec, MoreSpecs, Members, NoMember}
-use Rattle.cs_ast.specs.RawFileHeight.{spec_height, specs_height}
+use Rattle.cs_ast.specs.RawFileHeight.{specs_height}
 use Rattle.cs_grammar.specs.TypeWords.{Names, named_by, names_type, is_type}
 use Rattle.cs_grammar.specs.Text.{Kinds}
 use Rattle.cs_grammar.specs.FileText.{name_text, comma_text, with_commas, constant_text, members_text, spec_text, specs_text}
 use Rattle.cs_grammar.specs.FilePhrases.{words_of, HaveBodies, HasBody, AreSpecs}
 use Rattle.cs_grammar.specs.DeclarationClasses.{Follows, ends_specs, HasNoOpenBrace, IsQuiet, SpecElements, FileSpecs}
-use Rattle.cs_grammar.specs.Parsing.{Class, Near, IsOver, Begins, BeginsLow, Took, Refused, Exactly}
-use Rattle.cs_grammar.proofs.FileTexts.{spec_append, specs_append}
-use Rattle.cs_grammar.proofs.Holes.{Lawful}
+use Rattle.cs_grammar.specs.Parsing.{Near, IsOver, Took, Refused}
+use Rattle.cs_grammar.proofs.FileTexts.{specs_append}
 use Rattle.cs_grammar.proofs.WordsOfTypes.{named_more}
 use Rattle.cs_grammar.proofs.TypeNames.{first_token, MayGoOn, type_and_name, tag_word}
 

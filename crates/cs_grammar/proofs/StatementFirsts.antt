@@ -1,6 +1,6 @@
 -- Statements that are refused at their first token, expression statements, and names without a colon: for the contracts of every
 -- parser of statements.
-use Rattle.std.proofs.Common.{◌≡◌, ℕ, suc, ◌+◌, ◌-◌, ◌<◌, ◌≤◌, max, ◌⊎◌, inl, inr, Bool, true, false, not, List, [], ◌∷◌, ◌++◌, Option, Some, None, refl, sym, ap, ◌∙◌, subst, arith}
+use Rattle.std.proofs.Common.{◌≡◌, ℕ, ◌+◌, ◌<◌, ◌≤◌, inl, inr, Bool, true, false, List, [], ◌∷◌, ◌++◌, None, refl, sym, ap, ◌∙◌, subst, arith}
 use Rattle.std.proofs.lemmas.Bool.{false≢true, both_ways, not-true}
 use Rattle.cs_ast.specs.declared.token.TokenKind.{TokenKind}
 use Rattle.cs_ast.specs.declared.token.TokenKind.TheVariants as token
@@ -12,8 +12,7 @@ use Rattle.cs_ast.specs.declared.raw.operator.Step.TheVariants.{Up, Down}
 use Rattle.cs_ast.specs.declared.raw.operator.PrefixOp.{PrefixOp}
 use Rattle.cs_ast.specs.declared.raw.operator.PrefixOp.TheVariants as prefix
 use Rattle.cs_ast.specs.RawTree.{Written, Named, Numeral, Character, Literal, Enclosed, StepBefore, Prefix, SizeOf}
-use Rattle.cs_ast.specs.RawHeight.{height}
-use Rattle.cs_ast.specs.RawStatements.{First, NoFirst, Sentence, Block, Nothing, Runs, If, IfElse, While, Do, For, Switch, Goto, Continue, Break, Return, Label, NoItem, NoSwitchItem}
+use Rattle.cs_ast.specs.RawStatements.{NoFirst, Sentence, Block, Nothing, Runs, If, IfElse, While, Do, For, Switch, Goto, Continue, Break, Return, Label, NoItem, NoSwitchItem}
 use Rattle.cs_ast.specs.RawFileHeight.{sentence_height}
 use Rattle.cs_grammar.specs.TypeWords.{Names, is_among}
 use Rattle.cs_grammar.specs.Text.{Kinds, text}
@@ -24,12 +23,11 @@ use Rattle.cs_grammar.specs.FileFirstTokens.{begins_sentence, mark_begins_senten
 use Rattle.cs_grammar.specs.FileText.{some_text, sentence_text, items_text}
 use Rattle.cs_grammar.specs.FilePhrases.{IsSentence}
 use Rattle.cs_grammar.specs.FileClasses.{Sentences}
-use Rattle.cs_grammar.specs.Parsing.{Class, Expressions, Near, IsOver, Begins, BeginsLow, Took, Refused, Exactly}
+use Rattle.cs_grammar.specs.Parsing.{Expressions, Near, Begins, BeginsLow, Took, Refused}
 use Rattle.cs_grammar.proofs.Levels.{text_law}
 use Rattle.cs_grammar.proofs.Texts.{text_append}
-use Rattle.cs_grammar.proofs.Beginnings.{BeginsWith, expression_begins}
 use Rattle.cs_grammar.proofs.FileBeginnings.{sentence_begins, some_first, first_passes}
-use Rattle.cs_grammar.proofs.Holes.{Lawful, ClosedBy, closed_law, closed_refused, closed_wrong, closed_exact, exact_took}
+use Rattle.cs_grammar.proofs.Holes.{ClosedBy, closed_refused, closed_wrong, closed_exact, exact_took}
 use Rattle.cs_grammar.proofs.Tails.{full_refused, none_refused}
 use Rattle.cs_grammar.proofs.Pairs.{single_refused, single_took}
 use Rattle.cs_grammar.proofs.Statements.{semicolon, colon, word, runs_first, name_colon, begins_other_sentence, IsRun}

@@ -1,31 +1,28 @@
 -- Returns of functions that read statements: for the contracts of every parser of statements.
-use Rattle.std.proofs.Common.{◌≡◌, ℕ, suc, ◌+◌, ◌-◌, ◌<◌, ◌≤◌, max, ◌⊎◌, inl, inr, Bool, true, false, if◌then◌else◌, List, [], ◌∷◌, ◌++◌, Option, Some, None, refl, sym, ap, ◌∙◌, subst, arith}
+use Rattle.std.proofs.Common.{◌≡◌, ℕ, ◌+◌, ◌≤◌, inl, inr, Bool, true, false, [], ◌∷◌, ◌++◌, Option, Some, None, refl, sym, ap, ◌∙◌, subst, arith}
 use Rattle.std.proofs.lemmas.Bool.{false≢true, both_ways, false_from_ne_true}
 use Rattle.cs_ast.specs.declared.token.TokenKind.{TokenKind}
 use Rattle.cs_ast.specs.declared.token.TokenKind.TheVariants as token
 use Rattle.cs_ast.specs.declared.token.Keyword.TheVariants as keyword
-use Rattle.cs_ast.specs.declared.token.Mark.TheVariants as mark
 use Rattle.cs_ast.specs.RawTree.{Written}
-use Rattle.cs_ast.specs.RawHeight.{height}
-use Rattle.cs_ast.specs.RawStatements.{First, NoFirst, FirstRuns, FirstDeclares, Sentence, Block, Nothing, Runs, If, IfElse, While, Do, For, Switch, Goto, Continue, Break, Return, Label, Items, NoItem, SwitchItems, NoSwitchItem}
-use Rattle.cs_ast.specs.RawFileHeight.{sentence_height}
+use Rattle.cs_ast.specs.RawStatements.{First, Sentence, Block, Nothing, Runs, If, IfElse, While, Do, For, Switch, Goto, Continue, Break, Return, Label}
 use Rattle.cs_grammar.specs.TypeWords.{Names}
 use Rattle.cs_grammar.specs.Text.{Kinds, text}
 use Rattle.cs_grammar.specs.Phrases.{IsPhrase}
 use Rattle.cs_grammar.specs.FileText.{test_text, some_text, first_text, sentence_text}
 use Rattle.cs_grammar.specs.FilePhrases.{is_open, IsSentence}
-use Rattle.cs_grammar.specs.FileClasses.{Tests, Firsts, Sentences, Branch, branch_text, branch_height, Branches, IsBranch, HasNoElse, BlockRows, SwitchRows, SwitchBodies}
-use Rattle.cs_grammar.specs.Parsing.{Class, Expressions, Near, IsOver, Begins, BeginsLow, Took, Refused, Exactly}
-use Rattle.cs_grammar.specs.Composed.{Sequence, Behind, ClosedSome}
+use Rattle.cs_grammar.specs.FileClasses.{Tests, Firsts, Sentences, Branch, branch_text, Branches, IsBranch, HasNoElse}
+use Rattle.cs_grammar.specs.Parsing.{Class, Expressions, Near, IsOver, Took, Refused, Exactly}
+use Rattle.cs_grammar.specs.Composed.{Sequence}
 use Rattle.cs_grammar.proofs.Levels.{text_law}
 use Rattle.cs_grammar.proofs.FileTexts.{sentence_append}
-use Rattle.cs_grammar.proofs.Holes.{Lawful, Tail, ClosedBy, Ended, closed_law, closed_refused, closed_wrong, closed_exact, exact_took, tail_refused, tail_took}
-use Rattle.cs_grammar.proofs.Tails.{Least, Production}
-use Rattle.cs_grammar.proofs.Sequences.{Joins, sequence_law, sequence_least, behind_law, behind_least, closed_least, behind_tail, behind_wrong, first_refused, exact_then_refused, exact_then_took, made_refused, made_took}
+use Rattle.cs_grammar.proofs.Holes.{Lawful, Tail, ClosedBy, closed_law, closed_refused, closed_wrong, closed_exact, tail_refused, tail_took}
+use Rattle.cs_grammar.proofs.Tails.{Least}
+use Rattle.cs_grammar.proofs.Sequences.{sequence_law, sequence_least, behind_law, behind_least, closed_least, behind_tail, behind_wrong, first_refused, exact_then_refused, exact_then_took, made_refused, made_took}
 use Rattle.cs_grammar.proofs.Optional.{some_law, some_least}
-use Rattle.cs_grammar.proofs.Pairs.{Pair, HasRoom, pair_first_refused, pair_second_refused, pair_took}
-use Rattle.cs_grammar.proofs.Statements.{open_parenthesis, close_parenthesis, open_brace, close_brace, semicolon, colon, word, if_of, SomeBefore, ForParts, for_production}
-use Rattle.cs_grammar.proofs.StatementParts.{nought, sentence_some, expression_least, tests_least, sentences_least, branches_least, firsts_least, tests_law, sentences_law, branches_law, firsts_law, if_pair}
+use Rattle.cs_grammar.proofs.Pairs.{pair_took}
+use Rattle.cs_grammar.proofs.Statements.{open_parenthesis, close_parenthesis, semicolon, colon, word, SomeBefore, ForParts, for_production}
+use Rattle.cs_grammar.proofs.StatementParts.{sentence_some, expression_least, sentences_least, firsts_least, sentences_law, firsts_law, if_pair}
 
 -- an expression between parentheses: no parenthesis stands there
 pub tests_missing : (names : Names) (room : ℕ) (next : TokenKind) → (next ≡ open_parenthesis → ⊥) → Refused (Tests names) room [] next false

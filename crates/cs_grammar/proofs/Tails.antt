@@ -1,12 +1,12 @@
 -- What is left of a phrase behind its first tokens: for the contracts of every parser of declarations, statements and files. A `Tail`
 -- says that the phrases of C that begin with some tokens are made of those of D; tails are put one behind another, and at each
 -- return a refusal or a phrase of D gives one of C (`tail_refused`, `tail_took`).
-use Rattle.std.proofs.Common.{◌≡◌, ℕ, suc, ◌+◌, ◌-◌, ◌<◌, ◌≤◌, max, ◌⊎◌, inl, inr, Bool, true, false, List, [], ◌∷◌, ◌++◌, refl, sym, ap, ◌∙◌, subst, arith, append_assoc, append-nil}
+use Rattle.std.proofs.Common.{◌≡◌, ℕ, ◌+◌, ◌<◌, ◌≤◌, inl, inr, true, false, [], ◌∷◌, ◌++◌, refl, sym, ap, ◌∙◌, subst, arith, append_assoc, append-nil}
 use Rattle.std.proofs.lemmas.Bool.{false≢true}
 use Rattle.cs_ast.specs.declared.token.TokenKind.{TokenKind}
 use Rattle.cs_grammar.specs.Text.{Kinds}
-use Rattle.cs_grammar.specs.Parsing.{Class, Near, IsOver, Begins, BeginsLow, Took, Refused, Exactly}
-use Rattle.cs_grammar.proofs.Holes.{Lawful, splits, Tail, tail_refused, tail_took}
+use Rattle.cs_grammar.specs.Parsing.{Class, Near, Begins, Refused}
+use Rattle.cs_grammar.proofs.Holes.{Lawful, Tail}
 
 -- the first of these tokens, or the next one where there is none
 abbrev pub first_or : Kinds → TokenKind → TokenKind

@@ -1,16 +1,13 @@
 -- The words of a type before declarators: for the contracts of every parser of declarations.
-use Rattle.std.proofs.Common.{◌≡◌, ℕ, suc, ◌+◌, ◌<◌, ◌≤◌, max, ◌⊎◌, inl, inr, Bool, true, false, ◌&&◌, List, [], ◌∷◌, ◌++◌, Option, Some, None, refl, sym, ap, ◌∙◌, subst, arith, append_assoc, append-nil}
+use Rattle.std.proofs.Common.{◌≡◌, ℕ, ◌≤◌, inl, inr, Bool, true, false, ◌&&◌, List, [], ◌∷◌, ◌++◌, Option, Some, None, refl, sym, ap, ◌∙◌, subst, arith, append_assoc, append-nil}
 use Rattle.std.proofs.lemmas.Bool.{false≢true, both_ways, and_left, and_right}
 use Rattle.std.proofs.lemmas.List.Folds.{list_all-append}
 use Rattle.std.specs.List.{list_all}
 use Rattle.cs_ast.specs.declared.token.TokenKind.{TokenKind}
 use Rattle.cs_ast.specs.declared.token.TokenKind.TheVariants as token
-use Rattle.cs_ast.specs.declared.token.Keyword.{Keyword}
 use Rattle.cs_ast.specs.declared.token.Keyword.TheVariants as keyword
-use Rattle.cs_ast.specs.declared.token.Mark.TheVariants as mark
 use Rattle.cs_ast.specs.declared.raw.written_type.TypeWord.{TypeWord}
 use Rattle.cs_ast.specs.declared.raw.written_type.TypeWord.TheVariants as word
-use Rattle.cs_ast.specs.declared.raw.written_type.IntegerWord.{IntegerWord}
 use Rattle.cs_ast.specs.declared.raw.written_type.IntegerWord.TheVariants.{Char, Short, Int, Long, Signed, Unsigned}
 use Rattle.cs_ast.specs.RawDeclarations.{Specs}
 use Rattle.cs_ast.specs.RawFileHeight.{specs_height}
@@ -19,10 +16,10 @@ use Rattle.cs_grammar.specs.Text.{Kinds, words_text, type_word_text, integer_wor
 use Rattle.cs_grammar.specs.FileText.{specs_text}
 use Rattle.cs_grammar.specs.FilePhrases.{AreBlockSpecs}
 use Rattle.cs_grammar.specs.DeclarationClasses.{Follows, ends_specs, BlockSpecs}
-use Rattle.cs_grammar.specs.Parsing.{Class, Near, IsOver, Begins, BeginsLow, Took, Refused, Exactly}
+use Rattle.cs_grammar.specs.Parsing.{Near, Took, Refused}
 use Rattle.cs_grammar.proofs.Texts.{words_append}
 use Rattle.cs_grammar.proofs.WordsOfTypes.{named_more}
-use Rattle.cs_grammar.proofs.FileBeginnings.{specs_of, plain_text, PlainWords, block_words, plain_are}
+use Rattle.cs_grammar.proofs.FileBeginnings.{specs_of, plain_text, block_words, plain_are}
 use Rattle.cs_grammar.proofs.BlockItems.{plain_height}
 
 -- the first word of some tokens, and what stands behind it
