@@ -23,7 +23,7 @@ use Rattle.cs_grammar.specs.Composed.{Separated, Trailing}
 use Rattle.cs_grammar.proofs.Levels.{text_law}
 use Rattle.cs_grammar.proofs.FileTexts.{value_append, constant_append, specs_append, members_append, with_commas_append, declarator_append}
 use Rattle.cs_grammar.proofs.Holes.{Lawful, Tail, tail_refused, tail_took}
-use Rattle.cs_grammar.proofs.Tails.{Least, none_refused}
+use Rattle.cs_grammar.proofs.Tails.{Least, none_refused, near_other}
 use Rattle.cs_grammar.proofs.Rows.{Separates, Listing, separated_law, separated_least}
 use Rattle.cs_grammar.proofs.GrowingRows.{Growing}
 use Rattle.cs_grammar.proofs.TrailingRows.{NoneCloses, trailing_law}
@@ -76,13 +76,9 @@ pub constant_missing : (names : Names) (room : ℕ) (next : TokenKind) → ((n :
 constant_missing names room next none =
     none_refused (Constants names) room next (λ c after is same. cc) (λ c after more is same. let k : next ≡ token.Name c.name = cc in none c.name k is.free)
 
-no_equal_near : (next : TokenKind) (behind more : Kinds) → (next ≡ equal_token → ⊥) → Near next behind → equal_token ∷ more ≡ behind → ⊥
-no_equal_near next behind more other near same =
-    elim near [ inl none ↦ let z = same ∙ none in cc | inr m ↦ let z : equal_token ∷ more ≡ next ∷ m.0 = same ∙ m.1 in other cc ]
-
 lone_only : (next : TokenKind) → (next ≡ equal_token → ⊥) → (other : Option Written) (after behind : Kinds) → Near next behind → value_text other after ≡ behind → (other ≡ None) × (after ≡ behind)
 lone_only next none None after behind near same = (refl, same)
-lone_only next none (Some e) after behind near same = absurd (no_equal_near next behind (text e after) none near same)
+lone_only next none (Some e) after behind near same = absurd (near_other equal_token next behind (text e after) none near same)
 
 -- no `=` stands behind the name of a constant
 pub constant_alone : (names : Names) (room : ℕ) (next : TokenKind) → (next ≡ equal_token → ⊥) → Took (ConstantValues names) room None next false
@@ -288,13 +284,9 @@ name_or_brace next no_name no_brace None x behind near same =
 name_or_brace next no_name no_brace (Some t) x behind near same =
     elim near [ inl none ↦ let z = same ∙ none in cc | inr m ↦ let z : token.Name t ∷ (open_brace ∷ x) ≡ next ∷ m.0 = same ∙ m.1 in no_name t cc ]
 
-name_alone : (next : TokenKind) → ((n : List ℕ) → next ≡ token.Name n → ⊥) → (t : List ℕ) (x behind : Kinds) → Near next behind → token.Name t ∷ x ≡ behind → ⊥
-name_alone next no_name t x behind near same =
-    elim near [ inl none ↦ let z = same ∙ none in cc | inr m ↦ let z : token.Name t ∷ x ≡ next ∷ m.0 = same ∙ m.1 in no_name t cc ]
-
 word_tag : (is_struct : Bool) (next : TokenKind) → ((n : List ℕ) → next ≡ token.Name n → ⊥) → (w : TypeWord) (x behind : Kinds) → Near next behind → spec_text (Plain w) x ≡ tag_word is_struct ∷ behind → ⊥
-word_tag true next no_name (word.Struct t) x behind near same = name_alone next no_name t x behind near cc
-word_tag false next no_name (word.Enum t) x behind near same = name_alone next no_name t x behind near cc
+word_tag true next no_name (word.Struct t) x behind near same = near_other (token.Name t) next behind x (no_name t) near cc
+word_tag false next no_name (word.Enum t) x behind near same = near_other (token.Name t) next behind x (no_name t) near cc
 word_tag true next no_name (word.Enum t) x behind near same = cc
 word_tag false next no_name (word.Struct t) x behind near same = cc
 word_tag true next no_name word.Const x behind near same = cc

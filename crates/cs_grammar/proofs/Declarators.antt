@@ -18,7 +18,7 @@ use Rattle.cs_grammar.specs.Composed.{ClosedSome}
 use Rattle.cs_grammar.proofs.Texts.{pointers_append}
 use Rattle.cs_grammar.proofs.FileTexts.{brackets_append, declarator_append}
 use Rattle.cs_grammar.proofs.Holes.{Lawful, Tail, tail_refused, tail_took}
-use Rattle.cs_grammar.proofs.Tails.{Least, tail_start, tail_then, tail_as}
+use Rattle.cs_grammar.proofs.Tails.{Least, tail_start, tail_then, tail_as, near_other}
 use Rattle.cs_grammar.proofs.Sequences.{behind_law, behind_tail}
 use Rattle.cs_grammar.proofs.Optional.{some_law}
 use Rattle.cs_grammar.proofs.Rows.{Listing, row_refused}
@@ -102,13 +102,9 @@ brackets_refused names MayLack room done so_far front next deep r =
     tail_refused (Brackets names MayLack) (Brackets names MayLack) room room (brackets_text done []) (λ rest. done ++ rest) (λ rest. Unit {0}) (brackets_law names MayLack) so_far (token.Mark mark.OpenBracket ∷ front) next deep (λ behind near. tt)
     (row_refused (Brackets names MayLack) (Bounds names MayLack) room (bracket_listing names MayLack) (token.Mark mark.OpenBracket ∷ front) next deep (λ after behind shut near same. bracket_apart after (front ++ behind) shut (sym same)) r)
 
-no_bracket_near : (next : TokenKind) (behind more : Kinds) → (next ≡ token.Mark mark.OpenBracket → ⊥) → Near next behind → token.Mark mark.OpenBracket ∷ more ≡ behind → ⊥
-no_bracket_near next behind more other near same =
-    elim near [ inl none ↦ let z = same ∙ none in cc | inr m ↦ let z : token.Mark mark.OpenBracket ∷ more ≡ next ∷ m.0 = same ∙ m.1 in other cc ]
-
 end_only : (names : Names) (MayLack : Type 0) (next : TokenKind) → (next ≡ token.Mark mark.OpenBracket → ⊥) → (other : List (Option Written)) (after behind : Kinds) → Near next behind → brackets_text other after ≡ behind → (other ≡ []) × (after ≡ behind)
 end_only names MayLack next other' [] after behind near same = (refl, same)
-end_only names MayLack next other' (b ∷ bs) after behind near same = absurd (no_bracket_near next behind (some_text b (token.Mark mark.CloseBracket ∷ brackets_text bs after)) other' near same)
+end_only names MayLack next other' (b ∷ bs) after behind near same = absurd (near_other (token.Mark mark.OpenBracket) next behind (some_text b (token.Mark mark.CloseBracket ∷ brackets_text bs after)) other' near same)
 
 -- no bound stands there
 pub brackets_end : (names : Names) (MayLack : Type 0) (room : ℕ) (next : TokenKind) → (next ≡ token.Mark mark.OpenBracket → ⊥) → Took (Brackets names MayLack) room [] next false

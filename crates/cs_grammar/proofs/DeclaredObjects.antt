@@ -14,7 +14,7 @@ use Rattle.cs_grammar.specs.DeclarationClasses.{Follows, HasNoBracket, ObjectDec
 use Rattle.cs_grammar.specs.Parsing.{Near, IsOver, Took, Refused}
 use Rattle.cs_grammar.proofs.FileTexts.{declarator_append, declared_append}
 use Rattle.cs_grammar.proofs.Holes.{Lawful, Tail, tail_refused, tail_took}
-use Rattle.cs_grammar.proofs.Tails.{Least}
+use Rattle.cs_grammar.proofs.Tails.{Least, near_other}
 use Rattle.cs_grammar.proofs.Rows.{Separates}
 use Rattle.cs_grammar.proofs.FreshNames.{fresh, fresh_free}
 use Rattle.cs_grammar.proofs.Statements.{semicolon}
@@ -80,10 +80,6 @@ declared_refused names room front next deep r = record {
   further = λ told. let b = r.further told in record { phrase = declared_of b.phrase None; more = b.more; is_phrase = record { declarator = b.is_phrase; initial = tt }; spelled = b.spelled };
 }
 
-no_equal_near : (next : TokenKind) (behind more : Kinds) → (next ≡ equal_token → ⊥) → Near next behind → equal_token ∷ more ≡ behind → ⊥
-no_equal_near next behind more other near same =
-    elim near [ inl none ↦ let z = same ∙ none in cc | inr m ↦ let z : equal_token ∷ more ≡ next ∷ m.0 = same ∙ m.1 in other cc ]
-
 declared_only : (names : Names) (room : ℕ) (d : Declarator) (next : TokenKind) (deep : Bool) → Took (ObjectDeclarators names) room d next deep → (next ≡ equal_token → ⊥) → (c : Declarator) (o : Option Initial) (after behind : Kinds) → IsDeclarator names c → Follows ends_declared after → Near next behind → declarator_text c (first_value_text o after) ≡ declarator_text d behind → ((declared_of c o ≡ declared_of d None) × (after ≡ behind)) ⊎ IsOver (Objects names) room deep (declared_of c o) behind
 declared_only names room d next deep t other c None after behind is shut near same =
     elim (t.only c after behind is (ends_no_bracket after shut) near same) [
@@ -92,7 +88,7 @@ declared_only names room d next deep t other c None after behind is shut near sa
     ]
 declared_only names room d next deep t other c (Some i) after behind is shut near same =
     elim (t.only c (equal_token ∷ initial_text i after) behind is tt near same) [
-      | inl e ↦ absurd (no_equal_near next behind (initial_text i after) other near e.1)
+      | inl e ↦ absurd (near_other equal_token next behind (initial_text i after) other near e.1)
       | inr over ↦ inr (record { told = over.told; high = let h = over.high in omega (arith, h); onward = over.onward })
     ]
 

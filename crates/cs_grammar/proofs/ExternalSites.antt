@@ -25,7 +25,7 @@ use Rattle.cs_grammar.proofs.Pairs.{single_refused, single_took}
 use Rattle.cs_grammar.proofs.Statements.{open_parenthesis, semicolon}
 use Rattle.cs_grammar.proofs.Declarators.{pointers_name}
 use Rattle.cs_grammar.proofs.SpecRows.{first_of, spec_starts}
-use Rattle.cs_grammar.proofs.FileRules.{starts_semicolon, no_objects, HasNoTypedef, ExternalParts, external_single, objects_single}
+use Rattle.cs_grammar.proofs.FileRules.{starts_semicolon, no_objects, HasNoTypedef, ExternalParts, external_single, objects_single, specs_has}
 
 -- the token begins what stands before declarators outside blocks, if a name is a typedef name
 abbrev pub begins_spec : TokenKind → Bool
@@ -59,17 +59,13 @@ first_begins (Plain (word.Enum tag)) = refl
 first_begins (StructBody tag members) = refl
 first_begins (EnumBody tag constants comma) = refl
 
-specs_first : (names : Names) (specs : Specs) (x : Kinds) (t : TokenKind) (more : Kinds) → AreSpecs names specs → specs_text specs x ≡ t ∷ more → begins_spec t ≡ true
+pub specs_first : (names : Names) (specs : Specs) (x : Kinds) (t : TokenKind) (more : Kinds) → AreSpecs names specs → specs_text specs x ≡ t ∷ more → begins_spec t ≡ true
 specs_first names NoSpec x t more is same = absurd (false≢true is.0)
 specs_first names (MoreSpecs s others) x t more is same =
     let b = spec_starts s (specs_text others x) in
     let z : first_of s ∷ b.0 ≡ t ∷ more = sym b.1 ∙ same in
     let k : first_of s ≡ t = cc in
     ap begins_spec (sym k) ∙ first_begins s
-
-specs_has : (names : Names) (specs : Specs) (x : Kinds) → AreSpecs names specs → specs_text specs x ≡ [] → ⊥
-specs_has names NoSpec x is same = false≢true is.0
-specs_has names (MoreSpecs s others) x is same = let b = spec_starts s (specs_text others x) in let z : first_of s ∷ b.0 ≡ [] = sym b.1 ∙ same in cc
 
 -- nothing before declarators begins with the token
 pub specs_not : (names : Names) (room : ℕ) (next : TokenKind) → begins_spec next ≡ false → Refused (FileSpecs names) room [] next false

@@ -373,17 +373,17 @@ body_production names head named = record {
 abbrev pub body_single : (names : Names) (head : Head) → AreNamed head.parameters → Single (FunctionEnds names head) (BlockRows names) 1 (open_brace ∷ []) Some (λ rest. Unit {0})
 body_single names head named = record { production = body_production names head named; law = block_rows_law names; least = block_rows_least names }
 
--- a part of a file has some token
-specs_some_token : (names : Names) (specs : Specs) (x : Kinds) → AreSpecs names specs → specs_text specs x ≡ [] → ⊥
-specs_some_token names NoSpec x is same = false≢true is.0
-specs_some_token names (MoreSpecs s others) x is same = let b = spec_starts s (specs_text others x) in let z : first_of s ∷ b.0 ≡ [] = sym b.1 ∙ same in cc
+-- what stands before declarators, and so a part of a file, has some token
+pub specs_has : (names : Names) (specs : Specs) (x : Kinds) → AreSpecs names specs → specs_text specs x ≡ [] → ⊥
+specs_has names NoSpec x is same = false≢true is.0
+specs_has names (MoreSpecs s others) x is same = let b = spec_starts s (specs_text others x) in let z : first_of s ∷ b.0 ≡ [] = sym b.1 ∙ same in cc
 
 pub external_has : (names : Names) (e : External) (after : Kinds) → IsExternal names e → external_text e after ≡ [] → ⊥
-external_has names (TypeAlone specs) after is same = specs_some_token names specs (semicolon ∷ after) is same
+external_has names (TypeAlone specs) after is same = specs_has names specs (semicolon ∷ after) is same
 external_has names (Typedef specs list) after is same = cc
-external_has names (Objects specs list) after is same = specs_some_token names specs (with_commas declared_text list (semicolon ∷ after)) is.0 same
-external_has names (Function specs head) after is same = specs_some_token names specs (head_text head (semicolon ∷ after)) is.0 same
-external_has names (Definition specs head body) after is same = specs_some_token names specs (head_text head (open_brace ∷ items_text body (close_brace ∷ after))) is.0 same
+external_has names (Objects specs list) after is same = specs_has names specs (with_commas declared_text list (semicolon ∷ after)) is.0 same
+external_has names (Function specs head) after is same = specs_has names specs (head_text head (semicolon ∷ after)) is.0 same
+external_has names (Definition specs head body) after is same = specs_has names specs (head_text head (open_brace ∷ items_text body (close_brace ∷ after))) is.0 same
 
 pub files_law : (names : Names) → Lawful (FilesFrom names)
 files_law names = externals_append

@@ -20,10 +20,10 @@ use Rattle.cs_grammar.specs.FilePhrases.{AreAll, IsSomeList, IsDeclared, AreBloc
 use Rattle.cs_grammar.specs.FileClasses.{Sentences, BlockItems, SwitchParts}
 use Rattle.cs_grammar.specs.Parsing.{Near, Begins, BeginsLow, Took, Refused}
 use Rattle.cs_grammar.proofs.FileBeginnings.{specs_of, plain_text, block_words, plain_are, block_specs_begin, sentence_begins, item_begins, some_first, first_passes}
-use Rattle.cs_grammar.proofs.Tails.{first_or, full_refused, none_refused}
+use Rattle.cs_grammar.proofs.Tails.{first_or, full_refused, none_refused, near_other}
 use Rattle.cs_grammar.proofs.Pairs.{single_refused, single_took}
 use Rattle.cs_grammar.proofs.Statements.{semicolon, colon, word}
-use Rattle.cs_grammar.proofs.StatementFirsts.{begins_low, two_high, sentence_example, colon_near}
+use Rattle.cs_grammar.proofs.StatementFirsts.{begins_low, two_high, sentence_example}
 use Rattle.cs_grammar.proofs.DeclaredObjects.{least_object, least_is}
 use Rattle.cs_grammar.proofs.BlockItems.{IsDeclaration, IsStatement, HasNoCase, BlockDeclarations, Declaration, declares_single, does_single, inside_single, both_begin, name_sentence, objects_start, declared_no_colon, block_specs_height, item_some}
 
@@ -100,7 +100,7 @@ pub item_low : (names : Names) (room : ℕ) (next : TokenKind) → room < 2 → 
 item_low names room next full e l = full_refused (BlockItems names) room next (item_has names) (λ i after more is same. let h = item_two names i after next more is same l in omega (arith, h, full)) (item_example names next e)
 
 second_near : (fs behind more : Kinds) (next : TokenKind) → (first_or fs next ≡ colon → ⊥) → Near next behind → fs ++ behind ≡ colon ∷ more → ⊥
-second_near [] behind more next other near same = colon_near next behind more other near same
+second_near [] behind more next other near same = near_other colon next behind more other near (sym same)
 second_near (g ∷ gs) behind more next other near same = other cc
 
 -- tokens of a declaration that was refused

@@ -17,7 +17,7 @@ use Rattle.cs_grammar.specs.FileText.{name_text, with_commas, declarator_text, s
 use Rattle.cs_grammar.specs.FilePhrases.{IsSomeList, words_of, HaveBodies, HasBody, AreSpecs}
 use Rattle.cs_grammar.specs.DeclarationClasses.{Follows, ends_specs, IsQuiet, SpecElements, FileSpecs, MemberGroups, MemberRows}
 use Rattle.cs_grammar.specs.Parsing.{Near, IsOver, BeginsLow, Took, Refused}
-use Rattle.cs_grammar.proofs.Tails.{none_refused, full_refused}
+use Rattle.cs_grammar.proofs.Tails.{none_refused, full_refused, near_other}
 use Rattle.cs_grammar.proofs.Rows.{row_refused}
 use Rattle.cs_grammar.proofs.FreshNames.{fresh, fresh_free}
 use Rattle.cs_grammar.proofs.FileBeginnings.{specs_of, plain_text}
@@ -28,7 +28,8 @@ use Rattle.cs_grammar.proofs.FileTexts.{specs_append}
 use Rattle.cs_grammar.proofs.TypeNames.{MayGoOn, tag_word, IsStuckAt}
 use Rattle.cs_grammar.proofs.SpecRows.{first_of, spec_starts, IsStuckAfter, joined_specs, joined_text, joined_words, joined_tall, specs_joined_none, rest_bodies, AreExact, exact_more, plain_exact, specs_go_on, quiet_plain, quiet_end, specs_no_brace, with_spec, with_is, tag_quiet, tag_spec_type}
 use Rattle.cs_grammar.proofs.Bodies.{MemberGroup, constant_of, constant_some, file_specs_height, member_listing, enum_is}
-use Rattle.cs_grammar.proofs.ExternalSites.{begins_spec, first_begins}
+use Rattle.cs_grammar.proofs.ExternalSites.{begins_spec, first_begins, specs_first}
+use Rattle.cs_grammar.proofs.FileRules.{specs_has}
 
 -- where no word goes on with others, none with a body and no `static` does, if the next token is no `static`
 pub stuck_after : (names : Names) (ws : List TypeWord) (next : TokenKind) → IsStuckAt names ws next → (next ≡ token.Keyword keyword.Static → ⊥) → IsStuckAfter names ws next
@@ -105,11 +106,7 @@ specs_example names (token.LeftOut w) e = absurd cc
 specs_example names token.Attribute e = absurd cc
 
 group_has : (names : Names) (g : MemberGroup) (after : Kinds) → (MemberGroups names).Is g → (MemberGroups names).spell g after ≡ [] → ⊥
-group_has names (NoSpec, list) after is same = false≢true is.0.0
-group_has names (MoreSpecs s others, list) after is same =
-    let b = spec_starts s (specs_text others (with_commas declarator_text list (semicolon ∷ after))) in
-    let z : first_of s ∷ b.0 ≡ [] = sym b.1 ∙ same in
-    cc
+group_has names g after is same = specs_has names g.0 (with_commas declarator_text g.1 (semicolon ∷ after)) is.0 same
 
 -- a member of any name
 abbrev any_member : Declarator
@@ -127,26 +124,14 @@ group_full names room next full e =
       spelled = x.spelled (token.Name [] ∷ semicolon ∷ []);
     })
 
-no_brace_near : (next : TokenKind) (behind after : Kinds) → (next ≡ close_brace → ⊥) → Near next behind → close_brace ∷ after ≡ behind → ⊥
-no_brace_near next behind after other near same =
-    elim near [ inl none ↦ let z = same ∙ none in cc | inr m ↦ let z : close_brace ∷ after ≡ next ∷ m.0 = same ∙ m.1 in other cc ]
-
 -- the first token of a member was refused
 pub members_first_refused : (names : Names) (room : ℕ) (next : TokenKind) (deep : Bool) → (next ≡ close_brace → ⊥) → Refused (MemberGroups names) room [] next deep → Refused (MemberRows names) room [] next deep
-members_first_refused names room next deep other r = row_refused (MemberRows names) (MemberGroups names) room (member_listing names) [] next deep (λ after behind shut near same. no_brace_near next behind after other near same) r
-
-group_first : (names : Names) (specs : Specs) (x : Kinds) (t : TokenKind) (more : Kinds) → AreSpecs names specs → specs_text specs x ≡ t ∷ more → begins_spec t ≡ true
-group_first names NoSpec x t more is same = absurd (false≢true is.0)
-group_first names (MoreSpecs s others) x t more is same =
-    let b = spec_starts s (specs_text others x) in
-    let z : first_of s ∷ b.0 ≡ t ∷ more = sym b.1 ∙ same in
-    let k : first_of s ≡ t = cc in
-    ap begins_spec (sym k) ∙ first_begins s
+members_first_refused names room next deep other r = row_refused (MemberRows names) (MemberGroups names) room (member_listing names) [] next deep (λ after behind shut near same. near_other close_brace next behind after other near same) r
 
 -- no member begins with the token
 pub group_not : (names : Names) (room : ℕ) (next : TokenKind) → begins_spec next ≡ false → Refused (MemberGroups names) room [] next false
 group_not names room next none =
-    none_refused (MemberGroups names) room next (group_has names) (λ g after more is same. false≢true (sym none ∙ group_first names g.0 (with_commas declarator_text g.1 (semicolon ∷ after)) next more is.0 same))
+    none_refused (MemberGroups names) room next (group_has names) (λ g after more is same. false≢true (sym none ∙ specs_first names g.0 (with_commas declarator_text g.1 (semicolon ∷ after)) next more is.0 same))
 
 enum_high : (names : Names) (list : List Constant) → IsSomeList list → 1 ≤ highest_by constant_height list
 enum_high names [] some = absurd some

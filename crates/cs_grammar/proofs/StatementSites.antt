@@ -17,7 +17,7 @@ use Rattle.cs_grammar.specs.Composed.{Sequence}
 use Rattle.cs_grammar.proofs.Levels.{text_law}
 use Rattle.cs_grammar.proofs.FileTexts.{sentence_append}
 use Rattle.cs_grammar.proofs.Holes.{Lawful, Tail, ClosedBy, closed_law, closed_refused, closed_wrong, closed_exact, tail_refused, tail_took}
-use Rattle.cs_grammar.proofs.Tails.{Least}
+use Rattle.cs_grammar.proofs.Tails.{Least, near_other}
 use Rattle.cs_grammar.proofs.Sequences.{sequence_law, sequence_least, behind_law, behind_least, closed_least, behind_tail, behind_wrong, first_refused, exact_then_refused, exact_then_took, made_refused, made_took}
 use Rattle.cs_grammar.proofs.Optional.{some_law, some_least}
 use Rattle.cs_grammar.proofs.Pairs.{pair_took}
@@ -104,11 +104,6 @@ before_else names room s t =
       | inr over ↦ false≢true over.told
     ])
 
--- nothing behind a token that is no `else` begins with one
-pub no_else_near : (next : TokenKind) (behind : Kinds) → (next ≡ word keyword.Else → ⊥) → Near next behind → (more : Kinds) → word keyword.Else ∷ more ≡ behind → ⊥
-no_else_near next behind other near more same =
-    elim near [ inl none ↦ let z = same ∙ none in cc | inr m ↦ let z : word keyword.Else ∷ more ≡ next ∷ m.0 = same ∙ m.1 in other cc ]
-
 abbrev branch : Sentence → Option Sentence → Branch
 branch b o = (b, o)
 
@@ -139,7 +134,7 @@ alone_only names room s next t other b None after behind is shut near same =
     ]
 alone_only names room s next t other b (Some o) after behind is shut near same =
     elim (t.only b (word keyword.Else ∷ sentence_text o after) behind is.1 (λ k. both_ways (is_open b) is.0 k) near same) [
-      | inl e ↦ absurd (no_else_near next behind other near (sentence_text o after) e.1)
+      | inl e ↦ absurd (near_other (word keyword.Else) next behind (sentence_text o after) other near e.1)
       | inr over ↦ absurd (false≢true over.told)
     ]
 

@@ -18,6 +18,11 @@ pub near_first : (front : Kinds) (next first : TokenKind) → first_or front nex
 near_first [] next first e behind near = elim near [ inl none ↦ inl none | inr m ↦ inr (m.0, m.1 ∙ ap (λ (t : TokenKind). t ∷ m.0) e) ]
 near_first (t ∷ tokens) next first e behind near = inr (tokens ++ behind, ap (λ (x : TokenKind). x ∷ (tokens ++ behind)) e)
 
+-- what is near to the next token doesn't begin with another one
+pub near_other : (t next : TokenKind) (behind more : Kinds) → (next ≡ t → ⊥) → Near next behind → t ∷ more ≡ behind → ⊥
+near_other t next behind more other near same =
+    elim near [ inl none ↦ let z = same ∙ none in cc | inr m ↦ let z : t ∷ more ≡ next ∷ m.0 = same ∙ m.1 in other cc ]
+
 -- a tail of a tail
 pub tail_then : (C D E : Class) (room mid inner : ℕ) (before next : Kinds) (build : D.Tree → C.Tree) (build' : E.Tree → D.Tree) (Fit Fit' : Kinds → Type 0) → Lawful D → Tail C D room mid before build Fit → Tail D E mid inner next build' Fit' → ((behind : Kinds) → Fit' behind → Fit (next ++ behind)) → Tail C E room inner (before ++ next) (λ part. build (build' part)) Fit'
 tail_then C D E room mid inner before next build build' Fit Fit' law t t' fits = record {

@@ -11,7 +11,7 @@ use Rattle.cs_grammar.proofs.FileTexts.{each_append, comma_append}
 use Rattle.cs_grammar.proofs.Holes.{Lawful, splits, Tail, tail_refused, tail_took, exact_took}
 use Rattle.cs_grammar.proofs.Tails.{tail_then, tail_as, Least, Production, production_tail}
 use Rattle.cs_grammar.proofs.Sequences.{Joins, sequence_law, sequence_least, first_refused, second_tail, second_wrong}
-use Rattle.cs_grammar.proofs.Rows.{Separates, comma_token, before_commas, before_more, before_append}
+use Rattle.cs_grammar.proofs.Rows.{Separates, comma_token, before_commas, before_more, before_append, separated_below}
 
 -- what stands behind a comma: nothing but the token that closes the row, or a phrase of D and others
 abbrev pub Rest : Class → Type 0
@@ -57,15 +57,11 @@ further_trailing_least D close = record { tree = ([], false); is_phrase = tt; be
 abbrev rest_least : (D : Class) (close : TokenKind) → Least (BehindComma D close)
 rest_least D close = record { tree = None; is_phrase = tt; below = λ other is. omega arith }
 
-pub trailing_below : (D : Class) (least : Least D) (list : List D.Tree) → IsSomeList list → AreAll D.Is list → D.tall least.tree ≤ highest_by D.tall list
-trailing_below D least [] some all = absurd some
-trailing_below D least (d ∷ ds) some all = let b = least.below d all.0 in omega (arith, b)
-
 abbrev pub trailing_least : (D : Class) (close : TokenKind) → Least D → Least (Trailing D close)
 trailing_least D close least = record {
   tree = (least.tree ∷ [], false);
   is_phrase = (tt, (least.is_phrase, tt));
-  below = λ other is. let b = trailing_below D least other.0 is.0 is.1 in omega (arith, b);
+  below = λ other is. let b = separated_below D least other.0 is.0 is.1 in omega (arith, b);
 }
 
 further_trailing_joins : (D : Class) (close : TokenKind) → Separates D close → Joins D (FurtherTrailing D close)
