@@ -33,3 +33,5 @@ pub mod FileRules
 pub mod ExternalSites
 pub mod RoleLengths
 pub mod SmallRooms
+pub mod DeclarationSites
+pub mod FileReasons
