@@ -35,3 +35,4 @@ pub mod RoleLengths
 pub mod SmallRooms
 pub mod DeclarationSites
 pub mod FileReasons
+pub mod FileExamples
