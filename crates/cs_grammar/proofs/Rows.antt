@@ -11,7 +11,7 @@ use Rattle.cs_grammar.specs.Parsing.{Class, Near, Took, Refused, Exactly}
 use Rattle.cs_grammar.specs.Composed.{Sequence, Separated, Further}
 use Rattle.cs_grammar.proofs.Holes.{Lawful, splits, Tail, tail_refused, tail_took, exact_took}
 use Rattle.cs_grammar.proofs.Tails.{tail_then, tail_as, Least, Production, production_tail}
-use Rattle.cs_grammar.proofs.Sequences.{Joins, sequence_law, sequence_least, first_refused, second_tail, second_wrong}
+use Rattle.cs_grammar.proofs.Sequences.{Joins, sequence_law, sequence_least, first_refused, second_tail, second_wrong, took_exact}
 
 -- phrases of L are rows of phrases of C; the end of a row isn't taken for a phrase of C
 pub record Listing (L C : Class) : Type 0 where
@@ -239,3 +239,7 @@ so_far_took D close room s done so_far last deep t next =
     let two = tail_then (Separated D close) (Sequence D (Further D close)) (Further D close) room room room (before_commas D.spell done []) (D.spell last []) (λ part. done ++ part.0 ∷ part.1) (λ d. (last, d)) (λ rest. Unit {0}) (Near close) (sequence_further_law D close s.law) so_far rest (λ behind fit. tt) in
     tail_took (Separated D close) (Further D close) room room (before_commas D.spell done [] ++ D.spell last []) (λ d. done ++ last ∷ d) (Near close) (further_law D close s.law) two [] next false (λ behind near. inr (behind, refl))
     (exact_took (Further D close) room [] (further_exact D close room s.differs) next)
+
+-- the same, whatever stands behind
+pub so_far_exact : (D : Class) (close : TokenKind) (room : ℕ) → (s : Separates D close) → (done : List D.Tree) → SoFar D close room done → (last : D.Tree) (deep : Bool) → Took D room last close deep → Exactly (Separated D close) room (done ++ last ∷ [])
+so_far_exact D close room s done so_far last deep t = took_exact (Separated D close) room (done ++ last ∷ []) (so_far_took D close room s done so_far last deep t) (λ other after. tt) close

@@ -5,12 +5,12 @@ use Rattle.cs_ast.specs.RawFileHeight.{highest_by}
 use Rattle.cs_grammar.specs.Text.{Kinds}
 use Rattle.cs_grammar.specs.FileText.{comma_text, with_commas, each_behind_comma}
 use Rattle.cs_grammar.specs.FilePhrases.{AreAll, IsSomeList}
-use Rattle.cs_grammar.specs.Parsing.{Class, Near, Took, Refused}
+use Rattle.cs_grammar.specs.Parsing.{Class, Near, Took, Refused, Exactly}
 use Rattle.cs_grammar.specs.Composed.{Sequence, Trailing, FurtherTrailing}
 use Rattle.cs_grammar.proofs.FileTexts.{each_append, comma_append}
 use Rattle.cs_grammar.proofs.Holes.{Lawful, splits, Tail, tail_refused, tail_took, exact_took}
 use Rattle.cs_grammar.proofs.Tails.{tail_then, tail_as, Least, Production, production_tail}
-use Rattle.cs_grammar.proofs.Sequences.{Joins, sequence_law, sequence_least, first_refused, second_tail, second_wrong}
+use Rattle.cs_grammar.proofs.Sequences.{Joins, sequence_law, sequence_least, first_refused, second_tail, second_wrong, took_exact}
 use Rattle.cs_grammar.proofs.Rows.{Separates, comma_token, before_commas, before_more, before_append, separated_below}
 
 -- what stands behind a comma: nothing but the token that closes the row, or a phrase of D and others
@@ -278,3 +278,10 @@ front_not_closed D close room none (f ∷ fs) next deep other r behind near more
 pub comma_refused : (D : Class) (close : TokenKind) (room : ℕ) → (s : Separates D close) → NoneCloses D close → (done : List D.Tree) → TrailingSoFar D close room done (NotClosed close) → (front : Kinds) (next : TokenKind) (deep : Bool) → (front ≡ [] → next ≡ close → ⊥) → Refused D room front next deep → Refused (Trailing D close) room (before_commas D.spell done [] ++ front) next deep
 comma_refused D close room s none done so_far front next deep other r =
     trailing_refused D close room s done (NotClosed close) so_far front next deep (front_not_closed D close room none front next deep other r) r
+
+-- rows that were taken, whatever stands behind them
+pub trailing_exact : (D : Class) (close : TokenKind) (room : ℕ) → (s : Separates D close) → (done : List D.Tree) (Fit : Kinds → Type 0) → Opens D Fit → TrailingSoFar D close room done Fit → (last : D.Tree) (deep : Bool) → Took D room last close deep → Exactly (Trailing D close) room (done ++ last ∷ [], false)
+trailing_exact D close room s done Fit opens so_far last deep t = took_exact (Trailing D close) room (done ++ last ∷ [], false) (trailing_took D close room s done Fit opens so_far last deep t) (λ other after. tt) close
+
+pub comma_exact : (D : Class) (close : TokenKind) (room : ℕ) → (s : Separates D close) → NoneCloses D close → (done : List D.Tree) → CommaSoFar D close room done → Exactly (Trailing D close) room (done, true)
+comma_exact D close room s none done so_far = took_exact (Trailing D close) room (done, true) (comma_took D close room s none done so_far) (λ other after. tt) close
