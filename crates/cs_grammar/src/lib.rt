@@ -1,4 +1,4 @@
-//! The grammar of expressions: what is a phrase, which tokens begin one, and why a token is refused.
+//! The grammar: what is a phrase, which tokens begin one, and why a token is refused.
 #![tactic(auto)]
 
 mod marks;
