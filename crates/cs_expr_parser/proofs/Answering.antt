@@ -23,6 +23,7 @@ use Rattle.cs_grammar.specs.TypeWords.{Names}
 use Rattle.cs_grammar.specs.Text.{Kinds, text}
 use Rattle.cs_grammar.specs.Phrases.{IsPhrase, BeginsPhrase, BeginsLowPhrase, IsLowPhrase}
 use Rattle.cs_grammar.specs.Refusals.{IsReason}
+use Rattle.cs_grammar.specs.Places.{HasPlaces}
 use Rattle.cs_grammar.specs.Parsing.{Class, Expressions, Begins, BeginsLow, Took, Refused}
 use Rattle.cs_grammar.proofs.Texts.{text_splits}
 use Rattle.cs_expr_parser.specs.Positions.{kinds, kind_or_end}
@@ -94,13 +95,14 @@ took_ends names level room e LeftOut t = tt
 took_ends names level room e Syntax t = tt
 
 -- a phrase that was taken, with the reason for a refusal of the token behind it
-taken_is : (names : Names) (level room : ℕ) (tokens : List Token) (from : ℕ) (phrase : Phrase) → phrase.height ≡ height (written phrase.tree) → Spells tokens from phrase.next (text (written phrase.tree)) → from < phrase.next → Took (Expressions names level) room (written phrase.tree) (kind_or_end tokens phrase.next) (is_deep phrase.otherwise) → TellsLeftOut names (text (written phrase.tree) []) (kind_or_end tokens phrase.next) phrase.otherwise → IsTaken names level room tokens from phrase
-taken_is names level room tokens from phrase h sp some t l = record {
+taken_is : (names : Names) (level room : ℕ) (tokens : List Token) (from : ℕ) (phrase : Phrase) → phrase.height ≡ height (written phrase.tree) → Spells tokens from phrase.next (text (written phrase.tree)) → from < phrase.next → Took (Expressions names level) room (written phrase.tree) (kind_or_end tokens phrase.next) (is_deep phrase.otherwise) → TellsLeftOut names (text (written phrase.tree) []) (kind_or_end tokens phrase.next) phrase.otherwise → HasPlaces phrase.tree (drop from tokens) → IsTaken names level room tokens from phrase
+taken_is names level room tokens from phrase h sp some t l p = record {
   is_phrase = t.is_phrase;
   low = t.low;
   height_is = h;
   spelled = sp;
   some = some;
+  placed = p;
   only = λ other is same.
       elim (t.only other [] [] is (omega arith) (inl refl) same) [
         | inl k ↦ k.0
@@ -118,8 +120,8 @@ taken_is names level room tokens from phrase h sp some t l = record {
 }
 
 -- the answer of a part as that of `expression`
-pub phrase_taken : (names : Names) (level room : ℕ) (tokens : List Token) (from : ℕ) (taken : Taken) (phrase : Phrase) → IsTakenFrom names level room tokens from taken → phrase.tree ≡ taken.tree → phrase.height ≡ taken.height → phrase.next ≡ taken.next → phrase.otherwise ≡ reason_of taken.deep (kind_or_end tokens taken.next) (ends_in_type (written taken.tree)) → IsTaken names level room tokens from phrase
-phrase_taken names level room tokens from taken phrase t tree tall next otherwise =
+pub phrase_taken : (names : Names) (level room : ℕ) (tokens : List Token) (from : ℕ) (taken : Taken) (phrase : Phrase) → IsTakenFrom names level room tokens from taken → phrase.tree ≡ taken.tree → phrase.height ≡ taken.height → phrase.next ≡ taken.next → phrase.otherwise ≡ reason_of taken.deep (kind_or_end tokens taken.next) (ends_in_type (written taken.tree)) → HasPlaces taken.tree (drop from tokens) → IsTaken names level room tokens from phrase
+phrase_taken names level room tokens from taken phrase t tree tall next otherwise placed =
     let deep : taken.deep ≡ is_deep phrase.otherwise = sym (ap is_deep otherwise ∙ deep_reason taken.deep (kind_or_end tokens taken.next) (ends_in_type (written taken.tree))) in
     taken_is names level room tokens from phrase
     (tall ∙ t.height_is ∙ ap (λ (x : RawExpr). height (written x)) (sym tree))
@@ -133,6 +135,7 @@ phrase_taken names level room tokens from taken phrase t tree tall next otherwis
     (subst (TellsLeftOut names (text (written taken.tree) []) (kind_or_end tokens taken.next)) (sym otherwise)
     (tells_reason names (text (written taken.tree) []) (kind_or_end tokens taken.next) taken.deep (ends_in_type (written taken.tree))
     (λ b. inr (text_ends names (written taken.tree) t.took.is_phrase.1 b)) (λ b. text_plain names (written taken.tree) t.took.is_phrase.1 b)))))
+    (subst (λ (x : RawExpr). HasPlaces x (drop from tokens)) (sym tree) placed)
 
 refused_no_further : (names : Names) (level room : ℕ) (front : Kinds) (next : TokenKind) (deep : Bool) → Refused (Expressions names level) room front next deep → BeginsLowPhrase names level room (front ++ next ∷ []) → ⊥
 refused_no_further names level room front next deep r b =

@@ -23,3 +23,6 @@ mod Answering
 mod LastTokens
 mod Telling
 mod SitesOfReasons
+mod PlacedNodes
+mod TagPlaces
+mod SitesOfPlaces

@@ -14,7 +14,7 @@ row_list n end_of-RawExpr = refl
 row_list n (more_of-RawExpr place k rest) = ap (More (written_kind k)) (row_list _ rest)
 
 -- the row of a node's vector
-abbrev row_of : RawExprKind → (n : Count) × Row_of-RawExpr n
+abbrev pub row_of : RawExprKind → (n : Count) × Row_of-RawExpr n
 row_of (kind.SizeOfType' ty shape row) = (_, row)
 row_of (kind.Call' p place function shape row) = (_, row)
 row_of (kind.Cast' ty shape row p place operand) = (_, row)

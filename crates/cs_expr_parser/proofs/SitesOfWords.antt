@@ -102,7 +102,7 @@ integer_no_word names so_far kind o n (word.Enum tag) e = absurd (o.no_enum cc)
 
 -- the answer where another keyword stands
 pub integer_answer : (names : Names) (tokens : List Token) (at : ℕ) (so_far : TypeSoFar) (kind : Keyword) (found : Option NextWord) → kind_or_end tokens at ≡ token.Keyword kind → IsOther kind → IsIntegerAt kind at found → WordAnswer names tokens at so_far (Ok found)
-integer_answer names tokens at so_far kind (Some found) stands o (one, is, w, n) =
+integer_answer names tokens at so_far kind (Some found) stands o (one, is, w, n, tag) =
     plain_word names tokens at so_far kind (word.Integer one) found stands (λ rest. ap (λ (x : TokenKind). x ∷ rest) (integer_text kind one is)) refl (λ name e. cc) w n
 integer_answer names tokens at so_far kind None stands o n = subst (NoWord names so_far) (sym stands) (integer_no_word names so_far kind o n)
 

@@ -16,6 +16,7 @@ use Rattle.cs_grammar.specs.Levels.{COMMA, ASSIGN, CHOICE}
 use Rattle.cs_grammar.specs.Text.{Kinds, text}
 use Rattle.cs_grammar.specs.Phrases.{IsPhrase, BeginsLowPhrase, IsLowPhrase}
 use Rattle.cs_grammar.specs.Refusals.{IsReason}
+use Rattle.cs_grammar.specs.Places.{HasPlaces}
 use Rattle.cs_grammar.specs.Parsing.{Expressions, Took, Refused}
 use Rattle.cs_grammar.specs.Spelling.{left_out_spelling}
 use Rattle.cs_expr_parser.specs.Positions.{kinds, kind_or_end}
@@ -47,6 +48,7 @@ pub record IsTaken (names : Names) (level room : ℕ) (tokens : List Token) (fro
   pub height_is : phrase.height ≡ height (written phrase.tree)
   pub spelled : Spells tokens from phrase.next (text (written phrase.tree))
   pub some : from < phrase.next
+  pub placed : HasPlaces phrase.tree (drop from tokens)
   pub only : (other : Written) → IsPhrase names level other → text other [] ≡ text (written phrase.tree) [] → other ≡ written phrase.tree
   pub furthest : GoesNoFurther names level room (text (written phrase.tree) []) (kind_at tokens phrase.next)
   pub otherwise : IsReason names level (text (written phrase.tree) []) (kind_at tokens phrase.next) phrase.otherwise

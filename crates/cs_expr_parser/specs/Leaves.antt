@@ -3,8 +3,9 @@ use Rattle.std.specs.Prelude.{◌≡◌, Bool, true, false, not, Option, Some, N
 use Rattle.cs_ast.specs.declared.token.TokenKind.{TokenKind}
 use Rattle.cs_ast.specs.declared.token.TokenKind.TheVariants as token
 use Rattle.cs_ast.specs.declared.raw.expression.RawExpr.{RawExpr}
+use Rattle.cs_ast.specs.declared.raw.expression.RawExprKind.{RawExprKind}
 use Rattle.cs_ast.specs.RawTree.{Written, Named, Numeral, Character, Literal}
-use Rattle.cs_ast.specs.RawView.{written}
+use Rattle.cs_ast.specs.RawView.{written, written_kind}
 use Rattle.cs_grammar.specs.TypeWords.{Names, is_among}
 
 -- the token is a name that is no typedef name, a constant or a text
@@ -27,3 +28,8 @@ IsLeaf other tree = ⊥
 abbrev pub IsLeafOf : Names → TokenKind → Option RawExpr → Type 0
 IsLeafOf names kind (Some tree) = (is_leaf names kind ≡ true) × IsLeaf kind (written tree)
 IsLeafOf names kind None = is_leaf names kind ≡ false
+
+-- the same for an expression without its place
+abbrev pub IsLeafKindOf : Names → TokenKind → Option RawExprKind → Type 0
+IsLeafKindOf names kind (Some leaf) = (is_leaf names kind ≡ true) × IsLeaf kind (written_kind leaf)
+IsLeafKindOf names kind None = is_leaf names kind ≡ false

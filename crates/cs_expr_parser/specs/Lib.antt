@@ -7,3 +7,4 @@ pub mod Unary
 pub mod Words
 pub mod Expression
 pub mod LastTokens
+pub mod Places

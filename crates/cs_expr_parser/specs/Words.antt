@@ -132,7 +132,7 @@ TagAnswer is_struct tokens at so_far (Err (stop.Refused refused reason)) =
 
 -- the answer for a keyword: the word of an integer type that it is
 abbrev pub IsIntegerAt : Keyword → ℕ → Option NextWord → Type 0
-IsIntegerAt kind at (Some found) = (one : IntegerWord) × (word_of kind ≡ Some one) × (found.word ≡ word.Integer one) × (found.next ≡ at + 1)
+IsIntegerAt kind at (Some found) = (one : IntegerWord) × (word_of kind ≡ Some one) × (found.word ≡ word.Integer one) × (found.next ≡ at + 1) × (found.tag ≡ None)
 IsIntegerAt kind at None = word_of kind ≡ None
 
 abbrev pub IsPointerAt : TokenKind → Option PointerWord → Type 0

@@ -1,5 +1,6 @@
 //! Operators between two operands that group from the left (C11 6.5.5 to 6.5.14).
 ghost use Rattle.std.specs.Prelude.{◌≡◌, ◌≤◌, ◌<◌, ◌^◌, ◌+◌, ◌-◌, length, max, IfOk, IsSome};
+ghost use Rattle.cs_expr_parser.specs.Places.{IsOkPlaced, IsBuiltWith};
 ghost use Rattle.cs_ast.specs.RawTree.{Infix};
 ghost use Rattle.cs_ast.specs.RawView.{written};
 ghost use Rattle.cs_expr_parser.specs.LastTokens.{IsStopTold};
@@ -37,6 +38,7 @@ pub fn infix(
     ensures bounds { IsBounded room tokens.now from result }
     ensures parsed { Answers names.now level room tokens.now from result }
     ensures told { IsStopTold names.now tokens.now from result }
+    ensures placed { IsOkPlaced tokens.now from result }
 {
     if level == CASTS {
         return cast(alloc, tokens, names, from, room);
@@ -75,7 +77,8 @@ fn joined(
 ) -> Result<Taken, AllocError>
     requires within { left.next < length tokens.now }
     requires low { (left.height < 2 ^ 32 - 1) × (right.height < 2 ^ 32 - 1) }
-    ensures { IfOk result (IsNode (Infix operator (written left.tree) (written right.tree)) (max left.height right.height + 1) right.next right.deep) }
+    ensures node { IfOk result (IsNode (Infix operator (written left.tree) (written right.tree)) (max left.height right.height + 1) right.next right.deep) }
+    ensures placed { IfOk result (IsBuiltWith tokens.now left right) }
 {
     let place = place_at(tokens, left.next);
     let tree = infix_node(alloc, place, operator, left.tree, right.tree)?;

@@ -1,5 +1,6 @@
 //! Expressions in a row: arguments of calls, and bounds of arrays.
 ghost use Rattle.std.specs.Prelude.{◌≡◌, ◌≤◌, ◌<◌, ◌^◌, length};
+ghost use Rattle.cs_expr_parser.specs.Places.{IsRowPlaced, AreBoundsPlaced};
 ghost use Rattle.cs_grammar.specs.Levels.{ASSIGN, CHOICE};
 ghost use Rattle.cs_grammar.specs.Phrases.{ArePhrases};
 ghost use Rattle.cs_grammar.specs.Text.{Kinds};
@@ -39,6 +40,7 @@ pub fn arguments(
     ensures bounds { IsRowBounded room tokens.now from result }
     ensures parsed { RowAnswers arguments_text (ArePhrases names.now ASSIGN) room tokens.now from result }
     ensures told { IsStopTold names.now tokens.now from result }
+    ensures placed { IsRowPlaced tokens.now from result }
 {
     let mut trees = Vec::new(alloc);
     if is_mark(tokens, from, Mark::CloseParenthesis) {
@@ -84,6 +86,7 @@ pub fn bounds(
     ensures bounds { IsRowBounded room tokens.now from result }
     ensures parsed { RowAnswers closed_bounds_text (ArePhrases names.now CHOICE) room tokens.now from result }
     ensures told { (before : Kinds) → TellsBehind names.now before behind_tag → IsStopToldBehind names.now before tokens.now from result }
+    ensures placed { AreBoundsPlaced tokens.now from result }
 {
     let mut trees = Vec::new(alloc);
     let mut height: u32 = 0;

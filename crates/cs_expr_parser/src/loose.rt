@@ -1,5 +1,6 @@
 //! The loosest expressions: choices, those that store, and those with commas (C11 6.5.15 to 6.5.17).
 ghost use Rattle.std.specs.Prelude.{◌≡◌, ◌≤◌, ◌<◌, ◌^◌, ◌+◌, ◌-◌, length, max, IfOk, IsSome};
+ghost use Rattle.cs_expr_parser.specs.Places.{IsOkPlaced, IsBuiltWith, IsBuiltOfThree};
 ghost use Rattle.cs_ast.specs.RawTree.{Choice, Assign, Comma};
 ghost use Rattle.cs_ast.specs.RawView.{written};
 ghost use Rattle.cs_grammar.specs.Levels.{COMMA, ASSIGN, CHOICE};
@@ -36,6 +37,7 @@ pub fn choice(
     ensures bounds { IsBounded room tokens.now from result }
     ensures parsed { Answers names.now CHOICE room tokens.now from result }
     ensures told { IsStopTold names.now tokens.now from result }
+    ensures placed { IsOkPlaced tokens.now from result }
 {
     let test = infix(alloc, tokens, names, from, room, INFIX)?;
     if !is_mark(tokens, test.next, Mark::Question) {
@@ -62,7 +64,8 @@ fn chosen(
 ) -> Result<Taken, AllocError>
     requires within { test.next < length tokens.now }
     requires low { (test.height < 2 ^ 32 - 1) × (one.height < 2 ^ 32 - 1) × (other.height < 2 ^ 32 - 1) }
-    ensures { IfOk result (IsNode (Choice (written test.tree) (written one.tree) (written other.tree)) (max (max test.height one.height) other.height + 1) other.next other.deep) }
+    ensures node { IfOk result (IsNode (Choice (written test.tree) (written one.tree) (written other.tree)) (max (max test.height one.height) other.height + 1) other.next other.deep) }
+    ensures placed { IfOk result (IsBuiltOfThree tokens.now test one other) }
 {
     let place = place_at(tokens, test.next);
     let tree = choice_node(alloc, place, test.tree, one.tree, other.tree)?;
@@ -88,6 +91,7 @@ pub fn assign(
     ensures bounds { IsBounded room tokens.now from result }
     ensures parsed { Answers names.now ASSIGN room tokens.now from result }
     ensures told { IsStopTold names.now tokens.now from result }
+    ensures placed { IsOkPlaced tokens.now from result }
 {
     let object = choice(alloc, tokens, names, from, room)?;
     let Some(operator) = assign_operator_at(tokens, object.next) else {
@@ -121,7 +125,8 @@ fn stored(
 ) -> Result<Taken, AllocError>
     requires within { object.next < length tokens.now }
     requires low { (object.height < 2 ^ 32 - 1) × (value.height < 2 ^ 32 - 1) }
-    ensures { IfOk result (IsNode (Assign operator (written object.tree) (written value.tree)) (max object.height value.height + 1) value.next value.deep) }
+    ensures node { IfOk result (IsNode (Assign operator (written object.tree) (written value.tree)) (max object.height value.height + 1) value.next value.deep) }
+    ensures placed { IfOk result (IsBuiltWith tokens.now object value) }
 {
     let place = place_at(tokens, object.next);
     let tree = assign_node(alloc, place, operator, object.tree, value.tree)?;
@@ -147,6 +152,7 @@ pub fn comma(
     ensures bounds { IsBounded room tokens.now from result }
     ensures parsed { Answers names.now COMMA room tokens.now from result }
     ensures told { IsStopTold names.now tokens.now from result }
+    ensures placed { IsOkPlaced tokens.now from result }
 {
     let mut first = assign(alloc, tokens, names, from, room)?;
     'chain: while is_mark(tokens, first.next, Mark::Comma) {
@@ -168,7 +174,8 @@ fn followed(
 ) -> Result<Taken, AllocError>
     requires within { first.next < length tokens.now }
     requires low { (first.height < 2 ^ 32 - 1) × (second.height < 2 ^ 32 - 1) }
-    ensures { IfOk result (IsNode (Comma (written first.tree) (written second.tree)) (max first.height second.height + 1) second.next second.deep) }
+    ensures node { IfOk result (IsNode (Comma (written first.tree) (written second.tree)) (max first.height second.height + 1) second.next second.deep) }
+    ensures placed { IfOk result (IsBuiltWith tokens.now first second) }
 {
     let place = place_at(tokens, first.next);
     let tree = comma_node(alloc, place, first.tree, second.tree)?;

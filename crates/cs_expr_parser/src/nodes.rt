@@ -1,8 +1,11 @@
 //! The nodes of trees, each made of its parts.
-ghost use Rattle.std.specs.Prelude.{◌≡◌, ◌<◌, IfOk, IsSome, length};
+ghost use Rattle.std.specs.Prelude.{◌≡◌, ◌<◌, ◌∷◌, List, drop, IfOk, IsSome, length};
+ghost use Rattle.cs_ast.specs.declared.token.Token.{Token as OneToken};
+ghost use Rattle.cs_grammar.specs.Places.{HasPlaces, HasTagPlace, StandsAt, behind, behind_words};
+ghost use Rattle.cs_expr_parser.specs.Places.{AreInRow, AreInBrackets, behind_brackets, IsFoundPlaced, IsPlacedAnywhere};
 ghost use Rattle.cs_ast.specs.RawTree.{Enclosed, Index as IndexNode, Call as CallNode, Member as MemberNode, Arrow as ArrowNode, StepBehind as StepBehindNode, StepBefore as StepBeforeNode, Prefix as PrefixNode, SizeOf as SizeOfNode, SizeOfType as SizeOfTypeNode, Cast as CastNode, Infix as InfixNode, Choice as ChoiceNode, Assign as AssignNode, Comma as CommaNode};
 ghost use Rattle.cs_ast.specs.RawView.{written, written_list};
-ghost use Rattle.cs_expr_parser.specs.Leaves.{IsLeafOf};
+ghost use Rattle.cs_expr_parser.specs.Leaves.{IsLeafOf, IsLeafKindOf};
 ghost use Rattle.cs_expr_parser.specs.Positions.{kind_or_end};
 
 use cs_ast::raw::expression::{RawExpr, RawExprKind};
@@ -22,6 +25,7 @@ pub fn leaf_at(
 ) -> Result<Option<RawExpr>, AllocError>
     ensures leaf { IfOk result (IsLeafOf names.now (kind_or_end tokens.now at)) }
     ensures within { IfOk result (λ tree. IsSome tree → at < length tokens.now) }
+    ensures placed { IfOk result (λ found. IsFoundPlaced found (drop at tokens.now)) }
 {
     match tokens.get(at) {
         Some(token) => leaf(token, names),
@@ -31,19 +35,11 @@ pub fn leaf_at(
 
 /// The expression of one token: a name that is no typedef name, a constant or a text.
 fn leaf(token: &Token, names: &TypedefNames) -> Result<Option<RawExpr>, AllocError>
-    ensures { IfOk result (IsLeafOf names.now token.now.kind) }
+    ensures leaf { IfOk result (IsLeafOf names.now token.now.kind) }
+    ensures placed { IfOk result (λ found. (others : List OneToken) → IsFoundPlaced found (token.now ∷ others)) }
 {
-    let kind = match &token.kind {
-        TokenKind::Name(name) => {
-            if names.contains(name) {
-                return Ok(None);
-            }
-            RawExprKind::Name(name.copy()?)
-        }
-        TokenKind::Number(constant) => RawExprKind::Number(*constant),
-        TokenKind::Character(value) => RawExprKind::Character(*value),
-        TokenKind::Text(bytes) => RawExprKind::Text(bytes.copy()?),
-        _ => return Ok(None),
+    let Some(kind) = leaf_kind(&token.kind, names)? else {
+        return Ok(None);
     };
     Ok(Some(RawExpr {
         place: token.place,
@@ -51,9 +47,28 @@ fn leaf(token: &Token, names: &TypedefNames) -> Result<Option<RawExpr>, AllocErr
     }))
 }
 
+fn leaf_kind(kind: &TokenKind, names: &TypedefNames) -> Result<Option<RawExprKind>, AllocError>
+    ensures leaf { IfOk result (IsLeafKindOf names.now kind.now) }
+    ensures placed { IfOk result IsPlacedAnywhere }
+{
+    match kind {
+        TokenKind::Name(name) => {
+            if names.contains(name) {
+                return Ok(None);
+            }
+            Ok(Some(RawExprKind::Name(name.copy()?)))
+        }
+        TokenKind::Number(constant) => Ok(Some(RawExprKind::Number(*constant))),
+        TokenKind::Character(value) => Ok(Some(RawExprKind::Character(*value))),
+        TokenKind::Text(bytes) => Ok(Some(RawExprKind::Text(bytes.copy()?))),
+        _ => Ok(None),
+    }
+}
+
 /// `( inner )`
 pub fn parenthesis(alloc: Global, place: Place, inner: RawExpr) -> Result<RawExpr, AllocError>
-    ensures { IfOk result (λ tree. written tree ≡ Enclosed (written inner)) }
+    ensures tree { IfOk result (λ tree. written tree ≡ Enclosed (written inner)) }
+    ensures placed { IfOk result (λ tree. (list : List OneToken) → StandsAt place list → HasPlaces inner (drop 1 list) → HasPlaces tree list) }
 {
     let inner = Box::new(alloc, inner)?;
     Ok(RawExpr {
@@ -69,7 +84,8 @@ pub fn index(
     array: RawExpr,
     number: RawExpr,
 ) -> Result<RawExpr, AllocError>
-    ensures { IfOk result (λ tree. written tree ≡ IndexNode (written array) (written number)) }
+    ensures tree { IfOk result (λ tree. written tree ≡ IndexNode (written array) (written number)) }
+    ensures placed { IfOk result (λ tree. (list : List OneToken) → HasPlaces array list → StandsAt place (behind array.kind list) → HasPlaces number (drop 1 (behind array.kind list)) → HasPlaces tree list) }
 {
     let array = Box::new(alloc, array)?;
     let number = Box::new(alloc, number)?;
@@ -86,7 +102,8 @@ pub fn call(
     function: RawExpr,
     arguments: Vec<RawExpr>,
 ) -> Result<RawExpr, AllocError>
-    ensures { IfOk result (λ tree. written tree ≡ CallNode (written function) (written_list arguments.items)) }
+    ensures tree { IfOk result (λ tree. written tree ≡ CallNode (written function) (written_list arguments.items)) }
+    ensures placed { IfOk result (λ tree. (list : List OneToken) → HasPlaces function list → StandsAt place (behind function.kind list) → AreInRow arguments.items (drop 1 (behind function.kind list)) → HasPlaces tree list) }
 {
     let function = Box::new(alloc, function)?;
     Ok(RawExpr {
@@ -102,7 +119,8 @@ pub fn member(
     object: RawExpr,
     name: Name,
 ) -> Result<RawExpr, AllocError>
-    ensures { IfOk result (λ tree. written tree ≡ MemberNode (written object) name) }
+    ensures tree { IfOk result (λ tree. written tree ≡ MemberNode (written object) name) }
+    ensures placed { IfOk result (λ tree. (list : List OneToken) → HasPlaces object list → StandsAt place (behind object.kind list) → HasPlaces tree list) }
 {
     let object = Box::new(alloc, object)?;
     Ok(RawExpr {
@@ -118,7 +136,8 @@ pub fn arrow(
     pointer: RawExpr,
     name: Name,
 ) -> Result<RawExpr, AllocError>
-    ensures { IfOk result (λ tree. written tree ≡ ArrowNode (written pointer) name) }
+    ensures tree { IfOk result (λ tree. written tree ≡ ArrowNode (written pointer) name) }
+    ensures placed { IfOk result (λ tree. (list : List OneToken) → HasPlaces pointer list → StandsAt place (behind pointer.kind list) → HasPlaces tree list) }
 {
     let pointer = Box::new(alloc, pointer)?;
     Ok(RawExpr {
@@ -134,7 +153,8 @@ pub fn step_behind(
     step: Step,
     object: RawExpr,
 ) -> Result<RawExpr, AllocError>
-    ensures { IfOk result (λ tree. written tree ≡ StepBehindNode step (written object)) }
+    ensures tree { IfOk result (λ tree. written tree ≡ StepBehindNode step (written object)) }
+    ensures placed { IfOk result (λ tree. (list : List OneToken) → HasPlaces object list → StandsAt place (behind object.kind list) → HasPlaces tree list) }
 {
     let object = Box::new(alloc, object)?;
     Ok(RawExpr {
@@ -150,7 +170,8 @@ pub fn step_before(
     step: Step,
     object: RawExpr,
 ) -> Result<RawExpr, AllocError>
-    ensures { IfOk result (λ tree. written tree ≡ StepBeforeNode step (written object)) }
+    ensures tree { IfOk result (λ tree. written tree ≡ StepBeforeNode step (written object)) }
+    ensures placed { IfOk result (λ tree. (list : List OneToken) → StandsAt place list → HasPlaces object (drop 1 list) → HasPlaces tree list) }
 {
     let object = Box::new(alloc, object)?;
     Ok(RawExpr {
@@ -166,7 +187,8 @@ pub fn prefix(
     operator: PrefixOp,
     operand: RawExpr,
 ) -> Result<RawExpr, AllocError>
-    ensures { IfOk result (λ tree. written tree ≡ PrefixNode operator (written operand)) }
+    ensures tree { IfOk result (λ tree. written tree ≡ PrefixNode operator (written operand)) }
+    ensures placed { IfOk result (λ tree. (list : List OneToken) → StandsAt place list → HasPlaces operand (drop 1 list) → HasPlaces tree list) }
 {
     let operand = Box::new(alloc, operand)?;
     Ok(RawExpr {
@@ -177,7 +199,8 @@ pub fn prefix(
 
 /// `sizeof operand`
 pub fn size_of(alloc: Global, place: Place, operand: RawExpr) -> Result<RawExpr, AllocError>
-    ensures { IfOk result (λ tree. written tree ≡ SizeOfNode (written operand)) }
+    ensures tree { IfOk result (λ tree. written tree ≡ SizeOfNode (written operand)) }
+    ensures placed { IfOk result (λ tree. (list : List OneToken) → StandsAt place list → HasPlaces operand (drop 1 list) → HasPlaces tree list) }
 {
     let operand = Box::new(alloc, operand)?;
     Ok(RawExpr {
@@ -188,7 +211,8 @@ pub fn size_of(alloc: Global, place: Place, operand: RawExpr) -> Result<RawExpr,
 
 /// `sizeof ( type )`
 pub fn size_of_type(place: Place, ty: WrittenType, bounds: Vec<RawExpr>) -> RawExpr
-    ensures { written result ≡ SizeOfTypeNode ty.words.items ty.pointers.items (written_list bounds.items) }
+    ensures tree { written result ≡ SizeOfTypeNode ty.words.items ty.pointers.items (written_list bounds.items) }
+    ensures placed { (list : List OneToken) → StandsAt place list → HasTagPlace ty (drop 2 list) → AreInBrackets bounds.items (behind_words ty (drop 2 list)) → HasPlaces result list }
 {
     RawExpr {
         place,
@@ -204,7 +228,8 @@ pub fn cast(
     bounds: Vec<RawExpr>,
     operand: RawExpr,
 ) -> Result<RawExpr, AllocError>
-    ensures { IfOk result (λ tree. written tree ≡ CastNode ty.words.items ty.pointers.items (written_list bounds.items) (written operand)) }
+    ensures tree { IfOk result (λ tree. written tree ≡ CastNode ty.words.items ty.pointers.items (written_list bounds.items) (written operand)) }
+    ensures placed { IfOk result (λ tree. (list : List OneToken) → StandsAt place list → HasTagPlace ty (drop 1 list) → AreInBrackets bounds.items (behind_words ty (drop 1 list)) → HasPlaces operand (drop 1 (behind_brackets bounds.items (behind_words ty (drop 1 list)))) → HasPlaces tree list) }
 {
     let operand = Box::new(alloc, operand)?;
     Ok(RawExpr {
@@ -221,7 +246,8 @@ pub fn infix(
     left: RawExpr,
     right: RawExpr,
 ) -> Result<RawExpr, AllocError>
-    ensures { IfOk result (λ tree. written tree ≡ InfixNode operator (written left) (written right)) }
+    ensures tree { IfOk result (λ tree. written tree ≡ InfixNode operator (written left) (written right)) }
+    ensures placed { IfOk result (λ tree. (list : List OneToken) → HasPlaces left list → StandsAt place (behind left.kind list) → HasPlaces right (drop 1 (behind left.kind list)) → HasPlaces tree list) }
 {
     let left = Box::new(alloc, left)?;
     let right = Box::new(alloc, right)?;
@@ -239,7 +265,8 @@ pub fn choice(
     one: RawExpr,
     other: RawExpr,
 ) -> Result<RawExpr, AllocError>
-    ensures { IfOk result (λ tree. written tree ≡ ChoiceNode (written test) (written one) (written other)) }
+    ensures tree { IfOk result (λ tree. written tree ≡ ChoiceNode (written test) (written one) (written other)) }
+    ensures placed { IfOk result (λ tree. (list : List OneToken) → HasPlaces test list → StandsAt place (behind test.kind list) → HasPlaces one (drop 1 (behind test.kind list)) → HasPlaces other (drop 1 (behind one.kind (drop 1 (behind test.kind list)))) → HasPlaces tree list) }
 {
     let test = Box::new(alloc, test)?;
     let one = Box::new(alloc, one)?;
@@ -258,7 +285,8 @@ pub fn assign(
     object: RawExpr,
     value: RawExpr,
 ) -> Result<RawExpr, AllocError>
-    ensures { IfOk result (λ tree. written tree ≡ AssignNode operator (written object) (written value)) }
+    ensures tree { IfOk result (λ tree. written tree ≡ AssignNode operator (written object) (written value)) }
+    ensures placed { IfOk result (λ tree. (list : List OneToken) → HasPlaces object list → StandsAt place (behind object.kind list) → HasPlaces value (drop 1 (behind object.kind list)) → HasPlaces tree list) }
 {
     let object = Box::new(alloc, object)?;
     let value = Box::new(alloc, value)?;
@@ -275,7 +303,8 @@ pub fn comma(
     first: RawExpr,
     second: RawExpr,
 ) -> Result<RawExpr, AllocError>
-    ensures { IfOk result (λ tree. written tree ≡ CommaNode (written first) (written second)) }
+    ensures tree { IfOk result (λ tree. written tree ≡ CommaNode (written first) (written second)) }
+    ensures placed { IfOk result (λ tree. (list : List OneToken) → HasPlaces first list → StandsAt place (behind first.kind list) → HasPlaces second (drop 1 (behind first.kind list)) → HasPlaces tree list) }
 {
     let first = Box::new(alloc, first)?;
     let second = Box::new(alloc, second)?;

@@ -1,5 +1,6 @@
 //! The parser of expressions.
 ghost use Rattle.std.specs.Prelude.{◌≡◌, ◌≤◌, ◌<◌, ◌^◌, length, IfOk};
+ghost use Rattle.cs_expr_parser.specs.Places.{IsOkPlaced};
 ghost use Rattle.std.specs.Result.{IfErr};
 ghost use Rattle.cs_ast.specs.RawView.{written};
 ghost use Rattle.cs_expr_parser.specs.Positions.{kind_or_end};
@@ -55,6 +56,7 @@ fn part(
     requires few { length tokens.now < 2 ^ 32 }
     ensures parsed { Answers names.now (level_asked level) room tokens.now from result }
     ensures told { IsStopTold names.now tokens.now from result }
+    ensures placed { IsOkPlaced tokens.now from result }
 {
     match level {
         ExprLevel::Expr => comma(alloc, tokens, names, from, room),

@@ -1,5 +1,8 @@
 //! Postfix expressions (C11 6.5.2).
-ghost use Rattle.std.specs.Prelude.{◌≡◌, ℕ, ◌≤◌, ◌<◌, ◌^◌, ◌+◌, ◌-◌, false, true, Some, length, max, IfOk, IsSome};
+ghost use Rattle.std.specs.Prelude.{◌≡◌, ℕ, ◌≤◌, ◌<◌, ◌^◌, ◌+◌, ◌-◌, false, true, Some, length, max, IfOk, IsSome, drop, List, if◌then◌else◌};
+ghost use Rattle.cs_ast.specs.declared.token.Token.{Token as OneToken};
+ghost use Rattle.cs_grammar.specs.Places.{HasPlaces, StandsAt, behind};
+ghost use Rattle.cs_expr_parser.specs.Places.{IsOkPlaced, IsBuiltBehind, IsBuiltWith, IsBuiltWithRow};
 ghost use Rattle.cs_ast.specs.RawTree.{Index, Call, Member, Arrow, StepBehind};
 ghost use Rattle.cs_ast.specs.RawView.{written, written_list};
 ghost use Rattle.cs_grammar.specs.Levels.{POSTFIX};
@@ -14,9 +17,11 @@ use crate::nodes::{arrow, call, index, member, step_behind};
 use crate::primary::primary;
 use crate::stop::{Stop, Taken};
 use crate::tokens::{is_mark, mark_at, name_at, place_at, refuse, refuse_behind};
+use cs_ast::raw::expression::RawExpr;
 use cs_ast::raw::operator::Step;
-use cs_ast::{Mark, Token};
+use cs_ast::{Mark, Place, Token};
 use cs_grammar::TypedefNames;
+use cs_names::Name;
 use std::alloc::{AllocError, Global};
 
 /// The postfix expression that the tokens from a number on begin with.
@@ -33,6 +38,7 @@ pub fn postfix(
     ensures bounds { IsBounded room tokens.now from result }
     ensures parsed { Answers names.now POSTFIX room tokens.now from result }
     ensures told { IsStopTold names.now tokens.now from result }
+    ensures placed { IsOkPlaced tokens.now from result }
 {
     let mut left = primary(alloc, tokens, names, from, room)?;
     'chain: while let Some(mark) = suffix_at(tokens, left.next) {
@@ -46,7 +52,8 @@ pub fn postfix(
 
 /// The expression, of which it is told that a higher one goes on with the token behind it.
 pub fn deepened(taken: Taken) -> Taken
-    ensures { IsNode (written taken.tree) taken.height taken.next true result }
+    ensures node { IsNode (written taken.tree) taken.height taken.next true result }
+    ensures same { result.tree ≡ taken.tree }
 {
     Taken {
         tree: taken.tree,
@@ -99,6 +106,7 @@ fn suffixed(
     ensures bounds { IsBounded room tokens.now left.next result }
     ensures chained { (from : ℕ) → IsChainFrom names.now POSTFIX room tokens.now from left → ChainAnswers names.now POSTFIX room tokens.now from result }
     ensures told { (from : ℕ) → IsChainFrom names.now POSTFIX room tokens.now from left → IsStopTold names.now tokens.now from result }
+    ensures placed { (from : ℕ) → IsChainFrom names.now POSTFIX room tokens.now from left → HasPlaces left.tree (drop from tokens.now) → IsOkPlaced tokens.now from result }
 {
     match mark {
         Mark::OpenBracket => {
@@ -124,7 +132,8 @@ fn indexed(alloc: Global, tokens: &[Token], left: Taken, number: Taken) -> Resul
     requires within { left.next < length tokens.now }
     requires low { (left.height < 2 ^ 32 - 1) × (number.height < 2 ^ 32 - 1) }
     requires few { number.next < 2 ^ 32 }
-    ensures { IfOk result (IsNode (Index (written left.tree) (written number.tree)) (max left.height number.height + 1) (number.next + 1) false) }
+    ensures node { IfOk result (IsNode (Index (written left.tree) (written number.tree)) (max left.height number.height + 1) (number.next + 1) false) }
+    ensures placed { IfOk result (IsBuiltWith tokens.now left number) }
 {
     let tree = index(alloc, place_at(tokens, left.next), left.tree, number.tree)?;
     Ok(Taken {
@@ -139,7 +148,8 @@ fn indexed(alloc: Global, tokens: &[Token], left: Taken, number: Taken) -> Resul
 fn called(alloc: Global, tokens: &[Token], left: Taken, listed: Listed) -> Result<Taken, AllocError>
     requires within { left.next < length tokens.now }
     requires low { (left.height < 2 ^ 32 - 1) × (listed.height < 2 ^ 32 - 2) }
-    ensures { IfOk result (IsNode (Call (written left.tree) (written_list listed.trees.items)) (max left.height (listed.height + 1) + 1) listed.next false) }
+    ensures node { IfOk result (IsNode (Call (written left.tree) (written_list listed.trees.items)) (max left.height (listed.height + 1) + 1) listed.next false) }
+    ensures placed { IfOk result (IsBuiltWithRow tokens.now left listed) }
 {
     let tree = call(alloc, place_at(tokens, left.next), left.tree, listed.trees)?;
     Ok(Taken {
@@ -155,18 +165,15 @@ fn selected(alloc: Global, tokens: &[Token], left: Taken, through: bool) -> Resu
     requires within { left.next < length tokens.now }
     requires low { left.height < 2 ^ 32 - 1 }
     requires few { left.next < 2 ^ 32 }
-    ensures { IsSelected through (written left.tree) left.height left.next tokens.now result }
+    ensures node { IsSelected through (written left.tree) left.height left.next tokens.now result }
+    ensures placed { IfOk result (IsBuiltBehind tokens.now left) }
 {
     let Some(name) = name_at(tokens, left.next + 1) else {
         return Err(refuse(tokens, left.next + 1, false));
     };
     let place = place_at(tokens, left.next);
     let name = name.copy()?;
-    let tree = if through {
-        arrow(alloc, place, left.tree, name)?
-    } else {
-        member(alloc, place, left.tree, name)?
-    };
+    let tree = selected_node(alloc, place, left.tree, name, through)?;
     Ok(Taken {
         tree,
         height: left.height + 1,
@@ -175,12 +182,30 @@ fn selected(alloc: Global, tokens: &[Token], left: Taken, through: bool) -> Resu
     })
 }
 
+fn selected_node(
+    alloc: Global,
+    place: Place,
+    object: RawExpr,
+    name: Name,
+    through: bool,
+) -> Result<RawExpr, AllocError>
+    ensures tree { IfOk result (λ tree. written tree ≡ (if through then Arrow (written object) name else Member (written object) name)) }
+    ensures placed { IfOk result (λ tree. (list : List OneToken) → HasPlaces object list → StandsAt place (behind object.kind list) → HasPlaces tree list) }
+{
+    if through {
+        arrow(alloc, place, object, name)
+    } else {
+        member(alloc, place, object, name)
+    }
+}
+
 /// The operand with a step behind it.
 fn stepped(alloc: Global, tokens: &[Token], left: Taken, by: Step) -> Result<Taken, AllocError>
     requires within { left.next < length tokens.now }
     requires low { left.height < 2 ^ 32 - 1 }
     requires few { left.next < 2 ^ 32 }
-    ensures { IfOk result (IsNode (StepBehind by (written left.tree)) (left.height + 1) (left.next + 1) false) }
+    ensures node { IfOk result (IsNode (StepBehind by (written left.tree)) (left.height + 1) (left.next + 1) false) }
+    ensures placed { IfOk result (IsBuiltBehind tokens.now left) }
 {
     let tree = step_behind(alloc, place_at(tokens, left.next), by, left.tree)?;
     Ok(Taken {

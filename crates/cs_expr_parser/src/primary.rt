@@ -1,5 +1,6 @@
 //! Primary expressions (C11 6.5.1).
 ghost use Rattle.std.specs.Prelude.{◌≤◌, ◌<◌, ◌^◌, ◌+◌, ◌-◌, false, length, IfOk};
+ghost use Rattle.cs_expr_parser.specs.Places.{IsOkPlaced, IsBuiltBefore};
 ghost use Rattle.cs_ast.specs.RawTree.{Enclosed};
 ghost use Rattle.cs_ast.specs.RawView.{written};
 ghost use Rattle.cs_grammar.specs.Levels.{PRIMARY};
@@ -28,6 +29,7 @@ pub fn primary(
     ensures bounds { IsBounded room tokens.now from result }
     ensures parsed { Answers names.now PRIMARY room tokens.now from result }
     ensures told { IsStopTold names.now tokens.now from result }
+    ensures placed { IsOkPlaced tokens.now from result }
 {
     if is_mark(tokens, from, Mark::OpenParenthesis) {
         if room < 2 {
@@ -58,7 +60,8 @@ fn enclosed(alloc: Global, tokens: &[Token], from: usize, inner: Taken) -> Resul
     requires within { from < length tokens.now }
     requires low { inner.height < 2 ^ 32 - 1 }
     requires few { inner.next < 2 ^ 32 }
-    ensures { IfOk result (IsNode (Enclosed (written inner.tree)) (inner.height + 1) (inner.next + 1) false) }
+    ensures node { IfOk result (IsNode (Enclosed (written inner.tree)) (inner.height + 1) (inner.next + 1) false) }
+    ensures placed { IfOk result (IsBuiltBefore tokens.now from inner) }
 {
     let tree = parenthesis(alloc, place_at(tokens, from), inner.tree)?;
     Ok(Taken {

@@ -1,5 +1,6 @@
 //! Types between parentheses (C11 6.7.7).
-ghost use Rattle.std.specs.Prelude.{◌≡◌, ◌≤◌, ◌<◌, ◌^◌, ◌+◌, None, List, length, IfOk, IsSome};
+ghost use Rattle.std.specs.Prelude.{◌≡◌, ◌≤◌, ◌<◌, ◌^◌, ◌+◌, None, List, length, IfOk, IsSome, drop};
+ghost use Rattle.cs_expr_parser.specs.Places.{IsOkTypePlaced, IsTagPlaced, IsNextTagged, IsTagStanding, IsJoiningTagged};
 ghost use Rattle.cs_ast.specs.declared.token.TokenKind.TheVariants as token;
 ghost use Rattle.cs_ast.specs.declared.token.Keyword.TheVariants as keyword;
 ghost use Rattle.cs_ast.specs.declared.raw.written_type.TypeWord.{TypeWord as WordOfType};
@@ -77,6 +78,7 @@ pub fn parenthesised_type(
     ensures bounds { IsTypeBounded room tokens.now from result }
     ensures parsed { TypeAnswers names.now room tokens.now from result }
     ensures told { IsStopTold names.now tokens.now from result }
+    ensures placed { IsOkTypePlaced tokens.now from result }
 {
     let words = type_words(alloc, tokens, names, from)?;
     let pointers = pointer_words(alloc, tokens, words.next)?;
@@ -107,6 +109,7 @@ fn type_words(
     ensures refused { IsStopBounded tokens.now from result }
     ensures words { WordsAnswer names.now tokens.now from result }
     ensures told { IsStopTold names.now tokens.now from result }
+    ensures placed { IfOk result (λ taken. IsTagPlaced taken.tag taken.words.items (drop from tokens.now)) }
 {
     let mut words = Vec::new(alloc);
     let mut so_far = TypeSoFar::Nothing;
@@ -142,6 +145,7 @@ fn joining_word_at(
     requires few { length tokens.now < 2 ^ 32 }
     ensures bounds { IsJoiningBounded tokens.now at result }
     ensures joining { (words : List WordOfType) → Describes names.now so_far words → JoiningAnswer names.now words tokens.now at result }
+    ensures placed { IsJoiningTagged tokens.now at result }
 {
     let Some(found) = word_at(tokens, names, at, so_far)? else {
         return Ok(None);
@@ -163,6 +167,7 @@ fn word_at(
     requires few { length tokens.now < 2 ^ 32 }
     ensures bounds { IsNextBounded tokens.now at result }
     ensures word { WordAnswer names.now tokens.now at so_far result }
+    ensures placed { IsNextTagged tokens.now at result }
 {
     if let Some(name) = name_at(tokens, at) {
         if !names.contains(name) {
@@ -216,6 +221,7 @@ fn tagged(
     requires few { length tokens.now < 2 ^ 32 }
     ensures bounds { IsNextBounded tokens.now at result }
     ensures tagged { TagAnswer is_struct tokens.now at so_far result }
+    ensures placed { IsTagStanding tokens.now at result }
 {
     if names_type(so_far) {
         return Ok(None);

@@ -1,5 +1,8 @@
 //! Casts and unary expressions (C11 6.5.3, 6.5.4).
-ghost use Rattle.std.specs.Prelude.{◌≡◌, ◌↔◌, ◌≤◌, ◌<◌, ◌^◌, ◌+◌, ◌-◌, false, length, max, IfOk, IsSome, IsTrue};
+ghost use Rattle.std.specs.Prelude.{◌≡◌, ◌↔◌, ◌≤◌, ◌<◌, ◌^◌, ◌+◌, ◌-◌, false, length, max, IfOk, IsSome, IsTrue, drop, List};
+ghost use Rattle.cs_ast.specs.declared.token.Token.{Token as OneToken};
+ghost use Rattle.cs_grammar.specs.Places.{HasPlaces, StandsAt};
+ghost use Rattle.cs_expr_parser.specs.Places.{IsOkPlaced, IsBuiltBefore, IsTypePlaced};
 ghost use Rattle.cs_ast.specs.RawTree.{Cast, SizeOfType};
 ghost use Rattle.cs_ast.specs.RawView.{written, written_list};
 ghost use Rattle.cs_grammar.specs.Levels.{CAST, UNARY};
@@ -19,8 +22,9 @@ use crate::tokens::{
     begins_type, is_brace, is_mark, keyword_at, mark_at, place_at, refuse, refuse_in_type,
 };
 use crate::types::{TakenType, parenthesised_type};
+use cs_ast::raw::expression::RawExpr;
 use cs_ast::raw::operator::{PrefixOp, Step};
-use cs_ast::{Keyword, Mark, Token};
+use cs_ast::{Keyword, Mark, Place, Token};
 use cs_grammar::{TypedefNames, prefix_operator, step};
 use std::alloc::{AllocError, Global};
 
@@ -58,6 +62,7 @@ pub fn cast(
     ensures bounds { IsBounded room tokens.now from result }
     ensures parsed { Answers names.now CAST room tokens.now from result }
     ensures told { IsStopTold names.now tokens.now from result }
+    ensures placed { IsOkPlaced tokens.now from result }
 {
     if !opens_type(tokens, names, from) {
         return unary(alloc, tokens, names, from, room);
@@ -83,7 +88,8 @@ fn converted(
 ) -> Result<Taken, AllocError>
     requires within { from < length tokens.now }
     requires low { (taken.height < 2 ^ 32 - 1) × (operand.height < 2 ^ 32 - 1) }
-    ensures { IfOk result (IsNode (Cast taken.ty.words.items taken.ty.pointers.items (written_list taken.bounds.items) (written operand.tree)) (max taken.height operand.height + 1) operand.next operand.deep) }
+    ensures node { IfOk result (IsNode (Cast taken.ty.words.items taken.ty.pointers.items (written_list taken.bounds.items) (written operand.tree)) (max taken.height operand.height + 1) operand.next operand.deep) }
+    ensures placed { IfOk result (λ whole. IsTypePlaced tokens.now (from + 1) taken → HasPlaces operand.tree (drop taken.next tokens.now) → HasPlaces whole.tree (drop from tokens.now)) }
 {
     let place = place_at(tokens, from);
     let tree = cast_node(alloc, place, taken.ty, taken.bounds, operand.tree)?;
@@ -109,6 +115,7 @@ pub fn unary(
     ensures bounds { IsBounded room tokens.now from result }
     ensures parsed { Answers names.now UNARY room tokens.now from result }
     ensures told { IsStopTold names.now tokens.now from result }
+    ensures placed { IsOkPlaced tokens.now from result }
 {
     let Some(before) = operator_at(tokens, from) else {
         return postfix(alloc, tokens, names, from, room);
@@ -165,20 +172,33 @@ fn prefixed(
 ) -> Result<Taken, AllocError>
     requires within { from < length tokens.now }
     requires low { operand.height < 2 ^ 32 - 1 }
-    ensures { IfOk result (IsNode (prefixed_tree before (written operand.tree)) (operand.height + 1) operand.next operand.deep) }
+    ensures node { IfOk result (IsNode (prefixed_tree before (written operand.tree)) (operand.height + 1) operand.next operand.deep) }
+    ensures placed { IfOk result (IsBuiltBefore tokens.now from operand) }
 {
     let place = place_at(tokens, from);
-    let tree = match before {
-        Before::Step(by) => step_before(alloc, place, by, operand.tree)?,
-        Before::Operator(operator) => prefix(alloc, place, operator, operand.tree)?,
-        Before::Size => size_of(alloc, place, operand.tree)?,
-    };
+    let tree = prefixed_node(alloc, place, before, operand.tree)?;
     Ok(Taken {
         tree,
         height: operand.height + 1,
         next: operand.next,
         deep: operand.deep,
     })
+}
+
+fn prefixed_node(
+    alloc: Global,
+    place: Place,
+    before: Before,
+    operand: RawExpr,
+) -> Result<RawExpr, AllocError>
+    ensures tree { IfOk result (λ tree. written tree ≡ prefixed_tree before (written operand)) }
+    ensures placed { IfOk result (λ tree. (list : List OneToken) → StandsAt place list → HasPlaces operand (drop 1 list) → HasPlaces tree list) }
+{
+    match before {
+        Before::Step(by) => step_before(alloc, place, by, operand),
+        Before::Operator(operator) => prefix(alloc, place, operator, operand),
+        Before::Size => size_of(alloc, place, operand),
+    }
 }
 
 /// The `sizeof` of a type or of an expression (C11 6.5.3.4).
@@ -197,6 +217,7 @@ fn sized(
     ensures bounds { IsBounded room tokens.now from result }
     ensures parsed { Answers names.now UNARY room tokens.now from result }
     ensures told { IsStopTold names.now tokens.now from result }
+    ensures placed { IsOkPlaced tokens.now from result }
 {
     if opens_type(tokens, names, from + 1) {
         let taken = parenthesised_type(alloc, tokens, names, from + 2, room - 1)?;
@@ -221,7 +242,8 @@ fn is_narrow(tokens: &[Token], at: usize, room: u32) -> bool
 fn measured(tokens: &[Token], from: usize, taken: TakenType) -> Taken
     requires within { from < length tokens.now }
     requires low { taken.height < 2 ^ 32 - 1 }
-    ensures { IsNode (SizeOfType taken.ty.words.items taken.ty.pointers.items (written_list taken.bounds.items)) (max taken.height 1 + 1) taken.next false result }
+    ensures node { IsNode (SizeOfType taken.ty.words.items taken.ty.pointers.items (written_list taken.bounds.items)) (max taken.height 1 + 1) taken.next false result }
+    ensures placed { IsTypePlaced tokens.now (from + 2) taken → HasPlaces result.tree (drop from tokens.now) }
 {
     Taken {
         tree: size_of_type(place_at(tokens, from), taken.ty, taken.bounds),

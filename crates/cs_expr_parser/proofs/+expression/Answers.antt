@@ -1,4 +1,4 @@
-use Rattle.std.proofs.Common.{◌≡◌, ℕ, Bool, ◌+◌, ◌-◌, ◌≤◌, List, [], Result, Ok, Err, true, false, refl, sym, ap, ◌∙◌, subst, arith, rules, leb-true, le-leb}
+use Rattle.std.proofs.Common.{◌≡◌, ℕ, Bool, Option, drop, ◌+◌, ◌-◌, ◌≤◌, List, [], Result, Ok, Err, true, false, refl, sym, ap, ◌∙◌, subst, arith, rules, leb-true, le-leb}
 use Rattle.std.proofs.lemmas.Bool.{false≢true}
 use Rattle.cs_ast.specs.declared.token.TokenKind.TheVariants as token
 use Rattle.cs_ast.specs.declared.token.Mark.TheVariants as mark
@@ -18,13 +18,16 @@ use Rattle.cs_expr_parser.specs.LastTokens.{IsStopTold, IsStopToldBehind, TellsB
 use Rattle.cs_expr_parser.specs.Reasons.{plain_reason}
 use Rattle.cs_expr_parser.specs.Words.{is_last_tag}
 use Rattle.cs_expr_parser.specs.declared.stop.Stop.TheVariants as stop
+use Rattle.cs_ast.specs.declared.raw.expression.RawExpr.{RawExpr}
+use Rattle.cs_expr_parser.specs.Places.{AreInRow, IsFoundPlaced}
+use Rattle.cs_expr_parser.proofs.SitesOfPlaces.{ArgumentsPlaced, BoundsPlaced, taken_ends, chain_ends_at, same_placed, first_argument_placed, next_argument_placed, arguments_placed, no_bounds_placed, next_bound_placed, bounds_placed, type_placed, selected_placed, narrow_placed}
 use Rattle.cs_expr_parser.proofs.Sites.{primary_none, leaf_full, parenthesis_full, leaf_taken, enclosed_stops, enclosed_unclosed, enclosed_taken}
 use Rattle.cs_expr_parser.proofs.SitesOfChains.{postfix_head_stops, postfix_head, postfix_ends, postfix_full, index_stops, index_unclosed, index_taken, call_stops, call_taken, member_answer, step_taken, infix_head_stops, infix_head, infix_ends, infix_full, right_stops, infix_taken, comma_head_stops, comma_head, comma_ends, comma_full, second_stops, comma_taken}
 use Rattle.cs_expr_parser.proofs.SitesOfLevels.{choice_none, choice_full, one_stops, one_unclosed, other_stops, choice_taken, assign_none, assign_full, value_stops, assign_taken, test_stops, object_stops}
 use Rattle.cs_expr_parser.proofs.RowsOfTrees.{joined, list_more}
 use Rattle.cs_expr_parser.proofs.Joining.{last_suffix}
 use Rattle.cs_expr_parser.proofs.Prefixes.{operand_level}
-use Rattle.cs_expr_parser.proofs.SitesOfRows.{ArgumentsSoFar, BoundsSoFar, arguments_none, first_argument_stops, first_argument, next_argument_stops, next_argument, arguments_unclosed, arguments_taken, bound_stops, bound_unclosed, next_bound, bounds_unclosed, bounds_taken}
+use Rattle.cs_expr_parser.proofs.SitesOfRows.{ArgumentsSoFar, BoundsSoFar, bounds_none, arguments_none, first_argument_stops, first_argument, next_argument_stops, next_argument, arguments_unclosed, arguments_taken, bound_stops, bound_unclosed, next_bound, bounds_unclosed, bounds_taken}
 use Rattle.cs_expr_parser.proofs.SitesOfTypes.{bounds_stop, type_taken}
 use Rattle.cs_expr_parser.proofs.SitesOfWords.{words_no_const}
 use Rattle.cs_expr_parser.proofs.SitesOfPrefixes.{unary_none_answer, unary_full, operand_stops, operand_taken, opens_is, cast_none_answer, cast_full_stops, cast_type_stops, cast_brace_stops, brace_begins_none, cast_operand_stops, cast_taken, size_type_stops, size_type_taken, size_full_answer, size_stops, size_taken}
@@ -42,11 +45,11 @@ pub infix::infix-chain-init : goal.infix::infix-chain-init
 infix::infix-chain-init t c =
     let few : c.args.level ≤ 12 = omega arith in
     let b = c.in_ok-left.ensures.bounds in
-    record { onward = b.0; inside = b.1; some = b.2; low = b.3; chain = infix_head c.args.names.now c.args.level c.args.room c.args.tokens.now c.args.from c.in_ok-left.left c.requires.infix few c.in_ok-left.ensures.parsed }
+    record { onward = b.0; inside = b.1; some = b.2; low = b.3; chain = infix_head c.args.names.now c.args.level c.args.room c.args.tokens.now c.args.from c.in_ok-left.left c.requires.infix few c.in_ok-left.ensures.parsed; placed = c.in_ok-left.ensures.placed }
 
 pub infix::infix-returns-then-left-room-clause-parsed : goal.infix::infix-returns-then-left-room-clause-parsed
 infix::infix-returns-then-left-room-clause-parsed t c =
-    infix_full c.args.names.now c.args.level c.args.room c.args.tokens.now c.args.from c.chain.left c.deepened.result c.in-Some.operator c.chain.invariant.chain c.in-Some.ensures.operator c.if-left-room.true c.deepened.ensures
+    infix_full c.args.names.now c.args.level c.args.room c.args.tokens.now c.args.from c.chain.left c.deepened.result c.in-Some.operator c.chain.invariant.chain c.in-Some.ensures.operator c.if-left-room.true c.deepened.ensures.node
 
 pub infix::infix-returns-in_err-right-clause-parsed : goal.infix::infix-returns-in_err-right-clause-parsed
 infix::infix-returns-in_err-right-clause-parsed t c =
@@ -58,7 +61,7 @@ pub infix::infix-chain-preserved : goal.infix::infix-chain-preserved
 infix::infix-chain-preserved t c =
     let b = c.in_ok-right.ensures.bounds in
     let i = c.chain.invariant in
-    let n = c.in_ok-left-2.ensures in
+    let n = c.in_ok-left-2.ensures.node in
     let next = n.next_is in
     let tall = n.height_is in
     record {
@@ -67,6 +70,7 @@ infix::infix-chain-preserved t c =
       some = omega arith;
       low = omega arith;
       chain = infix_taken c.args.names.now c.args.level c.args.room c.args.tokens.now c.args.from c.chain.left c.in_ok-right.right c.in_ok-left-2.left c.in-Some.operator i.chain c.in-Some.ensures.operator c.if-left-room.false c.in_ok-right.ensures.parsed n;
+      placed = c.in_ok-left-2.ensures.placed c.args.from i.placed (chain_ends_at c.args.names.now c.args.level c.args.room c.args.tokens.now c.args.from c.chain.left i.chain) c.in_ok-right.ensures.placed;
     }
 
 pub infix::infix-returns-clause-parsed : goal.infix::infix-returns-clause-parsed
@@ -104,6 +108,7 @@ lists::arguments-row-preserved t c =
       so_far =
           subst (λ (x : WrittenList). ArgumentsSoFar c.args.names.now c.args.room c.args.tokens.now c.args.from x c.max-height.result c.in_ok-following.following) (sym all)
           (subst (λ (x : ℕ). ArgumentsSoFar c.args.names.now c.args.room c.args.tokens.now c.args.from (joined (written_list c.row.trees.items) (More (written c.row.last.tree) End)) x c.in_ok-following.following) (sym h) next);
+      placed = next_argument_placed c.args.names.now c.args.room c.args.tokens.now c.args.from c.row.trees.items c.push.new.self.items c.row.last c.in_ok-following.following i.placed c.in_ok-following.ensures.parsed c.in_ok-following.ensures.placed c.in_ok-push.ensures.items;
     }
 
 pub lists::arguments-returns-then-not-is_mark-clause-parsed : goal.lists::arguments-returns-then-not-is_mark-clause-parsed
@@ -135,6 +140,7 @@ lists::bounds-row-preserved t c =
       inside = next.spelled.within;
       low = omega arith;
       so_far = subst (λ (x : ℕ). BoundsSoFar c.args.names.now c.args.room c.args.tokens.now c.args.from (c.in_ok-bound.bound.next + 1) (written_list c.push.new.self.items) x) (sym h) next;
+      placed = next_bound_placed c.args.names.now c.args.room c.args.tokens.now c.args.from c.row.next c.row.trees.items c.push.new.self.items c.in_ok-bound.bound i.placed c.in_ok-bound.ensures.parsed c.in_ok-bound.ensures.placed c.in_ok-push.ensures.items;
     }
 
 pub lists::bounds-returns-then-not-is_mark-2-clause-parsed : goal.lists::bounds-returns-then-not-is_mark-2-clause-parsed
@@ -161,7 +167,7 @@ loose::assign-returns-then-not-is_unary-clause-parsed t c =
 
 pub loose::assign-returns-then-object-room-clause-parsed : goal.loose::assign-returns-then-object-room-clause-parsed
 loose::assign-returns-then-object-room-clause-parsed t c =
-    assign_full c.args.names.now c.args.room c.args.tokens.now c.args.from c.in_ok-object.object c.deepened.result c.in-Some.operator c.in_ok-object.ensures.parsed c.in-Some.ensures.operator (leb-true 14 (level_of (written c.in_ok-object.object.tree)) (sym c.is_unary.ensures ∙ c.if-not-is_unary.false)) c.if-object-room.true c.deepened.ensures
+    assign_full c.args.names.now c.args.room c.args.tokens.now c.args.from c.in_ok-object.object c.deepened.result c.in-Some.operator c.in_ok-object.ensures.parsed c.in-Some.ensures.operator (leb-true 14 (level_of (written c.in_ok-object.object.tree)) (sym c.is_unary.ensures ∙ c.if-not-is_unary.false)) c.if-object-room.true c.deepened.ensures.node
 
 pub loose::assign-returns-in_err-value-clause-parsed : goal.loose::assign-returns-in_err-value-clause-parsed
 loose::assign-returns-in_err-value-clause-parsed t c =
@@ -171,7 +177,7 @@ loose::assign-returns-in_err-value-clause-parsed t c =
 
 pub loose::assign-returns-clause-parsed : goal.loose::assign-returns-clause-parsed
 loose::assign-returns-clause-parsed t c =
-    assign_taken c.args.names.now c.args.room c.args.tokens.now c.args.from c.in_ok-object.object c.in_ok-value.value c.in_ok-stored.field-0 c.in-Some.operator c.in_ok-object.ensures.parsed c.in-Some.ensures.operator (leb-true 14 (level_of (written c.in_ok-object.object.tree)) (sym c.is_unary.ensures ∙ c.if-not-is_unary.false)) c.if-object-room.false c.in_ok-value.ensures.parsed c.in_ok-stored.ensures
+    assign_taken c.args.names.now c.args.room c.args.tokens.now c.args.from c.in_ok-object.object c.in_ok-value.value c.in_ok-stored.field-0 c.in-Some.operator c.in_ok-object.ensures.parsed c.in-Some.ensures.operator (leb-true 14 (level_of (written c.in_ok-object.object.tree)) (sym c.is_unary.ensures ∙ c.if-not-is_unary.false)) c.if-object-room.false c.in_ok-value.ensures.parsed c.in_ok-stored.ensures.node
 
 pub loose::choice-returns-in_err-test-clause-parsed : goal.loose::choice-returns-in_err-test-clause-parsed
 loose::choice-returns-in_err-test-clause-parsed t c =
@@ -185,7 +191,7 @@ loose::choice-returns-then-not-is_mark-clause-parsed t c =
 
 pub loose::choice-returns-then-test-room-clause-parsed : goal.loose::choice-returns-then-test-room-clause-parsed
 loose::choice-returns-then-test-room-clause-parsed t c =
-    choice_full c.args.names.now c.args.room c.args.tokens.now c.args.from c.in_ok-test.test c.deepened.result c.in_ok-test.ensures.parsed (c.is_mark.ensures.mark.0 c.if-not-is_mark.false) c.if-test-room.true c.deepened.ensures
+    choice_full c.args.names.now c.args.room c.args.tokens.now c.args.from c.in_ok-test.test c.deepened.result c.in_ok-test.ensures.parsed (c.is_mark.ensures.mark.0 c.if-not-is_mark.false) c.if-test-room.true c.deepened.ensures.node
 
 pub loose::choice-returns-in_err-one-clause-parsed : goal.loose::choice-returns-in_err-one-clause-parsed
 loose::choice-returns-in_err-one-clause-parsed t c =
@@ -205,7 +211,7 @@ loose::choice-returns-in_err-other-clause-parsed t c =
 
 pub loose::choice-returns-clause-parsed : goal.loose::choice-returns-clause-parsed
 loose::choice-returns-clause-parsed t c =
-    choice_taken c.args.names.now c.args.room c.args.tokens.now c.args.from c.in_ok-test.test c.in_ok-one.one c.in_ok-other.other c.in_ok-chosen.field-0 c.in_ok-test.ensures.parsed (c.is_mark.ensures.mark.0 c.if-not-is_mark.false) c.if-test-room.false c.in_ok-one.ensures.parsed (c.is_mark-2.ensures.mark.0 c.if-not-is_mark-2.false) c.in_ok-other.ensures.parsed c.in_ok-chosen.ensures
+    choice_taken c.args.names.now c.args.room c.args.tokens.now c.args.from c.in_ok-test.test c.in_ok-one.one c.in_ok-other.other c.in_ok-chosen.field-0 c.in_ok-test.ensures.parsed (c.is_mark.ensures.mark.0 c.if-not-is_mark.false) c.if-test-room.false c.in_ok-one.ensures.parsed (c.is_mark-2.ensures.mark.0 c.if-not-is_mark-2.false) c.in_ok-other.ensures.parsed c.in_ok-chosen.ensures.node
 
 pub loose::comma-returns-in_err-first-clause-parsed : goal.loose::comma-returns-in_err-first-clause-parsed
 loose::comma-returns-in_err-first-clause-parsed t c =
@@ -216,11 +222,11 @@ loose::comma-returns-in_err-first-clause-parsed t c =
 pub loose::comma-chain-init : goal.loose::comma-chain-init
 loose::comma-chain-init t c =
     let b = c.in_ok-first.ensures.bounds in
-    record { onward = b.0; inside = b.1; some = b.2; low = b.3; chain = comma_head c.args.names.now c.args.room c.args.tokens.now c.args.from c.in_ok-first.first c.in_ok-first.ensures.parsed }
+    record { onward = b.0; inside = b.1; some = b.2; low = b.3; chain = comma_head c.args.names.now c.args.room c.args.tokens.now c.args.from c.in_ok-first.first c.in_ok-first.ensures.parsed; placed = c.in_ok-first.ensures.placed }
 
 pub loose::comma-returns-then-first-room-clause-parsed : goal.loose::comma-returns-then-first-room-clause-parsed
 loose::comma-returns-then-first-room-clause-parsed t c =
-    comma_full c.args.names.now c.args.room c.args.tokens.now c.args.from c.chain.first c.deepened.result c.chain.invariant.chain (c.is_mark.ensures.mark.0 c.chain-test.true) c.if-first-room.true c.deepened.ensures
+    comma_full c.args.names.now c.args.room c.args.tokens.now c.args.from c.chain.first c.deepened.result c.chain.invariant.chain (c.is_mark.ensures.mark.0 c.chain-test.true) c.if-first-room.true c.deepened.ensures.node
 
 pub loose::comma-returns-in_err-second-clause-parsed : goal.loose::comma-returns-in_err-second-clause-parsed
 loose::comma-returns-in_err-second-clause-parsed t c =
@@ -232,7 +238,7 @@ pub loose::comma-chain-preserved : goal.loose::comma-chain-preserved
 loose::comma-chain-preserved t c =
     let b = c.in_ok-second.ensures.bounds in
     let i = c.chain.invariant in
-    let n = c.in_ok-first-2.ensures in
+    let n = c.in_ok-first-2.ensures.node in
     let next = n.next_is in
     let tall = n.height_is in
     record {
@@ -241,6 +247,7 @@ loose::comma-chain-preserved t c =
       some = omega arith;
       low = omega arith;
       chain = comma_taken c.args.names.now c.args.room c.args.tokens.now c.args.from c.chain.first c.in_ok-second.second c.in_ok-first-2.first i.chain (c.is_mark.ensures.mark.0 c.chain-test.true) c.if-first-room.false c.in_ok-second.ensures.parsed n;
+      placed = c.in_ok-first-2.ensures.placed c.args.from i.placed (chain_ends_at c.args.names.now 0 c.args.room c.args.tokens.now c.args.from c.chain.first i.chain) c.in_ok-second.ensures.placed;
     }
 
 pub loose::comma-returns-clause-parsed : goal.loose::comma-returns-clause-parsed
@@ -256,11 +263,11 @@ postfix::postfix-returns-in_err-left-clause-parsed t c =
 pub postfix::postfix-chain-init : goal.postfix::postfix-chain-init
 postfix::postfix-chain-init t c =
     let b = c.in_ok-left.ensures.bounds in
-    record { onward = b.0; inside = b.1; some = b.2; low = b.3; chain = postfix_head c.args.names.now c.args.room c.args.tokens.now c.args.from c.in_ok-left.left c.in_ok-left.ensures.parsed }
+    record { onward = b.0; inside = b.1; some = b.2; low = b.3; chain = postfix_head c.args.names.now c.args.room c.args.tokens.now c.args.from c.in_ok-left.left c.in_ok-left.ensures.parsed; placed = c.in_ok-left.ensures.placed }
 
 pub postfix::postfix-returns-then-left-room-clause-parsed : goal.postfix::postfix-returns-then-left-room-clause-parsed
 postfix::postfix-returns-then-left-room-clause-parsed t c =
-    postfix_full c.args.names.now c.args.room c.args.tokens.now c.args.from c.chain.left c.deepened.result c.in-Some.mark c.chain.invariant.chain c.in-Some.ensures.mark c.if-left-room.true c.deepened.ensures
+    postfix_full c.args.names.now c.args.room c.args.tokens.now c.args.from c.chain.left c.deepened.result c.in-Some.mark c.chain.invariant.chain c.in-Some.ensures.mark c.if-left-room.true c.deepened.ensures.node
 
 pub postfix::postfix-returns-clause-parsed : goal.postfix::postfix-returns-clause-parsed
 postfix::postfix-returns-clause-parsed t c =
@@ -286,28 +293,28 @@ postfix::suffixed-returns-in_err-listed-in-OpenParenthesis-clause-chained t c =
 
 pub postfix::suffixed-returns-in_ok-indexed-in-OpenBracket-clause-chained : goal.postfix::suffixed-returns-in_ok-indexed-in-OpenBracket-clause-chained
 postfix::suffixed-returns-in_ok-indexed-in-OpenBracket-clause-chained t c =
-    λ from chain. index_taken c.args.names.now c.args.room c.args.tokens.now from c.args.left c.in_ok-number-in-OpenBracket.number c.in_ok-indexed-in-OpenBracket.field-0 chain (c.requires.stands.0 ∙ ap token.Mark c.in-OpenBracket.is) c.requires.low c.in_ok-number-in-OpenBracket.ensures.parsed (c.is_mark.ensures.mark.0 c.if-not-is_mark.false) c.in_ok-indexed-in-OpenBracket.ensures
+    λ from chain. index_taken c.args.names.now c.args.room c.args.tokens.now from c.args.left c.in_ok-number-in-OpenBracket.number c.in_ok-indexed-in-OpenBracket.field-0 chain (c.requires.stands.0 ∙ ap token.Mark c.in-OpenBracket.is) c.requires.low c.in_ok-number-in-OpenBracket.ensures.parsed (c.is_mark.ensures.mark.0 c.if-not-is_mark.false) c.in_ok-indexed-in-OpenBracket.ensures.node
 
 pub postfix::suffixed-returns-in_ok-called-in-OpenParenthesis-clause-chained : goal.postfix::suffixed-returns-in_ok-called-in-OpenParenthesis-clause-chained
 postfix::suffixed-returns-in_ok-called-in-OpenParenthesis-clause-chained t c =
-    λ from chain. call_taken c.args.names.now c.args.room c.args.tokens.now from c.args.left c.in_ok-listed-in-OpenParenthesis.listed c.in_ok-called-in-OpenParenthesis.field-0 chain (c.requires.stands.0 ∙ ap token.Mark c.in-OpenParenthesis.is) c.requires.low c.in_ok-listed-in-OpenParenthesis.ensures.parsed c.in_ok-called-in-OpenParenthesis.ensures
+    λ from chain. call_taken c.args.names.now c.args.room c.args.tokens.now from c.args.left c.in_ok-listed-in-OpenParenthesis.listed c.in_ok-called-in-OpenParenthesis.field-0 chain (c.requires.stands.0 ∙ ap token.Mark c.in-OpenParenthesis.is) c.requires.low c.in_ok-listed-in-OpenParenthesis.ensures.parsed c.in_ok-called-in-OpenParenthesis.ensures.node
 
 pub postfix::suffixed-returns-in-Dot-clause-chained : goal.postfix::suffixed-returns-in-Dot-clause-chained
 postfix::suffixed-returns-in-Dot-clause-chained t c =
-    λ from chain. member_answer c.args.names.now c.args.room c.args.tokens.now from c.args.left false c.selected.result chain (c.requires.stands.0 ∙ ap token.Mark c.in-Dot.is) c.requires.within c.requires.low c.selected.ensures
+    λ from chain. member_answer c.args.names.now c.args.room c.args.tokens.now from c.args.left false c.selected.result chain (c.requires.stands.0 ∙ ap token.Mark c.in-Dot.is) c.requires.within c.requires.low c.selected.ensures.node
 
 pub postfix::suffixed-returns-in-Arrow-clause-chained : goal.postfix::suffixed-returns-in-Arrow-clause-chained
 postfix::suffixed-returns-in-Arrow-clause-chained t c =
-    λ from chain. member_answer c.args.names.now c.args.room c.args.tokens.now from c.args.left true c.selected-in-Arrow.result chain (c.requires.stands.0 ∙ ap token.Mark c.in-Arrow.is) c.requires.within c.requires.low c.selected-in-Arrow.ensures
+    λ from chain. member_answer c.args.names.now c.args.room c.args.tokens.now from c.args.left true c.selected-in-Arrow.result chain (c.requires.stands.0 ∙ ap token.Mark c.in-Arrow.is) c.requires.within c.requires.low c.selected-in-Arrow.ensures.node
 
 pub postfix::suffixed-returns-in_ok-stepped-in-Increment-clause-chained : goal.postfix::suffixed-returns-in_ok-stepped-in-Increment-clause-chained
 postfix::suffixed-returns-in_ok-stepped-in-Increment-clause-chained t c =
-    λ from chain. step_taken c.args.names.now c.args.room c.args.tokens.now from c.args.left c.in_ok-stepped-in-Increment.field-0 Up chain (c.requires.stands.0 ∙ ap token.Mark c.in-Increment.is) c.requires.within c.requires.low c.in_ok-stepped-in-Increment.ensures
+    λ from chain. step_taken c.args.names.now c.args.room c.args.tokens.now from c.args.left c.in_ok-stepped-in-Increment.field-0 Up chain (c.requires.stands.0 ∙ ap token.Mark c.in-Increment.is) c.requires.within c.requires.low c.in_ok-stepped-in-Increment.ensures.node
 
 pub postfix::suffixed-returns-in_ok-stepped-in_default-clause-chained : goal.postfix::suffixed-returns-in_ok-stepped-in_default-clause-chained
 postfix::suffixed-returns-in_ok-stepped-in_default-clause-chained t c =
     let n = c.in_default in
-    λ from chain. step_taken c.args.names.now c.args.room c.args.tokens.now from c.args.left c.in_ok-stepped-in_default.field-0 Down chain (c.requires.stands.0 ∙ ap token.Mark (last_suffix c.args.mark c.requires.stands.1 n.not-OpenBracket n.not-OpenParenthesis n.not-Dot n.not-Arrow n.not-Increment)) c.requires.within c.requires.low c.in_ok-stepped-in_default.ensures
+    λ from chain. step_taken c.args.names.now c.args.room c.args.tokens.now from c.args.left c.in_ok-stepped-in_default.field-0 Down chain (c.requires.stands.0 ∙ ap token.Mark (last_suffix c.args.mark c.requires.stands.1 n.not-OpenBracket n.not-OpenParenthesis n.not-Dot n.not-Arrow n.not-Increment)) c.requires.within c.requires.low c.in_ok-stepped-in_default.ensures.node
 
 pub primary::primary-returns-then-room-lt2-clause-parsed : goal.primary::primary-returns-then-room-lt2-clause-parsed
 primary::primary-returns-then-room-lt2-clause-parsed t c =
@@ -325,7 +332,7 @@ primary::primary-returns-then-not-is_mark-clause-parsed t c =
 
 pub primary::primary-returns-then-is_mark-clause-parsed : goal.primary::primary-returns-then-is_mark-clause-parsed
 primary::primary-returns-then-is_mark-clause-parsed t c =
-    enclosed_taken c.args.names.now c.args.room c.args.tokens.now c.args.from c.in_ok-inner.inner c.in_ok-enclosed.field-0 c.if-room-lt2.false (c.is_mark.ensures.mark.0 c.if-is_mark.true) c.in_ok-inner.ensures.parsed (c.is_mark-then-is_mark.ensures.mark.0 c.if-not-is_mark.false) c.in_ok-enclosed.ensures
+    enclosed_taken c.args.names.now c.args.room c.args.tokens.now c.args.from c.in_ok-inner.inner c.in_ok-enclosed.field-0 c.if-room-lt2.false (c.is_mark.ensures.mark.0 c.if-is_mark.true) c.in_ok-inner.ensures.parsed (c.is_mark-then-is_mark.ensures.mark.0 c.if-not-is_mark.false) c.in_ok-enclosed.ensures.node
 
 pub primary::primary-returns-in_default-clause-parsed : goal.primary::primary-returns-in_default-clause-parsed
 primary::primary-returns-in_default-clause-parsed t c =
@@ -385,7 +392,7 @@ unary::cast-returns-in_err-operand-clause-parsed t c =
 
 pub unary::cast-returns-clause-parsed : goal.unary::cast-returns-clause-parsed
 unary::cast-returns-clause-parsed t c =
-    cast_taken c.args.names.now c.args.room c.args.tokens.now c.args.from c.in_ok-taken.taken c.in_ok-operand.operand c.in_ok-converted.field-0 c.if-room-lt2.false (opens_is c.args.names.now (kind_or_end c.args.tokens.now c.args.from) (kind_or_end c.args.tokens.now (c.args.from + 1)) (sym c.opens_type.ensures.opens ∙ c.if-not-opens_type.false)).0 c.in_ok-taken.ensures.parsed c.in_ok-operand.ensures.parsed c.in_ok-converted.ensures
+    cast_taken c.args.names.now c.args.room c.args.tokens.now c.args.from c.in_ok-taken.taken c.in_ok-operand.operand c.in_ok-converted.field-0 c.if-room-lt2.false (opens_is c.args.names.now (kind_or_end c.args.tokens.now c.args.from) (kind_or_end c.args.tokens.now (c.args.from + 1)) (sym c.opens_type.ensures.opens ∙ c.if-not-opens_type.false)).0 c.in_ok-taken.ensures.parsed c.in_ok-operand.ensures.parsed c.in_ok-converted.ensures.node
 
 pub unary::sized-returns-in_err-taken-clause-parsed : goal.unary::sized-returns-in_err-taken-clause-parsed
 unary::sized-returns-in_err-taken-clause-parsed t c =
@@ -395,7 +402,7 @@ unary::sized-returns-in_err-taken-clause-parsed t c =
 
 pub unary::sized-returns-then-opens_type-clause-parsed : goal.unary::sized-returns-then-opens_type-clause-parsed
 unary::sized-returns-then-opens_type-clause-parsed t c =
-    size_type_taken c.args.names.now c.args.room c.args.tokens.now c.args.from c.in_ok-taken.taken c.measured.result c.requires.least c.requires.stands (sym c.opens_type.ensures.opens ∙ c.if-opens_type.true) c.in_ok-taken.ensures.parsed c.measured.ensures
+    size_type_taken c.args.names.now c.args.room c.args.tokens.now c.args.from c.in_ok-taken.taken c.measured.result c.requires.least c.requires.stands (sym c.opens_type.ensures.opens ∙ c.if-opens_type.true) c.in_ok-taken.ensures.parsed c.measured.ensures.node
 
 pub unary::sized-returns-in_err-operand-clause-parsed : goal.unary::sized-returns-in_err-operand-clause-parsed
 unary::sized-returns-in_err-operand-clause-parsed t c =
@@ -405,7 +412,7 @@ unary::sized-returns-in_err-operand-clause-parsed t c =
 
 pub unary::sized-returns-clause-parsed : goal.unary::sized-returns-clause-parsed
 unary::sized-returns-clause-parsed t c =
-    size_taken c.args.names.now c.args.room c.args.tokens.now c.args.from c.in_ok-operand.operand c.in_ok-prefixed.field-0 c.requires.least c.requires.stands c.in_ok-operand.ensures.parsed c.in_ok-prefixed.ensures
+    size_taken c.args.names.now c.args.room c.args.tokens.now c.args.from c.in_ok-operand.operand c.in_ok-prefixed.field-0 c.requires.least c.requires.stands c.in_ok-operand.ensures.parsed c.in_ok-prefixed.ensures.node
 
 pub unary::unary-returns-in_default-clause-parsed : goal.unary::unary-returns-in_default-clause-parsed
 unary::unary-returns-in_default-clause-parsed t c =
@@ -432,12 +439,12 @@ unary::unary-returns-in_err-operand-in-Operator-clause-parsed t c =
 pub unary::unary-returns-in_ok-prefixed-in-Step-clause-parsed : goal.unary::unary-returns-in_ok-prefixed-in-Step-clause-parsed
 unary::unary-returns-in_ok-prefixed-in-Step-clause-parsed t c =
     let level : operand_level c.in-Some.before ≡ 14 = ap operand_level c.in-Step.is in
-    operand_taken c.args.names.now c.args.room c.args.tokens.now c.args.from c.in-Some.before c.in_ok-operand-in-Step.operand c.in_ok-prefixed-in-Step.field-0 c.if-room-lt2.false (λ e. let z : before.Step c.in-Step.field-0 ≡ before.Size = sym c.in-Step.is ∙ e in cc) c.in-Some.ensures.operator (subst (λ (n : ℕ). IsTakenFrom c.args.names.now n (c.args.room - 1) c.args.tokens.now (c.args.from + 1) c.in_ok-operand-in-Step.operand) (sym level) c.in_ok-operand-in-Step.ensures.parsed) c.in_ok-prefixed-in-Step.ensures
+    operand_taken c.args.names.now c.args.room c.args.tokens.now c.args.from c.in-Some.before c.in_ok-operand-in-Step.operand c.in_ok-prefixed-in-Step.field-0 c.if-room-lt2.false (λ e. let z : before.Step c.in-Step.field-0 ≡ before.Size = sym c.in-Step.is ∙ e in cc) c.in-Some.ensures.operator (subst (λ (n : ℕ). IsTakenFrom c.args.names.now n (c.args.room - 1) c.args.tokens.now (c.args.from + 1) c.in_ok-operand-in-Step.operand) (sym level) c.in_ok-operand-in-Step.ensures.parsed) c.in_ok-prefixed-in-Step.ensures.node
 
 pub unary::unary-returns-in_ok-prefixed-in-Operator-clause-parsed : goal.unary::unary-returns-in_ok-prefixed-in-Operator-clause-parsed
 unary::unary-returns-in_ok-prefixed-in-Operator-clause-parsed t c =
     let level : operand_level c.in-Some.before ≡ 13 = ap operand_level c.in-Operator.is in
-    operand_taken c.args.names.now c.args.room c.args.tokens.now c.args.from c.in-Some.before c.in_ok-operand-in-Operator.operand c.in_ok-prefixed-in-Operator.field-0 c.if-room-lt2.false (λ e. let z : before.Operator c.in-Operator.field-0 ≡ before.Size = sym c.in-Operator.is ∙ e in cc) c.in-Some.ensures.operator (subst (λ (n : ℕ). IsTakenFrom c.args.names.now n (c.args.room - 1) c.args.tokens.now (c.args.from + 1) c.in_ok-operand-in-Operator.operand) (sym level) c.in_ok-operand-in-Operator.ensures.parsed) c.in_ok-prefixed-in-Operator.ensures
+    operand_taken c.args.names.now c.args.room c.args.tokens.now c.args.from c.in-Some.before c.in_ok-operand-in-Operator.operand c.in_ok-prefixed-in-Operator.field-0 c.if-room-lt2.false (λ e. let z : before.Operator c.in-Operator.field-0 ≡ before.Size = sym c.in-Operator.is ∙ e in cc) c.in-Some.ensures.operator (subst (λ (n : ℕ). IsTakenFrom c.args.names.now n (c.args.room - 1) c.args.tokens.now (c.args.from + 1) c.in_ok-operand-in-Operator.operand) (sym level) c.in_ok-operand-in-Operator.ensures.parsed) c.in_ok-prefixed-in-Operator.ensures.node
 
 pub unary::sized-returns-then-is_narrow-clause-parsed : goal.unary::sized-returns-then-is_narrow-clause-parsed
 unary::sized-returns-then-is_narrow-clause-parsed t c =
@@ -566,11 +573,11 @@ postfix::suffixed-returns-in_err-listed-in-OpenParenthesis-clause-told t c =
 
 pub postfix::suffixed-returns-in-Dot-clause-told : goal.postfix::suffixed-returns-in-Dot-clause-told
 postfix::suffixed-returns-in-Dot-clause-told t c =
-    λ from chain. told_member c.args.names.now c.args.room c.args.tokens.now from c.args.left false c.selected.result chain (c.requires.stands.0 ∙ ap token.Mark c.in-Dot.is) c.requires.within c.selected.ensures
+    λ from chain. told_member c.args.names.now c.args.room c.args.tokens.now from c.args.left false c.selected.result chain (c.requires.stands.0 ∙ ap token.Mark c.in-Dot.is) c.requires.within c.selected.ensures.node
 
 pub postfix::suffixed-returns-in-Arrow-clause-told : goal.postfix::suffixed-returns-in-Arrow-clause-told
 postfix::suffixed-returns-in-Arrow-clause-told t c =
-    λ from chain. told_member c.args.names.now c.args.room c.args.tokens.now from c.args.left true c.selected-in-Arrow.result chain (c.requires.stands.0 ∙ ap token.Mark c.in-Arrow.is) c.requires.within c.selected-in-Arrow.ensures
+    λ from chain. told_member c.args.names.now c.args.room c.args.tokens.now from c.args.left true c.selected-in-Arrow.result chain (c.requires.stands.0 ∙ ap token.Mark c.in-Arrow.is) c.requires.within c.selected-in-Arrow.ensures.node
 
 pub primary::primary-returns-then-room-lt2-clause-told : goal.primary::primary-returns-then-room-lt2-clause-told
 primary::primary-returns-then-room-lt2-clause-told t c =
@@ -674,3 +681,151 @@ unary::unary-returns-in_err-operand-in-Operator-clause-told t c =
     let e : c.from_residual-in_err-operand-in-Operator.result ≡ Err c.in_err-operand-in-Operator.field-0.0 = search rules in
     subst (IsStopTold c.args.names.now c.args.tokens.now c.args.from) (sym e)
     (told_before c.args.names.now c.args.tokens.now c.args.from c.in-Some.before c.in-Some.ensures.operator c.in_err-operand-in-Operator.field-0.0 c.in_err-operand-in-Operator.ensures.told)
+
+pub infix::infix-returns-then-left-room-clause-placed : goal.infix::infix-returns-then-left-room-clause-placed
+infix::infix-returns-then-left-room-clause-placed t c =
+    same_placed c.args.tokens.now c.args.from c.chain.left.tree c.deepened.result.tree c.deepened.ensures.same c.chain.invariant.placed
+
+pub loose::comma-returns-then-first-room-clause-placed : goal.loose::comma-returns-then-first-room-clause-placed
+loose::comma-returns-then-first-room-clause-placed t c =
+    same_placed c.args.tokens.now c.args.from c.chain.first.tree c.deepened.result.tree c.deepened.ensures.same c.chain.invariant.placed
+
+pub postfix::postfix-returns-then-left-room-clause-placed : goal.postfix::postfix-returns-then-left-room-clause-placed
+postfix::postfix-returns-then-left-room-clause-placed t c =
+    same_placed c.args.tokens.now c.args.from c.chain.left.tree c.deepened.result.tree c.deepened.ensures.same c.chain.invariant.placed
+
+pub postfix::postfix-chain-preserved : goal.postfix::postfix-chain-preserved
+postfix::postfix-chain-preserved t c =
+    let b = c.in_ok-left-2.ensures.bounds in
+    let i = c.chain.invariant in
+    record {
+      onward = omega arith;
+      inside = b.1;
+      some = b.2;
+      low = b.3;
+      chain = c.in_ok-left-2.ensures.chained c.args.from i.chain;
+      placed = c.in_ok-left-2.ensures.placed c.args.from i.chain i.placed;
+    }
+
+pub loose::assign-returns-then-object-room-clause-placed : goal.loose::assign-returns-then-object-room-clause-placed
+loose::assign-returns-then-object-room-clause-placed t c =
+    same_placed c.args.tokens.now c.args.from c.in_ok-object.object.tree c.deepened.result.tree c.deepened.ensures.same c.in_ok-object.ensures.placed
+
+pub loose::assign-returns-clause-placed : goal.loose::assign-returns-clause-placed
+loose::assign-returns-clause-placed t c =
+    c.in_ok-stored.ensures.placed c.args.from c.in_ok-object.ensures.placed (taken_ends c.args.names.now 2 c.args.room c.args.tokens.now c.args.from c.in_ok-object.object c.in_ok-object.ensures.parsed) c.in_ok-value.ensures.placed
+
+pub loose::choice-returns-then-test-room-clause-placed : goal.loose::choice-returns-then-test-room-clause-placed
+loose::choice-returns-then-test-room-clause-placed t c =
+    same_placed c.args.tokens.now c.args.from c.in_ok-test.test.tree c.deepened.result.tree c.deepened.ensures.same c.in_ok-test.ensures.placed
+
+pub loose::choice-returns-clause-placed : goal.loose::choice-returns-clause-placed
+loose::choice-returns-clause-placed t c =
+    c.in_ok-chosen.ensures.placed c.args.from c.in_ok-test.ensures.placed (taken_ends c.args.names.now 3 c.args.room c.args.tokens.now c.args.from c.in_ok-test.test c.in_ok-test.ensures.parsed) c.in_ok-one.ensures.placed (taken_ends c.args.names.now 0 (c.args.room - 1) c.args.tokens.now (c.in_ok-test.test.next + 1) c.in_ok-one.one c.in_ok-one.ensures.parsed) c.in_ok-other.ensures.placed
+
+pub lists::arguments-row-init : goal.lists::arguments-row-init
+lists::arguments-row-init t c =
+    let b = c.in_ok-last.ensures.bounds in
+    let empty = c.new-trees.ensures.items in
+    record {
+      onward = b.0;
+      inside = b.1;
+      low = b.3;
+      so_far =
+          subst (λ (x : List RawExpr). ArgumentsSoFar c.args.names.now c.args.room c.args.tokens.now c.args.from (written_list x) c.in_ok-last.last.height c.in_ok-last.last) (sym empty)
+          (first_argument c.args.names.now c.args.room c.args.tokens.now c.args.from c.in_ok-last.last c.requires.within c.in_ok-last.ensures.parsed);
+      placed =
+          subst (λ (x : List RawExpr). ArgumentsPlaced c.args.tokens.now c.args.from x c.in_ok-last.last) (sym empty)
+          (first_argument_placed c.args.names.now c.args.room c.args.tokens.now c.args.from c.in_ok-last.last c.in_ok-last.ensures.parsed c.in_ok-last.ensures.placed);
+    }
+
+pub lists::arguments-returns-then-is_mark-clause-placed : goal.lists::arguments-returns-then-is_mark-clause-placed
+lists::arguments-returns-then-is_mark-clause-placed t c =
+    subst (λ (x : List RawExpr). AreInRow x (drop c.args.from c.args.tokens.now)) (sym c.new-trees.ensures.items) tt
+
+pub lists::arguments-returns-clause-placed : goal.lists::arguments-returns-clause-placed
+lists::arguments-returns-clause-placed t c =
+    arguments_placed c.args.tokens.now c.args.from c.row.trees.items c.push-2.new.self.items c.row.last c.row.invariant.placed c.in_ok-push-2.ensures.items
+
+pub lists::bounds-row-init : goal.lists::bounds-row-init
+lists::bounds-row-init t c =
+    let empty = c.new-trees.ensures.items in
+    record {
+      onward = omega arith;
+      inside = c.requires.within;
+      low = omega arith;
+      so_far = subst (λ (x : List RawExpr). BoundsSoFar c.args.names.now c.args.room c.args.tokens.now c.args.from c.args.from (written_list x) 0) (sym empty) (bounds_none c.args.names.now c.args.room c.args.tokens.now c.args.from c.requires.within);
+      placed = subst (BoundsPlaced c.args.tokens.now c.args.from c.args.from) (sym empty) (no_bounds_placed c.args.tokens.now c.args.from);
+    }
+
+pub lists::bounds-returns-clause-placed : goal.lists::bounds-returns-clause-placed
+lists::bounds-returns-clause-placed t c =
+    bounds_placed c.args.tokens.now c.args.from c.row.next _ c.row.invariant.placed refl
+
+pub postfix::suffixed-returns-in_ok-indexed-in-OpenBracket-clause-placed : goal.postfix::suffixed-returns-in_ok-indexed-in-OpenBracket-clause-placed
+postfix::suffixed-returns-in_ok-indexed-in-OpenBracket-clause-placed t c =
+    λ from chain here. c.in_ok-indexed-in-OpenBracket.ensures.placed from here (chain_ends_at c.args.names.now 15 c.args.room c.args.tokens.now from c.args.left chain) c.in_ok-number-in-OpenBracket.ensures.placed
+
+pub postfix::suffixed-returns-in_ok-called-in-OpenParenthesis-clause-placed : goal.postfix::suffixed-returns-in_ok-called-in-OpenParenthesis-clause-placed
+postfix::suffixed-returns-in_ok-called-in-OpenParenthesis-clause-placed t c =
+    λ from chain here. c.in_ok-called-in-OpenParenthesis.ensures.placed from here (chain_ends_at c.args.names.now 15 c.args.room c.args.tokens.now from c.args.left chain) c.in_ok-listed-in-OpenParenthesis.ensures.placed
+
+pub postfix::suffixed-returns-in-Dot-clause-placed : goal.postfix::suffixed-returns-in-Dot-clause-placed
+postfix::suffixed-returns-in-Dot-clause-placed t c =
+    λ from chain here. selected_placed c.args.tokens.now from c.args.left c.selected.result c.selected.ensures.placed here (chain_ends_at c.args.names.now 15 c.args.room c.args.tokens.now from c.args.left chain)
+
+pub postfix::suffixed-returns-in-Arrow-clause-placed : goal.postfix::suffixed-returns-in-Arrow-clause-placed
+postfix::suffixed-returns-in-Arrow-clause-placed t c =
+    λ from chain here. selected_placed c.args.tokens.now from c.args.left c.selected-in-Arrow.result c.selected-in-Arrow.ensures.placed here (chain_ends_at c.args.names.now 15 c.args.room c.args.tokens.now from c.args.left chain)
+
+pub postfix::suffixed-returns-in_ok-stepped-in-Increment-clause-placed : goal.postfix::suffixed-returns-in_ok-stepped-in-Increment-clause-placed
+postfix::suffixed-returns-in_ok-stepped-in-Increment-clause-placed t c =
+    λ from chain here. c.in_ok-stepped-in-Increment.ensures.placed from here (chain_ends_at c.args.names.now 15 c.args.room c.args.tokens.now from c.args.left chain)
+
+pub postfix::suffixed-returns-in_ok-stepped-in_default-clause-placed : goal.postfix::suffixed-returns-in_ok-stepped-in_default-clause-placed
+postfix::suffixed-returns-in_ok-stepped-in_default-clause-placed t c =
+    λ from chain here. c.in_ok-stepped-in_default.ensures.placed from here (chain_ends_at c.args.names.now 15 c.args.room c.args.tokens.now from c.args.left chain)
+
+pub primary::primary-returns-then-is_mark-clause-placed : goal.primary::primary-returns-then-is_mark-clause-placed
+primary::primary-returns-then-is_mark-clause-placed t c =
+    c.in_ok-enclosed.ensures.placed c.in_ok-inner.ensures.placed
+
+pub primary::primary-returns-clause-placed : goal.primary::primary-returns-clause-placed
+primary::primary-returns-clause-placed t c =
+    subst (λ (x : Option RawExpr). IsFoundPlaced x (drop c.args.from c.args.tokens.now)) c.in-Some.is c.in_ok-tree.ensures.placed
+
+pub types::parenthesised_type-returns-clause-placed : goal.types::parenthesised_type-returns-clause-placed
+types::parenthesised_type-returns-clause-placed t c =
+    type_placed c.args.names.now c.args.tokens.now c.args.from c.in_ok-words.words c.in_ok-pointers.pointers c.in_ok-listed.listed _ c.in_ok-words.ensures.words c.in_ok-pointers.ensures.pointers refl refl refl refl c.in_ok-words.ensures.placed c.in_ok-listed.ensures.placed
+
+pub unary::cast-returns-then-not-opens_type-clause-placed : goal.unary::cast-returns-then-not-opens_type-clause-placed
+unary::cast-returns-then-not-opens_type-clause-placed t c =
+    c.unary.ensures.placed
+
+pub unary::cast-returns-clause-placed : goal.unary::cast-returns-clause-placed
+unary::cast-returns-clause-placed t c =
+    c.in_ok-converted.ensures.placed c.in_ok-taken.ensures.placed c.in_ok-operand.ensures.placed
+
+pub unary::sized-returns-then-opens_type-clause-placed : goal.unary::sized-returns-then-opens_type-clause-placed
+unary::sized-returns-then-opens_type-clause-placed t c =
+    c.measured.ensures.placed c.in_ok-taken.ensures.placed
+
+pub unary::sized-returns-then-is_narrow-clause-placed : goal.unary::sized-returns-then-is_narrow-clause-placed
+unary::sized-returns-then-is_narrow-clause-placed t c =
+    narrow_placed c.args.tokens.now c.args.from c.comma.result c.comma.ensures.bounds
+
+pub unary::sized-returns-clause-placed : goal.unary::sized-returns-clause-placed
+unary::sized-returns-clause-placed t c =
+    c.in_ok-prefixed.ensures.placed c.in_ok-operand.ensures.placed
+
+pub unary::unary-returns-in_default-clause-placed : goal.unary::unary-returns-in_default-clause-placed
+unary::unary-returns-in_default-clause-placed t c =
+    c.postfix.ensures.placed
+
+pub unary::unary-returns-in_ok-prefixed-in-Step-clause-placed : goal.unary::unary-returns-in_ok-prefixed-in-Step-clause-placed
+unary::unary-returns-in_ok-prefixed-in-Step-clause-placed t c =
+    c.in_ok-prefixed-in-Step.ensures.placed c.in_ok-operand-in-Step.ensures.placed
+
+pub unary::unary-returns-in_ok-prefixed-in-Operator-clause-placed : goal.unary::unary-returns-in_ok-prefixed-in-Operator-clause-placed
+unary::unary-returns-in_ok-prefixed-in-Operator-clause-placed t c =
+    c.in_ok-prefixed-in-Operator.ensures.placed c.in_ok-operand-in-Operator.ensures.placed

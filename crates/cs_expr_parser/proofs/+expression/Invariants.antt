@@ -1,7 +1,9 @@
 -- How much room and which part are left: the measure of the parser's parts; and what their loops keep.
-use Rattle.std.proofs.Common.{◌≤◌, ◌<◌, ◌+◌, ◌-◌, ◌*◌, length}
+use Rattle.std.proofs.Common.{◌≤◌, ◌<◌, ◌+◌, ◌-◌, ◌*◌, length, drop}
 use Rattle.cs_ast.specs.RawView.{written_list}
 use Rattle.cs_grammar.specs.Levels.{COMMA, POSTFIX}
+use Rattle.cs_grammar.specs.Places.{HasPlaces}
+use Rattle.cs_expr_parser.proofs.SitesOfPlaces.{ArgumentsPlaced, BoundsPlaced}
 use Rattle.cs_expr_parser.specs.Parts.{IsChainFrom}
 use Rattle.cs_expr_parser.proofs.SitesOfRows.{ArgumentsSoFar, BoundsSoFar}
 use Rattle.cs_expr_parser.proofs.+expression.Given as goal
@@ -55,6 +57,7 @@ invariant-postfix::postfix-chain l = record {
   some : 1 ≤ l.left.height;
   low : l.left.height ≤ l.room;
   chain : IsChainFrom l.names POSTFIX l.room l.tokens l.fn.from l.left;
+  placed : HasPlaces l.left.tree (drop l.fn.from l.tokens);
 }
 
 abbrev pub decreases-infix::infix-chain : goal.decreases-infix::infix-chain
@@ -67,6 +70,7 @@ invariant-infix::infix-chain l = record {
   some : 1 ≤ l.left.height;
   low : l.left.height ≤ l.room;
   chain : IsChainFrom l.names l.level l.room l.tokens l.fn.from l.left;
+  placed : HasPlaces l.left.tree (drop l.fn.from l.tokens);
 }
 
 abbrev pub decreases-loose::comma-chain : goal.decreases-loose::comma-chain
@@ -79,6 +83,7 @@ invariant-loose::comma-chain l = record {
   some : 1 ≤ l.first.height;
   low : l.first.height ≤ l.room;
   chain : IsChainFrom l.names COMMA l.room l.tokens l.fn.from l.first;
+  placed : HasPlaces l.first.tree (drop l.fn.from l.tokens);
 }
 
 abbrev pub decreases-lists::arguments-row : goal.decreases-lists::arguments-row
@@ -90,6 +95,7 @@ invariant-lists::arguments-row l = record {
   inside : l.last.next ≤ length l.tokens;
   low : l.height ≤ l.room;
   so_far : ArgumentsSoFar l.names l.room l.tokens l.fn.from (written_list l.trees.items) l.height l.last;
+  placed : ArgumentsPlaced l.tokens l.fn.from l.trees.items l.last;
 }
 
 abbrev pub decreases-lists::bounds-row : goal.decreases-lists::bounds-row
@@ -101,4 +107,5 @@ invariant-lists::bounds-row l = record {
   inside : l.next ≤ length l.tokens;
   low : l.height ≤ l.room;
   so_far : BoundsSoFar l.names l.room l.tokens l.fn.from l.next (written_list l.trees.items) l.height;
+  placed : BoundsPlaced l.tokens l.fn.from l.next l.trees.items;
 }

@@ -9,7 +9,7 @@ use Rattle.cs_expr_parser.proofs.parser.expression.Goals as goal
 
 pub returns-in-Ok-clause-taken : goal.returns-in-Ok-clause-taken
 returns-in-Ok-clause-taken c =
-    phrase_taken c.args.names.now (level_asked c.args.level) c.args.room c.args.tokens.now c.args.from c.in-Ok.taken c.phrase.result c.in-Ok.ensures.parsed c.phrase.ensures.tree c.phrase.ensures.height c.phrase.ensures.next c.phrase.ensures.otherwise
+    phrase_taken c.args.names.now (level_asked c.args.level) c.args.room c.args.tokens.now c.args.from c.in-Ok.taken c.phrase.result c.in-Ok.ensures.parsed c.phrase.ensures.tree c.phrase.ensures.height c.phrase.ensures.next c.phrase.ensures.otherwise c.in-Ok.ensures.placed
 
 pub returns-in-Err-Refused-clause-refused : goal.returns-in-Err-Refused-clause-refused
 returns-in-Err-Refused-clause-refused c =

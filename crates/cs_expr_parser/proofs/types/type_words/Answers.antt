@@ -1,4 +1,4 @@
-use Rattle.std.proofs.Common.{◌≡◌, Option, Result, Ok, Err, sym, ap, ◌∙◌, subst, arith, rules}
+use Rattle.std.proofs.Common.{◌≡◌, List, Option, Result, Ok, Err, sym, ap, ◌∙◌, subst, arith, rules}
 use Rattle.cs_ast.specs.declared.raw.written_type.TypeWord.{TypeWord}
 use Rattle.cs_expr_parser.specs.LastTokens.{IsStopTold}
 use Rattle.cs_expr_parser.specs.Words.{last_tagged, WordsAnswer, JoiningAnswer, IsJoiningAt}
@@ -7,6 +7,8 @@ use Rattle.cs_expr_parser.specs.declared.types.TypeWords.{TypeWords}
 use Rattle.cs_expr_parser.specs.declared.types.JoiningWord.{JoiningWord}
 use Rattle.cs_expr_parser.proofs.SitesOfReasons.{told_word, told_no_type}
 use Rattle.cs_expr_parser.proofs.SitesOfWords.{WordsSoFar, nothing_named, tagged_more, word_stops, words_one_more, words_name_nothing}
+use Rattle.cs_expr_parser.specs.Places.{IsJoiningTagged}
+use Rattle.cs_expr_parser.proofs.TagPlaces.{TagSoFar, one_more_tag}
 use Rattle.cs_expr_parser.proofs.types.type_words.Goals as goal
 
 pub returns-in_err-joined-clause-words : goal.returns-in_err-joined-clause-words
@@ -28,6 +30,10 @@ words-preserved c =
           subst (WordsSoFar c.args.names.now c.args.tokens.now c.args.from c.in-Some.joined.found.next c.in-Some.joined.after) (sym c.in_ok-push.ensures.items)
           (words_one_more c.args.names.now c.args.tokens.now c.args.from c.words.next c.words.so_far c.words.words.items c.in-Some.joined c.words.invariant.so_far j);
       tagged = c.has_tag-tagged.ensures ∙ sym (ap last_tagged c.in_ok-push.ensures.items ∙ tagged_more c.words.words.items c.in-Some.joined.found.word);
+      placed =
+          subst (λ (x : List TypeWord). TagSoFar c.args.tokens.now c.args.from c.in-Some.joined.found.next x c.or-tag.result) (sym c.in_ok-push.ensures.items)
+          (one_more_tag c.args.tokens.now c.args.from c.words.next c.in-Some.joined.found.next c.words.words.items c.in-Some.joined.found.word c.words.tag c.in-Some.joined.found.tag c.or-tag.result c.words.invariant.placed c.or-tag.ensures
+          (subst (λ (x : Option JoiningWord). IsJoiningTagged c.args.tokens.now c.words.next (Ok x)) c.in-Some.is c.in_ok-joined.ensures.placed));
     }
 
 pub returns-then-not-names_type-clause-words : goal.returns-then-not-names_type-clause-words

@@ -1,0 +1,121 @@
+-- That what the parts of the parser took has the places of its tokens.
+use Rattle.std.specs.Prelude.{◌≡◌, ℕ, ◌+◌, List, [], ◌∷◌, drop, slice_get, Bool, true, false, Option, Some, None, Result, Ok, Err}
+use Rattle.std.specs.Option.{option_map, option_and_then}
+use Rattle.cs_ast.specs.declared.place.Place.{Place}
+use Rattle.cs_ast.specs.declared.token.Token.{Token}
+use Rattle.cs_ast.specs.declared.raw.expression.RawExpr.{RawExpr}
+use Rattle.cs_ast.specs.declared.raw.expression.RawExprKind.{RawExprKind}
+use Rattle.cs_ast.specs.declared.raw.written_type.TypeWord.{TypeWord}
+use Rattle.cs_grammar.specs.Places.{HasPlaces, HasTagPlace, StandsAt, IsPlaced, before_tag, behind, behind_words}
+use Rattle.cs_expr_parser.specs.declared.stop.Stop.{Stop}
+use Rattle.cs_expr_parser.specs.declared.stop.Taken.{Taken}
+use Rattle.cs_expr_parser.specs.declared.lists.Listed.{Listed}
+use Rattle.cs_expr_parser.specs.Words.{has_tag}
+use Rattle.cs_expr_parser.specs.declared.types.NextWord.{NextWord}
+use Rattle.cs_expr_parser.specs.declared.types.JoiningWord.{JoiningWord}
+use Rattle.cs_expr_parser.specs.declared.types.TakenType.{TakenType}
+
+-- an expression that was taken has its places
+abbrev pub IsOkPlaced : List Token → ℕ → Result Taken Stop → Type 0
+IsOkPlaced tokens from (Ok taken) = HasPlaces taken.tree (drop from tokens)
+IsOkPlaced tokens from (Err stop) = Unit {0}
+
+-- expressions with a mark behind each have their places
+abbrev pub AreInRow : List RawExpr → List Token → Type 0
+AreInRow [] tokens = Unit {0}
+AreInRow (tree ∷ trees) tokens = HasPlaces tree tokens × AreInRow trees (drop 1 (behind tree.kind tokens))
+
+-- the tokens behind expressions between brackets
+abbrev pub behind_brackets : List RawExpr → List Token → List Token
+behind_brackets [] tokens = tokens
+behind_brackets (tree ∷ trees) tokens = behind_brackets trees (drop 1 (behind tree.kind (drop 1 tokens)))
+
+-- expressions between brackets have their places
+abbrev pub AreInBrackets : List RawExpr → List Token → Type 0
+AreInBrackets [] tokens = Unit {0}
+AreInBrackets (tree ∷ trees) tokens = HasPlaces tree (drop 1 tokens) × AreInBrackets trees (drop 1 (behind tree.kind (drop 1 tokens)))
+
+abbrev pub IsRowPlaced : List Token → ℕ → Result Listed Stop → Type 0
+IsRowPlaced tokens from (Ok taken) = AreInRow taken.trees.items (drop from tokens)
+IsRowPlaced tokens from (Err stop) = Unit {0}
+
+-- the bounds of a type that were taken have their places, and end before a token
+pub record AreBoundsFrom (tokens : List Token) (from : ℕ) (taken : Listed) : Type 0 where
+  pub brackets : AreInBrackets taken.trees.items (drop from tokens)
+  pub ends : drop 1 (behind_brackets taken.trees.items (drop from tokens)) ≡ drop taken.next tokens
+
+abbrev pub AreBoundsPlaced : List Token → ℕ → Result Listed Stop → Type 0
+AreBoundsPlaced tokens from (Ok taken) = AreBoundsFrom tokens from taken
+AreBoundsPlaced tokens from (Err stop) = Unit {0}
+
+-- the one expression of a token, if it is one, has its place
+abbrev pub IsFoundPlaced : Option RawExpr → List Token → Type 0
+IsFoundPlaced (Some tree) tokens = HasPlaces tree tokens
+IsFoundPlaced None tokens = Unit {0}
+
+-- behind the tokens of an expression, which begin at a number, stand those from another number on
+abbrev pub EndsAt : List Token → ℕ → RawExpr → ℕ → Type 0
+EndsAt tokens from tree next = behind tree.kind (drop from tokens) ≡ drop next tokens
+
+-- the node has its places where its operand has
+abbrev pub IsBuiltBehind : List Token → Taken → Taken → Type 0
+IsBuiltBehind tokens left whole = (from : ℕ) → HasPlaces left.tree (drop from tokens) → EndsAt tokens from left.tree left.next → HasPlaces whole.tree (drop from tokens)
+
+-- the node has its places where its two operands have, with one token between them
+abbrev pub IsBuiltWith : List Token → Taken → Taken → Taken → Type 0
+IsBuiltWith tokens left right whole =
+    (from : ℕ) → HasPlaces left.tree (drop from tokens) → EndsAt tokens from left.tree left.next → HasPlaces right.tree (drop (left.next + 1) tokens) → HasPlaces whole.tree (drop from tokens)
+
+-- the call has its places where the function and the arguments have
+abbrev pub IsBuiltWithRow : List Token → Taken → Listed → Taken → Type 0
+IsBuiltWithRow tokens left listed whole =
+    (from : ℕ) → HasPlaces left.tree (drop from tokens) → EndsAt tokens from left.tree left.next → AreInRow listed.trees.items (drop (left.next + 1) tokens) → HasPlaces whole.tree (drop from tokens)
+
+-- the node has its places where its operand has, with one token before it
+abbrev pub IsBuiltBefore : List Token → ℕ → Taken → Taken → Type 0
+IsBuiltBefore tokens from operand whole = HasPlaces operand.tree (drop (from + 1) tokens) → HasPlaces whole.tree (drop from tokens)
+
+-- the choice has its places where its three parts have
+abbrev pub IsBuiltOfThree : List Token → Taken → Taken → Taken → Taken → Type 0
+IsBuiltOfThree tokens test one other whole =
+    (from : ℕ) → HasPlaces test.tree (drop from tokens) → EndsAt tokens from test.tree test.next → HasPlaces one.tree (drop (test.next + 1) tokens) → EndsAt tokens (test.next + 1) one.tree one.next
+    → HasPlaces other.tree (drop (one.next + 1) tokens) → HasPlaces whole.tree (drop from tokens)
+
+-- a type that was taken has its places, and ends before a token
+pub record IsTypePlaced (tokens : List Token) (from : ℕ) (taken : TakenType) : Type 0 where
+  pub tag : HasTagPlace taken.ty (drop from tokens)
+  pub bounds : AreInBrackets taken.bounds.items (behind_words taken.ty (drop from tokens))
+  pub behind : drop 1 (behind_brackets taken.bounds.items (behind_words taken.ty (drop from tokens))) ≡ drop taken.next tokens
+
+abbrev pub IsOkTypePlaced : List Token → ℕ → Result TakenType Stop → Type 0
+IsOkTypePlaced tokens from (Ok taken) = IsTypePlaced tokens from taken
+IsOkTypePlaced tokens from (Err stop) = Unit {0}
+
+-- the tag of a type has the place of its token, where the words of the type begin these tokens
+abbrev pub IsTagPlaced : Option Place → List TypeWord → List Token → Type 0
+IsTagPlaced tag words tokens = tag ≡ option_map (λ (token : Token). token.place) (option_and_then (λ number. slice_get tokens number) (before_tag words))
+
+-- the tag of a word, if it has one, is told with the place of its token; else the word is one token
+abbrev pub IsTagGiven : Bool → List Token → ℕ → Option Place → ℕ → Type 0
+IsTagGiven true tokens at tag after = (place : Place) × (tag ≡ Some place) × StandsAt place (drop (at + 1) tokens)
+IsTagGiven false tokens at tag after = (tag ≡ None) × (after ≡ at + 1)
+
+abbrev pub IsNextTagged : List Token → ℕ → Result (Option NextWord) Stop → Type 0
+IsNextTagged tokens at (Ok (Some found)) = IsTagGiven (has_tag found.word) tokens at found.tag found.next
+IsNextTagged tokens at (Ok None) = Unit {0}
+IsNextTagged tokens at (Err stop) = Unit {0}
+
+abbrev pub IsTagStanding : List Token → ℕ → Result (Option NextWord) Stop → Type 0
+IsTagStanding tokens at (Ok (Some found)) = IsTagGiven true tokens at found.tag found.next
+IsTagStanding tokens at (Ok None) = Unit {0}
+IsTagStanding tokens at (Err stop) = Unit {0}
+
+abbrev pub IsJoiningTagged : List Token → ℕ → Result (Option JoiningWord) Stop → Type 0
+IsJoiningTagged tokens at (Ok (Some joining)) = IsTagGiven (has_tag joining.found.word) tokens at joining.found.tag joining.found.next
+IsJoiningTagged tokens at (Ok None) = Unit {0}
+IsJoiningTagged tokens at (Err stop) = Unit {0}
+
+-- the expression of one token, if there is one, has its place wherever it stands at that of the token
+abbrev pub IsPlacedAnywhere : Option RawExprKind → Type 0
+IsPlacedAnywhere (Some leaf) = (place : Place) (tokens : List Token) → StandsAt place tokens → IsPlaced place leaf tokens
+IsPlacedAnywhere None = Unit {0}
