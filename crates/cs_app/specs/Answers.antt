@@ -15,7 +15,7 @@ use Rattle.cs_lexer.specs.Lexing.{Lexes}
 use Rattle.cs_form.specs.Form.{IsOfForm}
 use Rattle.cs_app.specs.Refusals.{IsOfNoForm, RefusesSource}
 use Rattle.cs_app.specs.declared.status.Status.{Status}
-use Rattle.cs_app.specs.declared.status.Status.TheVariants.{Clean, Found, BadWords, BadFile, ReadFault, WriteFault, Memory}
+use Rattle.cs_app.specs.declared.status.Status.TheVariants.{Clean, Found, BadWords, BadFile}
 use Rattle.cs_app.specs.Words.{first_refused}
 
 -- the budgets that a run has where the words name none

@@ -6,7 +6,7 @@ use Rattle.cs_lexer.specs.declared.refusal.LexRefusal.{LexRefusal}
 use Rattle.cs_lexer.specs.declared.refusal.LexRefusal.TheVariants.{BadByte, Unclosed, WideNumber, BadLine, TooManyTokens, Memory}
 use Rattle.cs_lexer.specs.Lexing.{Lexes, IsRefused}
 use Rattle.cs_form.specs.Form.{IsOfForm}
-use Rattle.cs_report.specs.RefusalLines.{lex_line}
+use Rattle.cs_report.specs.RefusalLines.{refusal_line}
 
 -- the most bytes that a file may have
 abbrev pub MOST_BYTES : ℕ
@@ -14,10 +14,10 @@ MOST_BYTES = 4194304
 
 -- the line for a text that has no tokens; want of memory has none
 abbrev pub IsLexLine : LexRefusal → List ℕ → Type 0
-IsLexLine (BadByte place file) text = text ≡ lex_line 1 file place
-IsLexLine (Unclosed place file) text = text ≡ lex_line 2 file place
-IsLexLine (WideNumber place file) text = text ≡ lex_line 3 file place
-IsLexLine (BadLine place file) text = text ≡ lex_line 4 file place
+IsLexLine (BadByte place file) text = text ≡ refusal_line (codes "refused lex 1 ") file place
+IsLexLine (Unclosed place file) text = text ≡ refusal_line (codes "refused lex 2 ") file place
+IsLexLine (WideNumber place file) text = text ≡ refusal_line (codes "refused lex 3 ") file place
+IsLexLine (BadLine place file) text = text ≡ refusal_line (codes "refused lex 4 ") file place
 IsLexLine TooManyTokens text = text ≡ codes "refused too-many-tokens 400001\n"
 IsLexLine Memory text = ⊥
 

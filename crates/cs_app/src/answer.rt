@@ -8,7 +8,7 @@ ghost use Rattle.cs_io.specs.Count.{Rose};
 ghost use Rattle.cs_form.specs.Form.{IsOfForm};
 ghost use Rattle.cs_analysis.specs.Shape.{IsCoverable, LeavesRoom};
 ghost use Rattle.cs_app.specs.Words.{words_text, first_refused};
-ghost use Rattle.cs_report.specs.RefusalLines.{lex_line};
+ghost use Rattle.cs_report.specs.RefusalLines.{refusal_line};
 ghost use Rattle.cs_app.specs.Refusals.{MOST_BYTES, IsLexLine};
 ghost use Rattle.cs_app.specs.Answers.{IsWhole, IsFileAnswer, IsFormAnswer, IsResultText, IsAnalyzed, DEFAULT_BUDGETS, status_of};
 
@@ -21,7 +21,7 @@ use cs_io::{ReadRefusal, Source, read_all};
 use cs_lexer::{LexRefusal, tokens};
 use cs_model::Finding;
 use cs_names::Name;
-use cs_report::{append_entry, append_lex_refusal};
+use cs_report::{append_entry, append_refusal};
 use std::alloc::{AllocError, Global};
 
 /// The text of a run, and the status that it has where the text is written whole.
@@ -152,22 +152,22 @@ fn refused_tokens(alloc: Global, refusal: LexRefusal) -> Result<Answer, AllocErr
     ensures text { IfOk result (λ answer. IsLexLine refusal answer.text.items) }
 {
     match refusal {
-        LexRefusal::BadByte(place, file) => refused_at(alloc, 1, &file, place),
-        LexRefusal::Unclosed(place, file) => refused_at(alloc, 2, &file, place),
-        LexRefusal::WideNumber(place, file) => refused_at(alloc, 3, &file, place),
-        LexRefusal::BadLine(place, file) => refused_at(alloc, 4, &file, place),
+        LexRefusal::BadByte(place, file) => refused_at(alloc, "refused lex 1 ", &file, place),
+        LexRefusal::Unclosed(place, file) => refused_at(alloc, "refused lex 2 ", &file, place),
+        LexRefusal::WideNumber(place, file) => refused_at(alloc, "refused lex 3 ", &file, place),
+        LexRefusal::BadLine(place, file) => refused_at(alloc, "refused lex 4 ", &file, place),
         LexRefusal::TooManyTokens => refused_line(alloc, b"refused too-many-tokens 400001\n"),
         LexRefusal::Memory => Err(AllocError),
     }
 }
 
-/// The answer to a file with a fault at a place.
-fn refused_at(alloc: Global, code: u8, file: &Name, place: Place) -> Result<Answer, AllocError>
+/// The answer to a file that is refused at a place, with these words.
+fn refused_at(alloc: Global, words: &str, file: &Name, place: Place) -> Result<Answer, AllocError>
     ensures status { IfOk result (λ answer. answer.status ≡ Status.BadFile) }
-    ensures text { IfOk result (λ answer. answer.text.items ≡ lex_line code file.now place) }
+    ensures text { IfOk result (λ answer. answer.text.items ≡ refusal_line words.now file.now place) }
 {
     let mut text = Vec::new(alloc);
-    append_lex_refusal(&mut text, code, file, place)?;
+    append_refusal(&mut text, words, file, place)?;
     Ok(Answer {
         status: Status::BadFile,
         text,

@@ -10,4 +10,4 @@ mod tests;
 mod text;
 
 pub use entry::append_entry;
-pub use refusal::append_lex_refusal;
+pub use refusal::append_refusal;
