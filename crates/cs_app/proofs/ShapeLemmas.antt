@@ -1,5 +1,5 @@
 -- Functions of the form are such as the analysis covers: for `answer_to`.
-use Rattle.std.proofs.Common.{◌≡◌, ℕ, ◌+◌, ◌*◌, ◌<◌, ◌≤◌, ◌^◌, pos, IsTrue, List, [], ◌∷◌, length, refl, sym, ap, ◌∙◌, subst, arith, rules, tests, nat_lt, true}
+use Rattle.std.proofs.Common.{◌≡◌, ℕ, ◌+◌, ◌<◌, ◌^◌, List, [], ◌∷◌, length, refl, sym, subst, arith, rules, tests, nat_lt, true}
 use Rattle.std.specs.Prelude.{All}
 use Rattle.std.proofs.lemmas.List.Elements.{All-head, All-tail}
 use Rattle.cs_ast.specs.declared.place.Place.{Place}

@@ -10,9 +10,12 @@ use Rattle.cs_model.specs.declared.finding.EntryResult.{EntryResult}
 use Rattle.cs_model.specs.declared.outcome.Budgets.{Budgets}
 use Rattle.cs_model.specs.Findings.{IsGoodEntry}
 use Rattle.cs_model.specs.Texts.{entry_lines}
+use Rattle.cs_lexer.specs.declared.lexer.Lexed.{Lexed}
+use Rattle.cs_lexer.specs.Lexing.{Lexes}
 use Rattle.cs_form.specs.Form.{IsOfForm}
+use Rattle.cs_app.specs.Refusals.{IsOfNoForm, RefusesSource}
 use Rattle.cs_app.specs.declared.status.Status.{Status}
-use Rattle.cs_app.specs.declared.status.Status.TheVariants.{Clean, Found, BadWords, BadFile, ReadFault, WriteFault, Memory}
+use Rattle.cs_app.specs.declared.status.Status.TheVariants.{Clean, Found, BadWords, BadFile}
 use Rattle.cs_app.specs.Words.{first_refused}
 
 -- the budgets that a run has where the words name none
@@ -36,21 +39,24 @@ pub record IsResultText (function : Definition) (status : Status) (text : List �
   pub is : text ≡ entry_lines FILES function.name told
   pub found : status ≡ status_of told.reports.items
 
--- the text is the analysis of the function that the file spells
+-- the text is the analysis of the function that the file spells, a file with tokens
 pub record IsAnalysis (file : List ℕ) (status : Status) (text : List ℕ) : Type 0 where
+  pub lexed : Lexed
+  pub has_tokens : Lexes file lexed
   pub function : Definition
   pub spelled : IsOfForm file function
   pub analyzed : IsResultText function status text
 
--- no function is spelled by the file
-abbrev pub IsOfNoForm : List ℕ → Type 0
-IsOfNoForm file = (function : Definition) → IsOfForm file function → ⊥
+-- the text is that of the function that the file spells, or says that it spells none
+abbrev pub IsFormAnswer : List ℕ → Status → List ℕ → Type 0
+IsFormAnswer file BadFile text = IsOfNoForm file × (text ≡ codes "refused form\n")
+IsFormAnswer file status text = (function : Definition) × IsOfForm file function × IsResultText function status text
 
 -- the whole text that belongs to a status, for this file, where the source tells what it is
 abbrev pub IsFileAnswer : Option (List ℕ) → Status → List ℕ → Type 0
 IsFileAnswer file Clean text = IfSome file (λ bytes. IsAnalysis bytes Clean text)
 IsFileAnswer file Found text = IfSome file (λ bytes. IsAnalysis bytes Found text)
-IsFileAnswer file BadFile text = IfSome file IsOfNoForm × (text ≡ codes "refused form\n")
+IsFileAnswer file BadFile text = RefusesSource file text
 IsFileAnswer file _ text = ⊥
 
 -- the same for these words, too
@@ -85,10 +91,12 @@ IsPartWritten words file before now =
 abbrev pub SinkRose : (faults faults' empty_takes empty_takes' : ℕ) → Type 0
 SinkRose faults faults' empty_takes empty_takes' = Rose faults faults' ⊎ Rose empty_takes empty_takes'
 
--- the words are a command, and the file is of the form
+-- the words are a command, and the file has tokens and is of the form
 pub record IsAcceptable (words : List (List ℕ)) (file : Option (List ℕ)) : Type 0 where
   pub command : first_refused words ≡ None
   pub bytes : List ℕ
   pub told : file ≡ Some bytes
+  pub lexed : Lexed
+  pub has_tokens : Lexes bytes lexed
   pub function : Definition
   pub spelled : IsOfForm bytes function

@@ -1,5 +1,5 @@
 //! What a run of the program has to write.
-ghost use Rattle.std.specs.Prelude.{◌≡◌, ℕ, ◌++◌, [], List, Err, None, Some, codes, IfOk, OnOk};
+ghost use Rattle.std.specs.Prelude.{◌≡◌, ◌≤◌, ℕ, ◌++◌, [], List, length, Err, None, Some, codes, IfOk, OnOk};
 ghost use Rattle.std.specs.Io.KnownBytes.{IsAtEnd};
 ghost use Rattle.std.specs.Fmt.{decimal};
 ghost use Rattle.cs_ast.specs.Tree.{Definition};
@@ -8,17 +8,20 @@ ghost use Rattle.cs_io.specs.Count.{Rose};
 ghost use Rattle.cs_form.specs.Form.{IsOfForm};
 ghost use Rattle.cs_analysis.specs.Shape.{IsCoverable, LeavesRoom};
 ghost use Rattle.cs_app.specs.Words.{words_text, first_refused};
-ghost use Rattle.cs_app.specs.Answers.{IsWhole, IsFileAnswer, IsResultText, IsAnalyzed, DEFAULT_BUDGETS, status_of};
+ghost use Rattle.cs_report.specs.RefusalLines.{refusal_line};
+ghost use Rattle.cs_app.specs.Refusals.{MOST_BYTES, IsLexLine};
+ghost use Rattle.cs_app.specs.Answers.{IsWhole, IsFileAnswer, IsFormAnswer, IsResultText, IsAnalyzed, DEFAULT_BUDGETS, status_of};
 
 use crate::status::Status;
 use crate::words::{Command, WordsRefusal, words_of};
 use cs_analysis::analyze;
-use cs_ast::Function;
+use cs_ast::{Function, Place};
 use cs_form::{FormRefusal, function_of};
 use cs_io::{ReadRefusal, Source, read_all};
+use cs_lexer::{LexRefusal, tokens};
 use cs_model::Finding;
 use cs_names::Name;
-use cs_report::append_entry;
+use cs_report::{append_entry, append_refusal};
 use std::alloc::{AllocError, Global};
 
 /// The text of a run, and the status that it has where the text is written whole.
@@ -93,7 +96,7 @@ fn analysis<S: Source>(alloc: Global, source: &mut S) -> Result<Answer, Failure>
             Ok(answer)
         }
         Err(ReadRefusal::TooLong) => {
-            let answer = refused_form(alloc)?;
+            let answer = refused_length(alloc)?;
             Ok(answer)
         }
         Err(ReadRefusal::ReadFault) => Err(Failure::Read),
@@ -103,7 +106,24 @@ fn analysis<S: Source>(alloc: Global, source: &mut S) -> Result<Answer, Failure>
 
 /// The answer to a file.
 fn answer_to(alloc: Global, file: &[u8]) -> Result<Answer, AllocError>
+    requires { length file.now ≤ MOST_BYTES }
     ensures { IfOk result (λ answer. IsFileAnswer (Some file.now) answer.status answer.text.items) }
+{
+    match tokens(alloc, file) {
+        Ok(_lexed) => {
+            let answer = answer_by_form(alloc, file)?;
+            Ok(answer)
+        }
+        Err(refusal) => {
+            let answer = refused_tokens(alloc, refusal)?;
+            Ok(answer)
+        }
+    }
+}
+
+/// The answer to a file that has tokens.
+fn answer_by_form(alloc: Global, file: &[u8]) -> Result<Answer, AllocError>
+    ensures { IfOk result (λ answer. IsFormAnswer file.now answer.status answer.text.items) }
 {
     match function_of(alloc, file) {
         Ok(function) => {
@@ -111,21 +131,57 @@ fn answer_to(alloc: Global, file: &[u8]) -> Result<Answer, AllocError>
             Ok(answer)
         }
         Err(FormRefusal::NotOfForm) => {
-            let answer = refused_form(alloc)?;
+            let answer = refused_line(alloc, b"refused form\n")?;
             Ok(answer)
         }
         Err(FormRefusal::Memory) => Err(AllocError),
     }
 }
 
-/// The answer to a file that is not of the form.
-fn refused_form(alloc: Global) -> Result<Answer, AllocError>
+/// The answer to a file that is too long.
+fn refused_length(alloc: Global) -> Result<Answer, AllocError>
     ensures status { IfOk result (λ answer. answer.status ≡ Status.BadFile) }
-    ensures text { IfOk result (λ answer. answer.text.items ≡ codes "refused form\n") }
+    ensures text { IfOk result (λ answer. answer.text.items ≡ codes "refused too-long 4194305\n") }
+{
+    refused_line(alloc, b"refused too-long 4194305\n")
+}
+
+/// The answer to a file that has no tokens.
+fn refused_tokens(alloc: Global, refusal: LexRefusal) -> Result<Answer, AllocError>
+    ensures status { IfOk result (λ answer. answer.status ≡ Status.BadFile) }
+    ensures text { IfOk result (λ answer. IsLexLine refusal answer.text.items) }
+{
+    match refusal {
+        LexRefusal::BadByte(place, file) => refused_at(alloc, "refused lex 1 ", &file, place),
+        LexRefusal::Unclosed(place, file) => refused_at(alloc, "refused lex 2 ", &file, place),
+        LexRefusal::WideNumber(place, file) => refused_at(alloc, "refused lex 3 ", &file, place),
+        LexRefusal::BadLine(place, file) => refused_at(alloc, "refused lex 4 ", &file, place),
+        LexRefusal::TooManyTokens => refused_line(alloc, b"refused too-many-tokens 400001\n"),
+        LexRefusal::Memory => Err(AllocError),
+    }
+}
+
+/// The answer to a file that is refused at a place, with these words.
+fn refused_at(alloc: Global, words: &str, file: &Name, place: Place) -> Result<Answer, AllocError>
+    ensures status { IfOk result (λ answer. answer.status ≡ Status.BadFile) }
+    ensures text { IfOk result (λ answer. answer.text.items ≡ refusal_line words.now file.now place) }
+{
+    let mut text = Vec::new(alloc);
+    append_refusal(&mut text, words, file, place)?;
+    Ok(Answer {
+        status: Status::BadFile,
+        text,
+    })
+}
+
+/// The answer to a refused file: this line.
+fn refused_line(alloc: Global, line: &[u8]) -> Result<Answer, AllocError>
+    ensures status { IfOk result (λ answer. answer.status ≡ Status.BadFile) }
+    ensures text { IfOk result (λ answer. answer.text.items ≡ line.now) }
 {
     Ok(Answer {
         status: Status::BadFile,
-        text: Vec::from_slice(alloc, b"refused form\n")?,
+        text: Vec::from_slice(alloc, line)?,
     })
 }
 

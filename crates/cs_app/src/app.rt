@@ -12,7 +12,7 @@ use std::alloc::Global;
 
 /// Runs the program: these words, the file that the source has left, and the text into the sink.
 ///
-/// The checks come in this order: words, reading, form, analysis, writing. The whole text is made before
+/// The checks come in this order: words, reading, length, lexing, form, analysis, writing. The whole text is made before
 /// the first write, so that nothing is written where the source fails or memory is short.
 pub fn csa<S: Source, K: Sink>(
     alloc: Global,

@@ -1,11 +1,13 @@
-//! The text of an analysis, as the program prints it.
+//! The text of an analysis, and of a refused file, as the program prints it.
 #![tactic(auto)]
 
 mod entry;
 mod finding;
 mod place;
+mod refusal;
 #[cfg(test)]
 mod tests;
 mod text;
 
 pub use entry::append_entry;
+pub use refusal::append_refusal;

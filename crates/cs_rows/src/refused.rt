@@ -28,6 +28,30 @@ fn refuses_words_and_files_with_a_line(rt: HostRuntime) -> Result<(), Fail> {
         ("analyze", "", Status::BadFile, "refused form\n"),
         (
             "analyze",
+            "int x; /* a",
+            Status::BadFile,
+            "refused lex 2 <input>:1:8\n",
+        ),
+        (
+            "analyze",
+            "int x;\n# 7 \"a.h\"\n  @",
+            Status::BadFile,
+            "refused lex 1 a.h:7:3\n",
+        ),
+        (
+            "analyze",
+            "18446744073709551616",
+            Status::BadFile,
+            "refused lex 3 <input>:1:1\n",
+        ),
+        (
+            "analyze",
+            " #include <stdlib.h>",
+            Status::BadFile,
+            "refused lex 4 <input>:1:2\n",
+        ),
+        (
+            "analyze",
             "int f(void){return 0;}",
             Status::BadFile,
             "refused form\n",
@@ -46,6 +70,18 @@ fn refuses_words_and_files_with_a_line(rt: HostRuntime) -> Result<(), Fail> {
         assert_eq!(rt; sink.written(), line.as_bytes(), "{file}");
         assert_eq!(rt; ended, status, "{file}");
     }
+    Ok(())
+}
+
+#[test]
+fn refuses_a_file_that_is_too_long(rt: HostRuntime) -> Result<(), Fail> {
+    let alloc = rt.alloc();
+    let words = words_of(alloc, "analyze")?;
+    let mut source = SureSource::new(vec![in alloc; b' '; 4_194_305]?);
+    let mut sink = SureSink::new(alloc, 64)?;
+    let ended = csa(alloc, words.as_slice(), &mut source, &mut sink);
+    assert_eq!(rt; sink.written(), b"refused too-long 4194305\n".as_slice());
+    assert_eq!(rt; ended, Status::BadFile);
     Ok(())
 }
 

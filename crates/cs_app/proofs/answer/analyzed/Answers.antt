@@ -1,4 +1,4 @@
-use Rattle.std.proofs.Common.{◌≡◌, [], ◌∷◌, ◌++◌, ap, ◌∙◌}
+use Rattle.std.proofs.Common.{[], ◌∷◌, ◌++◌, ap, ◌∙◌}
 use Rattle.cs_model.specs.Texts.{entry_lines}
 use Rattle.cs_app.specs.Answers.{DEFAULT_BUDGETS, status_of}
 use Rattle.cs_app.proofs.answer.analyzed.Goals as goal

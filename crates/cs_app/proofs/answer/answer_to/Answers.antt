@@ -1,16 +1,12 @@
-use Rattle.std.proofs.Common.{Some, Err, ap}
-use Rattle.cs_ast.specs.View.{definition}
-use Rattle.cs_app.proofs.ShapeLemmas.{form_is_coverable, form_leaves_room}
-use Rattle.cs_app.proofs.AnswerLemmas.{answers_file, refuses_file}
+use Rattle.cs_app.proofs.AnswerLemmas.{answers_file, refuses_tokens}
 use Rattle.cs_app.proofs.answer.answer_to.Goals as goal
 
-pub analyzed-requires-clause-shape : goal.analyzed-requires-clause-shape
-analyzed-requires-clause-shape c = form_is_coverable c.args.file.now (definition c.in-Ok.function) c.in-Ok.ensures.spelled
+pub returns-in_ok-answer-in-Ok : goal.returns-in_ok-answer-in-Ok
+returns-in_ok-answer-in-Ok c =
+    let answer = c.in_ok-answer-in-Ok.answer in
+    answers_file c.args.file.now c.in-Ok._lexed answer.status answer.text.items c.requires c.in-Ok.ensures.lexed c.in_ok-answer-in-Ok.ensures
 
-pub analyzed-requires-clause-room : goal.analyzed-requires-clause-room
-analyzed-requires-clause-room c = form_leaves_room c.args.file.now (definition c.in-Ok.function) c.in-Ok.ensures.spelled
-
-pub returns-in_ok-answer-in-Err-NotOfForm : goal.returns-in_ok-answer-in-Err-NotOfForm
-returns-in_ok-answer-in-Err-NotOfForm c =
-    let answer = c.in_ok-answer-in-Err-NotOfForm.answer in
-    refuses_file (Some c.args.file.now) answer.status answer.text.items c.in_ok-answer-in-Err-NotOfForm.ensures.status c.in_ok-answer-in-Err-NotOfForm.ensures.text (c.in-Err-NotOfForm.ensures.refused (ap Err c.in-Err-NotOfForm.field-0-is))
+pub returns-in_ok-answer-in-Err : goal.returns-in_ok-answer-in-Err
+returns-in_ok-answer-in-Err c =
+    let answer = c.in_ok-answer-in-Err.answer in
+    refuses_tokens c.args.file.now c.in-Err.refusal answer.status answer.text.items c.in_ok-answer-in-Err.ensures.status c.requires c.in-Err.ensures.refused c.in_ok-answer-in-Err.ensures.text
