@@ -206,7 +206,11 @@ fn show_reason(reason: Reason) -> &'static str {
 // What the parser says of the words: the tree, its height, the number behind it and why the token there is refused, or the
 // refusal.
 fn answer(alloc: Global, words: &str, room: u32, level: ExprLevel) -> Result<String, AllocError> {
-    let tokens = tokens_of(alloc, words)?;
+    let all = tokens_of(alloc, words)?;
+    let tokens = all.as_slice();
+    if tokens.len() > 99 {
+        return String::from_str(alloc, "too many tokens");
+    }
     let mut names = TypedefNames::new(alloc);
     let typedef_name = Name::from_slice(alloc, b"T".as_slice())?;
     names.add(typedef_name)?;
@@ -215,7 +219,7 @@ fn answer(alloc: Global, words: &str, room: u32, level: ExprLevel) -> Result<Str
         line: 1,
         column: 99,
     };
-    let said = expression(alloc, tokens.as_slice(), end, 0, &names, room, level);
+    let said = expression(alloc, tokens, end, 0, &names, room, level);
     match &said {
         Ok(phrase) => phrase_text(alloc, phrase),
         Err(refusal) => refusal_text(alloc, refusal),
