@@ -1,5 +1,5 @@
 -- The first tokens of expressions and of types: for the contracts of the parser of expressions.
-use Rattle.std.proofs.Common.{◌≡◌, ℕ, suc, ◌+◌, ◌<◌, ◌≤◌, ◌⊎◌, inl, inr, Bool, true, false, not, IsTrue, List, [], ◌∷◌, ◌++◌, refl, sym, ap, ◌∙◌, subst, arith}
+use Rattle.std.proofs.Common.{◌≡◌, ℕ, ◌<◌, ◌≤◌, Bool, true, IsTrue, List, [], ◌∷◌, refl, arith}
 use Rattle.std.proofs.lemmas.Bool.{not_from_false, both_ways, not-true}
 use Rattle.cs_ast.specs.declared.token.TokenKind.{TokenKind}
 use Rattle.cs_ast.specs.declared.token.TokenKind.TheVariants as token
@@ -14,13 +14,11 @@ use Rattle.cs_ast.specs.declared.raw.written_type.TypeWord.{TypeWord}
 use Rattle.cs_ast.specs.declared.raw.written_type.TypeWord.TheVariants as word
 use Rattle.cs_ast.specs.declared.raw.written_type.IntegerWord.{IntegerWord}
 use Rattle.cs_ast.specs.declared.raw.written_type.IntegerWord.TheVariants.{Char, Short, Int, Long, Signed, Unsigned}
-use Rattle.cs_ast.specs.declared.raw.written_type.PointerWord.{PointerWord}
-use Rattle.cs_ast.specs.RawTree.{Written, WrittenList, Named, Numeral, Character, Literal, Enclosed, Index, Call, Member, Arrow, StepBehind, StepBefore, Prefix, SizeOf, SizeOfType, Cast, Infix, Choice, Assign, Comma, End, More}
-use Rattle.cs_ast.specs.RawHeight.{height, highest}
-use Rattle.cs_grammar.specs.TypeWords.{Names, is_among, is_type, names_type, named_by, is_pointer}
-use Rattle.cs_grammar.specs.Levels.{level_of, infix_level}
+use Rattle.cs_ast.specs.RawTree.{Written, Named, Numeral, Character, Literal, Enclosed, Index, Call, Member, Arrow, StepBehind, StepBefore, Prefix, SizeOf, SizeOfType, Cast, Infix, Choice, Assign, Comma}
+use Rattle.cs_ast.specs.RawHeight.{height}
+use Rattle.cs_grammar.specs.TypeWords.{Names, is_among, is_type, names_type, named_by}
 use Rattle.cs_grammar.specs.Marks.{step_mark, prefix_mark, infix_mark, assign_mark}
-use Rattle.cs_grammar.specs.Text.{Kinds, text, listed, words_text, pointers_text, bounds_text, type_text, type_word_text, integer_word_text}
+use Rattle.cs_grammar.specs.Text.{Kinds, text, listed, words_text, type_text, integer_word_text}
 use Rattle.cs_grammar.specs.Phrases.{IsPhrase, IsWell}
 use Rattle.cs_grammar.specs.FirstTokens.{begins_primary, begins_expression, begins_type, is_sizeof, keyword_begins_type}
 use Rattle.cs_grammar.proofs.Levels.{infix_levels}

@@ -1,11 +1,10 @@
 -- What stands in blocks and between the braces of a `switch`: for the contracts of every parser of statements.
-use Rattle.std.proofs.Common.{◌≡◌, ℕ, suc, ◌+◌, ◌-◌, ◌<◌, ◌≤◌, max, ◌⊎◌, inl, inr, Bool, true, false, IsTrue, List, [], ◌∷◌, ◌++◌, Option, Some, None, refl, sym, ap, ◌∙◌, subst, arith}
+use Rattle.std.proofs.Common.{◌≡◌, ℕ, ◌≤◌, ◌⊎◌, inl, inr, true, false, IsTrue, List, [], ◌∷◌, refl, sym, ap, ◌∙◌, subst, arith}
 use Rattle.std.proofs.lemmas.Bool.{false≢true, both_ways, not-true}
 use Rattle.cs_ast.specs.declared.token.TokenKind.{TokenKind}
 use Rattle.cs_ast.specs.declared.token.TokenKind.TheVariants as token
 use Rattle.cs_ast.specs.declared.token.Keyword.{Keyword}
 use Rattle.cs_ast.specs.declared.token.Keyword.TheVariants as keyword
-use Rattle.cs_ast.specs.declared.token.Mark.{Mark}
 use Rattle.cs_ast.specs.declared.token.Mark.TheVariants as mark
 use Rattle.cs_ast.specs.declared.raw.written_type.TypeWord.{TypeWord}
 use Rattle.cs_ast.specs.declared.raw.written_type.TypeWord.TheVariants as word_of
@@ -13,34 +12,31 @@ use Rattle.cs_ast.specs.declared.raw.written_type.IntegerWord.TheVariants.{Char,
 use Rattle.cs_ast.specs.declared.raw.written_type.PointerWord.{PointerWord}
 use Rattle.cs_ast.specs.declared.raw.written_type.PointerWord.TheVariants as pointer
 use Rattle.cs_ast.specs.RawTree.{Written}
-use Rattle.cs_ast.specs.RawHeight.{height}
-use Rattle.cs_ast.specs.RawDeclarations.{Declarator, Declared, Specs, NoSpec, MoreSpecs, Spec, Plain}
-use Rattle.cs_ast.specs.RawStatements.{First, NoFirst, FirstRuns, FirstDeclares, Sentence, Block, Nothing, Runs, If, IfElse, While, Do, For, Switch, Goto, Continue, Break, Return, Label, Item, Declares, Does, Items, NoItem, MoreItems, SwitchItem, Case, Default, Inside, SwitchItems, NoSwitchItem, MoreSwitchItems}
+use Rattle.cs_ast.specs.RawDeclarations.{Declared, Specs}
+use Rattle.cs_ast.specs.RawStatements.{Sentence, Nothing, Runs, Label, Item, Declares, Does, Items, NoItem, MoreItems, SwitchItem, Case, Default, Inside, SwitchItems, NoSwitchItem, MoreSwitchItems}
 use Rattle.cs_ast.specs.RawFileHeight.{specs_height, item_height}
 use Rattle.cs_grammar.specs.TypeWords.{Names, is_among, is_type, is_pointer}
 use Rattle.cs_grammar.specs.Text.{Kinds, text, words_text, type_word_text, pointers_text}
 use Rattle.cs_grammar.specs.Phrases.{IsPhrase}
-use Rattle.cs_grammar.specs.FirstTokens.{begins_expression, begins_type, keyword_begins_type}
+use Rattle.cs_grammar.specs.FirstTokens.{begins_type, keyword_begins_type}
 use Rattle.cs_grammar.specs.FileFirstTokens.{begins_sentence, keyword_begins_sentence, begins_item, is_case, begins_switch_part}
-use Rattle.cs_grammar.specs.FileText.{brackets_text, declarator_text, first_value_text, declared_text, each_behind_comma, with_commas, specs_text, declaration_text, sentence_text, item_text, items_text, switch_item_text, switch_text}
-use Rattle.cs_grammar.specs.FilePhrases.{AreAll, IsSomeList, IsDeclared, AreBlockSpecs, is_open, IsSentence, IsItem, AreItems, IsSwitchItem, AreSwitchItems}
+use Rattle.cs_grammar.specs.FileText.{brackets_text, first_value_text, declared_text, each_behind_comma, with_commas, specs_text, declaration_text, sentence_text, item_text, items_text, switch_item_text, switch_text}
+use Rattle.cs_grammar.specs.FilePhrases.{AreAll, IsSomeList, IsDeclared, AreBlockSpecs, IsSentence, IsItem, AreItems, IsSwitchItem, AreSwitchItems}
 use Rattle.cs_grammar.specs.DeclarationClasses.{Follows, ends_specs, Objects, BlockSpecs}
-use Rattle.cs_grammar.specs.FileClasses.{HasNoElse, Sentences, is_item_open, BlockItems, BlockRows, is_switch_item_open, SwitchParts, SwitchRows}
-use Rattle.cs_grammar.specs.Parsing.{Class, Expressions, Near, IsOver, Took, Refused, Exactly}
+use Rattle.cs_grammar.specs.FileClasses.{HasNoElse, Sentences, BlockItems, BlockRows, SwitchParts, SwitchRows}
+use Rattle.cs_grammar.specs.Parsing.{Class, Expressions, Exactly}
 use Rattle.cs_grammar.specs.Composed.{Sequence, Separated}
 use Rattle.cs_grammar.proofs.Levels.{text_law}
-use Rattle.cs_grammar.proofs.Beginnings.{BeginsWith, begins_one}
 use Rattle.cs_grammar.proofs.FileTexts.{specs_append, item_append, items_append, switch_item_append, switch_append}
-use Rattle.cs_grammar.proofs.FileBeginnings.{specs_of, plain_text, PlainWords, block_words, plain_are, block_specs_begin, sentence_begins, item_begins, switch_part_begins, some_first, first_passes}
-use Rattle.cs_grammar.proofs.Holes.{Lawful, Tail, ClosedBy, Ended, closed_law, ended_law, exact_took}
-use Rattle.cs_grammar.proofs.Tails.{first_or, near_first, Least, Production}
+use Rattle.cs_grammar.proofs.FileBeginnings.{specs_of, plain_text, block_words, block_specs_begin, sentence_begins, item_begins, switch_part_begins, first_passes}
+use Rattle.cs_grammar.proofs.Holes.{Lawful, ClosedBy, Ended, closed_law, ended_law}
+use Rattle.cs_grammar.proofs.Tails.{Least}
 use Rattle.cs_grammar.proofs.Sequences.{Joins, sequence_law, sequence_least, closed_least, ended_least}
-use Rattle.cs_grammar.proofs.Rows.{Separates, separated_law, separated_least, Listing}
+use Rattle.cs_grammar.proofs.Rows.{separated_law, separated_least, Listing}
 use Rattle.cs_grammar.proofs.GrowingRows.{Growing}
 use Rattle.cs_grammar.proofs.Pairs.{Single}
-use Rattle.cs_grammar.proofs.Statements.{open_brace, close_brace, semicolon, colon, word, runs_first}
-use Rattle.cs_grammar.proofs.StatementParts.{sentence_some, nought, expression_least, sentences_law, sentences_least}
-use Rattle.cs_grammar.proofs.StatementFirsts.{sentence_has}
+use Rattle.cs_grammar.proofs.Statements.{close_brace, semicolon, colon, word, runs_first}
+use Rattle.cs_grammar.proofs.StatementParts.{sentence_some, expression_least, sentences_law, sentences_least}
 use Rattle.cs_grammar.proofs.DeclaredObjects.{objects_law, objects_least}
 
 -- a declarator begins with a star or a name

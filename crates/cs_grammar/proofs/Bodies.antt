@@ -1,9 +1,8 @@
 -- Types with bodies: enumeration constants and members. For the contracts of every parser of declarations.
-use Rattle.std.proofs.Common.{◌≡◌, ℕ, suc, ◌+◌, ◌<◌, ◌≤◌, max, ◌⊎◌, inl, inr, Bool, true, false, IsTrue, List, [], ◌∷◌, ◌++◌, Option, Some, None, MatchOption, refl, sym, ap, ◌∙◌, subst, arith, append_assoc, append-nil}
+use Rattle.std.proofs.Common.{◌≡◌, ℕ, ◌+◌, ◌≤◌, ◌⊎◌, inl, inr, Bool, true, false, List, [], ◌∷◌, ◌++◌, Option, Some, None, MatchOption, refl, sym, ap, ◌∙◌, subst, arith}
 use Rattle.std.proofs.lemmas.Bool.{false≢true}
 use Rattle.cs_ast.specs.declared.token.TokenKind.{TokenKind}
 use Rattle.cs_ast.specs.declared.token.TokenKind.TheVariants as token
-use Rattle.cs_ast.specs.declared.token.Keyword.TheVariants as keyword
 use Rattle.cs_ast.specs.declared.token.Mark.{Mark}
 use Rattle.cs_ast.specs.declared.token.Mark.TheVariants as mark
 use Rattle.cs_ast.specs.declared.raw.written_type.TypeWord.{TypeWord}
@@ -11,32 +10,31 @@ use Rattle.cs_ast.specs.declared.raw.written_type.TypeWord.TheVariants as word
 use Rattle.cs_ast.specs.declared.raw.written_type.IntegerWord.TheVariants.{Char, Short, Int, Long, Signed, Unsigned}
 use Rattle.cs_ast.specs.RawTree.{Written}
 use Rattle.cs_ast.specs.RawDeclarations.{Declarator, Constant, Spec, Static, Plain, StructBody, EnumBody, Specs, NoSpec, MoreSpecs, Members, NoMember, MoreMembers}
-use Rattle.cs_ast.specs.RawFileHeight.{height_of_some, highest_by, declarator_height, constant_height, spec_height, specs_height, members_height}
-use Rattle.cs_grammar.specs.TypeWords.{Names, is_type}
+use Rattle.cs_ast.specs.RawFileHeight.{height_of_some, constant_height, spec_height, specs_height}
+use Rattle.cs_grammar.specs.TypeWords.{Names}
 use Rattle.cs_grammar.specs.Text.{Kinds, text}
 use Rattle.cs_grammar.specs.Phrases.{IsPhrase}
 use Rattle.cs_grammar.specs.Continuing.{join_of}
 use Rattle.cs_grammar.specs.FileText.{name_text, comma_text, with_commas, each_behind_comma, brackets_text, declarator_text, value_text, constant_text, spec_text, specs_text, members_text}
-use Rattle.cs_grammar.specs.FilePhrases.{AreAll, IsSomeList, IsFree, IsConstant, IsMember, words_of, HaveBodies, HasBody, AreMembers, AreSpecs}
-use Rattle.cs_grammar.specs.DeclarationClasses.{Follows, ends_specs, ends_value, HasNoOpenBrace, IsQuiet, Constants, MemberDeclarators, SpecElements, FileSpecs, MemberGroups, MemberRows}
-use Rattle.cs_grammar.specs.Parsing.{Class, Expressions, Near, IsOver, Begins, BeginsLow, Took, Refused, Exactly}
-use Rattle.cs_grammar.specs.Composed.{Sequence, Separated, Trailing}
+use Rattle.cs_grammar.specs.FilePhrases.{AreAll, IsSomeList, IsFree, IsConstant, IsMember, HasBody, AreMembers, AreSpecs}
+use Rattle.cs_grammar.specs.DeclarationClasses.{Follows, ends_value, HasNoOpenBrace, IsQuiet, Constants, MemberDeclarators, SpecElements, FileSpecs, MemberGroups, MemberRows}
+use Rattle.cs_grammar.specs.Parsing.{Class, Expressions, Near, IsOver, BeginsLow, Took, Refused, Exactly}
+use Rattle.cs_grammar.specs.Composed.{Separated, Trailing}
 use Rattle.cs_grammar.proofs.Levels.{text_law}
-use Rattle.cs_grammar.proofs.FileTexts.{value_append, constant_append, spec_append, specs_append, members_append, with_commas_append, declarator_append}
-use Rattle.cs_grammar.proofs.Holes.{Lawful, Tail, tail_refused, tail_took, exact_took}
-use Rattle.cs_grammar.proofs.Tails.{Least, Production, none_refused}
-use Rattle.cs_grammar.proofs.Sequences.{Joins, took_exact}
+use Rattle.cs_grammar.proofs.FileTexts.{value_append, constant_append, specs_append, members_append, with_commas_append, declarator_append}
+use Rattle.cs_grammar.proofs.Holes.{Lawful, Tail, tail_refused, tail_took}
+use Rattle.cs_grammar.proofs.Tails.{Least, none_refused, near_other}
 use Rattle.cs_grammar.proofs.Rows.{Separates, Listing, separated_law, separated_least}
 use Rattle.cs_grammar.proofs.GrowingRows.{Growing}
-use Rattle.cs_grammar.proofs.TrailingRows.{NoneCloses, trailing_law, trailing_least}
-use Rattle.cs_grammar.proofs.Pairs.{Pair, Single, single_refused, single_took}
+use Rattle.cs_grammar.proofs.TrailingRows.{NoneCloses, trailing_law}
+use Rattle.cs_grammar.proofs.Pairs.{Pair, Single}
 use Rattle.cs_grammar.proofs.FreshNames.{fresh, fresh_free}
 use Rattle.cs_grammar.proofs.Statements.{open_brace, close_brace, semicolon}
-use Rattle.cs_grammar.proofs.StatementParts.{nought, expression_height, expression_least}
-use Rattle.cs_grammar.proofs.Declarators.{declarator_of, declarators_law, declarators_least}
+use Rattle.cs_grammar.proofs.StatementParts.{nought, expression_height}
+use Rattle.cs_grammar.proofs.Declarators.{declarators_law, declarators_least}
 use Rattle.cs_grammar.proofs.InitialValues.{brace_differs}
 use Rattle.cs_grammar.proofs.DeclaredObjects.{equal_token, semicolon_differs}
-use Rattle.cs_grammar.proofs.BlockItems.{Starts, with_star, with_name, pointers_start, starts_end_specs}
+use Rattle.cs_grammar.proofs.BlockItems.{Starts, pointers_start, starts_end_specs}
 use Rattle.cs_grammar.proofs.TypeNames.{tag_word}
 use Rattle.cs_grammar.proofs.SpecRows.{first_of, spec_starts, IsExactSpec}
 
@@ -78,13 +76,9 @@ pub constant_missing : (names : Names) (room : ℕ) (next : TokenKind) → ((n :
 constant_missing names room next none =
     none_refused (Constants names) room next (λ c after is same. cc) (λ c after more is same. let k : next ≡ token.Name c.name = cc in none c.name k is.free)
 
-no_equal_near : (next : TokenKind) (behind more : Kinds) → (next ≡ equal_token → ⊥) → Near next behind → equal_token ∷ more ≡ behind → ⊥
-no_equal_near next behind more other near same =
-    elim near [ inl none ↦ let z = same ∙ none in cc | inr m ↦ let z : equal_token ∷ more ≡ next ∷ m.0 = same ∙ m.1 in other cc ]
-
 lone_only : (next : TokenKind) → (next ≡ equal_token → ⊥) → (other : Option Written) (after behind : Kinds) → Near next behind → value_text other after ≡ behind → (other ≡ None) × (after ≡ behind)
 lone_only next none None after behind near same = (refl, same)
-lone_only next none (Some e) after behind near same = absurd (no_equal_near next behind (text e after) none near same)
+lone_only next none (Some e) after behind near same = absurd (near_other equal_token next behind (text e after) none near same)
 
 -- no `=` stands behind the name of a constant
 pub constant_alone : (names : Names) (room : ℕ) (next : TokenKind) → (next ≡ equal_token → ⊥) → Took (ConstantValues names) room None next false
@@ -206,7 +200,7 @@ enum_word (word.Integer Long) tag x y quiet same = cc
 enum_word (word.Integer Signed) tag x y quiet same = cc
 enum_word (word.Integer Unsigned) tag x y quiet same = cc
 
-struct_is : (names : Names) (tag : Option (List ℕ)) (s : Spec) (x behind : Kinds) → HasBody names s → IsQuiet s x → spec_text s x ≡ tag_word true ∷ name_text tag (open_brace ∷ behind) → (part : Members) × (s ≡ StructBody tag part) × AreMembers names part × (behind ≡ members_text part (close_brace ∷ x))
+pub struct_is : (names : Names) (tag : Option (List ℕ)) (s : Spec) (x behind : Kinds) → HasBody names s → IsQuiet s x → spec_text s x ≡ tag_word true ∷ name_text tag (open_brace ∷ behind) → (part : Members) × (s ≡ StructBody tag part) × AreMembers names part × (behind ≡ members_text part (close_brace ∷ x))
 struct_is names tag (StructBody tag' members) x behind has quiet same =
     let k = tag_same tag tag' (members_text members (close_brace ∷ x)) behind cc in
     (members, ap (λ (t : Option (List ℕ)). StructBody t members) k.0, has, sym k.1)
@@ -218,7 +212,7 @@ struct_is names tag (EnumBody tag' constants comma) x behind has quiet same = ab
 abbrev pub ConstantRow : Type 0
 ConstantRow = List Constant × Bool
 
-enum_is : (names : Names) (tag : Option (List ℕ)) (s : Spec) (x behind : Kinds) → HasBody names s → IsQuiet s x → spec_text s x ≡ tag_word false ∷ name_text tag (open_brace ∷ behind) → (part : ConstantRow) × (s ≡ EnumBody tag part.0 part.1) × (IsSomeList part.0 × AreAll (IsConstant names) part.0) × (behind ≡ with_commas constant_text part.0 (comma_text part.1 (close_brace ∷ x)))
+pub enum_is : (names : Names) (tag : Option (List ℕ)) (s : Spec) (x behind : Kinds) → HasBody names s → IsQuiet s x → spec_text s x ≡ tag_word false ∷ name_text tag (open_brace ∷ behind) → (part : ConstantRow) × (s ≡ EnumBody tag part.0 part.1) × (IsSomeList part.0 × AreAll (IsConstant names) part.0) × (behind ≡ with_commas constant_text part.0 (comma_text part.1 (close_brace ∷ x)))
 enum_is names tag (EnumBody tag' constants comma) x behind has quiet same =
     let k = tag_same tag tag' (with_commas constant_text constants (comma_text comma (close_brace ∷ x))) behind cc in
     ((constants, comma), ap (λ (t : Option (List ℕ)). EnumBody t constants comma) k.0, has, sym k.1)
@@ -290,13 +284,9 @@ name_or_brace next no_name no_brace None x behind near same =
 name_or_brace next no_name no_brace (Some t) x behind near same =
     elim near [ inl none ↦ let z = same ∙ none in cc | inr m ↦ let z : token.Name t ∷ (open_brace ∷ x) ≡ next ∷ m.0 = same ∙ m.1 in no_name t cc ]
 
-name_alone : (next : TokenKind) → ((n : List ℕ) → next ≡ token.Name n → ⊥) → (t : List ℕ) (x behind : Kinds) → Near next behind → token.Name t ∷ x ≡ behind → ⊥
-name_alone next no_name t x behind near same =
-    elim near [ inl none ↦ let z = same ∙ none in cc | inr m ↦ let z : token.Name t ∷ x ≡ next ∷ m.0 = same ∙ m.1 in no_name t cc ]
-
 word_tag : (is_struct : Bool) (next : TokenKind) → ((n : List ℕ) → next ≡ token.Name n → ⊥) → (w : TypeWord) (x behind : Kinds) → Near next behind → spec_text (Plain w) x ≡ tag_word is_struct ∷ behind → ⊥
-word_tag true next no_name (word.Struct t) x behind near same = name_alone next no_name t x behind near cc
-word_tag false next no_name (word.Enum t) x behind near same = name_alone next no_name t x behind near cc
+word_tag true next no_name (word.Struct t) x behind near same = near_other (token.Name t) next behind x (no_name t) near cc
+word_tag false next no_name (word.Enum t) x behind near same = near_other (token.Name t) next behind x (no_name t) near cc
 word_tag true next no_name (word.Enum t) x behind near same = cc
 word_tag false next no_name (word.Struct t) x behind near same = cc
 word_tag true next no_name word.Const x behind near same = cc
@@ -338,7 +328,6 @@ tag_missing names room some is_struct next no_name no_brace = record {
   never = λ other after behind is shut near same. absurd (tag_never is_struct next no_name no_brace other after behind near same);
   further = λ told. absurd (false≢true told);
 }
-
 
 -- members behind what stands before them
 pub member_list_law : (names : Names) → Lawful (Separated (MemberDeclarators names) semicolon)

@@ -1,25 +1,22 @@
 -- Chains that grow to the left, as `a + b + c` or `a [ b ] . c`: for the loops of the parser of expressions.
-use Rattle.std.proofs.Common.{◌≡◌, ℕ, suc, ◌+◌, ◌<◌, ◌≤◌, max, ◌⊎◌, inl, inr, Bool, true, false, List, [], ◌∷◌, ◌++◌, refl, sym, ap, ◌∙◌, subst, arith, append_assoc}
-use Rattle.std.proofs.lemmas.Bool.{cases_lt, cases_eq, false≢true}
+use Rattle.std.proofs.Common.{◌≡◌, ℕ, suc, ◌<◌, ◌≤◌, ◌⊎◌, inl, inr, Bool, true, [], ◌∷◌, ◌++◌, refl, sym, ap, ◌∙◌, subst, arith}
+use Rattle.std.proofs.lemmas.Bool.{cases_lt, cases_eq}
 use Rattle.cs_ast.specs.declared.token.TokenKind.{TokenKind}
 use Rattle.cs_ast.specs.declared.token.TokenKind.TheVariants as token
-use Rattle.cs_ast.specs.declared.token.Mark.{Mark}
 use Rattle.cs_ast.specs.declared.token.Mark.TheVariants as mark
-use Rattle.cs_ast.specs.declared.raw.operator.Step.{Step}
-use Rattle.cs_ast.specs.declared.raw.operator.InfixOp.{InfixOp}
-use Rattle.cs_ast.specs.RawTree.{Written, WrittenList, Named, Numeral, Character, Literal, Enclosed, Index, Call, Member, Arrow, StepBehind, StepBefore, Prefix, SizeOf, SizeOfType, Cast, Infix, Choice, Assign, Comma, End, More}
-use Rattle.cs_ast.specs.RawHeight.{height, highest}
+use Rattle.cs_ast.specs.RawTree.{Written, Named, Numeral, Character, Literal, Enclosed, Index, Call, Member, Arrow, StepBehind, StepBefore, Prefix, SizeOf, SizeOfType, Cast, Infix, Choice, Assign, Comma}
+use Rattle.cs_ast.specs.RawHeight.{height}
 use Rattle.cs_grammar.specs.TypeWords.{Names}
-use Rattle.cs_grammar.specs.Levels.{level_of, infix_level}
+use Rattle.cs_grammar.specs.Levels.{level_of}
 use Rattle.cs_grammar.specs.Marks.{step_mark, infix_mark}
 use Rattle.cs_grammar.specs.Text.{Kinds, text, listed}
 use Rattle.cs_grammar.specs.Phrases.{IsPhrase}
-use Rattle.cs_grammar.specs.Continuing.{join, mark_join, join_of}
+use Rattle.cs_grammar.specs.Continuing.{join, join_of}
 use Rattle.cs_grammar.specs.Parsing.{Class, Expressions, Near, IsOver, Begins, BeginsLow, Took, Refused}
 use Rattle.cs_grammar.specs.Chains.{Suffix, indexed, called, selected, followed_by, stepped, joined, continued, Stem, bare, grown, Grows}
-use Rattle.cs_grammar.proofs.Levels.{infix_join, infix_levels, step_join, looser}
+use Rattle.cs_grammar.proofs.Levels.{infix_join, step_join, looser}
 use Rattle.cs_grammar.proofs.Texts.{text_append}
-use Rattle.cs_grammar.proofs.Holes.{Lawful, splits, Hole, hole_refused}
+use Rattle.cs_grammar.proofs.Holes.{Lawful, Hole, hole_refused}
 
 -- the levels of expressions that begin with another one of their level
 pub record IsChain (level : ℕ) : Type 0 where

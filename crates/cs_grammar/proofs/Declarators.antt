@@ -1,32 +1,28 @@
 -- Declarators: their pointers, their name and their bounds. For the contracts of every parser of declarations.
-use Rattle.std.proofs.Common.{◌≡◌, ℕ, suc, ◌+◌, ◌-◌, ◌<◌, ◌≤◌, max, ◌⊎◌, inl, inr, Bool, true, false, ◌||◌, IsTrue, List, [], ◌∷◌, ◌++◌, Option, Some, None, MatchOption, refl, sym, ap, ◌∙◌, subst, arith, append_assoc, append-nil}
+use Rattle.std.proofs.Common.{◌≡◌, ℕ, ◌≤◌, ◌⊎◌, inl, inr, Bool, true, false, IsTrue, List, [], ◌∷◌, ◌++◌, Option, Some, None, refl, sym, ap, ◌∙◌, subst, arith, append_assoc, append-nil}
 use Rattle.std.proofs.lemmas.Bool.{false≢true}
 use Rattle.cs_ast.specs.declared.token.TokenKind.{TokenKind}
 use Rattle.cs_ast.specs.declared.token.TokenKind.TheVariants as token
 use Rattle.cs_ast.specs.declared.token.Keyword.TheVariants as keyword
-use Rattle.cs_ast.specs.declared.token.Mark.{Mark}
 use Rattle.cs_ast.specs.declared.token.Mark.TheVariants as mark
 use Rattle.cs_ast.specs.declared.raw.written_type.PointerWord.{PointerWord}
 use Rattle.cs_ast.specs.declared.raw.written_type.PointerWord.TheVariants as pointer
 use Rattle.cs_ast.specs.RawTree.{Written}
 use Rattle.cs_ast.specs.RawDeclarations.{Declarator}
-use Rattle.cs_ast.specs.RawFileHeight.{height_of_some, highest_by, declarator_height}
-use Rattle.cs_grammar.specs.TypeWords.{Names, is_among, is_pointer}
+use Rattle.cs_grammar.specs.TypeWords.{Names, is_pointer}
 use Rattle.cs_grammar.specs.Text.{Kinds, text, pointers_text}
-use Rattle.cs_grammar.specs.Phrases.{IsPhrase}
 use Rattle.cs_grammar.specs.FileText.{some_text, brackets_text, declarator_text}
-use Rattle.cs_grammar.specs.FilePhrases.{AreAll, IsFree, IsDeclaratorOf}
 use Rattle.cs_grammar.specs.DeclarationClasses.{HasNoBracket, Bounds, Brackets, Declarators}
-use Rattle.cs_grammar.specs.Parsing.{Class, Expressions, Near, IsOver, Begins, BeginsLow, Took, Refused, Exactly}
-use Rattle.cs_grammar.specs.Composed.{Sequence, Behind, ClosedSome}
+use Rattle.cs_grammar.specs.Parsing.{Near, IsOver, Took, Refused, Exactly}
+use Rattle.cs_grammar.specs.Composed.{ClosedSome}
 use Rattle.cs_grammar.proofs.Texts.{pointers_append}
 use Rattle.cs_grammar.proofs.FileTexts.{brackets_append, declarator_append}
-use Rattle.cs_grammar.proofs.Holes.{Lawful, splits, Tail, tail_refused, tail_took, exact_took}
-use Rattle.cs_grammar.proofs.Tails.{Least, Production, tail_start, tail_then, tail_as}
+use Rattle.cs_grammar.proofs.Holes.{Lawful, Tail, tail_refused, tail_took}
+use Rattle.cs_grammar.proofs.Tails.{Least, tail_start, tail_then, tail_as, near_other}
 use Rattle.cs_grammar.proofs.Sequences.{behind_law, behind_tail}
 use Rattle.cs_grammar.proofs.Optional.{some_law}
-use Rattle.cs_grammar.proofs.Rows.{Listing, row_tail, row_refused}
-use Rattle.cs_grammar.proofs.Pairs.{Single, single_refused, single_took}
+use Rattle.cs_grammar.proofs.Rows.{Listing, row_refused}
+use Rattle.cs_grammar.proofs.Pairs.{Single}
 use Rattle.cs_grammar.proofs.StatementParts.{nought, expression_height}
 
 pub bracket_form : (names : Names) (MayLack : Type 0) (list : List (Option Written)) → (Brackets names MayLack).Is list → (list ≡ []) ⊎ ((c : Option Written) × (rest : List (Option Written)) × (list ≡ c ∷ rest) × (Bounds names MayLack).Is c × (Brackets names MayLack).Is rest)
@@ -106,13 +102,9 @@ brackets_refused names MayLack room done so_far front next deep r =
     tail_refused (Brackets names MayLack) (Brackets names MayLack) room room (brackets_text done []) (λ rest. done ++ rest) (λ rest. Unit {0}) (brackets_law names MayLack) so_far (token.Mark mark.OpenBracket ∷ front) next deep (λ behind near. tt)
     (row_refused (Brackets names MayLack) (Bounds names MayLack) room (bracket_listing names MayLack) (token.Mark mark.OpenBracket ∷ front) next deep (λ after behind shut near same. bracket_apart after (front ++ behind) shut (sym same)) r)
 
-no_bracket_near : (next : TokenKind) (behind more : Kinds) → (next ≡ token.Mark mark.OpenBracket → ⊥) → Near next behind → token.Mark mark.OpenBracket ∷ more ≡ behind → ⊥
-no_bracket_near next behind more other near same =
-    elim near [ inl none ↦ let z = same ∙ none in cc | inr m ↦ let z : token.Mark mark.OpenBracket ∷ more ≡ next ∷ m.0 = same ∙ m.1 in other cc ]
-
 end_only : (names : Names) (MayLack : Type 0) (next : TokenKind) → (next ≡ token.Mark mark.OpenBracket → ⊥) → (other : List (Option Written)) (after behind : Kinds) → Near next behind → brackets_text other after ≡ behind → (other ≡ []) × (after ≡ behind)
 end_only names MayLack next other' [] after behind near same = (refl, same)
-end_only names MayLack next other' (b ∷ bs) after behind near same = absurd (no_bracket_near next behind (some_text b (token.Mark mark.CloseBracket ∷ brackets_text bs after)) other' near same)
+end_only names MayLack next other' (b ∷ bs) after behind near same = absurd (near_other (token.Mark mark.OpenBracket) next behind (some_text b (token.Mark mark.CloseBracket ∷ brackets_text bs after)) other' near same)
 
 -- no bound stands there
 pub brackets_end : (names : Names) (MayLack : Type 0) (room : ℕ) (next : TokenKind) → (next ≡ token.Mark mark.OpenBracket → ⊥) → Took (Brackets names MayLack) room [] next false

@@ -1,21 +1,20 @@
 -- Declared objects: a declarator, and what stands behind its `=`. For the contracts of every parser of declarations.
-use Rattle.std.proofs.Common.{◌≡◌, ℕ, suc, ◌+◌, ◌-◌, ◌<◌, ◌≤◌, max, ◌⊎◌, inl, inr, Bool, true, false, List, [], ◌∷◌, ◌++◌, Option, Some, None, MatchOption, refl, sym, ap, ◌∙◌, subst, arith, append_assoc, append-nil}
+use Rattle.std.proofs.Common.{◌≡◌, ℕ, ◌+◌, ◌<◌, ◌≤◌, ◌⊎◌, inl, inr, Bool, true, [], ◌∷◌, ◌++◌, Option, Some, None, MatchOption, refl, sym, ap, ◌∙◌, subst, arith}
 use Rattle.std.proofs.lemmas.Bool.{false≢true}
 use Rattle.cs_ast.specs.declared.token.TokenKind.{TokenKind}
 use Rattle.cs_ast.specs.declared.token.TokenKind.TheVariants as token
-use Rattle.cs_ast.specs.declared.token.Mark.{Mark}
 use Rattle.cs_ast.specs.declared.token.Mark.TheVariants as mark
 use Rattle.cs_ast.specs.RawDeclarations.{Declarator, Declared, Initial, Single as One}
-use Rattle.cs_ast.specs.RawFileHeight.{declarator_height, declared_height, initial_height}
+use Rattle.cs_ast.specs.RawFileHeight.{declarator_height, declared_height}
 use Rattle.cs_grammar.specs.TypeWords.{Names}
 use Rattle.cs_grammar.specs.Text.{Kinds, text}
-use Rattle.cs_grammar.specs.FileText.{declarator_text, first_value_text, initial_text, declared_text}
+use Rattle.cs_grammar.specs.FileText.{declarator_text, first_value_text, initial_text}
 use Rattle.cs_grammar.specs.FilePhrases.{IsDeclarator, IsInitial, IsDeclared}
 use Rattle.cs_grammar.specs.DeclarationClasses.{Follows, HasNoBracket, ObjectDeclarators, ends_declared, Objects, ends_value, Values}
-use Rattle.cs_grammar.specs.Parsing.{Class, Near, IsOver, Begins, BeginsLow, Took, Refused, Exactly}
+use Rattle.cs_grammar.specs.Parsing.{Near, IsOver, Took, Refused}
 use Rattle.cs_grammar.proofs.FileTexts.{declarator_append, declared_append}
 use Rattle.cs_grammar.proofs.Holes.{Lawful, Tail, tail_refused, tail_took}
-use Rattle.cs_grammar.proofs.Tails.{Least}
+use Rattle.cs_grammar.proofs.Tails.{Least, near_other}
 use Rattle.cs_grammar.proofs.Rows.{Separates}
 use Rattle.cs_grammar.proofs.FreshNames.{fresh, fresh_free}
 use Rattle.cs_grammar.proofs.Statements.{semicolon}
@@ -81,10 +80,6 @@ declared_refused names room front next deep r = record {
   further = λ told. let b = r.further told in record { phrase = declared_of b.phrase None; more = b.more; is_phrase = record { declarator = b.is_phrase; initial = tt }; spelled = b.spelled };
 }
 
-no_equal_near : (next : TokenKind) (behind more : Kinds) → (next ≡ equal_token → ⊥) → Near next behind → equal_token ∷ more ≡ behind → ⊥
-no_equal_near next behind more other near same =
-    elim near [ inl none ↦ let z = same ∙ none in cc | inr m ↦ let z : equal_token ∷ more ≡ next ∷ m.0 = same ∙ m.1 in other cc ]
-
 declared_only : (names : Names) (room : ℕ) (d : Declarator) (next : TokenKind) (deep : Bool) → Took (ObjectDeclarators names) room d next deep → (next ≡ equal_token → ⊥) → (c : Declarator) (o : Option Initial) (after behind : Kinds) → IsDeclarator names c → Follows ends_declared after → Near next behind → declarator_text c (first_value_text o after) ≡ declarator_text d behind → ((declared_of c o ≡ declared_of d None) × (after ≡ behind)) ⊎ IsOver (Objects names) room deep (declared_of c o) behind
 declared_only names room d next deep t other c None after behind is shut near same =
     elim (t.only c after behind is (ends_no_bracket after shut) near same) [
@@ -93,7 +88,7 @@ declared_only names room d next deep t other c None after behind is shut near sa
     ]
 declared_only names room d next deep t other c (Some i) after behind is shut near same =
     elim (t.only c (equal_token ∷ initial_text i after) behind is tt near same) [
-      | inl e ↦ absurd (no_equal_near next behind (initial_text i after) other near e.1)
+      | inl e ↦ absurd (near_other equal_token next behind (initial_text i after) other near e.1)
       | inr over ↦ inr (record { told = over.told; high = let h = over.high in omega (arith, h); onward = over.onward })
     ]
 

@@ -1,6 +1,6 @@
 -- The first tokens of statements and of what stands in blocks: for the contracts of every parser of statements.
-use Rattle.std.proofs.Common.{◌≡◌, ℕ, suc, Bool, true, false, ◌||◌, List, [], ◌∷◌, ◌++◌, Option, Some, None, MatchOption, option_map, IsTrue, refl, sym, ap, ◌∙◌, subst}
-use Rattle.std.proofs.lemmas.Bool.{false≢true, or_left, or_right}
+use Rattle.std.proofs.Common.{◌≡◌, Bool, true, List, [], ◌∷◌, Option, Some, None, MatchOption, option_map, IsTrue, refl, sym, ap, ◌∙◌, subst}
+use Rattle.std.proofs.lemmas.Bool.{or_left, or_right}
 use Rattle.cs_ast.specs.declared.token.TokenKind.{TokenKind}
 use Rattle.cs_ast.specs.declared.token.TokenKind.TheVariants as token
 use Rattle.cs_ast.specs.declared.token.Keyword.{Keyword}
@@ -8,16 +8,14 @@ use Rattle.cs_ast.specs.declared.token.Keyword.TheVariants as keyword
 use Rattle.cs_ast.specs.declared.token.Mark.{Mark}
 use Rattle.cs_ast.specs.declared.token.Mark.TheVariants as mark
 use Rattle.cs_ast.specs.declared.raw.written_type.TypeWord.{TypeWord}
-use Rattle.cs_ast.specs.RawTree.{Written}
-use Rattle.cs_ast.specs.RawDeclarations.{Declared, Spec, Static, Plain, StructBody, EnumBody, Specs, NoSpec, MoreSpecs}
-use Rattle.cs_ast.specs.RawStatements.{First, NoFirst, FirstRuns, FirstDeclares, Sentence, Block, Nothing, Runs, If, IfElse, While, Do, For, Switch, Goto, Continue, Break, Return, Label, Item, Declares, Does, Items, NoItem, MoreItems, SwitchItem, Case, Default, Inside, SwitchItems, NoSwitchItem, MoreSwitchItems}
+use Rattle.cs_ast.specs.RawDeclarations.{Static, Plain, StructBody, EnumBody, Specs, NoSpec, MoreSpecs}
+use Rattle.cs_ast.specs.RawStatements.{Sentence, Block, Nothing, Runs, If, IfElse, While, Do, For, Switch, Goto, Continue, Break, Return, Label, Item, Declares, Does, SwitchItem, Case, Default, Inside}
 use Rattle.cs_grammar.specs.TypeWords.{Names, is_type}
 use Rattle.cs_grammar.specs.Text.{Kinds, text, words_text, type_word_text}
-use Rattle.cs_grammar.specs.Phrases.{IsPhrase}
 use Rattle.cs_grammar.specs.FirstTokens.{begins_expression, begins_type, opens_expression, is_sizeof}
 use Rattle.cs_grammar.specs.FileFirstTokens.{begins_sentence, mark_begins_sentence, keyword_begins_sentence, begins_item, is_case, begins_switch_part}
 use Rattle.cs_grammar.specs.FileText.{mark_text, specs_text, declared_text, with_commas, some_text, test_text, first_text, sentence_text, item_text, items_text, switch_item_text, switch_text}
-use Rattle.cs_grammar.specs.FilePhrases.{plain_words, AreBlockSpecs, IsSentence, IsItem, AreItems, IsSwitchItem, AreSwitchItems}
+use Rattle.cs_grammar.specs.FilePhrases.{plain_words, AreBlockSpecs, IsSentence, IsItem, IsSwitchItem}
 use Rattle.cs_grammar.proofs.Beginnings.{BeginsWith, expression_begins, type_begins}
 
 -- plain words as what stands before declarators

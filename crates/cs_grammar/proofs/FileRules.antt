@@ -1,21 +1,16 @@
 -- The parts of a file, and files: for the contracts of every parser of files.
-use Rattle.std.proofs.Common.{◌≡◌, ℕ, suc, ◌+◌, ◌<◌, ◌≤◌, max, ◌⊎◌, inl, inr, Bool, true, false, IsTrue, List, [], ◌∷◌, ◌++◌, Option, Some, None, MatchOption, refl, sym, ap, ◌∙◌, subst, arith, append_assoc, append-nil}
+use Rattle.std.proofs.Common.{◌≡◌, ℕ, ◌+◌, ◌<◌, ◌≤◌, max, ◌⊎◌, inl, inr, Bool, true, false, IsTrue, List, [], ◌∷◌, ◌++◌, Option, Some, None, refl, sym, ap, ◌∙◌, subst, arith, append_assoc, append-nil}
 use Rattle.std.proofs.lemmas.Bool.{false≢true}
 use Rattle.cs_ast.specs.declared.token.TokenKind.{TokenKind}
 use Rattle.cs_ast.specs.declared.token.TokenKind.TheVariants as token
-use Rattle.cs_ast.specs.declared.token.Keyword.{Keyword}
 use Rattle.cs_ast.specs.declared.token.Keyword.TheVariants as keyword
-use Rattle.cs_ast.specs.declared.token.Mark.{Mark}
-use Rattle.cs_ast.specs.declared.token.Mark.TheVariants as mark
-use Rattle.cs_ast.specs.declared.raw.written_type.TypeWord.{TypeWord}
 use Rattle.cs_ast.specs.declared.raw.written_type.TypeWord.TheVariants as word
 use Rattle.cs_ast.specs.declared.raw.written_type.IntegerWord.TheVariants.{Char, Short, Int, Long, Signed, Unsigned}
 use Rattle.cs_ast.specs.declared.raw.written_type.PointerWord.{PointerWord}
-use Rattle.cs_ast.specs.declared.raw.written_type.PointerWord.TheVariants as pointer
 use Rattle.cs_ast.specs.RawTree.{Written}
-use Rattle.cs_ast.specs.RawDeclarations.{Declarator, Initial, Declared, Spec, Static, Plain, StructBody, EnumBody, Specs, NoSpec, MoreSpecs, Parameters, Head}
-use Rattle.cs_ast.specs.RawStatements.{Items, NoItem, External, TypeAlone, Typedef, Objects, Function, Definition}
-use Rattle.cs_ast.specs.RawFileHeight.{highest_by, specs_height, declared_height, declarator_height, head_height, items_height, external_height}
+use Rattle.cs_ast.specs.RawDeclarations.{Declarator, Initial, Declared, Spec, Static, Plain, StructBody, EnumBody, Specs, NoSpec, MoreSpecs, Head}
+use Rattle.cs_ast.specs.RawStatements.{Items, External, TypeAlone, Typedef, Objects, Function, Definition}
+use Rattle.cs_ast.specs.RawFileHeight.{highest_by, specs_height, head_height, external_height}
 use Rattle.cs_grammar.specs.TypeWords.{Names, is_pointer}
 use Rattle.cs_grammar.specs.Text.{Kinds, pointers_text}
 use Rattle.cs_grammar.specs.FileText.{brackets_text, declarator_text, first_value_text, declared_text, each_behind_comma, with_commas, specs_text, parameters_text, head_text, items_text, external_text, externals_text, file_text}
@@ -23,25 +18,23 @@ use Rattle.cs_grammar.specs.FilePhrases.{AreAll, IsSomeList, IsFree, IsDeclarato
 use Rattle.cs_grammar.specs.DeclarationClasses.{Follows, ends_specs, ObjectDeclarators, Objects as ObjectClass, FileSpecs, Heads, Externals}
 use Rattle.cs_grammar.specs.FileClasses.{BlockRows}
 use Rattle.cs_grammar.specs.FileParts.{ExternalRest, no_name, objects, function, definition, rest_text, rest_height, IsRest, ExternalRests, external_from, end_text, end_height, IsEnd, FunctionEnds, FilesFrom}
-use Rattle.cs_grammar.specs.Parsing.{Class, Near, IsOver, Begins, BeginsLow, Took, Refused, Exactly}
+use Rattle.cs_grammar.specs.Parsing.{Near, IsOver, BeginsLow, Refused, Exactly}
 use Rattle.cs_grammar.specs.Composed.{Sequence, Separated}
 use Rattle.cs_grammar.proofs.Texts.{pointers_append}
-use Rattle.cs_grammar.proofs.FileTexts.{specs_append, declarator_append, declared_append, with_commas_append, head_append, items_append, external_append, externals_append}
-use Rattle.cs_grammar.proofs.Holes.{Lawful, splits, Tail, tail_refused, tail_took, exact_took}
-use Rattle.cs_grammar.proofs.Tails.{Least, Production, tail_start, tail_then, tail_as, none_refused, full_refused}
+use Rattle.cs_grammar.proofs.FileTexts.{declared_append, with_commas_append, head_append, items_append, external_append, externals_append}
+use Rattle.cs_grammar.proofs.Holes.{Lawful, Tail}
+use Rattle.cs_grammar.proofs.Tails.{Least, Production, tail_start, tail_then, tail_as, none_refused}
 use Rattle.cs_grammar.proofs.Sequences.{Joins, sequence_law, sequence_least}
 use Rattle.cs_grammar.proofs.Rows.{Separates, separated_law, separated_least}
-use Rattle.cs_grammar.proofs.Pairs.{Pair, Single, single_refused, single_took}
+use Rattle.cs_grammar.proofs.Pairs.{Pair, Single}
 use Rattle.cs_grammar.proofs.Statements.{open_parenthesis, close_parenthesis, open_brace, close_brace, semicolon}
 use Rattle.cs_grammar.proofs.StatementParts.{block_rows_law, block_rows_least}
 use Rattle.cs_grammar.proofs.FreshNames.{fresh, fresh_free}
 use Rattle.cs_grammar.proofs.Declarators.{pointers_name, declarators_law, declarators_least}
-use Rattle.cs_grammar.proofs.DeclaredObjects.{objects_law, objects_least, semicolon_differs}
+use Rattle.cs_grammar.proofs.DeclaredObjects.{semicolon_differs}
 use Rattle.cs_grammar.proofs.BlockItems.{Starts, with_star, with_name, pointers_start, objects_start, starts_end_specs, object_list_law, object_list_least}
 use Rattle.cs_grammar.proofs.SpecRows.{first_of, spec_starts}
-use Rattle.cs_grammar.proofs.Bodies.{file_specs_law, file_specs_least, file_specs_height, specs_no_mark}
-use Rattle.cs_grammar.proofs.HeadRules.{heads_law}
-
+use Rattle.cs_grammar.proofs.Bodies.{file_specs_law, file_specs_least}
 
 spec_no_typedef : (s : Spec) → first_of s ≡ token.Keyword keyword.Typedef → ⊥
 spec_no_typedef Static e = cc
@@ -178,7 +171,7 @@ external_single names = record {
   least = sequence_least (FileSpecs names) (ExternalRests names) (file_specs_least names) (rests_least names);
 }
 
-starts_semicolon : (tokens more : Kinds) → Starts tokens → tokens ≡ semicolon ∷ more → ⊥
+pub starts_semicolon : (tokens more : Kinds) → Starts tokens → tokens ≡ semicolon ∷ more → ⊥
 starts_semicolon tokens more (with_star m e) same = let z = sym e ∙ same in cc
 starts_semicolon tokens more (with_name n m e) same = let z = sym e ∙ same in cc
 
@@ -237,14 +230,13 @@ objects_no_parenthesis : (list : List Declared) (after more : Kinds) → each_be
 objects_no_parenthesis [] after more same = cc
 objects_no_parenthesis (d ∷ ds) after more same = cc
 
-no_objects : (list : List Declared) (after : Kinds) (ps : List PointerWord) (n : List ℕ) (more : Kinds) → IsSomeList list → with_commas declared_text list (semicolon ∷ after) ≡ pointers_text ps (token.Name n ∷ open_parenthesis ∷ more) → ⊥
+pub no_objects : (list : List Declared) (after : Kinds) (ps : List PointerWord) (n : List ℕ) (more : Kinds) → IsSomeList list → with_commas declared_text list (semicolon ∷ after) ≡ pointers_text ps (token.Name n ∷ open_parenthesis ∷ more) → ⊥
 no_objects [] after ps n more some same = some
 no_objects (d ∷ ds) after ps n more some same =
     let rest = each_behind_comma declared_text ds (semicolon ∷ after) in
     let k = pointers_name d.declarator.pointers ps d.declarator.name n (brackets_text d.declarator.bounds (first_value_text d.initial rest)) (open_parenthesis ∷ more) same in
     brackets_no_parenthesis d.declarator.bounds (first_value_text d.initial rest) more
     (λ m e. value_no_parenthesis d.initial rest m (λ m' e'. objects_no_parenthesis ds after m' e') e) k.2
-
 
 -- the head of a function was refused behind its name and its parenthesis
 heads_begun : (names : Names) (room : ℕ) (front : Kinds) → BeginsLow (Heads names) room front → BeginsLow (ExternalRests names) room front
@@ -381,17 +373,17 @@ body_production names head named = record {
 abbrev pub body_single : (names : Names) (head : Head) → AreNamed head.parameters → Single (FunctionEnds names head) (BlockRows names) 1 (open_brace ∷ []) Some (λ rest. Unit {0})
 body_single names head named = record { production = body_production names head named; law = block_rows_law names; least = block_rows_least names }
 
--- a part of a file has some token
-specs_some_token : (names : Names) (specs : Specs) (x : Kinds) → AreSpecs names specs → specs_text specs x ≡ [] → ⊥
-specs_some_token names NoSpec x is same = false≢true is.0
-specs_some_token names (MoreSpecs s others) x is same = let b = spec_starts s (specs_text others x) in let z : first_of s ∷ b.0 ≡ [] = sym b.1 ∙ same in cc
+-- what stands before declarators, and so a part of a file, has some token
+pub specs_has : (names : Names) (specs : Specs) (x : Kinds) → AreSpecs names specs → specs_text specs x ≡ [] → ⊥
+specs_has names NoSpec x is same = false≢true is.0
+specs_has names (MoreSpecs s others) x is same = let b = spec_starts s (specs_text others x) in let z : first_of s ∷ b.0 ≡ [] = sym b.1 ∙ same in cc
 
 pub external_has : (names : Names) (e : External) (after : Kinds) → IsExternal names e → external_text e after ≡ [] → ⊥
-external_has names (TypeAlone specs) after is same = specs_some_token names specs (semicolon ∷ after) is same
+external_has names (TypeAlone specs) after is same = specs_has names specs (semicolon ∷ after) is same
 external_has names (Typedef specs list) after is same = cc
-external_has names (Objects specs list) after is same = specs_some_token names specs (with_commas declared_text list (semicolon ∷ after)) is.0 same
-external_has names (Function specs head) after is same = specs_some_token names specs (head_text head (semicolon ∷ after)) is.0 same
-external_has names (Definition specs head body) after is same = specs_some_token names specs (head_text head (open_brace ∷ items_text body (close_brace ∷ after))) is.0 same
+external_has names (Objects specs list) after is same = specs_has names specs (with_commas declared_text list (semicolon ∷ after)) is.0 same
+external_has names (Function specs head) after is same = specs_has names specs (head_text head (semicolon ∷ after)) is.0 same
+external_has names (Definition specs head body) after is same = specs_has names specs (head_text head (open_brace ∷ items_text body (close_brace ∷ after))) is.0 same
 
 pub files_law : (names : Names) → Lawful (FilesFrom names)
 files_law names = externals_append
@@ -532,8 +524,11 @@ rest_ends names (e ∷ es) is same = absurd (external_has names e (externals_tex
 pub file_took : (names : Names) (room : ℕ) (done : List External) → FileSoFar names room done → IsFile [] done × AreLow room done × ((file : List External) → IsFile [] file → file_text file ≡ file_text done → file ≡ done)
 file_took names room done so_far =
     let is = subst (IsFile []) (append-nil done) (so_far.is_phrase [] tt) in
-    let low = subst (λ (x : List External). highest_by external_height x ≤ room) (append-nil done) (so_far.low [] tt (omega arith)) in
-    (is, are_low room done low, λ file is' same.
-    let f = so_far.invert file [] [] is' refl tt (same ∙ sym (append-nil (externals_text done []))) in
-    let e = rest_ends names f.0 f.2 (sym f.3) in
-    f.1 ∙ ap (λ (x : List External). done ++ x) e ∙ append-nil done)
+    let low = subst (λ (x : List External). highest_by external_height x ≤ room) (append-nil done) (so_far.low [] tt (omega arith)) in (
+      is,
+      are_low room done low,
+      λ file is' same.
+          let f = so_far.invert file [] [] is' refl tt (same ∙ sym (append-nil (externals_text done []))) in
+          let e = rest_ends names f.0 f.2 (sym f.3) in
+          f.1 ∙ ap (λ (x : List External). done ++ x) e ∙ append-nil done,
+    )

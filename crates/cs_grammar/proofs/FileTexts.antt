@@ -1,18 +1,15 @@
 -- Texts of declarations, statements and files and what stands behind them: for the contracts of every parser of them.
-use Rattle.std.proofs.Common.{◌≡◌, ℕ, Bool, true, false, List, [], ◌∷◌, ◌++◌, Option, Some, None, refl, sym, ap, ◌∙◌}
-use Rattle.cs_ast.specs.declared.token.TokenKind.{TokenKind}
+use Rattle.std.proofs.Common.{◌≡◌, ℕ, Bool, true, false, List, [], ◌∷◌, ◌++◌, Option, Some, None, refl, ap, ◌∙◌}
 use Rattle.cs_ast.specs.declared.token.TokenKind.TheVariants as token
 use Rattle.cs_ast.specs.declared.token.Keyword.TheVariants as keyword
 use Rattle.cs_ast.specs.declared.token.Mark.TheVariants as mark
-use Rattle.cs_ast.specs.declared.raw.written_type.PointerWord.{PointerWord}
 use Rattle.cs_ast.specs.RawTree.{Written}
 use Rattle.cs_ast.specs.RawDeclarations.{Declarator, Constant, Spec, Static, Plain, StructBody, EnumBody, Specs, NoSpec, MoreSpecs, Members, NoMember, MoreMembers, Initial, Single, Listed, Initials, NoItem as NoInitial, MoreItems as MoreInitials, Declared, Parameter, Parameters, NoParameter, VoidAlone, ParameterList, Head}
 use Rattle.cs_ast.specs.RawStatements.{First, NoFirst, FirstRuns, FirstDeclares, Sentence, Block, Nothing, Runs, If, IfElse, While, Do, For, Switch, Goto, Continue, Break, Return, Label, Item, Declares, Does, Items, NoItem, MoreItems, SwitchItem, Case, Default, Inside, SwitchItems, NoSwitchItem, MoreSwitchItems, External, TypeAlone, Typedef, Objects, Function, Definition}
-use Rattle.cs_grammar.specs.Text.{Kinds, text, pointers_text}
+use Rattle.cs_grammar.specs.Text.{Kinds, pointers_text}
 use Rattle.cs_grammar.specs.FileText.{mark_text, word_text, name_text, some_text, comma_text, each_behind_comma, with_commas, brackets_text, declarator_text, value_text, constant_text, spec_text, specs_text, members_text, initial_text, initials_text, further_initials_text, first_value_text, declared_text, declaration_text, parameter_text, parameters_text, head_text, first_text, test_text, sentence_text, item_text, items_text, switch_item_text, switch_text, external_text, externals_text}
 use Rattle.cs_grammar.specs.FileClasses.{branch_text}
 use Rattle.cs_grammar.proofs.Texts.{text_append, word_append, pointers_append}
-
 
 pub name_append : (name : Option (List ℕ)) (x y : Kinds) → name_text name x ++ y ≡ name_text name (x ++ y)
 name_append None x y = refl

@@ -1,9 +1,7 @@
 -- The first part of a `for`: for the contracts of every parser of statements.
-use Rattle.std.proofs.Common.{◌≡◌, ℕ, suc, ◌+◌, ◌<◌, ◌≤◌, max, ◌⊎◌, inl, inr, Bool, true, false, List, [], ◌∷◌, ◌++◌, Option, Some, None, refl, sym, ap, ◌∙◌, subst, arith}
+use Rattle.std.proofs.Common.{◌≡◌, ℕ, ◌+◌, ◌≤◌, inl, inr, Bool, true, false, List, [], ◌∷◌, ◌++◌, refl, sym, ap, ◌∙◌, subst, arith}
 use Rattle.std.proofs.lemmas.Bool.{false≢true}
 use Rattle.cs_ast.specs.declared.token.TokenKind.{TokenKind}
-use Rattle.cs_ast.specs.declared.token.TokenKind.TheVariants as token
-use Rattle.cs_ast.specs.declared.token.Mark.TheVariants as mark
 use Rattle.cs_ast.specs.RawTree.{Written}
 use Rattle.cs_ast.specs.RawDeclarations.{Declared, Specs}
 use Rattle.cs_ast.specs.RawStatements.{First, NoFirst, FirstRuns, FirstDeclares}
@@ -11,16 +9,16 @@ use Rattle.cs_grammar.specs.TypeWords.{Names}
 use Rattle.cs_grammar.specs.Text.{Kinds, text}
 use Rattle.cs_grammar.specs.Phrases.{IsPhrase}
 use Rattle.cs_grammar.specs.FirstTokens.{begins_expression, begins_type}
-use Rattle.cs_grammar.specs.FileText.{declared_text, with_commas, specs_text, declaration_text, first_text}
+use Rattle.cs_grammar.specs.FileText.{declared_text, with_commas, declaration_text, first_text}
 use Rattle.cs_grammar.specs.FilePhrases.{AreAll, IsSomeList, IsDeclared, AreBlockSpecs, IsFirst}
 use Rattle.cs_grammar.specs.FileClasses.{Firsts}
-use Rattle.cs_grammar.specs.Parsing.{Class, Expressions, Near, BeginsLow, Took, Refused, Exactly}
+use Rattle.cs_grammar.specs.Parsing.{Expressions, Near, Took, Refused, Exactly}
 use Rattle.cs_grammar.proofs.Levels.{text_law}
 use Rattle.cs_grammar.proofs.Texts.{text_append}
 use Rattle.cs_grammar.proofs.Beginnings.{expression_begins, begins_one}
 use Rattle.cs_grammar.proofs.FileBeginnings.{block_specs_begin, first_passes, some_first}
-use Rattle.cs_grammar.proofs.Holes.{ClosedBy, closed_law, closed_refused, closed_wrong, closed_exact, exact_took}
-use Rattle.cs_grammar.proofs.Sequences.{sequence_law, sequence_least, closed_least}
+use Rattle.cs_grammar.proofs.Holes.{ClosedBy, closed_law, closed_refused, closed_wrong, closed_exact}
+use Rattle.cs_grammar.proofs.Sequences.{closed_least}
 use Rattle.cs_grammar.proofs.Pairs.{Single, single_refused, single_took}
 use Rattle.cs_grammar.proofs.Statements.{semicolon, runs_first}
 use Rattle.cs_grammar.proofs.StatementParts.{expression_least}

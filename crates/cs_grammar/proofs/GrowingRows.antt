@@ -1,12 +1,12 @@
 -- Rows that grow at their end: for the loops of every parser of declarations, statements and files.
-use Rattle.std.proofs.Common.{◌≡◌, ℕ, ◌+◌, ◌<◌, ◌≤◌, max, ◌⊎◌, inl, inr, Bool, true, false, List, [], ◌∷◌, ◌++◌, refl, sym, ap, ◌∙◌, subst, arith}
-use Rattle.std.proofs.lemmas.Bool.{false≢true}
+use Rattle.std.proofs.Common.{◌≡◌, ℕ, Bool, true, false, [], ◌∷◌, ◌++◌, sym, ◌∙◌, subst}
 use Rattle.cs_ast.specs.declared.token.TokenKind.{TokenKind}
 use Rattle.cs_grammar.specs.Text.{Kinds}
 use Rattle.cs_grammar.specs.Parsing.{Class, Near, Took, Refused, Exactly}
 use Rattle.cs_grammar.proofs.Holes.{Lawful, splits, Tail, tail_refused, tail_took, exact_took}
-use Rattle.cs_grammar.proofs.Tails.{first_or, near_first, tail_start, tail_then, tail_as}
+use Rattle.cs_grammar.proofs.Tails.{tail_start, tail_then, tail_as}
 use Rattle.cs_grammar.proofs.Rows.{Listing, row_tail, row_refused}
+use Rattle.cs_grammar.proofs.Sequences.{took_exact}
 
 -- a row behind another one, and the tokens of a row without what closes it
 pub record Growing (L C : Class) (all : Listing L C) : Type 0 where
@@ -47,3 +47,7 @@ pub grown_took : {L C : Class} {all : Listing L C} (grow : Growing L C all) (roo
 grown_took {L} {C} {all} grow room done Fit so_far fits x next =
     subst (λ (w : L.Tree). Took L room w next false) (grow.append_none done)
     (tail_took L L room room (grow.row_text done []) (grow.append done) Fit grow.law so_far all.none next false (λ behind near. fits behind) (exact_took L room all.none x next))
+
+-- the same, whatever stands behind, where anything may
+pub grown_exact : {L C : Class} {all : Listing L C} (grow : Growing L C all) (room : ℕ) (done : L.Tree) (Fit : Kinds → Type 0) → GrownSoFar grow room done Fit → ((behind : Kinds) → Fit (L.spell all.none behind)) → Exactly L room all.none → ((other : L.Tree) (after : Kinds) → L.Shut other after) → (some : TokenKind) → Exactly L room done
+grown_exact {L} grow room done Fit so_far fits x shut some = took_exact L room done (grown_took grow room done Fit so_far fits x) shut some

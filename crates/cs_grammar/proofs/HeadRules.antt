@@ -1,35 +1,33 @@
 -- What stands between a function's parentheses, and the heads of functions: for the contracts of every parser of declarations.
-use Rattle.std.proofs.Common.{◌≡◌, ◌≢◌, ℕ, suc, ◌+◌, ◌<◌, ◌≤◌, max, ◌⊎◌, inl, inr, Bool, true, false, IsTrue, List, [], ◌∷◌, ◌++◌, Option, Some, None, MatchOption, refl, sym, ap, ◌∙◌, subst, arith, append_assoc, append-nil}
+use Rattle.std.proofs.Common.{◌≡◌, ◌≢◌, ℕ, ◌≤◌, ◌⊎◌, inl, inr, Bool, true, false, IsTrue, List, [], ◌∷◌, ◌++◌, Option, Some, None, refl, sym, ap, ◌∙◌, arith}
 use Rattle.std.proofs.lemmas.Bool.{false≢true}
 use Rattle.cs_ast.specs.declared.token.TokenKind.{TokenKind}
 use Rattle.cs_ast.specs.declared.token.TokenKind.TheVariants as token
 use Rattle.cs_ast.specs.declared.token.Keyword.TheVariants as keyword
 use Rattle.cs_ast.specs.declared.token.Mark.{Mark}
 use Rattle.cs_ast.specs.declared.token.Mark.TheVariants as mark
-use Rattle.cs_ast.specs.declared.raw.written_type.TypeWord.{TypeWord}
 use Rattle.cs_ast.specs.declared.raw.written_type.TypeWord.TheVariants as word
 use Rattle.cs_ast.specs.declared.raw.written_type.IntegerWord.TheVariants.{Char, Short, Int, Long, Signed, Unsigned}
 use Rattle.cs_ast.specs.declared.raw.written_type.PointerWord.{PointerWord}
 use Rattle.cs_ast.specs.declared.raw.written_type.PointerWord.TheVariants as pointer
 use Rattle.cs_ast.specs.RawTree.{Written}
 use Rattle.cs_ast.specs.RawDeclarations.{Spec, Static, Plain, StructBody, EnumBody, Specs, NoSpec, MoreSpecs, Parameter, Parameters, NoParameter, VoidAlone, ParameterList, Head}
-use Rattle.cs_ast.specs.RawFileHeight.{highest_by, parameter_height, parameters_height, head_height}
+use Rattle.cs_ast.specs.RawFileHeight.{highest_by, parameter_height, parameters_height}
 use Rattle.cs_grammar.specs.TypeWords.{Names, is_pointer}
 use Rattle.cs_grammar.specs.Text.{Kinds, pointers_text}
-use Rattle.cs_grammar.specs.FileText.{name_text, some_text, brackets_text, each_behind_comma, with_commas, spec_text, specs_text, parameter_text, parameters_text, head_text}
-use Rattle.cs_grammar.specs.FilePhrases.{AreAll, IsSomeList, IsFree, AreSpecs, IsParameter, lone_void, AreParameters, IsHead}
+use Rattle.cs_grammar.specs.FileText.{name_text, brackets_text, each_behind_comma, with_commas, spec_text, specs_text, parameter_text, parameters_text, head_text}
+use Rattle.cs_grammar.specs.FilePhrases.{AreAll, IsSomeList, IsFree, IsParameter, lone_void, AreParameters, IsHead}
 use Rattle.cs_grammar.specs.DeclarationClasses.{ParameterTail, ParameterClass, ParameterRows, ParameterLists, Heads}
-use Rattle.cs_grammar.specs.Parsing.{Class, Near, IsOver, Begins, BeginsLow, Took, Refused, Exactly}
+use Rattle.cs_grammar.specs.Parsing.{Begins, BeginsLow, Took, Refused, Exactly}
 use Rattle.cs_grammar.specs.Composed.{Behind, Separated}
 use Rattle.cs_grammar.proofs.Texts.{pointers_append}
 use Rattle.cs_grammar.proofs.FileTexts.{parameter_append, with_commas_append, parameters_append, head_append}
 use Rattle.cs_grammar.proofs.Holes.{Lawful}
-use Rattle.cs_grammar.proofs.Tails.{Least, Production}
+use Rattle.cs_grammar.proofs.Tails.{Least}
 use Rattle.cs_grammar.proofs.Sequences.{behind_law, behind_least}
 use Rattle.cs_grammar.proofs.Pairs.{Single}
 use Rattle.cs_grammar.proofs.Statements.{open_parenthesis, close_parenthesis}
 use Rattle.cs_grammar.proofs.Declarators.{pointers_name}
-use Rattle.cs_grammar.proofs.SpecRows.{first_of, spec_starts}
 use Rattle.cs_grammar.proofs.Bodies.{specs_no_mark}
 use Rattle.cs_grammar.proofs.ParameterRules.{tail_of, parameter_of, int_parameter, int_is, parameter_high}
 

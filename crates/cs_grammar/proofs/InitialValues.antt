@@ -1,12 +1,10 @@
 -- What objects hold at first: expressions and lists between braces. For the contracts of every parser of declarations.
-use Rattle.std.proofs.Common.{◌≡◌, ℕ, suc, ◌+◌, ◌-◌, ◌<◌, ◌≤◌, max, ◌⊎◌, inl, inr, Bool, true, false, List, [], ◌∷◌, ◌++◌, Option, Some, None, refl, sym, ap, ◌∙◌, subst, arith, append_assoc, append-nil}
+use Rattle.std.proofs.Common.{◌≡◌, ℕ, ◌+◌, ◌<◌, ◌≤◌, max, inl, inr, Bool, true, false, List, [], ◌∷◌, ◌++◌, refl, sym, ap, ◌∙◌, arith}
 use Rattle.std.proofs.lemmas.Bool.{false≢true}
 use Rattle.cs_ast.specs.declared.token.TokenKind.{TokenKind}
 use Rattle.cs_ast.specs.declared.token.TokenKind.TheVariants as token
-use Rattle.cs_ast.specs.declared.token.Mark.{Mark}
 use Rattle.cs_ast.specs.declared.token.Mark.TheVariants as mark
 use Rattle.cs_ast.specs.RawTree.{Written}
-use Rattle.cs_ast.specs.RawHeight.{height}
 use Rattle.cs_ast.specs.RawDeclarations.{Initial, Single as One, Listed, Initials, NoItem, MoreItems}
 use Rattle.cs_ast.specs.RawFileHeight.{highest_by, initial_height, initials_height}
 use Rattle.cs_grammar.specs.TypeWords.{Names}
@@ -17,16 +15,15 @@ use Rattle.cs_grammar.specs.Continuing.{join_of}
 use Rattle.cs_grammar.specs.FileText.{comma_text, with_commas, each_behind_comma, initial_text, initials_text, further_initials_text}
 use Rattle.cs_grammar.specs.FilePhrases.{AreAll, IsSomeList, IsInitial, AreInitials}
 use Rattle.cs_grammar.specs.DeclarationClasses.{Follows, ends_value, Values}
-use Rattle.cs_grammar.specs.Parsing.{Class, Expressions, Near, IsOver, Begins, BeginsLow, Took, Refused, Exactly}
+use Rattle.cs_grammar.specs.Parsing.{Expressions, Near, Took, Refused}
 use Rattle.cs_grammar.specs.Composed.{Trailing}
 use Rattle.cs_grammar.proofs.Levels.{text_law}
-use Rattle.cs_grammar.proofs.Texts.{text_append}
 use Rattle.cs_grammar.proofs.FileTexts.{initial_append}
 use Rattle.cs_grammar.proofs.Beginnings.{expression_begins}
 use Rattle.cs_grammar.proofs.FileBeginnings.{first_passes}
 use Rattle.cs_grammar.proofs.Optional.{no_empty}
 use Rattle.cs_grammar.proofs.Holes.{Lawful}
-use Rattle.cs_grammar.proofs.Tails.{Least, Production, full_refused}
+use Rattle.cs_grammar.proofs.Tails.{Least, full_refused}
 use Rattle.cs_grammar.proofs.Rows.{Separates}
 use Rattle.cs_grammar.proofs.TrailingRows.{NoneCloses, trailing_law, trailing_least}
 use Rattle.cs_grammar.proofs.Pairs.{Single, single_refused, single_took}
@@ -165,7 +162,7 @@ list_invert names (Listed (MoreItems i items) comma) after behind is same = (
   ap (λ (x : Initials). Listed (MoreItems i x) comma) (sym (items_again items)),
   (tt, (is.0, list_is names items is.1)),
   let k : behind ≡ initial_text i (further_initials_text items (comma_text comma (close_brace ∷ after))) = cc in
-  k ∙ ap (λ (x : Initials). initial_text i (further_initials_text x (comma_text comma (close_brace ∷ after)))) (sym (items_again items)) ∙ ap (initial_text i) (further_text (list_of items) (comma_text comma (close_brace ∷ after))),
+      k ∙ ap (λ (x : Initials). initial_text i (further_initials_text x (comma_text comma (close_brace ∷ after)))) (sym (items_again items)) ∙ ap (initial_text i) (further_text (list_of items) (comma_text comma (close_brace ∷ after))),
 )
 
 -- items between braces

@@ -1,33 +1,32 @@
 -- Returns of functions that read what stands in a block or in a `switch`: for the contracts of every parser of statements.
-use Rattle.std.proofs.Common.{◌≡◌, ℕ, suc, ◌+◌, ◌-◌, ◌<◌, ◌≤◌, max, ◌⊎◌, inl, inr, Bool, true, false, ◌||◌, List, [], ◌∷◌, ◌++◌, Option, Some, None, refl, sym, ap, ◌∙◌, subst, arith}
-use Rattle.std.proofs.lemmas.Bool.{false≢true, both_ways, not-true, or_cases}
+use Rattle.std.proofs.Common.{◌≡◌, ℕ, ◌+◌, ◌<◌, ◌≤◌, ◌⊎◌, inl, inr, Bool, true, false, List, [], ◌∷◌, ◌++◌, refl, sym, ap, ◌∙◌, arith}
+use Rattle.std.proofs.lemmas.Bool.{false≢true, both_ways, or_cases}
 use Rattle.cs_ast.specs.declared.token.TokenKind.{TokenKind}
 use Rattle.cs_ast.specs.declared.token.TokenKind.TheVariants as token
 use Rattle.cs_ast.specs.declared.token.Keyword.{Keyword}
 use Rattle.cs_ast.specs.declared.token.Keyword.TheVariants as keyword
-use Rattle.cs_ast.specs.declared.token.Mark.TheVariants as mark
 use Rattle.cs_ast.specs.declared.raw.written_type.TypeWord.{TypeWord}
 use Rattle.cs_ast.specs.declared.raw.written_type.TypeWord.TheVariants as word_of
 use Rattle.cs_ast.specs.declared.raw.written_type.IntegerWord.TheVariants.{Char, Short, Int, Long, Signed, Unsigned}
 use Rattle.cs_ast.specs.RawDeclarations.{Declared, Specs}
-use Rattle.cs_ast.specs.RawStatements.{Sentence, Nothing, Item, Declares, Does, Items, NoItem, SwitchItem, Case, Default, Inside}
-use Rattle.cs_ast.specs.RawFileHeight.{sentence_height, item_height}
+use Rattle.cs_ast.specs.RawStatements.{Sentence, Item, Declares, Does, SwitchItem, Case, Default, Inside}
+use Rattle.cs_ast.specs.RawFileHeight.{item_height, switch_item_height}
 use Rattle.cs_grammar.specs.TypeWords.{Names, is_among, is_type}
-use Rattle.cs_grammar.specs.Text.{Kinds, words_text, type_word_text}
+use Rattle.cs_grammar.specs.Text.{Kinds, text, words_text, type_word_text}
 use Rattle.cs_grammar.specs.FirstTokens.{begins_type, keyword_begins_type}
 use Rattle.cs_grammar.specs.FileFirstTokens.{begins_sentence, begins_item, is_case, begins_switch_part}
 use Rattle.cs_grammar.specs.FileText.{declared_text, with_commas, specs_text, declaration_text, sentence_text, item_text, switch_item_text}
 use Rattle.cs_grammar.specs.FilePhrases.{AreAll, IsSomeList, IsDeclared, AreBlockSpecs, IsSentence, IsItem, IsSwitchItem}
 use Rattle.cs_grammar.specs.FileClasses.{Sentences, BlockItems, SwitchParts}
-use Rattle.cs_grammar.specs.Parsing.{Class, Near, IsOver, Begins, BeginsLow, Took, Refused, Exactly}
+use Rattle.cs_grammar.specs.Parsing.{Near, Begins, BeginsLow, Took, Refused}
 use Rattle.cs_grammar.proofs.FileBeginnings.{specs_of, plain_text, block_words, plain_are, block_specs_begin, sentence_begins, item_begins, switch_part_begins, some_first, first_passes}
-use Rattle.cs_grammar.proofs.Tails.{first_or, near_first, full_refused, none_refused}
+use Rattle.cs_grammar.proofs.Tails.{first_or, full_refused, none_refused, near_other}
 use Rattle.cs_grammar.proofs.Pairs.{single_refused, single_took}
 use Rattle.cs_grammar.proofs.Statements.{semicolon, colon, word}
-use Rattle.cs_grammar.proofs.StatementParts.{sentence_some}
-use Rattle.cs_grammar.proofs.StatementFirsts.{begins_low, two_high, sentence_example, colon_near}
-use Rattle.cs_grammar.proofs.DeclaredObjects.{least_object, least_is, objects_below}
-use Rattle.cs_grammar.proofs.BlockItems.{IsDeclaration, IsStatement, HasNoCase, BlockDeclarations, Declaration, declares_single, does_single, inside_single, both_begin, name_sentence, objects_start, declared_no_colon, block_specs_height, item_some, items_least}
+use Rattle.cs_grammar.proofs.StatementParts.{nought, expression_height}
+use Rattle.cs_grammar.proofs.StatementFirsts.{begins_low, two_high, sentence_example}
+use Rattle.cs_grammar.proofs.DeclaredObjects.{least_object, least_is}
+use Rattle.cs_grammar.proofs.BlockItems.{IsDeclaration, IsStatement, HasNoCase, BlockDeclarations, Declaration, declares_single, does_single, inside_single, both_begin, name_sentence, objects_start, declared_no_colon, block_specs_height, item_some}
 
 -- a type that begins with a token
 pub record TypeExample (names : Names) (t : TokenKind) : Type 0 where
@@ -102,7 +101,7 @@ pub item_low : (names : Names) (room : ℕ) (next : TokenKind) → room < 2 → 
 item_low names room next full e l = full_refused (BlockItems names) room next (item_has names) (λ i after more is same. let h = item_two names i after next more is same l in omega (arith, h, full)) (item_example names next e)
 
 second_near : (fs behind more : Kinds) (next : TokenKind) → (first_or fs next ≡ colon → ⊥) → Near next behind → fs ++ behind ≡ colon ∷ more → ⊥
-second_near [] behind more next other near same = colon_near next behind more other near same
+second_near [] behind more next other near same = near_other colon next behind more other near (sym same)
 second_near (g ∷ gs) behind more next other near same = other cc
 
 -- tokens of a declaration that was refused
@@ -226,3 +225,29 @@ inside_refused names room some front next deep first r = single_refused (inside_
 -- it was taken
 pub inside_took : (names : Names) (room : ℕ) → 1 ≤ room → (i : Item) (next : TokenKind) (deep : Bool) → Took (BlockItems names) room i next deep → Took (SwitchParts names) room (Inside i) next deep
 inside_took names room some i next deep t = single_took (inside_single names) room room (omega arith, some) i next deep (λ behind near. item_no_case names i behind t.is_phrase) t
+
+part_has : (names : Names) (i : SwitchItem) (after : Kinds) → IsSwitchItem names i → switch_item_text i after ≡ [] → ⊥
+part_has names i after is same = some_first (begins_switch_part names) (switch_item_text i after) (switch_part_begins names i after is) same
+
+-- nothing that may stand in a `switch` begins with the token
+pub part_not : (names : Names) (room : ℕ) (next : TokenKind) → begins_switch_part names next ≡ false → Refused (SwitchParts names) room [] next false
+part_not names room next e =
+    none_refused (SwitchParts names) room next (part_has names) (λ i after more is same. false≢true (sym e ∙ first_passes (begins_switch_part names) (switch_item_text i after) next more (switch_part_begins names i after is) same))
+
+part_some : (names : Names) (i : SwitchItem) (after : Kinds) (t : TokenKind) (more : Kinds) → IsSwitchItem names i → (t ≡ word keyword.Default → ⊥) → switch_item_text i after ≡ t ∷ more → 1 ≤ switch_item_height i
+part_some names (Case e) after t more is other same = expression_height e
+part_some names Default after t more is other same = absurd (other cc)
+part_some names (Inside i) after t more is other same = item_some names i is
+
+-- there is no room for a `case`
+pub case_none : (names : Names) (room : ℕ) → room < 1 → Refused (SwitchParts names) room [] (word keyword.Case) true
+case_none names room full =
+    full_refused (SwitchParts names) room (word keyword.Case) (part_has names) (λ i after more is same. let h = part_some names i after (word keyword.Case) more is (λ e. cc) same in omega (arith, h, full))
+    (record { phrase = Case nought; more = text nought (colon ∷ []); is_phrase = (omega arith, tt); spelled = refl })
+
+-- there is no room for anything but `default`
+pub inside_none : (names : Names) (room : ℕ) (next : TokenKind) → room < 1 → begins_item names next ≡ true → (next ≡ word keyword.Default → ⊥) → Refused (SwitchParts names) room [] next true
+inside_none names room next full e other =
+    let b = item_example names next e in
+    full_refused (SwitchParts names) room next (part_has names) (λ i after more is same. let h = part_some names i after next more is other same in omega (arith, h, full))
+    (record { phrase = Inside b.phrase; more = b.more; is_phrase = b.is_phrase; spelled = b.spelled })

@@ -30,3 +30,9 @@ pub mod Bodies
 pub mod ParameterRules
 pub mod HeadRules
 pub mod FileRules
+pub mod ExternalSites
+pub mod RoleLengths
+pub mod SmallRooms
+pub mod DeclarationSites
+pub mod FileReasons
+pub mod FileExamples

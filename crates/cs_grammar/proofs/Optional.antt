@@ -1,20 +1,19 @@
 -- An expression that may be left out, before what closes it: for the contracts of the parser of declarations and statements.
-use Rattle.std.proofs.Common.{◌≡◌, ℕ, suc, ◌+◌, ◌-◌, ◌<◌, ◌≤◌, max, ◌⊎◌, inl, inr, Bool, true, false, List, [], ◌∷◌, ◌++◌, Option, Some, None, refl, sym, ap, ◌∙◌, subst, arith, append_assoc}
+use Rattle.std.proofs.Common.{◌≡◌, ℕ, ◌<◌, ◌≤◌, inl, inr, Bool, false, [], ◌∷◌, ◌++◌, Option, Some, None, refl, sym, ap, ◌∙◌, subst, arith, append_assoc}
 use Rattle.std.proofs.lemmas.Bool.{false≢true}
 use Rattle.cs_ast.specs.declared.token.TokenKind.{TokenKind}
 use Rattle.cs_ast.specs.RawTree.{Written}
-use Rattle.cs_ast.specs.RawHeight.{height}
 use Rattle.cs_grammar.specs.TypeWords.{Names}
 use Rattle.cs_grammar.specs.Text.{Kinds, text}
 use Rattle.cs_grammar.specs.Phrases.{IsPhrase}
 use Rattle.cs_grammar.specs.FirstTokens.{begins_expression}
 use Rattle.cs_grammar.specs.Continuing.{join}
-use Rattle.cs_grammar.specs.Parsing.{Class, Expressions, Near, IsOver, Begins, BeginsLow, Took, Refused, Exactly}
+use Rattle.cs_grammar.specs.Parsing.{Expressions, Near, IsOver, Took, Refused, Exactly}
 use Rattle.cs_grammar.specs.Composed.{ClosedSome}
 use Rattle.cs_grammar.proofs.Texts.{text_append}
 use Rattle.cs_grammar.proofs.Levels.{text_law}
 use Rattle.cs_grammar.proofs.Beginnings.{expression_begins}
-use Rattle.cs_grammar.proofs.Holes.{Lawful, Tail, tail_refused, tail_took, ClosedBy, closed_law, closed_refused, closed_wrong, closed_exact, exact_took}
+use Rattle.cs_grammar.proofs.Holes.{Lawful, ClosedBy, closed_wrong, closed_exact}
 use Rattle.cs_grammar.proofs.Tails.{Least}
 
 pub some_law : (names : Names) (level : ℕ) (MayLack : Type 0) (close : TokenKind) → Lawful (ClosedSome names level MayLack close)

@@ -1,14 +1,13 @@
 -- Productions of two parts: for the contracts of every parser of declarations, statements and files. Each return of a function that
 -- reads two parts is answered by one of these lemmas.
-use Rattle.std.proofs.Common.{◌≡◌, ℕ, ◌+◌, ◌<◌, ◌≤◌, max, ◌⊎◌, inl, inr, Bool, true, false, List, [], ◌∷◌, ◌++◌, refl, sym, ap, ◌∙◌, subst, arith}
-use Rattle.std.proofs.lemmas.Bool.{false≢true}
+use Rattle.std.proofs.Common.{◌≡◌, ℕ, ◌+◌, ◌≤◌, Bool, true, [], ◌∷◌, ◌++◌, arith}
 use Rattle.cs_ast.specs.declared.token.TokenKind.{TokenKind}
 use Rattle.cs_grammar.specs.Text.{Kinds}
 use Rattle.cs_grammar.specs.Parsing.{Class, Near, Took, Refused, Exactly}
 use Rattle.cs_grammar.specs.Composed.{Sequence}
 use Rattle.cs_grammar.proofs.Holes.{Lawful}
 use Rattle.cs_grammar.proofs.Tails.{first_or, Least, Production}
-use Rattle.cs_grammar.proofs.Sequences.{Joins, sequence_law, sequence_least, first_refused, second_wrong, exact_then_refused, exact_then_took, exact_both, then_refused, then_took, made_refused, made_took}
+use Rattle.cs_grammar.proofs.Sequences.{Joins, sequence_law, sequence_least, first_refused, second_wrong, exact_then_refused, exact_then_took, then_refused, then_took, made_refused, made_took}
 
 -- phrases of S are made of one of C and one of D, behind these tokens
 pub record Pair (S C D : Class) (plus : ℕ) (before : Kinds) (build : C.Tree × D.Tree → S.Tree) : Type 0 where

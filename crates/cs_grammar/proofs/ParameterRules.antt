@@ -1,37 +1,31 @@
 -- Parameters and the heads of functions: for the contracts of every parser of declarations.
-use Rattle.std.proofs.Common.{◌≡◌, ◌≢◌, ℕ, suc, ◌+◌, ◌<◌, ◌≤◌, max, ◌⊎◌, inl, inr, Bool, true, false, IsTrue, List, [], ◌∷◌, ◌++◌, Option, Some, None, MatchOption, refl, sym, ap, ◌∙◌, subst, arith, append_assoc, append-nil}
+use Rattle.std.proofs.Common.{◌≡◌, ℕ, ◌≤◌, inr, Bool, true, false, IsTrue, List, [], ◌∷◌, Option, Some, None, MatchOption, refl, sym, ap, ◌∙◌, subst, arith, append-nil}
 use Rattle.std.proofs.lemmas.Bool.{false≢true}
 use Rattle.cs_ast.specs.declared.token.TokenKind.{TokenKind}
 use Rattle.cs_ast.specs.declared.token.TokenKind.TheVariants as token
 use Rattle.cs_ast.specs.declared.token.Keyword.TheVariants as keyword
-use Rattle.cs_ast.specs.declared.token.Mark.{Mark}
 use Rattle.cs_ast.specs.declared.token.Mark.TheVariants as mark
-use Rattle.cs_ast.specs.declared.raw.written_type.TypeWord.{TypeWord}
 use Rattle.cs_ast.specs.declared.raw.written_type.TypeWord.TheVariants as word
-use Rattle.cs_ast.specs.declared.raw.written_type.IntegerWord.TheVariants.{Char, Short, Int, Long, Signed, Unsigned}
+use Rattle.cs_ast.specs.declared.raw.written_type.IntegerWord.TheVariants.{Int}
 use Rattle.cs_ast.specs.declared.raw.written_type.PointerWord.{PointerWord}
 use Rattle.cs_ast.specs.declared.raw.written_type.PointerWord.TheVariants as pointer
 use Rattle.cs_ast.specs.RawTree.{Written}
-use Rattle.cs_ast.specs.RawDeclarations.{Spec, Static, Plain, StructBody, EnumBody, Specs, NoSpec, MoreSpecs, Parameter, Parameters, NoParameter, VoidAlone, ParameterList, Head}
-use Rattle.cs_ast.specs.RawFileHeight.{height_of_some, highest_by, specs_height, parameter_height, parameters_height, head_height}
+use Rattle.cs_ast.specs.RawDeclarations.{Plain, Specs, NoSpec, MoreSpecs, Parameter}
+use Rattle.cs_ast.specs.RawFileHeight.{parameter_height}
 use Rattle.cs_grammar.specs.TypeWords.{Names, is_pointer}
 use Rattle.cs_grammar.specs.Text.{Kinds, pointers_text}
-use Rattle.cs_grammar.specs.FileText.{name_text, some_text, brackets_text, each_behind_comma, with_commas, spec_text, specs_text, parameter_text, parameters_text, head_text}
-use Rattle.cs_grammar.specs.FilePhrases.{AreAll, IsSomeList, IsFree, IsBound, AreSpecs, IsParameter, lone_void, AreParameters, IsHead}
-use Rattle.cs_grammar.specs.DeclarationClasses.{Follows, HasNoBracket, Brackets, ends_specs, FileSpecs, ends_parameter, ParameterClass, ParameterTail, ParameterTails, ParameterRows, ParameterLists, Heads}
-use Rattle.cs_grammar.specs.Parsing.{Class, Near, IsOver, Begins, BeginsLow, Took, Refused, Exactly}
-use Rattle.cs_grammar.specs.Composed.{Sequence, Behind, Separated}
+use Rattle.cs_grammar.specs.FileText.{name_text, brackets_text, specs_text, parameter_text}
+use Rattle.cs_grammar.specs.FilePhrases.{AreAll, IsFree, IsBound, AreSpecs, IsParameter}
+use Rattle.cs_grammar.specs.DeclarationClasses.{Follows, HasNoBracket, Brackets, ends_specs, FileSpecs, ends_parameter, ParameterClass, ParameterTail, ParameterTails}
 use Rattle.cs_grammar.proofs.Texts.{pointers_append}
-use Rattle.cs_grammar.proofs.FileTexts.{name_append, brackets_append, parameter_append, with_commas_append, parameters_append, head_append}
-use Rattle.cs_grammar.proofs.Holes.{Lawful, Tail, tail_refused, tail_took}
-use Rattle.cs_grammar.proofs.Tails.{Least, Production}
-use Rattle.cs_grammar.proofs.Sequences.{behind_law, behind_least}
+use Rattle.cs_grammar.proofs.FileTexts.{name_append, brackets_append, parameter_append}
+use Rattle.cs_grammar.proofs.Holes.{Lawful, Tail}
+use Rattle.cs_grammar.proofs.Tails.{Least}
 use Rattle.cs_grammar.proofs.Rows.{Separates}
-use Rattle.cs_grammar.proofs.Pairs.{Pair, Single, single_refused, single_took}
-use Rattle.cs_grammar.proofs.Statements.{open_parenthesis, close_parenthesis, word as keyword_token}
-use Rattle.cs_grammar.proofs.Declarators.{brackets_law, brackets_least, pointers_name, IsNoName}
-use Rattle.cs_grammar.proofs.SpecRows.{first_of, spec_starts}
-use Rattle.cs_grammar.proofs.Bodies.{file_specs_law, file_specs_least, file_specs_height, specs_no_mark}
+use Rattle.cs_grammar.proofs.Pairs.{Pair}
+use Rattle.cs_grammar.proofs.Statements.{close_parenthesis}
+use Rattle.cs_grammar.proofs.Declarators.{pointers_name, IsNoName}
+use Rattle.cs_grammar.proofs.Bodies.{file_specs_law, file_specs_least, file_specs_height}
 
 -- a bracket, a comma or a closing parenthesis
 abbrev pub ends_name : TokenKind → Bool

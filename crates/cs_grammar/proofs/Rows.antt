@@ -1,18 +1,17 @@
 -- Phrases in a row, without and with commas between them: for the loops of every parser of declarations, statements and files.
-use Rattle.std.proofs.Common.{◌≡◌, ℕ, suc, ◌+◌, ◌-◌, ◌<◌, ◌≤◌, max, ◌⊎◌, inl, inr, Bool, true, false, List, [], ◌∷◌, ◌++◌, refl, sym, ap, ◌∙◌, subst, arith, append_assoc, append-nil}
-use Rattle.std.proofs.lemmas.Bool.{false≢true}
+use Rattle.std.proofs.Common.{◌≡◌, ℕ, ◌<◌, ◌≤◌, max, ◌⊎◌, inl, inr, Bool, true, false, List, [], ◌∷◌, ◌++◌, refl, sym, ap, ◌∙◌, subst, arith, append_assoc}
 use Rattle.cs_ast.specs.declared.token.TokenKind.{TokenKind}
 use Rattle.cs_ast.specs.declared.token.TokenKind.TheVariants as token
 use Rattle.cs_ast.specs.declared.token.Mark.TheVariants as mark
 use Rattle.cs_ast.specs.RawFileHeight.{highest_by}
 use Rattle.cs_grammar.specs.Text.{Kinds}
-use Rattle.cs_grammar.specs.FileText.{with_commas, each_behind_comma}
+use Rattle.cs_grammar.specs.FileText.{each_behind_comma}
 use Rattle.cs_grammar.specs.FilePhrases.{AreAll, IsSomeList}
-use Rattle.cs_grammar.specs.Parsing.{Class, Near, IsOver, Begins, BeginsLow, Took, Refused, Exactly}
+use Rattle.cs_grammar.specs.Parsing.{Class, Near, Took, Refused, Exactly}
 use Rattle.cs_grammar.specs.Composed.{Sequence, Separated, Further}
 use Rattle.cs_grammar.proofs.Holes.{Lawful, splits, Tail, tail_refused, tail_took, exact_took}
-use Rattle.cs_grammar.proofs.Tails.{first_or, near_first, tail_then, tail_as, Least, Production, production_tail, none_refused}
-use Rattle.cs_grammar.proofs.Sequences.{Joins, sequence_law, sequence_least, first_refused, second_tail, second_wrong}
+use Rattle.cs_grammar.proofs.Tails.{tail_then, tail_as, Least, Production, production_tail}
+use Rattle.cs_grammar.proofs.Sequences.{Joins, sequence_law, sequence_least, first_refused, second_tail, second_wrong, took_exact}
 
 -- phrases of L are rows of phrases of C; the end of a row isn't taken for a phrase of C
 pub record Listing (L C : Class) : Type 0 where
@@ -240,3 +239,7 @@ so_far_took D close room s done so_far last deep t next =
     let two = tail_then (Separated D close) (Sequence D (Further D close)) (Further D close) room room room (before_commas D.spell done []) (D.spell last []) (λ part. done ++ part.0 ∷ part.1) (λ d. (last, d)) (λ rest. Unit {0}) (Near close) (sequence_further_law D close s.law) so_far rest (λ behind fit. tt) in
     tail_took (Separated D close) (Further D close) room room (before_commas D.spell done [] ++ D.spell last []) (λ d. done ++ last ∷ d) (Near close) (further_law D close s.law) two [] next false (λ behind near. inr (behind, refl))
     (exact_took (Further D close) room [] (further_exact D close room s.differs) next)
+
+-- the same, whatever stands behind
+pub so_far_exact : (D : Class) (close : TokenKind) (room : ℕ) → (s : Separates D close) → (done : List D.Tree) → SoFar D close room done → (last : D.Tree) (deep : Bool) → Took D room last close deep → Exactly (Separated D close) room (done ++ last ∷ [])
+so_far_exact D close room s done so_far last deep t = took_exact (Separated D close) room (done ++ last ∷ []) (so_far_took D close room s done so_far last deep t) (λ other after. tt) close

@@ -1,24 +1,22 @@
 -- What stands before declarators outside blocks, word by word: for the contracts of every parser of declarations.
-use Rattle.std.proofs.Common.{◌≡◌, ℕ, suc, ◌+◌, ◌<◌, ◌≤◌, max, ◌⊎◌, inl, inr, Bool, true, false, List, [], ◌∷◌, ◌++◌, Option, Some, None, refl, sym, ap, ◌∙◌, subst, arith, append_assoc, append-nil}
+use Rattle.std.proofs.Common.{◌≡◌, ℕ, ◌<◌, ◌≤◌, max, inl, inr, Bool, true, false, List, [], ◌∷◌, ◌++◌, Option, Some, None, refl, sym, ap, ◌∙◌, subst, arith, append_assoc, append-nil}
 use Rattle.std.proofs.lemmas.Bool.{false≢true, both_ways}
 use Rattle.cs_ast.specs.declared.token.TokenKind.{TokenKind}
 use Rattle.cs_ast.specs.declared.token.TokenKind.TheVariants as token
 use Rattle.cs_ast.specs.declared.token.Keyword.TheVariants as keyword
-use Rattle.cs_ast.specs.declared.token.Mark.{Mark}
 use Rattle.cs_ast.specs.declared.token.Mark.TheVariants as mark
 use Rattle.cs_ast.specs.declared.raw.written_type.TypeWord.{TypeWord}
 use Rattle.cs_ast.specs.declared.raw.written_type.TypeWord.TheVariants as word
 use Rattle.cs_ast.specs.declared.raw.written_type.IntegerWord.TheVariants.{Char, Short, Int, Long, Signed, Unsigned}
 use Rattle.cs_ast.specs.RawDeclarations.{Constant, Spec, Static, Plain, StructBody, EnumBody, Specs, NoSpec, MoreSpecs, Members, NoMember}
-use Rattle.cs_ast.specs.RawFileHeight.{spec_height, specs_height}
+use Rattle.cs_ast.specs.RawFileHeight.{specs_height}
 use Rattle.cs_grammar.specs.TypeWords.{Names, named_by, names_type, is_type}
 use Rattle.cs_grammar.specs.Text.{Kinds}
 use Rattle.cs_grammar.specs.FileText.{name_text, comma_text, with_commas, constant_text, members_text, spec_text, specs_text}
 use Rattle.cs_grammar.specs.FilePhrases.{words_of, HaveBodies, HasBody, AreSpecs}
 use Rattle.cs_grammar.specs.DeclarationClasses.{Follows, ends_specs, HasNoOpenBrace, IsQuiet, SpecElements, FileSpecs}
-use Rattle.cs_grammar.specs.Parsing.{Class, Near, IsOver, Begins, BeginsLow, Took, Refused, Exactly}
-use Rattle.cs_grammar.proofs.FileTexts.{spec_append, specs_append}
-use Rattle.cs_grammar.proofs.Holes.{Lawful}
+use Rattle.cs_grammar.specs.Parsing.{Near, IsOver, Took, Refused}
+use Rattle.cs_grammar.proofs.FileTexts.{specs_append}
 use Rattle.cs_grammar.proofs.WordsOfTypes.{named_more}
 use Rattle.cs_grammar.proofs.TypeNames.{first_token, MayGoOn, type_and_name, tag_word}
 
@@ -29,7 +27,7 @@ spec_words (Plain w) = w ∷ []
 spec_words (StructBody tag members) = word.Struct [] ∷ []
 spec_words (EnumBody tag constants comma) = word.Enum [] ∷ []
 
-words_more : (s : Spec) (others : Specs) → words_of (MoreSpecs s others) ≡ spec_words s ++ words_of others
+pub words_more : (s : Spec) (others : Specs) → words_of (MoreSpecs s others) ≡ spec_words s ++ words_of others
 words_more Static others = refl
 words_more (Plain w) others = refl
 words_more (StructBody tag members) others = refl
@@ -233,7 +231,7 @@ follows_no_brace [] f = tt
 follows_no_brace (token.Mark mark.OpenBrace ∷ x) f = false≢true f
 follows_no_brace _ f = tt
 
-specs_no_brace : (ts : Specs) (after : Kinds) → Follows ends_specs after → HasNoOpenBrace (specs_text ts after)
+pub specs_no_brace : (ts : Specs) (after : Kinds) → Follows ends_specs after → HasNoOpenBrace (specs_text ts after)
 specs_no_brace NoSpec after f = follows_no_brace after f
 specs_no_brace (MoreSpecs t ts) after f = spec_no_brace t (specs_text ts after)
 
@@ -274,7 +272,7 @@ specs_go_on names before (MoreSpecs s ds) (MoreSpecs t ts) after behind go type 
 abbrev pub IsStuckAfter : Names → List TypeWord → TokenKind → Type 0
 IsStuckAfter names ws next = (one : Spec) (more : List TypeWord) → first_of one ≡ next → is_type names (ws ++ (spec_words one ++ more)) ≡ false
 
-no_more : (names : Names) (done : Specs) (next : TokenKind) (more : Specs) (after behind : Kinds) → IsStuckAfter names (words_of done) next → is_type names (words_of (joined_specs done more)) ≡ true → Near next behind → specs_text more after ≡ behind → (more ≡ NoSpec) × (after ≡ behind)
+pub no_more : (names : Names) (done : Specs) (next : TokenKind) (more : Specs) (after behind : Kinds) → IsStuckAfter names (words_of done) next → is_type names (words_of (joined_specs done more)) ≡ true → Near next behind → specs_text more after ≡ behind → (more ≡ NoSpec) × (after ≡ behind)
 no_more names done next NoSpec after behind stuck type near same = (refl, same)
 no_more names done next (MoreSpecs s more) after behind stuck type near same =
     let b = spec_starts s (specs_text more after) in
@@ -286,7 +284,7 @@ no_more names done next (MoreSpecs s more) after behind stuck type near same =
           both_ways (is_type names (words_of (joined_specs done (MoreSpecs s more)))) (ap (is_type names) (joined_words done (MoreSpecs s more) ∙ ap (λ (x : List TypeWord). words_of done ++ x) (words_more s more)) ∙ stuck s (words_of more) k) type
     ])
 
-specs_only : (names : Names) (done : Specs) (next : TokenKind) → MayGoOn names (words_of done) → AreExact names done → IsStuckAfter names (words_of done) next → ((behind : Kinds) → Near next behind → EndsQuiet done behind) → (other : Specs) (after behind : Kinds) → AreSpecs names other → Follows ends_specs after → Near next behind → specs_text other after ≡ specs_text done behind → (other ≡ done) × (after ≡ behind)
+pub specs_only : (names : Names) (done : Specs) (next : TokenKind) → MayGoOn names (words_of done) → AreExact names done → IsStuckAfter names (words_of done) next → ((behind : Kinds) → Near next behind → EndsQuiet done behind) → (other : Specs) (after behind : Kinds) → AreSpecs names other → Follows ends_specs after → Near next behind → specs_text other after ≡ specs_text done behind → (other ≡ done) × (after ≡ behind)
 specs_only names done next go exact stuck quiet other after behind is f near same =
     let r = specs_go_on names [] done other after behind go is.0 is.1 exact f (quiet behind near) same in
     let e = no_more names done next r.0 after behind stuck (ap (λ (x : Specs). is_type names (words_of x)) (sym r.1) ∙ is.0) near r.2 in
@@ -349,29 +347,29 @@ tag_names names (Plain (word.Integer Unsigned)) true e = absurd cc
 tag_names names (Plain (word.Integer Unsigned)) false e = absurd cc
 
 -- `struct` or `enum` behind words that name nothing names a type
-tag_spec_type : (names : Names) (ws : List TypeWord) (s : Spec) (is_struct : Bool) → named_by ws ≡ [] → first_of s ≡ tag_word is_struct → is_type names (ws ++ spec_words s) ≡ true
+pub tag_spec_type : (names : Names) (ws : List TypeWord) (s : Spec) (is_struct : Bool) → named_by ws ≡ [] → first_of s ≡ tag_word is_struct → is_type names (ws ++ spec_words s) ≡ true
 tag_spec_type names ws s is_struct none first =
     ap (names_type names) (named_more ws (spec_words s) ∙ ap (λ (x : List TypeWord). x ++ named_by (spec_words s)) none) ∙ tag_names names s is_struct first
 
-tag_ends : (is_struct : Bool) → ends_specs (tag_word is_struct) ≡ false
+pub tag_ends : (is_struct : Bool) → ends_specs (tag_word is_struct) ≡ false
 tag_ends true = refl
 tag_ends false = refl
 
 -- words that name nothing, and a type with `struct` or `enum`
-abbrev with_spec : Specs → Spec → Specs
+abbrev pub with_spec : Specs → Spec → Specs
 with_spec done s = joined_specs done (MoreSpecs s NoSpec)
 
-with_is : (names : Names) (done : Specs) (s : Spec) (is_struct : Bool) → AreExact names done → named_by (words_of done) ≡ [] → HasBody names s → first_of s ≡ tag_word is_struct → AreSpecs names (with_spec done s)
+pub with_is : (names : Names) (done : Specs) (s : Spec) (is_struct : Bool) → AreExact names done → named_by (words_of done) ≡ [] → HasBody names s → first_of s ≡ tag_word is_struct → AreSpecs names (with_spec done s)
 with_is names done s is_struct exact none has first = (
   ap (is_type names) (joined_words done (MoreSpecs s NoSpec) ∙ ap (λ (x : List TypeWord). words_of done ++ x) (words_more s NoSpec ∙ append-nil (spec_words s))) ∙ tag_spec_type names (words_of done) s is_struct none first,
   joined_bodies names done (MoreSpecs s NoSpec) (exact_bodies names done exact) (has, tt),
 )
 
-with_text : (done : Specs) (s : Spec) (front more : Kinds) → spec_text s [] ≡ front ++ more → specs_text (with_spec done s) [] ≡ (specs_text done [] ++ front) ++ more
+pub with_text : (done : Specs) (s : Spec) (front more : Kinds) → spec_text s [] ≡ front ++ more → specs_text (with_spec done s) [] ≡ (specs_text done [] ++ front) ++ more
 with_text done s front more same =
     joined_text done (MoreSpecs s NoSpec) [] ∙ ap (specs_text done) same ∙ sym (specs_append done [] (front ++ more)) ∙ sym (append_assoc (specs_text done []) front more)
 
-spec_first : (s : Spec) (x : Kinds) (f : TokenKind) (more : Kinds) → spec_text s x ≡ f ∷ more → first_of s ≡ f
+pub spec_first : (s : Spec) (x : Kinds) (f : TokenKind) (more : Kinds) → spec_text s x ≡ f ∷ more → first_of s ≡ f
 spec_first s x f more same = let b = spec_starts s x in let z : first_of s ∷ b.0 ≡ f ∷ more = sym b.1 ∙ same in cc
 
 element_never : (names : Names) (room : ℕ) (done : Specs) (is_struct : Bool) (fs : Kinds) (next : TokenKind) (deep : Bool) → Refused (SpecElements names) room (tag_word is_struct ∷ fs) next deep → (more : Specs) (after behind : Kinds) → HaveBodies names more → Follows ends_specs after → Near next behind → specs_text more after ≡ tag_word is_struct ∷ (fs ++ behind) → IsOver (FileSpecs names) room deep (joined_specs done more) behind
@@ -382,7 +380,7 @@ element_never names room done is_struct fs next deep r (MoreSpecs s more) after 
     let tall = joined_tall done (MoreSpecs s more) in
     record { told = v.told; high = let h = v.high in omega (arith, tall, h); onward = v.onward }
 
-tag_quiet : (done : Specs) (x : Kinds) (is_struct : Bool) → EndsQuiet done (tag_word is_struct ∷ x)
+pub tag_quiet : (done : Specs) (x : Kinds) (is_struct : Bool) → EndsQuiet done (tag_word is_struct ∷ x)
 tag_quiet done x true = quiet_end done (tag_word true ∷ x) tt
 tag_quiet done x false = quiet_end done (tag_word false ∷ x) tt
 

@@ -1,6 +1,6 @@
 -- Statements that are refused at their first token, expression statements, and names without a colon: for the contracts of every
 -- parser of statements.
-use Rattle.std.proofs.Common.{◌≡◌, ℕ, suc, ◌+◌, ◌-◌, ◌<◌, ◌≤◌, max, ◌⊎◌, inl, inr, Bool, true, false, not, List, [], ◌∷◌, ◌++◌, Option, Some, None, refl, sym, ap, ◌∙◌, subst, arith}
+use Rattle.std.proofs.Common.{◌≡◌, ℕ, ◌+◌, ◌<◌, ◌≤◌, inl, inr, Bool, true, false, List, [], ◌∷◌, ◌++◌, None, refl, sym, ap, ◌∙◌, subst, arith}
 use Rattle.std.proofs.lemmas.Bool.{false≢true, both_ways, not-true}
 use Rattle.cs_ast.specs.declared.token.TokenKind.{TokenKind}
 use Rattle.cs_ast.specs.declared.token.TokenKind.TheVariants as token
@@ -12,8 +12,7 @@ use Rattle.cs_ast.specs.declared.raw.operator.Step.TheVariants.{Up, Down}
 use Rattle.cs_ast.specs.declared.raw.operator.PrefixOp.{PrefixOp}
 use Rattle.cs_ast.specs.declared.raw.operator.PrefixOp.TheVariants as prefix
 use Rattle.cs_ast.specs.RawTree.{Written, Named, Numeral, Character, Literal, Enclosed, StepBefore, Prefix, SizeOf}
-use Rattle.cs_ast.specs.RawHeight.{height}
-use Rattle.cs_ast.specs.RawStatements.{First, NoFirst, Sentence, Block, Nothing, Runs, If, IfElse, While, Do, For, Switch, Goto, Continue, Break, Return, Label, NoItem, NoSwitchItem}
+use Rattle.cs_ast.specs.RawStatements.{NoFirst, Sentence, Block, Nothing, Runs, If, IfElse, While, Do, For, Switch, Goto, Continue, Break, Return, Label, NoItem, NoSwitchItem}
 use Rattle.cs_ast.specs.RawFileHeight.{sentence_height}
 use Rattle.cs_grammar.specs.TypeWords.{Names, is_among}
 use Rattle.cs_grammar.specs.Text.{Kinds, text}
@@ -24,13 +23,12 @@ use Rattle.cs_grammar.specs.FileFirstTokens.{begins_sentence, mark_begins_senten
 use Rattle.cs_grammar.specs.FileText.{some_text, sentence_text, items_text}
 use Rattle.cs_grammar.specs.FilePhrases.{IsSentence}
 use Rattle.cs_grammar.specs.FileClasses.{Sentences}
-use Rattle.cs_grammar.specs.Parsing.{Class, Expressions, Near, IsOver, Begins, BeginsLow, Took, Refused, Exactly}
+use Rattle.cs_grammar.specs.Parsing.{Expressions, Near, Begins, BeginsLow, Took, Refused}
 use Rattle.cs_grammar.proofs.Levels.{text_law}
 use Rattle.cs_grammar.proofs.Texts.{text_append}
-use Rattle.cs_grammar.proofs.Beginnings.{BeginsWith, expression_begins}
 use Rattle.cs_grammar.proofs.FileBeginnings.{sentence_begins, some_first, first_passes}
-use Rattle.cs_grammar.proofs.Holes.{Lawful, ClosedBy, closed_law, closed_refused, closed_wrong, closed_exact, exact_took}
-use Rattle.cs_grammar.proofs.Tails.{full_refused, none_refused}
+use Rattle.cs_grammar.proofs.Holes.{ClosedBy, closed_refused, closed_wrong, closed_exact, exact_took}
+use Rattle.cs_grammar.proofs.Tails.{full_refused, none_refused, near_other}
 use Rattle.cs_grammar.proofs.Pairs.{single_refused, single_took}
 use Rattle.cs_grammar.proofs.Statements.{semicolon, colon, word, runs_first, name_colon, begins_other_sentence, IsRun}
 use Rattle.cs_grammar.proofs.StatementParts.{nought, expression_height, sentence_some, runs_single}
@@ -208,10 +206,6 @@ run_none next behind p near = record {
       ];
 }
 
-pub colon_near : (next : TokenKind) (behind more : Kinds) → (next ≡ colon → ⊥) → Near next behind → behind ≡ colon ∷ more → ⊥
-colon_near next behind more other near same =
-    elim near [ inl none ↦ let z = sym same ∙ none in cc | inr m ↦ let z : colon ∷ more ≡ next ∷ m.0 = sym same ∙ m.1 in other cc ]
-
 second_colon : (names : Names) (room : ℕ) (n : List ℕ) (g : TokenKind) (gs : Kinds) → BeginsLow (Expressions names 0) room (token.Name n ∷ g ∷ gs) → g ≡ colon → ⊥
 second_colon names room n g gs b e =
     let s : text b.phrase [] ≡ token.Name n ∷ colon ∷ (gs ++ b.more) = b.spelled ∙ ap (λ (x : TokenKind). token.Name n ∷ x ∷ (gs ++ b.more)) e in
@@ -220,7 +214,7 @@ second_colon names room n g gs b e =
     cc
 
 run_label : (names : Names) (room : ℕ) (f : TokenKind) (fs behind : Kinds) (next : TokenKind) (n : List ℕ) (more : Kinds) → BeginsLow (Expressions names 0) room (f ∷ fs) → (fs ≡ [] → next ≡ colon → ⊥) → Near next behind → f ∷ (fs ++ behind) ≡ token.Name n ∷ colon ∷ more → ⊥
-run_label names room f [] behind next n more b other near same = colon_near next behind more (other refl) near cc
+run_label names room f [] behind next n more b other near same = near_other colon next behind more (other refl) near cc
 run_label names room f (g ∷ gs) behind next n more b other near same =
     let k : f ≡ token.Name n = cc in
     second_colon names room n g gs (subst (λ (x : TokenKind). BeginsLow (Expressions names 0) room (x ∷ g ∷ gs)) k b) cc
@@ -257,7 +251,7 @@ text_run names e x behind is other = record {
 pub runs_wrong : (names : Names) (room inner : ℕ) → room ≡ 1 + inner → 1 ≤ inner → (e : Written) (next : TokenKind) (deep : Bool) → Took (Expressions names 0) inner e next deep → (next ≡ semicolon → ⊥) → ((n : List ℕ) → e ≡ Named n → next ≡ colon → ⊥) → Refused (Sentences names) room (text e []) next deep
 runs_wrong names room inner less some e next deep t other label =
     single_refused (runs_single names) room inner (less, some) (text e []) next deep
-    (λ behind near. subst IsRun (sym (text_append e [] behind)) (text_run names e behind behind t.is_phrase (λ n more same c. colon_near next behind more (label n same) near c)))
+    (λ behind near. subst IsRun (sym (text_append e [] behind)) (text_run names e behind behind t.is_phrase (λ n more same c. near_other colon next behind more (label n same) near (sym c))))
     (closed_wrong (Expressions names 0) semicolon inner (text_law names 0) (λ part more. omega arith) e next deep t other)
 
 -- an expression statement was taken
@@ -271,7 +265,7 @@ lone_never : (names : Names) (n : List ℕ) (next : TokenKind) → is_among name
 lone_never names n next among no_colon (Runs e) after behind is near same =
     let f = runs_first names e (semicolon ∷ after) (token.Name n) behind is same in
     both_ways (is_among names n) (not-true (is_among names n) f) among
-lone_never names n next among no_colon (Label m b) after behind is near same = colon_near next behind (sentence_text b after) no_colon near cc
+lone_never names n next among no_colon (Label m b) after behind is near same = near_other colon next behind (sentence_text b after) no_colon near cc
 lone_never names n next among no_colon _ after behind is near same = cc
 
 -- a typedef name begins a statement as a label alone

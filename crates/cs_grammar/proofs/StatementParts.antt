@@ -1,33 +1,25 @@
 -- The parts of statements: what may be cut off behind them, the lowest of them, and the forms as pairs. For the contracts of every
 -- parser of statements.
-use Rattle.std.proofs.Common.{◌≡◌, ℕ, suc, ◌+◌, ◌-◌, ◌<◌, ◌≤◌, max, ◌⊎◌, inl, inr, Bool, true, false, List, [], ◌∷◌, ◌++◌, Option, Some, None, refl, sym, ap, ◌∙◌, subst, arith}
-use Rattle.std.proofs.lemmas.Bool.{false≢true}
-use Rattle.cs_ast.specs.declared.token.TokenKind.{TokenKind}
+use Rattle.std.proofs.Common.{ℕ, ◌≤◌, true, false, List, [], ◌∷◌, Option, Some, None, ap, arith}
 use Rattle.cs_ast.specs.declared.token.TokenKind.TheVariants as token
 use Rattle.cs_ast.specs.declared.token.Keyword.TheVariants as keyword
-use Rattle.cs_ast.specs.declared.token.Mark.TheVariants as mark
-use Rattle.cs_ast.specs.declared.token.IntegerConstant.{IntegerConstant}
 use Rattle.cs_ast.specs.declared.token.Length.TheVariants.{Plain as plain_length}
-use Rattle.cs_ast.specs.RawTree.{Written, WrittenList, Named, Numeral, Character, Literal, Enclosed, Index, Call, Member, Arrow, StepBehind, StepBefore, Prefix, SizeOf, SizeOfType, Cast, Infix, Choice, Assign, Comma, End, More}
+use Rattle.cs_ast.specs.RawTree.{Written, Named, Numeral, Character, Literal, Enclosed, Index, Call, Member, Arrow, StepBehind, StepBefore, Prefix, SizeOf, SizeOfType, Cast, Infix, Choice, Assign, Comma}
 use Rattle.cs_ast.specs.RawHeight.{height}
-use Rattle.cs_ast.specs.RawStatements.{First, NoFirst, FirstRuns, FirstDeclares, Sentence, Block, Nothing, Runs, If, IfElse, While, Do, For, Switch, Goto, Continue, Break, Return, Label, Items, NoItem, SwitchItems, NoSwitchItem}
+use Rattle.cs_ast.specs.RawStatements.{NoFirst, Sentence, Block, Nothing, Runs, If, IfElse, While, Do, For, Switch, Goto, Continue, Break, Return, Label, NoItem, NoSwitchItem}
 use Rattle.cs_ast.specs.RawFileHeight.{sentence_height}
 use Rattle.cs_grammar.specs.TypeWords.{Names}
-use Rattle.cs_grammar.specs.Text.{Kinds, text}
-use Rattle.cs_grammar.specs.Phrases.{IsPhrase}
-use Rattle.cs_grammar.specs.FilePhrases.{is_open, IsSentence}
-use Rattle.cs_grammar.specs.FileClasses.{Tests, Firsts, Sentences, Branch, branch_height, Branches, IsBranch, HasNoElse, BlockRows, SwitchRows, SwitchBodies}
-use Rattle.cs_grammar.specs.Parsing.{Class, Expressions, Near, Took, Refused, Exactly}
-use Rattle.cs_grammar.specs.Composed.{Sequence, Behind, ClosedSome}
+use Rattle.cs_grammar.specs.Text.{Kinds}
+use Rattle.cs_grammar.specs.FileClasses.{Tests, Firsts, Sentences, branch_height, Branches, BlockRows, SwitchRows, SwitchBodies}
+use Rattle.cs_grammar.specs.Parsing.{Expressions}
 use Rattle.cs_grammar.proofs.Levels.{text_law}
-use Rattle.cs_grammar.proofs.Texts.{text_append}
 use Rattle.cs_grammar.proofs.FileTexts.{test_append, first_append, sentence_append, branch_append, items_append, switch_append}
-use Rattle.cs_grammar.proofs.Holes.{Lawful, ClosedBy, Ended, AnyName, closed_law, ended_law, name_law, closed_refused, closed_wrong, closed_exact, exact_took, tail_refused, tail_took}
-use Rattle.cs_grammar.proofs.Tails.{Least, Production}
-use Rattle.cs_grammar.proofs.Sequences.{Joins, closed_least, ended_least, behind_least, behind_tail, behind_wrong}
+use Rattle.cs_grammar.proofs.Holes.{Lawful, ClosedBy, Ended, AnyName, closed_law, ended_law, name_law}
+use Rattle.cs_grammar.proofs.Tails.{Least}
+use Rattle.cs_grammar.proofs.Sequences.{closed_least, ended_least}
 use Rattle.cs_grammar.proofs.Optional.{some_law, some_least}
 use Rattle.cs_grammar.proofs.Pairs.{Pair, Single}
-use Rattle.cs_grammar.proofs.Statements.{open_parenthesis, close_parenthesis, open_brace, close_brace, semicolon, colon, word, if_of, IfParts, WhileParts, DoParts, SomeBefore, ForParts, SwitchClause, while_production, if_production, do_production, for_production, switch_production, switch_body_production, block_production, nothing_production, goto_production, continue_production, break_production, return_production, IsRun, runs_production, label_production}
+use Rattle.cs_grammar.proofs.Statements.{open_brace, close_brace, semicolon, colon, word, if_of, SomeBefore, while_production, if_production, do_production, switch_production, switch_body_production, block_production, nothing_production, goto_production, continue_production, break_production, return_production, IsRun, runs_production, label_production}
 
 -- the lowest expression
 abbrev pub nought : Written

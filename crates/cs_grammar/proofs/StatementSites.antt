@@ -1,31 +1,28 @@
 -- Returns of functions that read statements: for the contracts of every parser of statements.
-use Rattle.std.proofs.Common.{◌≡◌, ℕ, suc, ◌+◌, ◌-◌, ◌<◌, ◌≤◌, max, ◌⊎◌, inl, inr, Bool, true, false, if◌then◌else◌, List, [], ◌∷◌, ◌++◌, Option, Some, None, refl, sym, ap, ◌∙◌, subst, arith}
+use Rattle.std.proofs.Common.{◌≡◌, ℕ, ◌+◌, ◌≤◌, inl, inr, Bool, true, false, [], ◌∷◌, ◌++◌, Option, Some, None, refl, sym, ap, ◌∙◌, subst, arith}
 use Rattle.std.proofs.lemmas.Bool.{false≢true, both_ways, false_from_ne_true}
 use Rattle.cs_ast.specs.declared.token.TokenKind.{TokenKind}
 use Rattle.cs_ast.specs.declared.token.TokenKind.TheVariants as token
 use Rattle.cs_ast.specs.declared.token.Keyword.TheVariants as keyword
-use Rattle.cs_ast.specs.declared.token.Mark.TheVariants as mark
 use Rattle.cs_ast.specs.RawTree.{Written}
-use Rattle.cs_ast.specs.RawHeight.{height}
-use Rattle.cs_ast.specs.RawStatements.{First, NoFirst, FirstRuns, FirstDeclares, Sentence, Block, Nothing, Runs, If, IfElse, While, Do, For, Switch, Goto, Continue, Break, Return, Label, Items, NoItem, SwitchItems, NoSwitchItem}
-use Rattle.cs_ast.specs.RawFileHeight.{sentence_height}
+use Rattle.cs_ast.specs.RawStatements.{First, Sentence, Block, Nothing, Runs, If, IfElse, While, Do, For, Switch, Goto, Continue, Break, Return, Label}
 use Rattle.cs_grammar.specs.TypeWords.{Names}
 use Rattle.cs_grammar.specs.Text.{Kinds, text}
 use Rattle.cs_grammar.specs.Phrases.{IsPhrase}
 use Rattle.cs_grammar.specs.FileText.{test_text, some_text, first_text, sentence_text}
 use Rattle.cs_grammar.specs.FilePhrases.{is_open, IsSentence}
-use Rattle.cs_grammar.specs.FileClasses.{Tests, Firsts, Sentences, Branch, branch_text, branch_height, Branches, IsBranch, HasNoElse, BlockRows, SwitchRows, SwitchBodies}
-use Rattle.cs_grammar.specs.Parsing.{Class, Expressions, Near, IsOver, Begins, BeginsLow, Took, Refused, Exactly}
-use Rattle.cs_grammar.specs.Composed.{Sequence, Behind, ClosedSome}
+use Rattle.cs_grammar.specs.FileClasses.{Tests, Firsts, Sentences, Branch, branch_text, Branches, IsBranch, HasNoElse}
+use Rattle.cs_grammar.specs.Parsing.{Class, Expressions, Near, IsOver, Took, Refused, Exactly}
+use Rattle.cs_grammar.specs.Composed.{Sequence}
 use Rattle.cs_grammar.proofs.Levels.{text_law}
 use Rattle.cs_grammar.proofs.FileTexts.{sentence_append}
-use Rattle.cs_grammar.proofs.Holes.{Lawful, Tail, ClosedBy, Ended, closed_law, closed_refused, closed_wrong, closed_exact, exact_took, tail_refused, tail_took}
-use Rattle.cs_grammar.proofs.Tails.{Least, Production}
-use Rattle.cs_grammar.proofs.Sequences.{Joins, sequence_law, sequence_least, behind_law, behind_least, closed_least, behind_tail, behind_wrong, first_refused, exact_then_refused, exact_then_took, made_refused, made_took}
+use Rattle.cs_grammar.proofs.Holes.{Lawful, Tail, ClosedBy, closed_law, closed_refused, closed_wrong, closed_exact, tail_refused, tail_took}
+use Rattle.cs_grammar.proofs.Tails.{Least, near_other}
+use Rattle.cs_grammar.proofs.Sequences.{sequence_law, sequence_least, behind_law, behind_least, closed_least, behind_tail, behind_wrong, first_refused, exact_then_refused, exact_then_took, made_refused, made_took}
 use Rattle.cs_grammar.proofs.Optional.{some_law, some_least}
-use Rattle.cs_grammar.proofs.Pairs.{Pair, HasRoom, pair_first_refused, pair_second_refused, pair_took}
-use Rattle.cs_grammar.proofs.Statements.{open_parenthesis, close_parenthesis, open_brace, close_brace, semicolon, colon, word, if_of, SomeBefore, ForParts, for_production}
-use Rattle.cs_grammar.proofs.StatementParts.{nought, sentence_some, expression_least, tests_least, sentences_least, branches_least, firsts_least, tests_law, sentences_law, branches_law, firsts_law, if_pair}
+use Rattle.cs_grammar.proofs.Pairs.{pair_took}
+use Rattle.cs_grammar.proofs.Statements.{open_parenthesis, close_parenthesis, semicolon, colon, word, SomeBefore, ForParts, for_production}
+use Rattle.cs_grammar.proofs.StatementParts.{sentence_some, expression_least, sentences_least, firsts_least, sentences_law, firsts_law, if_pair}
 
 -- an expression between parentheses: no parenthesis stands there
 pub tests_missing : (names : Names) (room : ℕ) (next : TokenKind) → (next ≡ open_parenthesis → ⊥) → Refused (Tests names) room [] next false
@@ -107,11 +104,6 @@ before_else names room s t =
       | inr over ↦ false≢true over.told
     ])
 
--- nothing behind a token that is no `else` begins with one
-pub no_else_near : (next : TokenKind) (behind : Kinds) → (next ≡ word keyword.Else → ⊥) → Near next behind → (more : Kinds) → word keyword.Else ∷ more ≡ behind → ⊥
-no_else_near next behind other near more same =
-    elim near [ inl none ↦ let z = same ∙ none in cc | inr m ↦ let z : word keyword.Else ∷ more ≡ next ∷ m.0 = same ∙ m.1 in other cc ]
-
 abbrev branch : Sentence → Option Sentence → Branch
 branch b o = (b, o)
 
@@ -142,7 +134,7 @@ alone_only names room s next t other b None after behind is shut near same =
     ]
 alone_only names room s next t other b (Some o) after behind is shut near same =
     elim (t.only b (word keyword.Else ∷ sentence_text o after) behind is.1 (λ k. both_ways (is_open b) is.0 k) near same) [
-      | inl e ↦ absurd (no_else_near next behind other near (sentence_text o after) e.1)
+      | inl e ↦ absurd (near_other (word keyword.Else) next behind (sentence_text o after) other near e.1)
       | inr over ↦ absurd (false≢true over.told)
     ]
 

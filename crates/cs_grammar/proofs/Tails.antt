@@ -1,12 +1,12 @@
 -- What is left of a phrase behind its first tokens: for the contracts of every parser of declarations, statements and files. A `Tail`
 -- says that the phrases of C that begin with some tokens are made of those of D; tails are put one behind another, and at each
 -- return a refusal or a phrase of D gives one of C (`tail_refused`, `tail_took`).
-use Rattle.std.proofs.Common.{◌≡◌, ℕ, suc, ◌+◌, ◌-◌, ◌<◌, ◌≤◌, max, ◌⊎◌, inl, inr, Bool, true, false, List, [], ◌∷◌, ◌++◌, refl, sym, ap, ◌∙◌, subst, arith, append_assoc, append-nil}
+use Rattle.std.proofs.Common.{◌≡◌, ℕ, ◌+◌, ◌<◌, ◌≤◌, inl, inr, true, false, [], ◌∷◌, ◌++◌, refl, sym, ap, ◌∙◌, subst, arith, append_assoc, append-nil}
 use Rattle.std.proofs.lemmas.Bool.{false≢true}
 use Rattle.cs_ast.specs.declared.token.TokenKind.{TokenKind}
 use Rattle.cs_grammar.specs.Text.{Kinds}
-use Rattle.cs_grammar.specs.Parsing.{Class, Near, IsOver, Begins, BeginsLow, Took, Refused, Exactly}
-use Rattle.cs_grammar.proofs.Holes.{Lawful, splits, Tail, tail_refused, tail_took}
+use Rattle.cs_grammar.specs.Parsing.{Class, Near, Begins, Refused}
+use Rattle.cs_grammar.proofs.Holes.{Lawful, Tail}
 
 -- the first of these tokens, or the next one where there is none
 abbrev pub first_or : Kinds → TokenKind → TokenKind
@@ -17,6 +17,11 @@ first_or (t ∷ tokens) next = t
 pub near_first : (front : Kinds) (next first : TokenKind) → first_or front next ≡ first → (behind : Kinds) → Near next behind → Near first (front ++ behind)
 near_first [] next first e behind near = elim near [ inl none ↦ inl none | inr m ↦ inr (m.0, m.1 ∙ ap (λ (t : TokenKind). t ∷ m.0) e) ]
 near_first (t ∷ tokens) next first e behind near = inr (tokens ++ behind, ap (λ (x : TokenKind). x ∷ (tokens ++ behind)) e)
+
+-- what is near to the next token doesn't begin with another one
+pub near_other : (t next : TokenKind) (behind more : Kinds) → (next ≡ t → ⊥) → Near next behind → t ∷ more ≡ behind → ⊥
+near_other t next behind more other near same =
+    elim near [ inl none ↦ let z = same ∙ none in cc | inr m ↦ let z : t ∷ more ≡ next ∷ m.0 = same ∙ m.1 in other cc ]
 
 -- a tail of a tail
 pub tail_then : (C D E : Class) (room mid inner : ℕ) (before next : Kinds) (build : D.Tree → C.Tree) (build' : E.Tree → D.Tree) (Fit Fit' : Kinds → Type 0) → Lawful D → Tail C D room mid before build Fit → Tail D E mid inner next build' Fit' → ((behind : Kinds) → Fit' behind → Fit (next ++ behind)) → Tail C E room inner (before ++ next) (λ part. build (build' part)) Fit'

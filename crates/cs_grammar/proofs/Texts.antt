@@ -1,7 +1,6 @@
 -- Texts of trees and what stands behind them: for the contracts of every parser of phrases.
-use Rattle.std.proofs.Common.{◌≡◌, ℕ, ◌+◌, List, [], ◌∷◌, ◌++◌, length, refl, sym, ap, ◌∙◌, append_assoc}
+use Rattle.std.proofs.Common.{◌≡◌, ◌+◌, List, [], ◌∷◌, ◌++◌, length, refl, sym, ap, ◌∙◌}
 use Rattle.std.proofs.lemmas.List.{append_cancel_left, length-append}
-use Rattle.cs_ast.specs.declared.token.TokenKind.{TokenKind}
 use Rattle.cs_ast.specs.declared.token.TokenKind.TheVariants as token
 use Rattle.cs_ast.specs.declared.token.Keyword.TheVariants as keyword
 use Rattle.cs_ast.specs.declared.token.Mark.TheVariants as mark
@@ -10,7 +9,7 @@ use Rattle.cs_ast.specs.declared.raw.written_type.TypeWord.TheVariants as word
 use Rattle.cs_ast.specs.declared.raw.written_type.PointerWord.{PointerWord}
 use Rattle.cs_ast.specs.RawTree.{Written, WrittenList, Named, Numeral, Character, Literal, Enclosed, Index, Call, Member, Arrow, StepBehind, StepBefore, Prefix, SizeOf, SizeOfType, Cast, Infix, Choice, Assign, Comma, End, More}
 use Rattle.cs_grammar.specs.Marks.{step_mark, prefix_mark, infix_mark, assign_mark}
-use Rattle.cs_grammar.specs.Text.{Kinds, text, listed, behind_commas, bounds_text, words_text, type_word_text, integer_word_text, pointers_text, pointer_word_text, type_text, size}
+use Rattle.cs_grammar.specs.Text.{Kinds, text, listed, behind_commas, bounds_text, words_text, type_word_text, pointers_text, pointer_word_text, type_text, size}
 
 pub word_append : (w : TypeWord) (x y : Kinds) → type_word_text w x ++ y ≡ type_word_text w (x ++ y)
 word_append word.Const x y = refl

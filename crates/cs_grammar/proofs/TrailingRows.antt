@@ -1,20 +1,17 @@
 -- Phrases in a row with commas between them and perhaps one behind them: for lists of initial values and of enumeration constants.
-use Rattle.std.proofs.Common.{◌≡◌, ℕ, suc, ◌+◌, ◌-◌, ◌<◌, ◌≤◌, max, ◌⊎◌, inl, inr, Bool, true, false, List, [], ◌∷◌, ◌++◌, Option, Some, None, refl, sym, ap, ◌∙◌, subst, arith, append_assoc, append-nil}
-use Rattle.std.proofs.lemmas.Bool.{false≢true}
+use Rattle.std.proofs.Common.{◌≡◌, ℕ, ◌+◌, ◌≤◌, max, inl, inr, Bool, true, false, List, [], ◌∷◌, ◌++◌, Option, Some, None, refl, sym, ap, ◌∙◌, subst, arith, append_assoc, append-nil}
 use Rattle.cs_ast.specs.declared.token.TokenKind.{TokenKind}
-use Rattle.cs_ast.specs.declared.token.TokenKind.TheVariants as token
-use Rattle.cs_ast.specs.declared.token.Mark.TheVariants as mark
 use Rattle.cs_ast.specs.RawFileHeight.{highest_by}
 use Rattle.cs_grammar.specs.Text.{Kinds}
 use Rattle.cs_grammar.specs.FileText.{comma_text, with_commas, each_behind_comma}
 use Rattle.cs_grammar.specs.FilePhrases.{AreAll, IsSomeList}
-use Rattle.cs_grammar.specs.Parsing.{Class, Near, IsOver, Begins, BeginsLow, Took, Refused, Exactly}
+use Rattle.cs_grammar.specs.Parsing.{Class, Near, Took, Refused, Exactly}
 use Rattle.cs_grammar.specs.Composed.{Sequence, Trailing, FurtherTrailing}
 use Rattle.cs_grammar.proofs.FileTexts.{each_append, comma_append}
 use Rattle.cs_grammar.proofs.Holes.{Lawful, splits, Tail, tail_refused, tail_took, exact_took}
 use Rattle.cs_grammar.proofs.Tails.{tail_then, tail_as, Least, Production, production_tail}
-use Rattle.cs_grammar.proofs.Sequences.{Joins, sequence_law, sequence_least, first_refused, second_tail, second_wrong}
-use Rattle.cs_grammar.proofs.Rows.{Separates, comma_token, before_commas, before_more, before_append}
+use Rattle.cs_grammar.proofs.Sequences.{Joins, sequence_law, sequence_least, first_refused, second_tail, second_wrong, took_exact}
+use Rattle.cs_grammar.proofs.Rows.{Separates, comma_token, before_commas, before_more, before_append, separated_below}
 
 -- what stands behind a comma: nothing but the token that closes the row, or a phrase of D and others
 abbrev pub Rest : Class → Type 0
@@ -60,15 +57,11 @@ further_trailing_least D close = record { tree = ([], false); is_phrase = tt; be
 abbrev rest_least : (D : Class) (close : TokenKind) → Least (BehindComma D close)
 rest_least D close = record { tree = None; is_phrase = tt; below = λ other is. omega arith }
 
-pub trailing_below : (D : Class) (least : Least D) (list : List D.Tree) → IsSomeList list → AreAll D.Is list → D.tall least.tree ≤ highest_by D.tall list
-trailing_below D least [] some all = absurd some
-trailing_below D least (d ∷ ds) some all = let b = least.below d all.0 in omega (arith, b)
-
 abbrev pub trailing_least : (D : Class) (close : TokenKind) → Least D → Least (Trailing D close)
 trailing_least D close least = record {
   tree = (least.tree ∷ [], false);
   is_phrase = (tt, (least.is_phrase, tt));
-  below = λ other is. let b = trailing_below D least other.0 is.0 is.1 in omega (arith, b);
+  below = λ other is. let b = separated_below D least other.0 is.0 is.1 in omega (arith, b);
 }
 
 further_trailing_joins : (D : Class) (close : TokenKind) → Separates D close → Joins D (FurtherTrailing D close)
@@ -285,3 +278,10 @@ front_not_closed D close room none (f ∷ fs) next deep other r behind near more
 pub comma_refused : (D : Class) (close : TokenKind) (room : ℕ) → (s : Separates D close) → NoneCloses D close → (done : List D.Tree) → TrailingSoFar D close room done (NotClosed close) → (front : Kinds) (next : TokenKind) (deep : Bool) → (front ≡ [] → next ≡ close → ⊥) → Refused D room front next deep → Refused (Trailing D close) room (before_commas D.spell done [] ++ front) next deep
 comma_refused D close room s none done so_far front next deep other r =
     trailing_refused D close room s done (NotClosed close) so_far front next deep (front_not_closed D close room none front next deep other r) r
+
+-- rows that were taken, whatever stands behind them
+pub trailing_exact : (D : Class) (close : TokenKind) (room : ℕ) → (s : Separates D close) → (done : List D.Tree) (Fit : Kinds → Type 0) → Opens D Fit → TrailingSoFar D close room done Fit → (last : D.Tree) (deep : Bool) → Took D room last close deep → Exactly (Trailing D close) room (done ++ last ∷ [], false)
+trailing_exact D close room s done Fit opens so_far last deep t = took_exact (Trailing D close) room (done ++ last ∷ [], false) (trailing_took D close room s done Fit opens so_far last deep t) (λ other after. tt) close
+
+pub comma_exact : (D : Class) (close : TokenKind) (room : ℕ) → (s : Separates D close) → NoneCloses D close → (done : List D.Tree) → CommaSoFar D close room done → Exactly (Trailing D close) room (done, true)
+comma_exact D close room s none done so_far = took_exact (Trailing D close) room (done, true) (comma_took D close room s none done so_far) (λ other after. tt) close

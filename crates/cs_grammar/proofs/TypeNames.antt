@@ -1,16 +1,13 @@
 -- The words of a type before declarators: for the contracts of every parser of declarations.
-use Rattle.std.proofs.Common.{◌≡◌, ℕ, suc, ◌+◌, ◌<◌, ◌≤◌, max, ◌⊎◌, inl, inr, Bool, true, false, ◌&&◌, List, [], ◌∷◌, ◌++◌, Option, Some, None, refl, sym, ap, ◌∙◌, subst, arith, append_assoc, append-nil}
+use Rattle.std.proofs.Common.{◌≡◌, ℕ, ◌≤◌, inl, inr, Bool, true, false, ◌&&◌, List, [], ◌∷◌, ◌++◌, Option, Some, None, refl, sym, ap, ◌∙◌, subst, arith, append_assoc, append-nil}
 use Rattle.std.proofs.lemmas.Bool.{false≢true, both_ways, and_left, and_right}
 use Rattle.std.proofs.lemmas.List.Folds.{list_all-append}
 use Rattle.std.specs.List.{list_all}
 use Rattle.cs_ast.specs.declared.token.TokenKind.{TokenKind}
 use Rattle.cs_ast.specs.declared.token.TokenKind.TheVariants as token
-use Rattle.cs_ast.specs.declared.token.Keyword.{Keyword}
 use Rattle.cs_ast.specs.declared.token.Keyword.TheVariants as keyword
-use Rattle.cs_ast.specs.declared.token.Mark.TheVariants as mark
 use Rattle.cs_ast.specs.declared.raw.written_type.TypeWord.{TypeWord}
 use Rattle.cs_ast.specs.declared.raw.written_type.TypeWord.TheVariants as word
-use Rattle.cs_ast.specs.declared.raw.written_type.IntegerWord.{IntegerWord}
 use Rattle.cs_ast.specs.declared.raw.written_type.IntegerWord.TheVariants.{Char, Short, Int, Long, Signed, Unsigned}
 use Rattle.cs_ast.specs.RawDeclarations.{Specs}
 use Rattle.cs_ast.specs.RawFileHeight.{specs_height}
@@ -19,11 +16,12 @@ use Rattle.cs_grammar.specs.Text.{Kinds, words_text, type_word_text, integer_wor
 use Rattle.cs_grammar.specs.FileText.{specs_text}
 use Rattle.cs_grammar.specs.FilePhrases.{AreBlockSpecs}
 use Rattle.cs_grammar.specs.DeclarationClasses.{Follows, ends_specs, BlockSpecs}
-use Rattle.cs_grammar.specs.Parsing.{Class, Near, IsOver, Begins, BeginsLow, Took, Refused, Exactly}
+use Rattle.cs_grammar.specs.Parsing.{Near, Took, Refused}
 use Rattle.cs_grammar.proofs.Texts.{words_append}
 use Rattle.cs_grammar.proofs.WordsOfTypes.{named_more}
-use Rattle.cs_grammar.proofs.FileBeginnings.{specs_of, plain_text, PlainWords, block_words, plain_are}
+use Rattle.cs_grammar.proofs.FileBeginnings.{specs_of, plain_text, block_words, plain_are}
 use Rattle.cs_grammar.proofs.BlockItems.{plain_height}
+use Rattle.cs_grammar.proofs.Tails.{near_other}
 
 -- the first word of some tokens, and what stands behind it
 abbrev read_word : Kinds → Option (TypeWord × Kinds)
@@ -208,10 +206,6 @@ tag_type : (names : Names) (ws : List TypeWord) (is_struct : Bool) (tag : List �
 tag_type names ws is_struct tag none =
     ap (names_type names) (named_more ws (tagged is_struct tag ∷ []) ∙ ap (λ (x : List TypeWord). x ++ named_by (tagged is_struct tag ∷ [])) none) ∙ tagged_names names is_struct tag
 
-name_near : (next : TokenKind) (n : List ℕ) (behind more : Kinds) → ((m : List ℕ) → next ≡ token.Name m → ⊥) → Near next behind → token.Name n ∷ more ≡ behind → ⊥
-name_near next n behind more no_name near same =
-    elim near [ inl none ↦ let z = same ∙ none in cc | inr m ↦ let z : token.Name n ∷ more ≡ next ∷ m.0 = same ∙ m.1 in no_name n cc ]
-
 -- words so far, and tokens with which no word begins
 pub block_words_never : (names : Names) (ws : List TypeWord) (next : TokenKind) → is_type names ws ≡ false → MayGoOn names ws → IsStuckAt names ws next → (other : Specs) (after behind : Kinds) → AreBlockSpecs names other → Follows ends_specs after → Near next behind → specs_text other after ≡ words_text ws [] ++ behind → ⊥
 block_words_never names ws next none go stuck other after behind is f near same =
@@ -239,8 +233,8 @@ block_specs_refused names room ws next some none go stuck = record {
 tag_near : (is_struct : Bool) (next : TokenKind) (ws more : List TypeWord) (after behind : Kinds) → ((n : List ℕ) → next ≡ token.Name n → ⊥) → Follows ends_specs after → Near next behind → words_text more after ≡ tag_word is_struct ∷ behind → ⊥
 tag_near true next ws [] after behind no_name f near same = false≢true (follows_first after (tag_word true) behind f same)
 tag_near false next ws [] after behind no_name f near same = false≢true (follows_first after (tag_word false) behind f same)
-tag_near true next ws (word.Struct t ∷ more) after behind no_name f near same = name_near next t behind (words_text more after) no_name near cc
-tag_near false next ws (word.Enum t ∷ more) after behind no_name f near same = name_near next t behind (words_text more after) no_name near cc
+tag_near true next ws (word.Struct t ∷ more) after behind no_name f near same = near_other (token.Name t) next behind (words_text more after) (no_name t) near cc
+tag_near false next ws (word.Enum t ∷ more) after behind no_name f near same = near_other (token.Name t) next behind (words_text more after) (no_name t) near cc
 tag_near true next ws (word.Const ∷ more) after behind no_name f near same = cc
 tag_near true next ws (word.Void ∷ more) after behind no_name f near same = cc
 tag_near true next ws (word.Typedef n ∷ more) after behind no_name f near same = cc

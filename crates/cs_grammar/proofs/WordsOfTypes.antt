@@ -1,21 +1,20 @@
 -- One more word of a type: for the contract of `TypeSoFar::with`, and for parsers of types.
-use Rattle.std.proofs.Common.{◌≡◌, ℕ, ◌+◌, ◌≤◌, Bool, true, false, ◌&&◌, ◌||◌, not, ◌==◌, nat_le, IsTrue, IsFalse, List, [], ◌∷◌, ◌++◌, refl, sym, ap, ◌∙◌, arith, append_assoc, filter, subst, cond, inl, inr}
+use Rattle.std.proofs.Common.{◌≡◌, ℕ, ◌+◌, ◌≤◌, true, false, ◌&&◌, ◌||◌, not, ◌==◌, nat_le, List, [], ◌∷◌, ◌++◌, refl, sym, ap, ◌∙◌, arith, append_assoc, subst, cond, inl, inr}
 use Rattle.std.specs.List.{list_all}
 use Rattle.std.proofs.lemmas.List.Sums.{sum_by-append}
 use Rattle.std.proofs.lemmas.List.Elements.{filter-append}
 use Rattle.std.proofs.lemmas.List.Folds.{list_all-append}
-use Rattle.std.proofs.lemmas.Bool.{and_parts, and_from, and_right, and_left, leb-true, le-leb, false_from_ne_true, both_ways, or_cases, or_left, or_right, eqb-true, eq-eqb}
-use Rattle.std.proofs.lemmas.Bool.Decides.{nat_tests}
+use Rattle.std.proofs.lemmas.Bool.{and_parts, and_from, and_right, leb-true, le-leb, false_from_ne_true, both_ways, or_cases, or_left, or_right, eqb-true, eq-eqb}
 use Rattle.cs_ast.specs.declared.raw.written_type.TypeWord.{TypeWord}
 use Rattle.cs_ast.specs.declared.raw.written_type.TypeWord.TheVariants as word
 use Rattle.cs_ast.specs.declared.raw.written_type.IntegerWord.{IntegerWord}
 use Rattle.cs_ast.specs.declared.raw.written_type.IntegerWord.TheVariants.{Char, Short, Int, Long, Signed, Unsigned}
 use Rattle.cs_grammar.specs.declared.type_words.IntegerWords.{IntegerWords}
-use Rattle.cs_grammar.specs.TypeWords.{Names, is_among, is_const, is_word, is_integer_word, named_by, times, fit_numbers, fit_together, names_type, is_type}
+use Rattle.cs_grammar.specs.TypeWords.{Names, is_const, is_word, is_integer_word, named_by, times, fit_numbers, fit_together, names_type}
 use Rattle.cs_grammar.specs.declared.type_words.TypeSoFar.{TypeSoFar}
 use Rattle.cs_grammar.specs.declared.type_words.TypeSoFar.TheVariants.{Nothing, Integers, Whole}
 use Rattle.std.proofs.Common.{Option, Some, None}
-use Rattle.cs_grammar.specs.TypesSoFar.{Counts, fit, counted, is_whole, is_known, AreIntegers, Describes, IsExtended, IsJoined}
+use Rattle.cs_grammar.specs.TypesSoFar.{Counts, fit, counted, is_whole, is_known, Describes, IsExtended, IsJoined}
 
 -- the words but `const` of a list and one more
 pub named_more : (ws us : List TypeWord) → named_by (ws ++ us) ≡ named_by ws ++ named_by us

@@ -1,10 +1,9 @@
 -- Classes of phrases that are made of other classes.
-use Rattle.std.specs.Prelude.{◌≡◌, ◌≢◌, ℕ, ◌≤◌, max, Bool, true, false, if◌then◌else◌, List, [], ◌∷◌, Option, Some, None, MatchOption}
+use Rattle.std.specs.Prelude.{ℕ, max, Bool, List, ◌∷◌, Option, MatchOption}
 use Rattle.cs_ast.specs.declared.token.TokenKind.{TokenKind}
 use Rattle.cs_ast.specs.RawTree.{Written}
 use Rattle.cs_ast.specs.RawFileHeight.{height_of_some, highest_by}
 use Rattle.cs_grammar.specs.TypeWords.{Names}
-use Rattle.cs_grammar.specs.Text.{Kinds}
 use Rattle.cs_grammar.specs.FileText.{some_text, comma_text, with_commas, each_behind_comma}
 use Rattle.cs_grammar.specs.FilePhrases.{AreAll, IsSomeList}
 use Rattle.cs_grammar.specs.Phrases.{IsPhrase}

@@ -1,20 +1,17 @@
 -- The classes of phrases that declarations, statements and files are made of.
-use Rattle.std.specs.Prelude.{◌≡◌, ℕ, ◌+◌, ◌≤◌, max, Bool, true, false, List, [], ◌∷◌, Option, Some, None, IsFalse, IsTrue, MatchOption}
-use Rattle.cs_ast.specs.declared.token.TokenKind.{TokenKind}
+use Rattle.std.specs.Prelude.{◌≡◌, ℕ, ◌+◌, max, Bool, true, false, ◌∷◌, Option, Some, None, IsFalse}
 use Rattle.cs_ast.specs.declared.token.TokenKind.TheVariants as token
-use Rattle.cs_ast.specs.declared.token.Keyword.{Keyword}
 use Rattle.cs_ast.specs.declared.token.Keyword.TheVariants as keyword
-use Rattle.cs_ast.specs.declared.token.Mark.{Mark}
 use Rattle.cs_ast.specs.declared.token.Mark.TheVariants as mark
 use Rattle.cs_ast.specs.RawTree.{Written}
 use Rattle.cs_ast.specs.RawHeight.{height}
-use Rattle.cs_ast.specs.RawStatements.{First, Sentence, Item, Declares, Does, Items, SwitchItem, Case, Default, Inside, SwitchItems}
+use Rattle.cs_ast.specs.RawStatements.{First, Sentence, Item, Declares, Does, Items, SwitchItem, Inside, SwitchItems}
 use Rattle.cs_ast.specs.RawFileHeight.{first_height, sentence_height, item_height, items_height, switch_item_height, switch_height}
 use Rattle.cs_grammar.specs.TypeWords.{Names}
 use Rattle.cs_grammar.specs.Levels.{COMMA}
 use Rattle.cs_grammar.specs.Text.{Kinds}
 use Rattle.cs_grammar.specs.Phrases.{IsPhrase}
-use Rattle.cs_grammar.specs.FileText.{test_text, word_text, mark_text, first_text, sentence_text, item_text, items_text, switch_item_text, switch_text}
+use Rattle.cs_grammar.specs.FileText.{test_text, word_text, first_text, sentence_text, item_text, items_text, switch_item_text, switch_text}
 use Rattle.cs_grammar.specs.FilePhrases.{is_open, IsFirst, IsSentence, IsItem, AreItems, IsSwitchItem, AreSwitchItems}
 use Rattle.cs_grammar.specs.Parsing.{Class}
 

@@ -1,7 +1,6 @@
 -- Which written declarations, statements and files the grammar has (C11 6.7, 6.8, 6.9), and which tokens begin a file.
-use Rattle.std.specs.Prelude.{◌≡◌, ◌≢◌, ◌≤◌, ℕ, Bool, true, false, not, ◌&&◌, IsTrue, IsFalse, List, [], ◌∷◌, ◌++◌, map, Option, Some, None, IfSome, IsSome, MatchOption, if◌then◌else◌}
+use Rattle.std.specs.Prelude.{◌≡◌, ◌≢◌, ◌≤◌, ℕ, Bool, true, false, IsTrue, IsFalse, List, [], ◌∷◌, ◌++◌, Option, Some, None, IsSome, MatchOption, if◌then◌else◌}
 use Rattle.std.specs.Option.{option_map}
-use Rattle.cs_ast.specs.declared.token.TokenKind.{TokenKind}
 use Rattle.cs_ast.specs.declared.raw.written_type.TypeWord.{TypeWord}
 use Rattle.cs_ast.specs.declared.raw.written_type.TypeWord.TheVariants.{Void, Struct, Enum}
 use Rattle.cs_ast.specs.RawTree.{Written}
@@ -124,7 +123,7 @@ pub record IsParameter (names : Names) (p : Parameter) : Type 0 where
 
 -- the parameter whose one token is `void`
 abbrev pub lone_void : Parameter
-lone_void = record { specs = MoreSpecs (Plain Void) NoSpec; pointers = []; name = None; bounds = []; }
+lone_void = record { specs = MoreSpecs (Plain Void) NoSpec; pointers = []; name = None; bounds = [] }
 
 -- parameters, one at least; `void` alone is none
 abbrev pub AreParameters : Names → Parameters → Type 0

@@ -1,6 +1,6 @@
 -- How tightly expressions bind (C11 6.5.1 to 6.5.17): an expression of a level may stand where one of that level or of a looser
 -- one is wanted.
-use Rattle.std.specs.Prelude.{ℕ, ◌≤◌}
+use Rattle.std.specs.Prelude.{ℕ}
 use Rattle.cs_ast.specs.declared.raw.operator.InfixOp.{InfixOp}
 use Rattle.cs_ast.specs.declared.raw.operator.InfixOp.TheVariants as between
 use Rattle.cs_ast.specs.RawTree.{Written, Named, Numeral, Character, Literal, Enclosed, Index, Call, Member, Arrow, StepBehind, StepBefore, Prefix, SizeOf, SizeOfType, Cast, Infix, Choice, Assign, Comma}

@@ -1,5 +1,5 @@
 -- That each node of a written expression has the place of its token: that of its operator, or its first one where it has none.
-use Rattle.std.specs.Prelude.{◌≡◌, ℕ, suc, ◌+◌, List, [], ◌∷◌, drop, Option, None, Some, slice_get}
+use Rattle.std.specs.Prelude.{◌≡◌, ℕ, suc, List, [], ◌∷◌, drop, Option, None, Some, slice_get}
 use Rattle.std.specs.Option.{option_map, option_and_then}
 use Rattle.cs_ast.specs.declared.raw.written_type.TypeWord.{TypeWord}
 use Rattle.cs_ast.specs.declared.raw.written_type.TypeWord.TheVariants as word
@@ -9,7 +9,6 @@ use Rattle.cs_ast.specs.declared.raw.expression.RawExpr.{RawExpr}
 use Rattle.cs_ast.specs.declared.raw.expression.RawExprKind.{RawExprKind, Row_of-RawExpr, end_of-RawExpr, more_of-RawExpr}
 use Rattle.cs_ast.specs.declared.raw.expression.RawExprKind.TheVariants as kind
 use Rattle.cs_ast.specs.declared.raw.written_type.WrittenType.{WrittenType}
-use Rattle.cs_ast.specs.RawTree.{WrittenList}
 use Rattle.cs_ast.specs.RawView.{written_kind}
 use Rattle.cs_grammar.specs.Text.{size, words_text, pointers_text}
 use Rattle.std.specs.Prelude.{length}

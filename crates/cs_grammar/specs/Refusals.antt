@@ -1,5 +1,5 @@
 -- Why the next token is refused behind the tokens of an expression that were taken so far.
-use Rattle.std.specs.Prelude.{◌≡◌, ℕ, ◌⊎◌, ◌↔◌, IsTrue, List, [], ◌∷◌, ◌++◌, Option, Some, None}
+use Rattle.std.specs.Prelude.{◌≡◌, ℕ, ◌⊎◌, IsTrue, List, [], ◌∷◌, ◌++◌, Option, Some, None}
 use Rattle.cs_ast.specs.declared.token.TokenKind.{TokenKind}
 use Rattle.cs_ast.specs.declared.token.TokenKind.TheVariants as token
 use Rattle.cs_ast.specs.declared.token.Keyword.TheVariants as keyword

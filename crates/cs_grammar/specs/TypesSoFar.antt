@@ -1,5 +1,5 @@
 -- What the words of a type so far leave open.
-use Rattle.std.specs.Prelude.{◌≡◌, ℕ, ◌+◌, Bool, true, false, IsTrue, IsFalse, List, [], ◌∷◌, ◌++◌, Option, Some, None}
+use Rattle.std.specs.Prelude.{◌≡◌, ◌+◌, Bool, true, false, IsFalse, List, [], ◌∷◌, ◌++◌, Option, Some, None}
 use Rattle.std.specs.List.{list_all}
 use Rattle.cs_ast.specs.declared.raw.written_type.TypeWord.{TypeWord}
 use Rattle.cs_ast.specs.declared.raw.written_type.TypeWord.TheVariants as word
@@ -8,7 +8,7 @@ use Rattle.cs_ast.specs.declared.raw.written_type.IntegerWord.TheVariants.{Char,
 use Rattle.cs_grammar.specs.declared.type_words.IntegerWords.{IntegerWords}
 use Rattle.cs_grammar.specs.declared.type_words.TypeSoFar.{TypeSoFar}
 use Rattle.cs_grammar.specs.declared.type_words.TypeSoFar.TheVariants.{Nothing, Integers, Whole}
-use Rattle.cs_grammar.specs.TypeWords.{Names, is_among, is_const, is_integer_word, named_by, times, fit_numbers, is_type}
+use Rattle.cs_grammar.specs.TypeWords.{Names, is_among, is_integer_word, named_by, times, fit_numbers, is_type}
 
 -- the numbers are how often each word of an integer type stands among these
 pub record Counts (all : IntegerWords) (words : List TypeWord) : Type 0 where

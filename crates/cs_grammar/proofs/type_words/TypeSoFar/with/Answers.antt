@@ -1,4 +1,4 @@
-use Rattle.std.proofs.Common.{◌≡◌, refl, sym, ap, subst, Option, Some, None}
+use Rattle.std.proofs.Common.{refl, sym, ap, subst, Option, Some, None}
 use Rattle.cs_grammar.specs.declared.type_words.TypeSoFar.{TypeSoFar}
 use Rattle.cs_grammar.specs.TypeWords.{is_const, is_integer_word}
 use Rattle.cs_grammar.specs.TypesSoFar.{IsExtended}
