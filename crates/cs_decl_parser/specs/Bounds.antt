@@ -1,6 +1,8 @@
 -- What a part of the parser took or refused lies inside the tokens, and what it took is low enough.
-use Rattle.std.specs.Prelude.{ℕ, ◌≤◌, ◌<◌, List, length, Option, Some, None, Result, Ok, Err}
+use Rattle.std.specs.Prelude.{◌≡◌, ℕ, ◌+◌, ◌≤◌, ◌<◌, List, length, Option, Some, None, Result, Ok, Err}
 use Rattle.cs_ast.specs.declared.token.Token.{Token}
+use Rattle.cs_ast.specs.declared.raw.expression.RawExpr.{RawExpr}
+use Rattle.cs_expr_parser.specs.declared.answer.Phrase.{Phrase}
 use Rattle.cs_decl_parser.specs.declared.stop.Stop.{Stop}
 use Rattle.cs_decl_parser.specs.declared.stop.Stop.TheVariants as stop
 use Rattle.cs_decl_parser.specs.declared.stop.Taken.{Taken}
@@ -12,6 +14,11 @@ abbrev pub StopsInside : List Token → ℕ → Stop → Type 0
 StopsInside tokens from (stop.Refused at reason) = (from ≤ at) × (at ≤ length tokens)
 StopsInside tokens from (stop.Expression refusal) = Unit {0}
 StopsInside tokens from stop.Memory = Unit {0}
+
+-- the token with this number is refused
+abbrev pub Refuses : ℕ → Stop → Type 0
+Refuses number (stop.Refused at reason) = at ≡ number
+Refuses number other = ⊥
 
 -- one token at least was taken, and the tree is no higher than the room
 abbrev pub IsBounded : {A : Type 0} → ℕ → List Token → ℕ → Result (Taken A) Stop → Type 0
@@ -25,7 +32,7 @@ IsRowBounded room tokens from (Err answer) = StopsInside tokens from answer
 
 -- the same of what may end with an expression
 abbrev pub IsUnclosedBounded : {A : Type 0} → ℕ → List Token → ℕ → Result (Unclosed A) Stop → Type 0
-IsUnclosedBounded room tokens from (Ok taken) = (from < taken.next) × (taken.next ≤ length tokens) × (1 ≤ taken.height) × (taken.height ≤ room)
+IsUnclosedBounded room tokens from (Ok taken) = (from < taken.next) × (taken.next ≤ length tokens) × (taken.height ≤ room)
 IsUnclosedBounded room tokens from (Err answer) = StopsInside tokens from answer
 
 abbrev pub IsUnclosedRowBounded : {A : Type 0} → ℕ → List Token → ℕ → Result (Unclosed A) Stop → Type 0
@@ -45,3 +52,15 @@ abbrev pub IsWordBounded : ℕ → List Token → ℕ → Result (Option NextWor
 IsWordBounded room tokens at (Ok (Some found)) = IsWordInside room tokens at found
 IsWordBounded room tokens at (Ok None) = Unit {0}
 IsWordBounded room tokens at (Err answer) = StopsInside tokens at answer
+
+-- what was taken is so high, up to this token
+abbrev pub IsOf : {A : Type 0} → ℕ → ℕ → Taken A → Type 0
+IsOf tall next taken = (taken.height ≡ tall) × (taken.next ≡ next)
+
+-- a word has so many tokens from a number on, and is so high
+abbrev pub IsWordOf : ℕ → ℕ → ℕ → NextWord → Type 0
+IsWordOf many tall at found = (found.next ≡ at + many) × (found.height ≡ tall)
+
+-- what was taken is the phrase, all but its type
+abbrev pub IsPhraseOf : Phrase → Unclosed RawExpr → Type 0
+IsPhraseOf phrase taken = (taken.tree ≡ phrase.tree) × (taken.height ≡ phrase.height) × (taken.next ≡ phrase.next) × (taken.otherwise ≡ phrase.otherwise)

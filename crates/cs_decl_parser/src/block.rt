@@ -1,9 +1,9 @@
 //! Blocks and what stands in them (C11 6.8.2).
-ghost use Rattle.std.specs.Prelude.{◌≤◌, ◌<◌, ◌^◌, length};
+ghost use Rattle.std.specs.Prelude.{◌≤◌, ◌<◌, ◌^◌, length, IfOk};
 ghost use Rattle.cs_decl_parser.specs.Bounds.{IsBounded, IsRowBounded};
 
 use crate::form::is_label;
-use crate::nodes::statement_node;
+use crate::nodes::node;
 use crate::objects::objects;
 use crate::source::{Scope, Source, begins_type, is_mark, place_at, refuse_deep};
 use crate::specs::specs;
@@ -23,11 +23,9 @@ pub fn block(alloc: Global, source: &Source, from: usize, room: u32) -> Result<T
     ensures bounds { IsBounded room source.now.tokens.now from result }
 {
     let items = items(alloc, source, from + 1, room - 1)?;
-    Ok(Taken {
-        tree: statement_node(place_at(source, from), RawStmtKind::Block(items.tree)),
-        height: items.height + 1,
-        next: items.next + 1,
-    })
+    let kind = RawStmtKind::Block(items.tree);
+    let (height, next) = (items.height + 1, items.next + 1);
+    Ok(node(place_at(source, from), kind, height, next))
 }
 
 /// What stands in a block, from behind its opening brace to the closing one, which isn't taken. The height is that of the highest,
@@ -42,6 +40,7 @@ pub fn items(
     requires within { from ≤ length source.now.tokens.now }
     requires few { length source.now.tokens.now < 2 ^ 32 }
     ensures bounds { IsRowBounded room source.now.tokens.now from result }
+    ensures closing { IfOk result (λ taken. taken.next < length source.now.tokens.now) }
 {
     let mut list = Vec::new(alloc);
     let mut height = 0;
@@ -84,7 +83,7 @@ pub fn item(alloc: Global, source: &Source, from: usize, room: u32) -> Result<Ta
 
 /// What a declaration declares.
 #[derive(Drop)]
-pub struct Declaration {
+pub struct DeclaredObjects {
     pub specs: RawSpecs,
     pub objects: Vec<RawInit>,
 }
@@ -95,7 +94,7 @@ pub fn declaration(
     source: &Source,
     from: usize,
     room: u32,
-) -> Result<Taken<Declaration>, Stop>
+) -> Result<Taken<DeclaredObjects>, Stop>
     requires within { from ≤ length source.now.tokens.now }
     requires few { length source.now.tokens.now < 2 ^ 32 }
     ensures bounds { IsBounded room source.now.tokens.now from result }
@@ -107,7 +106,7 @@ pub fn declaration(
     let specs = specs(alloc, source, scope, from, room - 1)?;
     let objects = objects(alloc, source, scope, specs.next, room - 1)?;
     Ok(Taken {
-        tree: Declaration {
+        tree: DeclaredObjects {
             specs: specs.tree,
             objects: objects.tree,
         },

@@ -1,10 +1,10 @@
 //! Statements that choose (C11 6.8.4).
 ghost use Rattle.std.specs.Prelude.{◌≤◌, ◌<◌, ◌^◌, length};
-ghost use Rattle.cs_decl_parser.specs.Bounds.{IsBounded, IsRowBounded};
+ghost use Rattle.cs_decl_parser.specs.Bounds.{IsBounded};
 
 use crate::block::item;
 use crate::expression::{closed, parenthesised};
-use crate::nodes::{if_else_node, if_node, statement_node};
+use crate::nodes::{if_else_node, if_node, node};
 use crate::source::{
     Scope, Source, is_keyword, is_mark, keyword_at, place_at, refuse, refuse_deep,
 };
@@ -31,20 +31,13 @@ pub fn if_statement(
     let place = place_at(source, from);
     let test = parenthesised(alloc, source, from + 1, room - 1)?;
     let body = statement(alloc, source, test.next, room - 1)?;
-    let height = test.height.max(body.height);
     if !is_keyword(source, body.next, Keyword::Else) {
-        return Ok(Taken {
-            tree: if_node(alloc, place, test.tree, body.tree)?,
-            height: height + 1,
-            next: body.next,
-        });
+        let made = if_node(alloc, place, test, body)?;
+        return Ok(made);
     }
     let other = statement(alloc, source, body.next + 1, room - 1)?;
-    Ok(Taken {
-        tree: if_else_node(alloc, place, test.tree, body.tree, other.tree)?,
-        height: height.max(other.height) + 1,
-        next: other.next,
-    })
+    let made = if_else_node(alloc, place, test, body, other)?;
+    Ok(made)
 }
 
 /// `switch ( value ) { .. }`, from a number on.
@@ -65,12 +58,9 @@ pub fn switch_statement(
         return Err(refuse(source, value.next, Scope::Block));
     }
     let items = switch_items(alloc, source, value.next + 1, room - 2)?;
+    let height = value.height.max(items.height + 1) + 1;
     let kind = RawStmtKind::Switch(value.tree, items.tree);
-    Ok(Taken {
-        tree: statement_node(place_at(source, from), kind),
-        height: value.height.max(items.height + 1) + 1,
-        next: items.next,
-    })
+    Ok(node(place_at(source, from), kind, height, items.next))
 }
 
 /// What stands in a `switch`, from behind its opening brace to behind the closing one. The height is that of the highest.

@@ -1,5 +1,5 @@
 //! The constants of an enumeration (C11 6.7.2.2).
-ghost use Rattle.std.specs.Prelude.{◌≤◌, ◌<◌, ◌^◌, length};
+ghost use Rattle.std.specs.Prelude.{◌≤◌, ◌<◌, ◌^◌, length, IsTrue};
 ghost use Rattle.cs_decl_parser.specs.Bounds.{IsBounded, IsUnclosedBounded};
 
 use crate::expression::expression;
@@ -14,7 +14,7 @@ use std::alloc::Global;
 
 /// The constants of an enumeration, one at least.
 #[derive(Drop)]
-pub struct Constants {
+pub struct ConstantList {
     pub list: Vec<RawEnumerator>,
     /// Whether a comma ends the list.
     pub comma: bool,
@@ -26,7 +26,7 @@ pub fn constants(
     source: &Source,
     from: usize,
     room: u32,
-) -> Result<Taken<Constants>, Stop>
+) -> Result<Taken<ConstantList>, Stop>
     requires within { from ≤ length source.now.tokens.now }
     requires few { length source.now.tokens.now < 2 ^ 32 }
     requires some { 1 ≤ room }
@@ -48,7 +48,7 @@ pub fn constants(
         return Err(Stop::Refused(closing, last.otherwise));
     }
     Ok(Taken {
-        tree: Constants { list, comma },
+        tree: ConstantList { list, comma },
         height,
         next: closing + 1,
     })
@@ -57,6 +57,7 @@ pub fn constants(
 /// Whether a comma stands at a number, and doesn't end a list between braces.
 pub fn goes_on(source: &Source, at: usize) -> bool
     requires few { at < 2 ^ 33 }
+    ensures within { IsTrue result → at < length source.now.tokens.now }
 {
     is_mark(source, at, Mark::Comma) && !is_mark(source, at + 1, Mark::CloseBrace)
 }

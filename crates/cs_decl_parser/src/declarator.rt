@@ -1,6 +1,6 @@
 //! Declarators: names with the pointers before them and the bounds of arrays behind them (C11 6.7.6).
 ghost use Rattle.std.specs.Prelude.{◌≤◌, ◌<◌, ◌^◌, length};
-ghost use Rattle.cs_decl_parser.specs.Bounds.{IsBounded, IsRowBounded};
+ghost use Rattle.cs_decl_parser.specs.Bounds.{IsBounded, IsRowBounded, Refuses};
 
 use crate::expression::{closed, closed_if_any};
 use crate::names::{any_name_at, free_name_at};
@@ -201,7 +201,9 @@ pub fn declarators(
 }
 
 /// The refusal of the token behind a declarator, at a number.
-fn refuse_behind(source: &Source, at: usize, declares: Declares) -> Stop {
+fn refuse_behind(source: &Source, at: usize, declares: Declares) -> Stop
+    ensures { Refuses at result }
+{
     match declares {
         Declares::Names => refuse(source, at, Scope::File),
         Declares::Members => refuse_but(source, at, Scope::File, Mark::Colon),

@@ -1,6 +1,6 @@
 //! Expressions as parts of declarations and statements, with what closes them.
 ghost use Rattle.std.specs.Prelude.{◌≤◌, ◌<◌, ◌^◌, length, IfOk};
-ghost use Rattle.cs_decl_parser.specs.Bounds.{IsBounded, IsUnclosedBounded};
+ghost use Rattle.cs_decl_parser.specs.Bounds.{IsBounded, IsUnclosedBounded, IsPhraseOf};
 
 use crate::source::{Scope, Source, is_mark, refuse};
 use crate::stop::{Stop, Taken, Unclosed};
@@ -20,6 +20,7 @@ pub fn expression(
     requires within { from ≤ length source.now.tokens.now }
     requires few { length source.now.tokens.now < 2 ^ 32 }
     ensures bounds { IsUnclosedBounded room source.now.tokens.now from result }
+    ensures some { IfOk result (λ taken. 1 ≤ taken.height) }
 {
     let (tokens, end, names) = (source.tokens, source.end, source.names);
     match parse_expression(alloc, tokens, end, from, names, room, level) {
@@ -28,7 +29,9 @@ pub fn expression(
     }
 }
 
-fn unclosed(phrase: Phrase) -> Unclosed<RawExpr> {
+fn unclosed(phrase: Phrase) -> Unclosed<RawExpr>
+    ensures { IsPhraseOf phrase result }
+{
     Unclosed {
         tree: phrase.tree,
         height: phrase.height,

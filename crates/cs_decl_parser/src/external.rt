@@ -1,6 +1,6 @@
 //! What a file has: types, typedefs, objects and functions (C11 6.9).
-ghost use Rattle.std.specs.Prelude.{◌≤◌, ◌<◌, ◌^◌, length};
-ghost use Rattle.cs_decl_parser.specs.Bounds.{IsBounded};
+ghost use Rattle.std.specs.Prelude.{◌≤◌, ◌<◌, ◌^◌, ◌+◌, ◌-◌, length};
+ghost use Rattle.cs_decl_parser.specs.Bounds.{IsBounded, IsOf};
 
 use crate::block::items;
 use crate::declarator::{Declares, Pointed, declarators, pointed_name, with_bounds};
@@ -136,6 +136,7 @@ fn function(
 /// A function's name with its parameters.
 fn head(pointed: Pointed, parameters: Taken<RawParameters>) -> Taken<RawFunction>
     requires low { parameters.height < 2 ^ 32 - 1 }
+    ensures { IsOf (parameters.height + 1) parameters.next result }
 {
     Taken {
         tree: RawFunction {

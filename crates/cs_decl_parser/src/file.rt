@@ -1,5 +1,5 @@
 //! The parser of files.
-ghost use Rattle.std.specs.Prelude.{◌≤◌, ◌<◌, ◌^◌, length};
+ghost use Rattle.std.specs.Prelude.{◌<◌, ◌^◌, length};
 
 use crate::external::external;
 use crate::source::Source;

@@ -1,5 +1,5 @@
 //! The forms of statements, told by their first tokens (C11 6.8).
-ghost use Rattle.std.specs.Prelude.{◌≡◌, ◌<◌, ◌^◌, length};
+ghost use Rattle.std.specs.Prelude.{◌≡◌, ◌<◌, ◌^◌, ◌+◌, length, IsTrue};
 ghost use Rattle.cs_decl_parser.specs.Forms.{least, IsFormAt};
 
 use crate::source::{Source, begins_type, is_mark, keyword_at, mark_at, name_at};
@@ -48,6 +48,7 @@ pub fn form_at(source: &Source, at: usize) -> Form
 /// Whether a name with a colon behind it stands at a number.
 pub fn is_label(source: &Source, at: usize) -> bool
     requires few { at < 2 ^ 33 }
+    ensures within { IsTrue result → at + 1 < length source.now.tokens.now }
 {
     name_at(source, at).is_some() && is_mark(source, at + 1, Mark::Colon)
 }

@@ -30,11 +30,8 @@ pub fn while_statement(
     let place = place_at(source, from);
     let test = parenthesised(alloc, source, from + 1, room - 1)?;
     let body = statement(alloc, source, test.next, room - 1)?;
-    Ok(Taken {
-        tree: while_node(alloc, place, test.tree, body.tree)?,
-        height: test.height.max(body.height) + 1,
-        next: body.next,
-    })
+    let made = while_node(alloc, place, test, body)?;
+    Ok(made)
 }
 
 /// `do body while ( test ) ;`, from a number on.
@@ -59,16 +56,14 @@ pub fn do_statement(
     if !is_mark(source, test.next, Mark::Semicolon) {
         return Err(refuse(source, test.next, Scope::Block));
     }
-    Ok(Taken {
-        tree: do_node(alloc, place, body.tree, test.tree)?,
-        height: body.height.max(test.height) + 1,
-        next: test.next + 1,
-    })
+    let next = test.next + 1;
+    let made = do_node(alloc, place, body, test, next)?;
+    Ok(made)
 }
 
 /// What stands between the parentheses of a `for`.
 #[derive(Drop)]
-pub struct Control {
+pub struct ForParts {
     pub first: RawFirst,
     pub test: Option<RawExpr>,
     pub last: Option<RawExpr>,
@@ -90,15 +85,12 @@ pub fn for_statement(
     let place = place_at(source, from);
     let control = control(alloc, source, from + 1, room - 1)?;
     let body = statement(alloc, source, control.next, room - 1)?;
-    Ok(Taken {
-        tree: for_node(alloc, place, control.tree, body.tree)?,
-        height: control.height.max(body.height) + 1,
-        next: body.next,
-    })
+    let made = for_node(alloc, place, control, body)?;
+    Ok(made)
 }
 
 /// The parts of a `for` between parentheses, the first of which is to stand at a number. The height is that of the highest part.
-fn control(alloc: Global, source: &Source, from: usize, room: u32) -> Result<Taken<Control>, Stop>
+fn control(alloc: Global, source: &Source, from: usize, room: u32) -> Result<Taken<ForParts>, Stop>
     requires within { from ≤ length source.now.tokens.now }
     requires few { length source.now.tokens.now < 2 ^ 32 }
     ensures bounds { IsBounded room source.now.tokens.now from result }
@@ -118,7 +110,7 @@ fn control(alloc: Global, source: &Source, from: usize, room: u32) -> Result<Tak
         Mark::CloseParenthesis,
     )?;
     Ok(Taken {
-        tree: Control {
+        tree: ForParts {
             first: first.tree,
             test: test.tree,
             last: last.tree,
@@ -149,13 +141,17 @@ fn first_part(
     }
     let (level, closing) = (ExprLevel::Expr, Mark::Semicolon);
     let value = closed_if_any(alloc, source, from, room, level, closing)?;
-    let tree = match value.tree {
-        Some(tree) => RawFirst::Run(tree),
-        None => RawFirst::Empty,
-    };
     Ok(Taken {
-        tree,
+        tree: run_if_any(value.tree),
         height: value.height,
         next: value.next,
     })
+}
+
+/// The first part of a `for` that declares nothing.
+fn run_if_any(value: Option<RawExpr>) -> RawFirst {
+    match value {
+        Some(value) => RawFirst::Run(value),
+        None => RawFirst::Empty,
+    }
 }

@@ -1,6 +1,6 @@
 //! Declared objects, each with what it holds at first (C11 6.7).
 ghost use Rattle.std.specs.Prelude.{◌≤◌, ◌<◌, ◌^◌, length};
-ghost use Rattle.cs_decl_parser.specs.Bounds.{IsBounded, IsUnclosedBounded, IsUnclosedRowBounded, IsRowBounded};
+ghost use Rattle.cs_decl_parser.specs.Bounds.{IsBounded, IsUnclosedBounded, IsUnclosedRowBounded};
 
 use crate::declarator::{Declares, declarator};
 use crate::initial::initial;
@@ -38,6 +38,7 @@ pub fn with_others(
 ) -> Result<Taken<Vec<RawInit>>, Stop>
     requires within { first.next ≤ length source.now.tokens.now }
     requires few { length source.now.tokens.now < 2 ^ 32 }
+    requires some { 1 ≤ room }
     requires low { first.height ≤ room }
     ensures bounds { IsBounded room source.now.tokens.now first.next result }
 {

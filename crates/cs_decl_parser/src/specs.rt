@@ -1,8 +1,9 @@
 //! What stands before declarators: words of types and bodies (C11 6.7.2).
-ghost use Rattle.std.specs.Prelude.{◌≤◌, ◌<◌, ◌^◌, ◌-◌, length};
-ghost use Rattle.cs_decl_parser.specs.Bounds.{IsBounded, IsNextBounded, IsWordBounded};
+ghost use Rattle.std.specs.Prelude.{◌≡◌, ◌≤◌, ◌<◌, ◌^◌, ◌+◌, ◌-◌, length, IfSome};
+ghost use Rattle.cs_expr_parser.specs.Words.{names_some};
+ghost use Rattle.cs_decl_parser.specs.Bounds.{IsBounded, IsNextBounded, IsWordBounded, IsWordOf};
 
-use crate::constants::{Constants, constants};
+use crate::constants::{ConstantList, constants};
 use crate::members::members;
 use crate::names::any_name_at;
 use crate::source::{
@@ -61,7 +62,7 @@ pub fn specs(
         so_far = found.so_far;
         words.push(found.word)?;
     }
-    if !so_far.is_type() {
+    if !names_type(so_far) {
         return Err(refuse(source, next, scope));
     }
     Ok(Taken {
@@ -99,8 +100,10 @@ fn word_at(
     }
 }
 
-/// Whether words name a type or are part of one.
-fn names_type(so_far: TypeSoFar) -> bool {
+/// Whether words name a type.
+fn names_type(so_far: TypeSoFar) -> bool
+    ensures { result ≡ names_some so_far }
+{
     match so_far {
         TypeSoFar::Nothing => false,
         TypeSoFar::Integers(_) | TypeSoFar::Whole => true,
@@ -110,6 +113,7 @@ fn names_type(so_far: TypeSoFar) -> bool {
 /// `static`, at a number.
 fn static_word(scope: Scope, at: usize, so_far: TypeSoFar) -> Option<NextWord>
     requires few { at < 2 ^ 32 }
+    ensures { IfSome result (IsWordOf 1 1 at) }
 {
     match scope {
         Scope::File => Some(NextWord {
@@ -174,6 +178,7 @@ fn tagged(
 /// `struct` or `enum`, at a number, and the tag behind it.
 fn without_body(source: &Source, at: usize, tag: RawName) -> NextWord
     requires few { at < 2 ^ 32 }
+    ensures { IsWordOf 2 1 at result }
 {
     let word = if is_keyword(source, at, Keyword::Struct) {
         TypeWord::Struct(tag.name)
@@ -227,6 +232,7 @@ fn split(tag: Option<RawName>) -> (Option<Name>, Option<Place>) {
 /// The word of a structure with its body.
 fn structure(tag: Option<RawName>, members: Taken<Vec<RawMember>>) -> NextWord
     requires low { members.height < 2 ^ 32 - 1 }
+    ensures { IsWordOf 0 (members.height + 1) members.next result }
 {
     let (name, place) = split(tag);
     NextWord {
@@ -239,12 +245,14 @@ fn structure(tag: Option<RawName>, members: Taken<Vec<RawMember>>) -> NextWord
 }
 
 /// The word of an enumeration with its body.
-fn enumeration(tag: Option<RawName>, constants: Taken<Constants>) -> NextWord
+fn enumeration(tag: Option<RawName>, constants: Taken<ConstantList>) -> NextWord
     requires low { constants.height < 2 ^ 32 - 1 }
+    ensures { IsWordOf 0 (constants.height + 1) constants.next result }
 {
     let (name, place) = split(tag);
+    let ConstantList { list, comma } = constants.tree;
     NextWord {
-        word: SpecWord::Enum(name, constants.tree.list, constants.tree.comma),
+        word: SpecWord::Enum(name, list, comma),
         tag: place,
         height: constants.height + 1,
         next: constants.next,

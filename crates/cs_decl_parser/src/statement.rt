@@ -1,6 +1,6 @@
 //! Statements (C11 6.8).
-ghost use Rattle.std.specs.Prelude.{◌≤◌, ◌<◌, ◌^◌, ◌-◌, length};
-ghost use Rattle.cs_decl_parser.specs.Bounds.{IsBounded};
+ghost use Rattle.std.specs.Prelude.{◌≤◌, ◌<◌, ◌^◌, ◌+◌, length};
+ghost use Rattle.cs_decl_parser.specs.Bounds.{IsBounded, IsOf};
 
 use crate::block::block;
 use crate::branches::{if_statement, switch_statement};
@@ -8,7 +8,7 @@ use crate::expression::{closed, closed_if_any};
 use crate::form::{Form, form_at};
 use crate::loops::{do_statement, for_statement, while_statement};
 use crate::names::any_name_at;
-use crate::nodes::{label_node, statement_node};
+use crate::nodes::{label_node, node};
 use crate::source::{Scope, Source, is_mark, place_at, refuse, refuse_deep};
 use crate::stop::{Stop, Taken};
 use cs_ast::Mark;
@@ -53,12 +53,9 @@ pub fn statement(
 /// A statement with no part, from a number on, up to another.
 fn leaf(source: &Source, from: usize, next: usize, kind: RawStmtKind) -> Taken<RawStmt>
     requires within { from < length source.now.tokens.now }
+    ensures { IsOf 1 next result }
 {
-    Taken {
-        tree: statement_node(place_at(source, from), kind),
-        height: 1,
-        next,
-    }
+    node(place_at(source, from), kind, 1, next)
 }
 
 /// `name : body`, from a number on (C11 6.8.1).
@@ -73,11 +70,8 @@ fn label(alloc: Global, source: &Source, from: usize, room: u32) -> Result<Taken
         return Err(refuse(source, from, Scope::Block));
     };
     let body = statement(alloc, source, from + 2, room - 1)?;
-    Ok(Taken {
-        tree: label_node(alloc, name.place, name.name, body.tree)?,
-        height: body.height + 1,
-        next: body.next,
-    })
+    let made = label_node(alloc, name, body)?;
+    Ok(made)
 }
 
 /// An expression with its semicolon, from a number on (C11 6.8.3).
@@ -88,11 +82,9 @@ fn run(alloc: Global, source: &Source, from: usize, room: u32) -> Result<Taken<R
 {
     let (level, closing) = (ExprLevel::Expr, Mark::Semicolon);
     let value = closed(alloc, source, from, room.saturating_sub(1), level, closing)?;
-    Ok(Taken {
-        tree: statement_node(place_at(source, from), RawStmtKind::Run(value.tree)),
-        height: value.height + 1,
-        next: value.next,
-    })
+    let (height, next) = (value.height + 1, value.next);
+    let kind = RawStmtKind::Run(value.tree);
+    Ok(node(place_at(source, from), kind, height, next))
 }
 
 /// `goto name ;`, from a number on (C11 6.8.6.1).
@@ -136,9 +128,7 @@ fn return_statement(
 {
     let (level, closing) = (ExprLevel::Expr, Mark::Semicolon);
     let value = closed_if_any(alloc, source, from + 1, room - 1, level, closing)?;
-    Ok(Taken {
-        tree: statement_node(place_at(source, from), RawStmtKind::Return(value.tree)),
-        height: value.height + 1,
-        next: value.next,
-    })
+    let (height, next) = (value.height + 1, value.next);
+    let kind = RawStmtKind::Return(value.tree);
+    Ok(node(place_at(source, from), kind, height, next))
 }

@@ -1,7 +1,5 @@
 //! The words of pointers, and the words of types that name no body (C11 6.7.2, 6.7.6.1).
-ghost use Rattle.std.specs.Prelude.{◌≡◌, ◌≤◌, ◌<◌, ◌^◌, ◌+◌, length, IfOk, IsSome};
-ghost use Rattle.cs_expr_parser.specs.Positions.{kind_or_end};
-ghost use Rattle.cs_decl_parser.specs.Bounds.{IsStarsBounded};
+ghost use Rattle.std.specs.Prelude.{◌≤◌, ◌<◌, ◌^◌, length, IfOk, IsSome};
 
 use crate::source::{Source, begins_type, is_mark, keyword_at, name_at};
 use crate::stop::Taken;
