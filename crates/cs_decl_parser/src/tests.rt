@@ -2,8 +2,9 @@
 use super::parse;
 use crate::external::external;
 use crate::source::Source;
+use cs_ast::raw::expression::RawExpr;
 use cs_ast::raw::external::{RawExternal, RawExternalKind, Tree};
-use cs_ast::raw::statement::{RawFirst, RawItem, RawStmt, RawStmtKind, RawSwitchItem};
+use cs_ast::raw::statement::{RawFirst, RawItem, RawStmtKind, RawSwitchItem};
 use cs_ast::{Place, Token};
 use cs_grammar::{SyntaxRefusal, TypedefNames};
 use cs_lexer::{LexRefusal, Lexed, tokens};
@@ -81,14 +82,8 @@ fn show_file(out: &mut String, externals: &[RawExternal]) -> Result<(), AllocErr
 fn show_external(out: &mut String, external: &RawExternal) -> Result<(), AllocError> {
     match &external.kind {
         RawExternalKind::Type(_) => out.push_str("t"),
-        RawExternalKind::Typedef(_, names) => {
-            let count = names.len();
-            write!(out, "T{count}")
-        }
-        RawExternalKind::Objects(_, objects) => {
-            let count = objects.len();
-            write!(out, "o{count}")
-        }
+        RawExternalKind::Typedef(_, names) => show_count(out, "T", names.len()),
+        RawExternalKind::Objects(_, objects) => show_count(out, "o", objects.len()),
         RawExternalKind::Function(_, _) => out.push_str("f"),
         RawExternalKind::Definition(_, _, body) => {
             out.push_str("{")?;
@@ -98,7 +93,10 @@ fn show_external(out: &mut String, external: &RawExternal) -> Result<(), AllocEr
     }
 }
 
-#[cycle(show)]
+fn show_count(out: &mut String, what: &str, count: usize) -> Result<(), AllocError> {
+    write!(out, "{what}{count}")
+}
+
 fn show_items(out: &mut String, items: &[RawItem]) -> Result<(), AllocError> {
     for item in items {
         show_item(out, item)?;
@@ -106,104 +104,115 @@ fn show_items(out: &mut String, items: &[RawItem]) -> Result<(), AllocError> {
     Ok(())
 }
 
-#[cycle(show)]
 fn show_item(out: &mut String, item: &RawItem) -> Result<(), AllocError> {
     match item {
-        RawItem::Declare(_, objects) => {
-            let count = objects.len();
-            write!(out, "d{count}")
+        RawItem::Declare(_, objects) => show_count(out, "d", objects.len()),
+        RawItem::Run(statement) => {
+            head(out, &statement.kind)?;
+            parts(out, &statement.kind)
         }
-        RawItem::Run(statement) => show(out, statement),
     }
 }
 
-#[cycle(show)]
-fn show_switch(out: &mut String, items: &[RawSwitchItem]) -> Result<(), AllocError> {
-    for item in items {
-        match item {
-            RawSwitchItem::Case(_, _) => out.push_str("c:")?,
-            RawSwitchItem::Default(_) => out.push_str("d:")?,
-            RawSwitchItem::Item(item) => show_item(out, item)?,
+// What a statement is.
+fn head(out: &mut String, kind: &RawStmtKind) -> Result<(), AllocError> {
+    match kind {
+        RawStmtKind::For(first, test, last, _) => {
+            let (first, test, last) = (first_name(first), some(test), some(last));
+            write!(out, "for{first}{test}{last}")
         }
-    }
-    Ok(())
-}
-
-fn show_first(out: &mut String, first: &RawFirst) -> Result<(), AllocError> {
-    match first {
-        RawFirst::Empty => out.push_str("-"),
-        RawFirst::Run(_) => out.push_str("e"),
-        RawFirst::Declare(_, _) => out.push_str("d"),
-    }
-}
-
-fn show_some(out: &mut String, is_there: bool) -> Result<(), AllocError> {
-    if is_there {
-        out.push_str("e")
-    } else {
-        out.push_str("-")
-    }
-}
-
-// A statement's form, with the statements in it.
-#[cycle(show)]
-fn show(out: &mut String, statement: &RawStmt) -> Result<(), AllocError> {
-    match &statement.kind {
-        RawStmtKind::Block(items) => {
-            out.push_str("{")?;
-            show_items(out, items.as_slice())?;
-            out.push_str("}")
-        }
-        RawStmtKind::Empty => out.push_str(";"),
-        RawStmtKind::Run(_) => out.push_str("e"),
-        RawStmtKind::If(_, body) => {
-            out.push_str("if(")?;
-            show(out, body)?;
-            out.push_str(")")
-        }
-        RawStmtKind::IfElse(_, body, other) => {
-            out.push_str("if(")?;
-            show(out, body)?;
-            out.push_str("|")?;
-            show(out, other)?;
-            out.push_str(")")
-        }
-        RawStmtKind::While(_, body) => {
-            out.push_str("while(")?;
-            show(out, body)?;
-            out.push_str(")")
-        }
-        RawStmtKind::Do(body, _) => {
-            out.push_str("do(")?;
-            show(out, body)?;
-            out.push_str(")")
-        }
-        RawStmtKind::For(first, test, last, body) => {
-            out.push_str("for")?;
-            show_first(out, first)?;
-            show_some(out, test.is_some())?;
-            show_some(out, last.is_some())?;
-            out.push_str("(")?;
-            show(out, body)?;
-            out.push_str(")")
-        }
-        RawStmtKind::Switch(_, items) => {
-            out.push_str("switch(")?;
-            show_switch(out, items.as_slice())?;
-            out.push_str(")")
-        }
-        RawStmtKind::Goto(_) => out.push_str("g"),
-        RawStmtKind::Continue => out.push_str("c"),
-        RawStmtKind::Break => out.push_str("b"),
         RawStmtKind::Return(value) => {
-            out.push_str("r")?;
-            show_some(out, value.is_some())
+            let value = some(value);
+            write!(out, "r{value}")
         }
-        RawStmtKind::Label(_, body) => {
-            out.push_str("l(")?;
-            show(out, body)?;
-            out.push_str(")")
+        _ => out.push_str(name_of(kind)),
+    }
+}
+
+fn name_of(kind: &RawStmtKind) -> &'static str {
+    match kind {
+        RawStmtKind::Block(_) => "block",
+        RawStmtKind::Empty => ";",
+        RawStmtKind::Run(_) => "e",
+        RawStmtKind::If(_, _) => "if",
+        RawStmtKind::IfElse(_, _, _) => "ifelse",
+        RawStmtKind::While(_, _) => "while",
+        RawStmtKind::Do(_, _) => "do",
+        RawStmtKind::For(_, _, _, _) => "for",
+        RawStmtKind::Switch(_, _) => "switch",
+        RawStmtKind::Goto(_) => "g",
+        RawStmtKind::Continue => "c",
+        RawStmtKind::Break => "b",
+        RawStmtKind::Return(_) => "r",
+        RawStmtKind::Label(_, _) => "l",
+    }
+}
+
+fn first_name(first: &RawFirst) -> &'static str {
+    match first {
+        RawFirst::Empty => "-",
+        RawFirst::Run(_) => "e",
+        RawFirst::Declare(_, _) => "d",
+    }
+}
+
+fn some(value: &Option<RawExpr>) -> &'static str {
+    match value {
+        Some(_) => "e",
+        None => "-",
+    }
+}
+
+// What the statements in a statement are, between parentheses.
+fn parts(out: &mut String, kind: &RawStmtKind) -> Result<(), AllocError> {
+    match kind {
+        RawStmtKind::Block(items) => block_parts(out, items.as_slice()),
+        RawStmtKind::Switch(_, items) => switch_parts(out, items.as_slice()),
+        RawStmtKind::If(_, body) | RawStmtKind::While(_, body) => part(out, &body.kind),
+        RawStmtKind::Do(body, _) | RawStmtKind::Label(_, body) => part(out, &body.kind),
+        RawStmtKind::For(_, _, _, body) => part(out, &body.kind),
+        RawStmtKind::IfElse(_, body, other) => {
+            part(out, &body.kind)?;
+            part(out, &other.kind)
         }
+        _ => Ok(()),
+    }
+}
+
+fn part(out: &mut String, kind: &RawStmtKind) -> Result<(), AllocError> {
+    out.push_str("(")?;
+    head(out, kind)?;
+    out.push_str(")")
+}
+
+fn block_parts(out: &mut String, items: &[RawItem]) -> Result<(), AllocError> {
+    out.push_str("(")?;
+    for item in items {
+        item_head(out, item)?;
+    }
+    out.push_str(")")
+}
+
+fn item_head(out: &mut String, item: &RawItem) -> Result<(), AllocError> {
+    match item {
+        RawItem::Declare(_, objects) => show_count(out, "d", objects.len()),
+        RawItem::Run(statement) => head(out, &statement.kind),
+    }
+}
+
+fn switch_parts(out: &mut String, items: &[RawSwitchItem]) -> Result<(), AllocError> {
+    out.push_str("(")?;
+    for item in items {
+        switch_head(out, item)?;
+    }
+    out.push_str(")")
+}
+
+fn switch_head(out: &mut String, item: &RawSwitchItem) -> Result<(), AllocError> {
+    match item {
+        RawSwitchItem::Case(_, _) => out.push_str("case:"),
+        RawSwitchItem::Default(_) => out.push_str("default:"),
+        RawSwitchItem::Item(item) => item_head(out, item),
     }
 }
 
@@ -253,27 +262,27 @@ fn files_have_these_trees(rt: HostRuntime) -> Result<(), Fail> {
         ("void f(void) { int a[2] = { 1, 2 }, *b = a; ; }", "{d2;}"),
         ("void f(void) { struct s x; enum e y; }", "{d1d1}"),
         ("void f(void) { if (a) ; }", "{if(;)}"),
-        ("void f(void) { if (a) ; else b; }", "{if(;|e)}"),
-        ("void f(void) { if (a) if (b) ; else c; }", "{if(if(;|e))}"),
+        ("void f(void) { if (a) ; else b; }", "{ifelse(;)(e)}"),
+        ("void f(void) { if (a) if (b) ; else c; }", "{if(ifelse)}"),
         (
             "void f(void) { if (a) if (b) ; else c; else ; }",
-            "{if(if(;|e)|;)}",
+            "{ifelse(ifelse)(;)}",
         ),
         (
             "void f(void) { if (a) while (b) if (c) ; else ; }",
-            "{if(while(if(;|;)))}",
+            "{if(while)}",
         ),
         (
             "void f(void) { if (a) { if (b) ; } else ; }",
-            "{if({if(;)}|;)}",
+            "{ifelse(block)(;)}",
         ),
         (
             "void f(void) { if (a) do if (b) ; while (c); else ; }",
-            "{if(do(if(;))|;)}",
+            "{ifelse(do)(;)}",
         ),
         (
             "void f(void) { if (a) ; else if (b) ; else if (c) ; else ; }",
-            "{if(;|if(;|if(;|;)))}",
+            "{ifelse(;)(ifelse)}",
         ),
         ("void f(void) { while (a, b) c; }", "{while(e)}"),
         ("void f(void) { do a; while (b); }", "{do(e)}"),
@@ -283,19 +292,19 @@ fn files_have_these_trees(rt: HostRuntime) -> Result<(), Fail> {
             "void f(void) { for (int i = 0, j; i; ) continue; }",
             "{forde-(c)}",
         ),
-        ("void f(void) { a: b: goto a; }", "{l(l(g))}"),
+        ("void f(void) { a: b: goto a; }", "{l(l)}"),
         ("void f(void) { a ? b : c; a: b; }", "{el(e)}"),
         ("void f(void) { return; return a, b; }", "{r-re}"),
         ("void f(void) { switch (a) { } }", "{switch()}"),
         (
             "void f(void) { switch (a) { b; case 1: case 2: c; default: } }",
-            "{switch(ec:c:ed:)}",
+            "{switch(ecase:case:edefault:)}",
         ),
         (
             "void f(void) { switch (a) { case a ? b : c: int x; { } d: ; } }",
-            "{switch(c:d1{}l(;))}",
+            "{switch(case:d1blockl)}",
         ),
-        ("void f(void) { { { } } { ; } }", "{{{}}{;}}"),
+        ("void f(void) { { { } } { ; } }", "{block(block)block(;)}"),
         ("void f(void) { (a); *b = c; sizeof a; }", "{eee}"),
         ("extern int x; inline int f(void) { return 1; }", "o1{re}"),
         ("int x; int f(void); char c, d;", "o1fo2"),
