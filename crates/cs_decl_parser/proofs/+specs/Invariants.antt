@@ -1,0 +1,35 @@
+-- How much room and which part are left: the measure of the parts; and what their loops keep.
+use Rattle.std.proofs.Common.{◌≤◌, ◌<◌, ◌+◌, ◌-◌, ◌*◌, length}
+use Rattle.std.specs.Prelude.{IsTrue}
+use Rattle.cs_expr_parser.specs.Words.{names_some}
+use Rattle.cs_decl_parser.proofs.+specs.Given as goal
+
+abbrev pub decreases-specs::specs : goal.decreases-specs::specs
+decreases-specs::specs l = 10 * l.room + 4
+
+abbrev pub decreases-specs::word_at : goal.decreases-specs::word_at
+decreases-specs::word_at l = 10 * l.room + 3
+
+abbrev pub decreases-specs::tagged : goal.decreases-specs::tagged
+decreases-specs::tagged l = 10 * l.room + 2
+
+abbrev pub decreases-specs::with_body : goal.decreases-specs::with_body
+decreases-specs::with_body l = 10 * l.room + 1
+
+abbrev pub decreases-members::members : goal.decreases-members::members
+decreases-members::members l = 10 * l.room + 6
+
+abbrev pub decreases-members::member : goal.decreases-members::member
+decreases-members::member l = 10 * l.room + 5
+
+abbrev pub invariant-specs::specs-words : goal.invariant-specs::specs-words
+invariant-specs::specs-words l = (l.fn.from ≤ l.next) × (l.next ≤ length l.source.tokens.now) × (l.height ≤ l.room) × (IsTrue (names_some l.so_far) → l.fn.from < l.next)
+
+abbrev pub decreases-specs::specs-words : goal.decreases-specs::specs-words
+decreases-specs::specs-words l = length l.source.tokens.now - l.next
+
+abbrev pub invariant-members::members-members : goal.invariant-members::members-members
+invariant-members::members-members l = (l.fn.from ≤ l.next) × (l.next ≤ length l.source.tokens.now) × (l.height ≤ l.room)
+
+abbrev pub decreases-members::members-members : goal.decreases-members::members-members
+decreases-members::members-members l = length l.source.tokens.now - l.next

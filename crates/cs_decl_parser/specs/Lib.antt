@@ -1,0 +1,4 @@
+pub mod Reasons
+pub mod Bounds
+pub mod Forms
+pub mod Nodes

@@ -1,0 +1,116 @@
+//! Blocks and what stands in them (C11 6.8.2).
+ghost use Rattle.std.specs.Prelude.{◌≤◌, ◌<◌, ◌^◌, length, IfOk};
+ghost use Rattle.cs_decl_parser.specs.Bounds.{IsBounded, IsRowBounded};
+
+use crate::form::is_label;
+use crate::nodes::node;
+use crate::objects::objects;
+use crate::source::{Scope, Source, begins_type, is_mark, place_at, refuse_deep};
+use crate::specs::specs;
+use crate::statement::statement;
+use crate::stop::{Stop, Taken};
+use cs_ast::Mark;
+use cs_ast::raw::declaration::{RawInit, RawSpecs};
+use cs_ast::raw::statement::{RawItem, RawStmt, RawStmtKind};
+use std::alloc::Global;
+
+/// The block whose opening brace stands at a number.
+#[cycle(statement)]
+pub fn block(alloc: Global, source: &Source, from: usize, room: u32) -> Result<Taken<RawStmt>, Stop>
+    requires within { from < length source.now.tokens.now }
+    requires few { length source.now.tokens.now < 2 ^ 32 }
+    requires some { 1 ≤ room }
+    ensures bounds { IsBounded room source.now.tokens.now from result }
+{
+    let items = items(alloc, source, from + 1, room - 1)?;
+    let kind = RawStmtKind::Block(items.tree);
+    let (height, next) = (items.height + 1, items.next + 1);
+    Ok(node(place_at(source, from), kind, height, next))
+}
+
+/// What stands in a block, from behind its opening brace to the closing one, which isn't taken. The height is that of the highest,
+/// 0 where there is none.
+#[cycle(statement)]
+pub fn items(
+    alloc: Global,
+    source: &Source,
+    from: usize,
+    room: u32,
+) -> Result<Taken<Vec<RawItem>>, Stop>
+    requires within { from ≤ length source.now.tokens.now }
+    requires few { length source.now.tokens.now < 2 ^ 32 }
+    ensures bounds { IsRowBounded room source.now.tokens.now from result }
+    ensures closing { IfOk result (λ taken. taken.next < length source.now.tokens.now) }
+{
+    let mut list = Vec::new(alloc);
+    let mut height = 0;
+    let mut next = from;
+    'items: while !is_mark(source, next, Mark::CloseBrace) {
+        let taken = item(alloc, source, next, room)?;
+        height = height.max(taken.height);
+        next = taken.next;
+        list.push(taken.tree)?;
+    }
+    Ok(Taken {
+        tree: list,
+        height,
+        next,
+    })
+}
+
+/// The declaration or the statement that the tokens from a number on begin with.
+#[cycle(statement)]
+pub fn item(alloc: Global, source: &Source, from: usize, room: u32) -> Result<Taken<RawItem>, Stop>
+    requires within { from ≤ length source.now.tokens.now }
+    requires few { length source.now.tokens.now < 2 ^ 32 }
+    ensures bounds { IsBounded room source.now.tokens.now from result }
+{
+    if begins_type(source, from) && !is_label(source, from) {
+        let declared = declaration(alloc, source, from, room)?;
+        return Ok(Taken {
+            tree: RawItem::Declare(declared.tree.specs, declared.tree.objects),
+            height: declared.height,
+            next: declared.next,
+        });
+    }
+    let taken = statement(alloc, source, from, room)?;
+    Ok(Taken {
+        tree: RawItem::Run(taken.tree),
+        height: taken.height,
+        next: taken.next,
+    })
+}
+
+/// What a declaration declares.
+#[derive(Drop)]
+pub struct DeclaredObjects {
+    pub specs: RawSpecs,
+    pub objects: Vec<RawInit>,
+}
+
+/// The declaration of objects in a block, with its semicolon, where a type begins at a number.
+pub fn declaration(
+    alloc: Global,
+    source: &Source,
+    from: usize,
+    room: u32,
+) -> Result<Taken<DeclaredObjects>, Stop>
+    requires within { from ≤ length source.now.tokens.now }
+    requires few { length source.now.tokens.now < 2 ^ 32 }
+    ensures bounds { IsBounded room source.now.tokens.now from result }
+{
+    if room < 2 {
+        return Err(refuse_deep(from));
+    }
+    let scope = Scope::Block;
+    let specs = specs(alloc, source, scope, from, room - 1)?;
+    let objects = objects(alloc, source, scope, specs.next, room - 1)?;
+    Ok(Taken {
+        tree: DeclaredObjects {
+            specs: specs.tree,
+            objects: objects.tree,
+        },
+        height: specs.height.max(objects.height) + 1,
+        next: objects.next,
+    })
+}

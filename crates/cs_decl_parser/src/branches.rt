@@ -1,0 +1,156 @@
+//! Statements that choose (C11 6.8.4).
+ghost use Rattle.std.specs.Prelude.{◌≤◌, ◌<◌, ◌^◌, length};
+ghost use Rattle.cs_decl_parser.specs.Bounds.{IsBounded};
+
+use crate::block::item;
+use crate::expression::{closed, parenthesised};
+use crate::nodes::{if_else_node, if_node, node};
+use crate::source::{
+    Scope, Source, is_keyword, is_mark, keyword_at, place_at, refuse, refuse_deep,
+};
+use crate::statement::statement;
+use crate::stop::{Stop, Taken};
+use cs_ast::raw::statement::{RawStmt, RawStmtKind, RawSwitchItem};
+use cs_ast::{Keyword, Mark};
+use cs_expr_parser::ExprLevel;
+use std::alloc::Global;
+
+/// `if ( test ) body` or `if ( test ) body else other`, from a number on. An `else` belongs to the nearest `if`.
+#[cycle(statement)]
+pub fn if_statement(
+    alloc: Global,
+    source: &Source,
+    from: usize,
+    room: u32,
+) -> Result<Taken<RawStmt>, Stop>
+    requires within { from < length source.now.tokens.now }
+    requires few { length source.now.tokens.now < 2 ^ 32 }
+    requires enough { 2 ≤ room }
+    ensures bounds { IsBounded room source.now.tokens.now from result }
+{
+    let place = place_at(source, from);
+    let test = parenthesised(alloc, source, from + 1, room - 1)?;
+    let body = statement(alloc, source, test.next, room - 1)?;
+    if !is_keyword(source, body.next, Keyword::Else) {
+        let made = if_node(alloc, place, test, body)?;
+        return Ok(made);
+    }
+    let other = statement(alloc, source, body.next + 1, room - 1)?;
+    let made = if_else_node(alloc, place, test, body, other)?;
+    Ok(made)
+}
+
+/// `switch ( value ) { .. }`, from a number on.
+#[cycle(statement)]
+pub fn switch_statement(
+    alloc: Global,
+    source: &Source,
+    from: usize,
+    room: u32,
+) -> Result<Taken<RawStmt>, Stop>
+    requires within { from < length source.now.tokens.now }
+    requires few { length source.now.tokens.now < 2 ^ 32 }
+    requires enough { 2 ≤ room }
+    ensures bounds { IsBounded room source.now.tokens.now from result }
+{
+    let value = parenthesised(alloc, source, from + 1, room - 1)?;
+    if !is_mark(source, value.next, Mark::OpenBrace) {
+        return Err(refuse(source, value.next, Scope::Block));
+    }
+    let items = switch_items(alloc, source, value.next + 1, room - 2)?;
+    let height = value.height.max(items.height + 1) + 1;
+    let kind = RawStmtKind::Switch(value.tree, items.tree);
+    Ok(node(place_at(source, from), kind, height, items.next))
+}
+
+/// What stands in a `switch`, from behind its opening brace to behind the closing one. The height is that of the highest.
+#[cycle(statement)]
+fn switch_items(
+    alloc: Global,
+    source: &Source,
+    from: usize,
+    room: u32,
+) -> Result<Taken<Vec<RawSwitchItem>>, Stop>
+    requires within { from ≤ length source.now.tokens.now }
+    requires few { length source.now.tokens.now < 2 ^ 32 }
+    ensures bounds { IsBounded room source.now.tokens.now from result }
+{
+    let mut list = Vec::new(alloc);
+    let mut height = 0;
+    let mut next = from;
+    'items: while !is_mark(source, next, Mark::CloseBrace) {
+        let taken = switch_item(alloc, source, next, room)?;
+        height = height.max(taken.height);
+        next = taken.next;
+        list.push(taken.tree)?;
+    }
+    Ok(Taken {
+        tree: list,
+        height,
+        next: next + 1,
+    })
+}
+
+/// What stands in a `switch` at a number: `case`, `default`, or what any block may have.
+#[cycle(statement)]
+fn switch_item(
+    alloc: Global,
+    source: &Source,
+    from: usize,
+    room: u32,
+) -> Result<Taken<RawSwitchItem>, Stop>
+    requires within { from ≤ length source.now.tokens.now }
+    requires few { length source.now.tokens.now < 2 ^ 32 }
+    ensures bounds { IsBounded room source.now.tokens.now from result }
+{
+    match keyword_at(source, from) {
+        Some(Keyword::Case) => case(alloc, source, from, room),
+        Some(Keyword::Default) => default(source, from),
+        _ => {
+            let inner = item(alloc, source, from, room)?;
+            Ok(Taken {
+                tree: RawSwitchItem::Item(inner.tree),
+                height: inner.height,
+                next: inner.next,
+            })
+        }
+    }
+}
+
+/// `case value :`, from a number on.
+fn case(
+    alloc: Global,
+    source: &Source,
+    from: usize,
+    room: u32,
+) -> Result<Taken<RawSwitchItem>, Stop>
+    requires within { from < length source.now.tokens.now }
+    requires few { length source.now.tokens.now < 2 ^ 32 }
+    ensures bounds { IsBounded room source.now.tokens.now from result }
+{
+    if room == 0 {
+        return Err(refuse_deep(from));
+    }
+    let value = closed(alloc, source, from + 1, room, ExprLevel::Cond, Mark::Colon)?;
+    Ok(Taken {
+        tree: RawSwitchItem::Case(place_at(source, from), value.tree),
+        height: value.height,
+        next: value.next,
+    })
+}
+
+/// `default :`, from a number on, which is as high as nothing.
+fn default(source: &Source, from: usize) -> Result<Taken<RawSwitchItem>, Stop>
+    requires within { from < length source.now.tokens.now }
+    requires few { length source.now.tokens.now < 2 ^ 32 }
+    ensures bounds { IsBounded 0 source.now.tokens.now from result }
+{
+    if !is_mark(source, from + 1, Mark::Colon) {
+        return Err(refuse(source, from + 1, Scope::Block));
+    }
+    Ok(Taken {
+        tree: RawSwitchItem::Default(place_at(source, from)),
+        height: 0,
+        next: from + 2,
+    })
+}

@@ -1,0 +1,106 @@
+//! The constants of an enumeration (C11 6.7.2.2).
+ghost use Rattle.std.specs.Prelude.{◌≤◌, ◌<◌, ◌^◌, length, IsTrue};
+ghost use Rattle.cs_decl_parser.specs.Bounds.{IsBounded, IsUnclosedBounded};
+
+use crate::expression::expression;
+use crate::names::free_name_at;
+use crate::source::{Scope, Source, is_mark, reason_at, refuse, refuse_deep};
+use crate::stop::{Stop, Taken, Unclosed};
+use cs_ast::Mark;
+use cs_ast::raw::declaration::{RawEnumerator, RawName};
+use cs_ast::raw::expression::RawExpr;
+use cs_expr_parser::ExprLevel;
+use std::alloc::Global;
+
+/// The constants of an enumeration, one at least.
+#[derive(Drop)]
+pub struct ConstantList {
+    pub list: Vec<RawEnumerator>,
+    /// Whether a comma ends the list.
+    pub comma: bool,
+}
+
+/// The constants from behind an opening brace to behind the closing one. The height is that of the highest.
+pub fn constants(
+    alloc: Global,
+    source: &Source,
+    from: usize,
+    room: u32,
+) -> Result<Taken<ConstantList>, Stop>
+    requires within { from ≤ length source.now.tokens.now }
+    requires few { length source.now.tokens.now < 2 ^ 32 }
+    requires some { 1 ≤ room }
+    ensures bounds { IsBounded room source.now.tokens.now from result }
+{
+    let mut list = Vec::new(alloc);
+    let mut last = constant(alloc, source, from, room)?;
+    let mut height = last.height;
+    'constants: while goes_on(source, last.next) {
+        let following = constant(alloc, source, last.next + 1, room)?;
+        list.push(last.tree)?;
+        height = height.max(following.height);
+        last = following;
+    }
+    list.push(last.tree)?;
+    let comma = is_mark(source, last.next, Mark::Comma);
+    let closing = if comma { last.next + 1 } else { last.next };
+    if !is_mark(source, closing, Mark::CloseBrace) {
+        return Err(Stop::Refused(closing, last.otherwise));
+    }
+    Ok(Taken {
+        tree: ConstantList { list, comma },
+        height,
+        next: closing + 1,
+    })
+}
+
+/// Whether a comma stands at a number, and doesn't end a list between braces.
+pub fn goes_on(source: &Source, at: usize) -> bool
+    requires few { at < 2 ^ 33 }
+    ensures within { IsTrue result → at < length source.now.tokens.now }
+{
+    is_mark(source, at, Mark::Comma) && !is_mark(source, at + 1, Mark::CloseBrace)
+}
+
+/// A constant, with its value if it has one.
+fn constant(
+    alloc: Global,
+    source: &Source,
+    from: usize,
+    room: u32,
+) -> Result<Unclosed<RawEnumerator>, Stop>
+    requires within { from ≤ length source.now.tokens.now }
+    requires few { length source.now.tokens.now < 2 ^ 32 }
+    requires some { 1 ≤ room }
+    ensures bounds { IsUnclosedBounded room source.now.tokens.now from result }
+{
+    let Some(name) = free_name_at(source, from)? else {
+        return Err(refuse(source, from, Scope::File));
+    };
+    if !is_mark(source, from + 1, Mark::Equal) {
+        return Ok(Unclosed {
+            tree: enumerator(name, None),
+            height: 1,
+            next: from + 1,
+            otherwise: reason_at(source, from + 1, Scope::File),
+        });
+    }
+    if room < 2 {
+        return Err(refuse_deep(from + 1));
+    }
+    let value = expression(alloc, source, from + 2, room - 1, ExprLevel::Cond)?;
+    Ok(Unclosed {
+        tree: enumerator(name, Some(value.tree)),
+        height: value.height + 1,
+        next: value.next,
+        otherwise: value.otherwise,
+    })
+}
+
+fn enumerator(name: RawName, value: Option<RawExpr>) -> RawEnumerator {
+    RawEnumerator {
+        place: name.place,
+        name: name.name,
+        value,
+    }
+}

@@ -1,0 +1,211 @@
+//! Declarators: names with the pointers before them and the bounds of arrays behind them (C11 6.7.6).
+ghost use Rattle.std.specs.Prelude.{◌≤◌, ◌<◌, ◌^◌, length};
+ghost use Rattle.cs_decl_parser.specs.Bounds.{IsBounded, IsRowBounded, Refuses};
+
+use crate::expression::{closed, closed_if_any};
+use crate::names::{any_name_at, free_name_at};
+use crate::source::{Scope, Source, is_mark, refuse, refuse_but, refuse_deep};
+use crate::stop::{Stop, Taken};
+use crate::words::stars;
+use cs_ast::Mark;
+use cs_ast::raw::declaration::{RawDeclarator, RawName};
+use cs_ast::raw::expression::RawExpr;
+use cs_ast::raw::written_type::PointerWord;
+use cs_expr_parser::ExprLevel;
+use std::alloc::Global;
+
+/// What a declarator declares.
+#[derive(Clone, Copy, Debug, PartialEq, Eq)]
+pub enum Declares {
+    /// Objects, functions or typedefs: the name is no typedef's so far, and a bound may be left out.
+    Names,
+    /// Members: the name may be any, and no bound is left out.
+    Members,
+}
+
+/// A name with the pointers before it.
+#[derive(Drop)]
+pub struct Pointed {
+    pub pointers: Vec<PointerWord>,
+    pub name: RawName,
+}
+
+/// The declarator that the tokens from a number on begin with.
+pub fn declarator(
+    alloc: Global,
+    source: &Source,
+    scope: Scope,
+    from: usize,
+    room: u32,
+    declares: Declares,
+) -> Result<Taken<RawDeclarator>, Stop>
+    requires within { from ≤ length source.now.tokens.now }
+    requires few { length source.now.tokens.now < 2 ^ 32 }
+    requires some { 1 ≤ room }
+    ensures bounds { IsBounded room source.now.tokens.now from result }
+{
+    let pointed = pointed_name(alloc, source, scope, from, declares)?;
+    let taken = with_bounds(alloc, source, pointed, room, declares)?;
+    Ok(taken)
+}
+
+/// The name that the tokens from a number on begin with, with the pointers before it.
+pub fn pointed_name(
+    alloc: Global,
+    source: &Source,
+    scope: Scope,
+    from: usize,
+    declares: Declares,
+) -> Result<Taken<Pointed>, Stop>
+    requires within { from ≤ length source.now.tokens.now }
+    requires few { length source.now.tokens.now < 2 ^ 32 }
+    ensures bounds { IsBounded 1 source.now.tokens.now from result }
+{
+    let pointers = stars(alloc, source, from)?;
+    let name = match declares {
+        Declares::Names => free_name_at(source, pointers.next)?,
+        Declares::Members => any_name_at(source, pointers.next)?,
+    };
+    let Some(name) = name else {
+        let left_out = Mark::OpenParenthesis;
+        return Err(refuse_but(source, pointers.next, scope, left_out));
+    };
+    Ok(Taken {
+        tree: Pointed {
+            pointers: pointers.tree,
+            name,
+        },
+        height: 1,
+        next: pointers.next + 1,
+    })
+}
+
+/// The declarator of a name with the bounds behind it.
+pub fn with_bounds(
+    alloc: Global,
+    source: &Source,
+    pointed: Taken<Pointed>,
+    room: u32,
+    declares: Declares,
+) -> Result<Taken<RawDeclarator>, Stop>
+    requires within { pointed.next ≤ length source.now.tokens.now }
+    requires few { length source.now.tokens.now < 2 ^ 32 }
+    requires some { 1 ≤ room }
+    ensures bounds { IsRowBounded room source.now.tokens.now pointed.next result }
+{
+    let bounds = bounds(alloc, source, pointed.next, room - 1, declares)?;
+    Ok(Taken {
+        tree: RawDeclarator {
+            pointers: pointed.tree.pointers,
+            place: pointed.tree.name.place,
+            name: pointed.tree.name.name,
+            bounds: bounds.tree,
+        },
+        height: bounds.height + 1,
+        next: bounds.next,
+    })
+}
+
+/// The bounds of arrays from a number on, each between brackets. The height is that of the highest, 0 where there is none.
+pub fn bounds(
+    alloc: Global,
+    source: &Source,
+    from: usize,
+    room: u32,
+    declares: Declares,
+) -> Result<Taken<Vec<Option<RawExpr>>>, Stop>
+    requires within { from ≤ length source.now.tokens.now }
+    requires few { length source.now.tokens.now < 2 ^ 32 }
+    ensures bounds { IsRowBounded room source.now.tokens.now from result }
+{
+    let mut list = Vec::new(alloc);
+    let mut height = 0;
+    let mut next = from;
+    'bounds: while is_mark(source, next, Mark::OpenBracket) {
+        let taken = bound(alloc, source, next, room, declares)?;
+        height = height.max(taken.height);
+        next = taken.next;
+        list.push(taken.tree)?;
+    }
+    Ok(Taken {
+        tree: list,
+        height,
+        next,
+    })
+}
+
+/// The bound of an array, between brackets, the first of which stands at a number.
+fn bound(
+    alloc: Global,
+    source: &Source,
+    at: usize,
+    room: u32,
+    declares: Declares,
+) -> Result<Taken<Option<RawExpr>>, Stop>
+    requires within { at < length source.now.tokens.now }
+    requires few { length source.now.tokens.now < 2 ^ 32 }
+    ensures bounds { IsBounded room source.now.tokens.now at result }
+{
+    let (level, closing) = (ExprLevel::Cond, Mark::CloseBracket);
+    match declares {
+        Declares::Names => {
+            let taken = closed_if_any(alloc, source, at + 1, room, level, closing)?;
+            Ok(taken)
+        }
+        Declares::Members => {
+            if room == 0 {
+                return Err(refuse_deep(at));
+            }
+            let taken = closed(alloc, source, at + 1, room, level, closing)?;
+            Ok(Taken {
+                tree: Some(taken.tree),
+                height: taken.height,
+                next: taken.next,
+            })
+        }
+    }
+}
+
+/// Declarators with commas between them, one at least, to behind the semicolon. The height is that of the highest.
+pub fn declarators(
+    alloc: Global,
+    source: &Source,
+    from: usize,
+    room: u32,
+    declares: Declares,
+) -> Result<Taken<Vec<RawDeclarator>>, Stop>
+    requires within { from ≤ length source.now.tokens.now }
+    requires few { length source.now.tokens.now < 2 ^ 32 }
+    requires some { 1 ≤ room }
+    ensures bounds { IsBounded room source.now.tokens.now from result }
+{
+    let scope = Scope::File;
+    let mut list = Vec::new(alloc);
+    let mut last = declarator(alloc, source, scope, from, room, declares)?;
+    let mut height = last.height;
+    'declarators: while is_mark(source, last.next, Mark::Comma) {
+        let following = declarator(alloc, source, scope, last.next + 1, room, declares)?;
+        list.push(last.tree)?;
+        height = height.max(following.height);
+        last = following;
+    }
+    list.push(last.tree)?;
+    if !is_mark(source, last.next, Mark::Semicolon) {
+        return Err(refuse_behind(source, last.next, declares));
+    }
+    Ok(Taken {
+        tree: list,
+        height,
+        next: last.next + 1,
+    })
+}
+
+/// The refusal of the token behind a declarator, at a number.
+fn refuse_behind(source: &Source, at: usize, declares: Declares) -> Stop
+    ensures { Refuses at result }
+{
+    match declares {
+        Declares::Names => refuse(source, at, Scope::File),
+        Declares::Members => refuse_but(source, at, Scope::File, Mark::Colon),
+    }
+}

@@ -1,0 +1,113 @@
+//! Expressions as parts of declarations and statements, with what closes them.
+ghost use Rattle.std.specs.Prelude.{◌≤◌, ◌<◌, ◌^◌, length, IfOk};
+ghost use Rattle.cs_decl_parser.specs.Bounds.{IsBounded, IsUnclosedBounded, IsPhraseOf};
+
+use crate::source::{Scope, Source, is_mark, refuse};
+use crate::stop::{Stop, Taken, Unclosed};
+use cs_ast::Mark;
+use cs_ast::raw::expression::RawExpr;
+use cs_expr_parser::{ExprLevel, Phrase, expression as parse_expression};
+use std::alloc::Global;
+
+/// The expression of a level that the tokens from a number on begin with.
+pub fn expression(
+    alloc: Global,
+    source: &Source,
+    from: usize,
+    room: u32,
+    level: ExprLevel,
+) -> Result<Unclosed<RawExpr>, Stop>
+    requires within { from ≤ length source.now.tokens.now }
+    requires few { length source.now.tokens.now < 2 ^ 32 }
+    ensures bounds { IsUnclosedBounded room source.now.tokens.now from result }
+    ensures some { IfOk result (λ taken. 1 ≤ taken.height) }
+{
+    let (tokens, end, names) = (source.tokens, source.end, source.names);
+    match parse_expression(alloc, tokens, end, from, names, room, level) {
+        Ok(phrase) => Ok(unclosed(phrase)),
+        Err(refusal) => Err(Stop::Expression(refusal)),
+    }
+}
+
+fn unclosed(phrase: Phrase) -> Unclosed<RawExpr>
+    ensures { IsPhraseOf phrase result }
+{
+    Unclosed {
+        tree: phrase.tree,
+        height: phrase.height,
+        next: phrase.next,
+        otherwise: phrase.otherwise,
+    }
+}
+
+/// The expression of a level with the mark behind it that closes it.
+pub fn closed(
+    alloc: Global,
+    source: &Source,
+    from: usize,
+    room: u32,
+    level: ExprLevel,
+    closing: Mark,
+) -> Result<Taken<RawExpr>, Stop>
+    requires within { from ≤ length source.now.tokens.now }
+    requires few { length source.now.tokens.now < 2 ^ 32 }
+    ensures bounds { IsBounded room source.now.tokens.now from result }
+    ensures some { IfOk result (λ taken. 1 ≤ taken.height) }
+{
+    let inner = expression(alloc, source, from, room, level)?;
+    if !is_mark(source, inner.next, closing) {
+        return Err(Stop::Refused(inner.next, inner.otherwise));
+    }
+    Ok(Taken {
+        tree: inner.tree,
+        height: inner.height,
+        next: inner.next + 1,
+    })
+}
+
+/// The expression, which may be left out, with the mark behind it that closes it. Its height is 0 where it is left out.
+pub fn closed_if_any(
+    alloc: Global,
+    source: &Source,
+    from: usize,
+    room: u32,
+    level: ExprLevel,
+    closing: Mark,
+) -> Result<Taken<Option<RawExpr>>, Stop>
+    requires within { from ≤ length source.now.tokens.now }
+    requires few { length source.now.tokens.now < 2 ^ 32 }
+    ensures bounds { IsBounded room source.now.tokens.now from result }
+{
+    if is_mark(source, from, closing) {
+        return Ok(Taken {
+            tree: None,
+            height: 0,
+            next: from + 1,
+        });
+    }
+    let inner = closed(alloc, source, from, room, level, closing)?;
+    Ok(Taken {
+        tree: Some(inner.tree),
+        height: inner.height,
+        next: inner.next,
+    })
+}
+
+/// The expression between parentheses, the first of which is to stand at a number.
+pub fn parenthesised(
+    alloc: Global,
+    source: &Source,
+    from: usize,
+    room: u32,
+) -> Result<Taken<RawExpr>, Stop>
+    requires within { from ≤ length source.now.tokens.now }
+    requires few { length source.now.tokens.now < 2 ^ 32 }
+    ensures bounds { IsBounded room source.now.tokens.now from result }
+{
+    if !is_mark(source, from, Mark::OpenParenthesis) {
+        return Err(refuse(source, from, Scope::Block));
+    }
+    let closing = Mark::CloseParenthesis;
+    let inner = closed(alloc, source, from + 1, room, ExprLevel::Expr, closing)?;
+    Ok(inner)
+}

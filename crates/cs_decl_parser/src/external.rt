@@ -1,0 +1,155 @@
+//! What a file has: types, typedefs, objects and functions (C11 6.9).
+ghost use Rattle.std.specs.Prelude.{◌≤◌, ◌<◌, ◌^◌, ◌+◌, ◌-◌, length};
+ghost use Rattle.cs_decl_parser.specs.Bounds.{IsBounded, IsOf};
+
+use crate::block::items;
+use crate::declarator::{Declares, Pointed, declarators, pointed_name, with_bounds};
+use crate::objects::{with_others, with_value};
+use crate::parameters::{are_named, parameters};
+use crate::source::{Scope, Source, is_keyword, is_mark, place_at, refuse};
+use crate::specs::specs;
+use crate::stop::{Stop, Taken};
+use cs_ast::raw::declaration::{RawFunction, RawParameters, RawSpecs};
+use cs_ast::raw::external::{RawBody, RawExternal, RawExternalKind};
+use cs_ast::{Keyword, Mark};
+use std::alloc::Global;
+
+/// How high a part of a file may be.
+const MOST: u32 = 200;
+
+/// The part of a file that the tokens from a number on begin with.
+pub fn external(alloc: Global, source: &Source, from: usize) -> Result<Taken<RawExternal>, Stop>
+    requires within { from < length source.now.tokens.now }
+    requires few { length source.now.tokens.now < 2 ^ 32 }
+    ensures bounds { IsBounded 200 source.now.tokens.now from result }
+{
+    let taken = if is_keyword(source, from, Keyword::Typedef) {
+        typedef(alloc, source, from)?
+    } else {
+        declared(alloc, source, from)?
+    };
+    Ok(Taken {
+        tree: RawExternal {
+            place: place_at(source, from),
+            kind: taken.tree,
+        },
+        height: taken.height,
+        next: taken.next,
+    })
+}
+
+/// `typedef` and the names that it declares, from a number on (C11 6.7.8).
+fn typedef(alloc: Global, source: &Source, from: usize) -> Result<Taken<RawExternalKind>, Stop>
+    requires within { from < length source.now.tokens.now }
+    requires few { length source.now.tokens.now < 2 ^ 32 }
+    ensures bounds { IsBounded 200 source.now.tokens.now from result }
+{
+    let specs = specs(alloc, source, Scope::File, from + 1, MOST - 1)?;
+    let names = declarators(alloc, source, specs.next, MOST - 1, Declares::Names)?;
+    Ok(Taken {
+        tree: RawExternalKind::Typedef(specs.tree, names.tree),
+        height: specs.height.max(names.height) + 1,
+        next: names.next,
+    })
+}
+
+/// A type alone, objects or a function, from a number on.
+fn declared(alloc: Global, source: &Source, from: usize) -> Result<Taken<RawExternalKind>, Stop>
+    requires within { from < length source.now.tokens.now }
+    requires few { length source.now.tokens.now < 2 ^ 32 }
+    ensures bounds { IsBounded 200 source.now.tokens.now from result }
+{
+    let scope = Scope::File;
+    let specs = specs(alloc, source, scope, from, MOST - 1)?;
+    if is_mark(source, specs.next, Mark::Semicolon) {
+        return Ok(Taken {
+            tree: RawExternalKind::Type(specs.tree),
+            height: specs.height + 1,
+            next: specs.next + 1,
+        });
+    }
+    let pointed = pointed_name(alloc, source, scope, specs.next, Declares::Names)?;
+    if is_mark(source, pointed.next, Mark::OpenParenthesis) {
+        return function(alloc, source, specs, pointed);
+    }
+    objects(alloc, source, specs, pointed)
+}
+
+/// Objects, of which the first one's name was taken, to behind the semicolon.
+fn objects(
+    alloc: Global,
+    source: &Source,
+    specs: Taken<RawSpecs>,
+    pointed: Taken<Pointed>,
+) -> Result<Taken<RawExternalKind>, Stop>
+    requires within { pointed.next ≤ length source.now.tokens.now }
+    requires few { length source.now.tokens.now < 2 ^ 32 }
+    requires low { specs.height ≤ 199 }
+    ensures bounds { IsBounded 200 source.now.tokens.now pointed.next result }
+{
+    let scope = Scope::File;
+    let declarator = with_bounds(alloc, source, pointed, MOST - 1, Declares::Names)?;
+    let first = with_value(alloc, source, scope, declarator, MOST - 1)?;
+    let objects = with_others(alloc, source, scope, first, MOST - 1)?;
+    Ok(Taken {
+        tree: RawExternalKind::Objects(specs.tree, objects.tree),
+        height: specs.height.max(objects.height) + 1,
+        next: objects.next,
+    })
+}
+
+/// A function, whose name was taken, to behind the semicolon or the body.
+fn function(
+    alloc: Global,
+    source: &Source,
+    specs: Taken<RawSpecs>,
+    pointed: Taken<Pointed>,
+) -> Result<Taken<RawExternalKind>, Stop>
+    requires within { pointed.next < length source.now.tokens.now }
+    requires few { length source.now.tokens.now < 2 ^ 32 }
+    requires low { specs.height ≤ 199 }
+    ensures bounds { IsBounded 200 source.now.tokens.now pointed.next result }
+{
+    let parameters = parameters(alloc, source, pointed.next + 1, MOST - 2)?;
+    let head = head(pointed.tree, parameters);
+    let height = specs.height.max(head.height);
+    if is_mark(source, head.next, Mark::Semicolon) {
+        return Ok(Taken {
+            tree: RawExternalKind::Function(specs.tree, head.tree),
+            height: height + 1,
+            next: head.next + 1,
+        });
+    }
+    let begins_body = is_mark(source, head.next, Mark::OpenBrace);
+    if !begins_body || !are_named(&head.tree.parameters) {
+        return Err(refuse(source, head.next, Scope::File));
+    }
+    let body = items(alloc, source, head.next + 1, MOST - 2)?;
+    let written = RawBody {
+        opening: place_at(source, head.next),
+        items: body.tree,
+        closing: place_at(source, body.next),
+    };
+    Ok(Taken {
+        tree: RawExternalKind::Definition(specs.tree, head.tree, written),
+        height: height.max(body.height + 1) + 1,
+        next: body.next + 1,
+    })
+}
+
+/// A function's name with its parameters.
+fn head(pointed: Pointed, parameters: Taken<RawParameters>) -> Taken<RawFunction>
+    requires low { parameters.height < 2 ^ 32 - 1 }
+    ensures { IsOf (parameters.height + 1) parameters.next result }
+{
+    Taken {
+        tree: RawFunction {
+            pointers: pointed.pointers,
+            place: pointed.name.place,
+            name: pointed.name.name,
+            parameters: parameters.tree,
+        },
+        height: parameters.height + 1,
+        next: parameters.next,
+    }
+}

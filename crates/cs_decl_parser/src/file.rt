@@ -1,0 +1,95 @@
+//! The parser of files.
+ghost use Rattle.std.specs.Prelude.{◌<◌, ◌^◌, length};
+
+use crate::external::external;
+use crate::source::Source;
+use crate::stop::Stop;
+use cs_ast::raw::declaration::RawDeclarator;
+use cs_ast::raw::external::{RawExternal, RawExternalKind, Tree};
+use cs_ast::{Mark, Place, Token, TokenKind};
+use cs_grammar::{Reason, SyntaxRefusal, TypedefNames, left_out_text};
+use cs_names::Name;
+use std::alloc::{AllocError, Global};
+
+/// The tree of the file that these tokens are, `end` being the place of the end of input (C11 6.9).
+///
+/// Where they are none that is low enough, the first token is refused at which no file that is low enough begins with the tokens
+/// up to it. The end of input counts as a token.
+pub fn parse(alloc: Global, tokens: &[Token], end: Place) -> Result<Tree, SyntaxRefusal>
+    requires few { length tokens.now < 2 ^ 32 }
+{
+    match externals(alloc, tokens, end) {
+        Ok(externals) => Ok(Tree { externals }),
+        Err(stop) => Err(refusal(alloc, tokens, end, stop)),
+    }
+}
+
+/// The parts of the file. The names that a typedef declares are typedef names behind it.
+fn externals(alloc: Global, tokens: &[Token], end: Place) -> Result<Vec<RawExternal>, Stop>
+    requires few { length tokens.now < 2 ^ 32 }
+{
+    let mut list = Vec::new(alloc);
+    let mut names = TypedefNames::new(alloc);
+    let mut next = 0;
+    'file: while next < tokens.len() {
+        let source = Source {
+            tokens,
+            end,
+            names: &names,
+        };
+        let taken = external(alloc, &source, next)?;
+        next = taken.next;
+        declare(&mut names, &taken.tree)?;
+        list.push(taken.tree)?;
+    }
+    Ok(list)
+}
+
+/// Adds the names that a part of a file makes typedef names.
+fn declare(names: &mut TypedefNames, external: &RawExternal) -> Result<(), AllocError> {
+    match &external.kind {
+        RawExternalKind::Typedef(_, declarators) => add_names(names, declarators),
+        _ => Ok(()),
+    }
+}
+
+fn add_names(names: &mut TypedefNames, declarators: &[RawDeclarator]) -> Result<(), AllocError> {
+    for declarator in declarators {
+        names.add(declarator.name.copy()?)?;
+    }
+    Ok(())
+}
+
+/// The refusal for which the parser stopped.
+fn refusal(alloc: Global, tokens: &[Token], end: Place, stop: Stop) -> SyntaxRefusal {
+    match stop {
+        Stop::Refused(at, reason) => match tokens.get(at) {
+            Some(token) => refusal_of(alloc, token, reason),
+            None => SyntaxRefusal::Syntax(end),
+        },
+        Stop::Expression(refusal) => refusal,
+        Stop::Memory => SyntaxRefusal::Memory,
+    }
+}
+
+fn refusal_of(alloc: Global, token: &Token, reason: Reason) -> SyntaxRefusal {
+    match reason {
+        Reason::Syntax => SyntaxRefusal::Syntax(token.place),
+        Reason::TooDeep => SyntaxRefusal::TooDeep(token.place),
+        Reason::LeftOut => match Name::from_slice(alloc, left_out_here(&token.kind)) {
+            Ok(word) => SyntaxRefusal::LeftOut(token.place, word),
+            Err(_) => SyntaxRefusal::Memory,
+        },
+    }
+}
+
+/// The spelling of a word or mark that is left out somewhere in a file.
+fn left_out_here(kind: &TokenKind) -> &'static [u8] {
+    match kind {
+        TokenKind::Mark(Mark::OpenParenthesis) => b"(",
+        TokenKind::Mark(Mark::OpenBracket) => b"[",
+        TokenKind::Mark(Mark::Dot) => b".",
+        TokenKind::Mark(Mark::Colon) => b":",
+        _ => left_out_text(kind),
+    }
+}

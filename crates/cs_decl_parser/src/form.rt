@@ -1,0 +1,86 @@
+//! The forms of statements, told by their first tokens (C11 6.8).
+ghost use Rattle.std.specs.Prelude.{◌≡◌, ◌<◌, ◌^◌, ◌+◌, length, IsTrue};
+ghost use Rattle.cs_decl_parser.specs.Forms.{least, IsFormAt};
+
+use crate::source::{Source, begins_type, is_mark, keyword_at, mark_at, name_at};
+use cs_ast::{Keyword, Mark};
+
+/// The form of a statement.
+#[derive(Clone, Copy, Debug, PartialEq, Eq)]
+pub enum Form {
+    Block,
+    Empty,
+    If,
+    While,
+    Do,
+    For,
+    Switch,
+    Goto,
+    Continue,
+    Break,
+    Return,
+    /// A name with a colon behind it.
+    Label,
+    /// The name of a typedef without a colon behind it, which only a label begins with.
+    Unlabelled,
+    /// Anything else, which is an expression or no statement.
+    Run,
+}
+
+/// The form of the statement that the tokens from a number on begin with.
+pub fn form_at(source: &Source, at: usize) -> Form
+    requires few { at < 2 ^ 33 }
+    ensures within { IsFormAt source.now.tokens.now at result }
+{
+    if is_label(source, at) {
+        return Form::Label;
+    }
+    if name_at(source, at).is_some() && begins_type(source, at) {
+        return Form::Unlabelled;
+    }
+    match mark_at(source, at) {
+        Some(Mark::OpenBrace) => Form::Block,
+        Some(Mark::Semicolon) => Form::Empty,
+        _ => form_of_word(source, at),
+    }
+}
+
+/// Whether a name with a colon behind it stands at a number.
+pub fn is_label(source: &Source, at: usize) -> bool
+    requires few { at < 2 ^ 33 }
+    ensures within { IsTrue result → at + 1 < length source.now.tokens.now }
+{
+    name_at(source, at).is_some() && is_mark(source, at + 1, Mark::Colon)
+}
+
+fn form_of_word(source: &Source, at: usize) -> Form
+    ensures within { IsFormAt source.now.tokens.now at result }
+{
+    match keyword_at(source, at) {
+        Some(Keyword::If) => Form::If,
+        Some(Keyword::While) => Form::While,
+        Some(Keyword::Do) => Form::Do,
+        Some(Keyword::For) => Form::For,
+        Some(Keyword::Switch) => Form::Switch,
+        Some(Keyword::Goto) => Form::Goto,
+        Some(Keyword::Continue) => Form::Continue,
+        Some(Keyword::Break) => Form::Break,
+        Some(Keyword::Return) => Form::Return,
+        _ => Form::Run,
+    }
+}
+
+impl Form {
+    /// The height of the least statement of the form, 0 where its expression tells it.
+    pub fn least_height(self) -> u32
+        ensures { result ≡ least self }
+    {
+        match self {
+            Form::Block | Form::Empty | Form::Goto => 1,
+            Form::Continue | Form::Break | Form::Return => 1,
+            Form::If | Form::While | Form::Do | Form::For | Form::Switch => 2,
+            Form::Label | Form::Unlabelled => 2,
+            Form::Run => 0,
+        }
+    }
+}

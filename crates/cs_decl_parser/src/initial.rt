@@ -1,0 +1,80 @@
+//! What objects hold at first (C11 6.7.9).
+ghost use Rattle.std.specs.Prelude.{◌≤◌, ◌<◌, ◌^◌, length};
+ghost use Rattle.cs_decl_parser.specs.Bounds.{IsUnclosedBounded};
+
+use crate::constants::goes_on;
+use crate::expression::expression;
+use crate::source::{Scope, Source, is_mark, mark_at, reason_at, refuse_deep};
+use crate::stop::{Stop, Unclosed};
+use cs_ast::Mark;
+use cs_ast::raw::declaration::RawInitial;
+use cs_expr_parser::ExprLevel;
+use cs_grammar::Reason;
+use std::alloc::Global;
+
+/// What an object holds at first: an expression without a comma, or items between braces.
+#[cycle(initial)]
+pub fn initial(
+    alloc: Global,
+    source: &Source,
+    scope: Scope,
+    from: usize,
+    room: u32,
+) -> Result<Unclosed<RawInitial>, Stop>
+    requires within { from ≤ length source.now.tokens.now }
+    requires few { length source.now.tokens.now < 2 ^ 32 }
+    ensures bounds { IsUnclosedBounded room source.now.tokens.now from result }
+{
+    match mark_at(source, from) {
+        Some(Mark::OpenBrace) => items(alloc, source, scope, from, room),
+        Some(Mark::Dot | Mark::OpenBracket) => Err(Stop::Refused(from, Reason::LeftOut)),
+        _ => {
+            let value = expression(alloc, source, from, room, ExprLevel::Assign)?;
+            Ok(Unclosed {
+                tree: RawInitial::Value(value.tree),
+                height: value.height,
+                next: value.next,
+                otherwise: value.otherwise,
+            })
+        }
+    }
+}
+
+/// Items between braces, one at least, the first of which stands at a number.
+#[cycle(initial)]
+fn items(
+    alloc: Global,
+    source: &Source,
+    scope: Scope,
+    from: usize,
+    room: u32,
+) -> Result<Unclosed<RawInitial>, Stop>
+    requires within { from < length source.now.tokens.now }
+    requires few { length source.now.tokens.now < 2 ^ 32 }
+    ensures bounds { IsUnclosedBounded room source.now.tokens.now from result }
+{
+    if room < 2 {
+        return Err(refuse_deep(from));
+    }
+    let mut list = Vec::new(alloc);
+    let mut last = initial(alloc, source, scope, from + 1, room - 1)?;
+    let mut height = last.height;
+    'items: while goes_on(source, last.next) {
+        let following = initial(alloc, source, scope, last.next + 1, room - 1)?;
+        list.push(last.tree)?;
+        height = height.max(following.height);
+        last = following;
+    }
+    list.push(last.tree)?;
+    let comma = is_mark(source, last.next, Mark::Comma);
+    let closing = if comma { last.next + 1 } else { last.next };
+    if !is_mark(source, closing, Mark::CloseBrace) {
+        return Err(Stop::Refused(closing, last.otherwise));
+    }
+    Ok(Unclosed {
+        tree: RawInitial::List(list, comma),
+        height: height + 1,
+        next: closing + 1,
+        otherwise: reason_at(source, closing + 1, scope),
+    })
+}

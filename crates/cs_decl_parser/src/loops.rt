@@ -1,0 +1,157 @@
+//! Statements that repeat (C11 6.8.5).
+ghost use Rattle.std.specs.Prelude.{◌≤◌, ◌<◌, ◌^◌, length};
+ghost use Rattle.cs_decl_parser.specs.Bounds.{IsBounded};
+
+use crate::block::declaration;
+use crate::expression::{closed_if_any, parenthesised};
+use crate::nodes::{do_node, for_node, while_node};
+use crate::source::{Scope, Source, begins_type, is_keyword, is_mark, place_at, refuse};
+use crate::statement::statement;
+use crate::stop::{Stop, Taken};
+use cs_ast::raw::expression::RawExpr;
+use cs_ast::raw::statement::{RawFirst, RawStmt};
+use cs_ast::{Keyword, Mark};
+use cs_expr_parser::ExprLevel;
+use std::alloc::Global;
+
+/// `while ( test ) body`, from a number on.
+#[cycle(statement)]
+pub fn while_statement(
+    alloc: Global,
+    source: &Source,
+    from: usize,
+    room: u32,
+) -> Result<Taken<RawStmt>, Stop>
+    requires within { from < length source.now.tokens.now }
+    requires few { length source.now.tokens.now < 2 ^ 32 }
+    requires enough { 2 ≤ room }
+    ensures bounds { IsBounded room source.now.tokens.now from result }
+{
+    let place = place_at(source, from);
+    let test = parenthesised(alloc, source, from + 1, room - 1)?;
+    let body = statement(alloc, source, test.next, room - 1)?;
+    let made = while_node(alloc, place, test, body)?;
+    Ok(made)
+}
+
+/// `do body while ( test ) ;`, from a number on.
+#[cycle(statement)]
+pub fn do_statement(
+    alloc: Global,
+    source: &Source,
+    from: usize,
+    room: u32,
+) -> Result<Taken<RawStmt>, Stop>
+    requires within { from < length source.now.tokens.now }
+    requires few { length source.now.tokens.now < 2 ^ 32 }
+    requires enough { 2 ≤ room }
+    ensures bounds { IsBounded room source.now.tokens.now from result }
+{
+    let place = place_at(source, from);
+    let body = statement(alloc, source, from + 1, room - 1)?;
+    if !is_keyword(source, body.next, Keyword::While) {
+        return Err(refuse(source, body.next, Scope::Block));
+    }
+    let test = parenthesised(alloc, source, body.next + 1, room - 1)?;
+    if !is_mark(source, test.next, Mark::Semicolon) {
+        return Err(refuse(source, test.next, Scope::Block));
+    }
+    let next = test.next + 1;
+    let made = do_node(alloc, place, body, test, next)?;
+    Ok(made)
+}
+
+/// What stands between the parentheses of a `for`.
+#[derive(Drop)]
+pub struct ForParts {
+    pub first: RawFirst,
+    pub test: Option<RawExpr>,
+    pub last: Option<RawExpr>,
+}
+
+/// `for ( first ; test ; last ) body`, from a number on.
+#[cycle(statement)]
+pub fn for_statement(
+    alloc: Global,
+    source: &Source,
+    from: usize,
+    room: u32,
+) -> Result<Taken<RawStmt>, Stop>
+    requires within { from < length source.now.tokens.now }
+    requires few { length source.now.tokens.now < 2 ^ 32 }
+    requires enough { 2 ≤ room }
+    ensures bounds { IsBounded room source.now.tokens.now from result }
+{
+    let place = place_at(source, from);
+    let control = control(alloc, source, from + 1, room - 1)?;
+    let body = statement(alloc, source, control.next, room - 1)?;
+    let made = for_node(alloc, place, control, body)?;
+    Ok(made)
+}
+
+/// The parts of a `for` between parentheses, the first of which is to stand at a number. The height is that of the highest part.
+fn control(alloc: Global, source: &Source, from: usize, room: u32) -> Result<Taken<ForParts>, Stop>
+    requires within { from ≤ length source.now.tokens.now }
+    requires few { length source.now.tokens.now < 2 ^ 32 }
+    ensures bounds { IsBounded room source.now.tokens.now from result }
+{
+    if !is_mark(source, from, Mark::OpenParenthesis) {
+        return Err(refuse(source, from, Scope::Block));
+    }
+    let level = ExprLevel::Expr;
+    let first = first_part(alloc, source, from + 1, room)?;
+    let test = closed_if_any(alloc, source, first.next, room, level, Mark::Semicolon)?;
+    let last = closed_if_any(
+        alloc,
+        source,
+        test.next,
+        room,
+        level,
+        Mark::CloseParenthesis,
+    )?;
+    Ok(Taken {
+        tree: ForParts {
+            first: first.tree,
+            test: test.tree,
+            last: last.tree,
+        },
+        height: first.height.max(test.height).max(last.height),
+        next: last.next,
+    })
+}
+
+/// The first part of a `for`, with its semicolon.
+fn first_part(
+    alloc: Global,
+    source: &Source,
+    from: usize,
+    room: u32,
+) -> Result<Taken<RawFirst>, Stop>
+    requires within { from ≤ length source.now.tokens.now }
+    requires few { length source.now.tokens.now < 2 ^ 32 }
+    ensures bounds { IsBounded room source.now.tokens.now from result }
+{
+    if begins_type(source, from) {
+        let declared = declaration(alloc, source, from, room)?;
+        return Ok(Taken {
+            tree: RawFirst::Declare(declared.tree.specs, declared.tree.objects),
+            height: declared.height,
+            next: declared.next,
+        });
+    }
+    let (level, closing) = (ExprLevel::Expr, Mark::Semicolon);
+    let value = closed_if_any(alloc, source, from, room, level, closing)?;
+    Ok(Taken {
+        tree: run_if_any(value.tree),
+        height: value.height,
+        next: value.next,
+    })
+}
+
+/// The first part of a `for` that declares nothing.
+fn run_if_any(value: Option<RawExpr>) -> RawFirst {
+    match value {
+        Some(value) => RawFirst::Run(value),
+        None => RawFirst::Empty,
+    }
+}

@@ -1,0 +1,65 @@
+//! The members of a structure (C11 6.7.2.1).
+ghost use Rattle.std.specs.Prelude.{◌≤◌, ◌<◌, ◌^◌, length};
+ghost use Rattle.cs_decl_parser.specs.Bounds.{IsBounded};
+
+use crate::declarator::{Declares, declarators};
+use crate::source::{Scope, Source, is_mark, refuse, refuse_deep};
+use crate::specs::{begins_specs, specs};
+use crate::stop::{Stop, Taken};
+use cs_ast::Mark;
+use cs_ast::raw::declaration::RawMember;
+use std::alloc::Global;
+
+/// The members from behind an opening brace to behind the closing one. The height is that of the highest, 0 where there is none.
+#[cycle(specs)]
+pub fn members(
+    alloc: Global,
+    source: &Source,
+    from: usize,
+    room: u32,
+) -> Result<Taken<Vec<RawMember>>, Stop>
+    requires within { from ≤ length source.now.tokens.now }
+    requires few { length source.now.tokens.now < 2 ^ 32 }
+    ensures bounds { IsBounded room source.now.tokens.now from result }
+{
+    let mut list = Vec::new(alloc);
+    let mut height = 0;
+    let mut next = from;
+    'members: while !is_mark(source, next, Mark::CloseBrace) {
+        let taken = member(alloc, source, next, room)?;
+        height = height.max(taken.height);
+        next = taken.next;
+        list.push(taken.tree)?;
+    }
+    Ok(Taken {
+        tree: list,
+        height,
+        next: next + 1,
+    })
+}
+
+/// Members of one type, with their semicolon.
+#[cycle(specs)]
+fn member(alloc: Global, source: &Source, from: usize, room: u32) -> Result<Taken<RawMember>, Stop>
+    requires within { from ≤ length source.now.tokens.now }
+    requires few { length source.now.tokens.now < 2 ^ 32 }
+    ensures bounds { IsBounded room source.now.tokens.now from result }
+{
+    let scope = Scope::File;
+    if !begins_specs(source, from, scope) {
+        return Err(refuse(source, from, scope));
+    }
+    if room < 2 {
+        return Err(refuse_deep(from));
+    }
+    let specs = specs(alloc, source, scope, from, room - 1)?;
+    let members = declarators(alloc, source, specs.next, room - 1, Declares::Members)?;
+    Ok(Taken {
+        tree: RawMember {
+            specs: specs.tree,
+            declarators: members.tree,
+        },
+        height: specs.height.max(members.height) + 1,
+        next: members.next,
+    })
+}

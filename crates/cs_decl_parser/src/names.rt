@@ -1,0 +1,30 @@
+//! The names that tags, declarators and constants have.
+ghost use Rattle.std.specs.Prelude.{◌<◌, length, IfOk, IsSome};
+
+use crate::source::{Source, begins_type, name_at, place_at};
+use cs_ast::raw::declaration::RawName;
+use std::alloc::AllocError;
+
+/// The name at a number, which may be that of a typedef, if one stands there.
+pub fn any_name_at(source: &Source, at: usize) -> Result<Option<RawName>, AllocError>
+    ensures within { IfOk result (λ name. IsSome name → at < length source.now.tokens.now) }
+{
+    let Some(name) = name_at(source, at) else {
+        return Ok(None);
+    };
+    let name = name.copy()?;
+    Ok(Some(RawName {
+        place: place_at(source, at),
+        name,
+    }))
+}
+
+/// The name at a number, if one stands there that is no typedef's.
+pub fn free_name_at(source: &Source, at: usize) -> Result<Option<RawName>, AllocError>
+    ensures within { IfOk result (λ name. IsSome name → at < length source.now.tokens.now) }
+{
+    if begins_type(source, at) {
+        return Ok(None);
+    }
+    any_name_at(source, at)
+}

@@ -1,0 +1,126 @@
+//! The nodes of statements, each made of its parts: one higher than the highest of them.
+ghost use Rattle.std.specs.Prelude.{◌<◌, ◌^◌, ◌+◌, ◌-◌, max, IfOk};
+ghost use Rattle.std.specs.Option.{option_map};
+ghost use Rattle.cs_ast.specs.RawView.{written};
+ghost use Rattle.cs_ast.specs.RawStatements.{If as IfNode, IfElse as IfElseNode, While as WhileNode, Do as DoNode, For as ForNode, Label as LabelNode};
+ghost use Rattle.cs_ast.specs.RawStatementView.{first_of, sentence, statement_of};
+ghost use Rattle.cs_decl_parser.specs.Nodes.{IsNode};
+
+use crate::loops::ForParts;
+use crate::stop::Taken;
+use cs_ast::Place;
+use cs_ast::raw::declaration::RawName;
+use cs_ast::raw::expression::RawExpr;
+use cs_ast::raw::statement::{RawStmt, RawStmtKind};
+use std::alloc::{AllocError, Global};
+
+/// The statement of a kind at its place, of this height, up to this token.
+pub fn node(place: Place, kind: RawStmtKind, height: u32, next: usize) -> Taken<RawStmt>
+    ensures { IsNode (sentence kind) height next result }
+{
+    Taken {
+        tree: RawStmt { place, kind },
+        height,
+        next,
+    }
+}
+
+/// `name : body`
+pub fn label_node(
+    alloc: Global,
+    name: RawName,
+    body: Taken<RawStmt>,
+) -> Result<Taken<RawStmt>, AllocError>
+    requires low { body.height < 2 ^ 32 - 1 }
+    ensures { IfOk result (IsNode (LabelNode name.name (statement_of body.tree)) (body.height + 1) body.next) }
+{
+    let (height, next) = (body.height + 1, body.next);
+    let body = Box::new(alloc, body.tree)?;
+    let kind = RawStmtKind::Label(name.name, body);
+    Ok(node(name.place, kind, height, next))
+}
+
+/// `if ( test ) body`
+pub fn if_node(
+    alloc: Global,
+    place: Place,
+    test: Taken<RawExpr>,
+    body: Taken<RawStmt>,
+) -> Result<Taken<RawStmt>, AllocError>
+    requires low { (test.height < 2 ^ 32 - 1) × (body.height < 2 ^ 32 - 1) }
+    ensures { IfOk result (IsNode (IfNode (written test.tree) (statement_of body.tree)) (max test.height body.height + 1) body.next) }
+{
+    let (height, next) = (test.height.max(body.height) + 1, body.next);
+    let body = Box::new(alloc, body.tree)?;
+    let kind = RawStmtKind::If(test.tree, body);
+    Ok(node(place, kind, height, next))
+}
+
+/// `if ( test ) body else other`
+pub fn if_else_node(
+    alloc: Global,
+    place: Place,
+    test: Taken<RawExpr>,
+    body: Taken<RawStmt>,
+    other: Taken<RawStmt>,
+) -> Result<Taken<RawStmt>, AllocError>
+    requires low { (test.height < 2 ^ 32 - 1) × (body.height < 2 ^ 32 - 1) × (other.height < 2 ^ 32 - 1) }
+    ensures { IfOk result (IsNode (IfElseNode (written test.tree) (statement_of body.tree) (statement_of other.tree)) (max (max test.height body.height) other.height + 1) other.next) }
+{
+    let height = test.height.max(body.height).max(other.height) + 1;
+    let next = other.next;
+    let body = Box::new(alloc, body.tree)?;
+    let other = Box::new(alloc, other.tree)?;
+    let kind = RawStmtKind::IfElse(test.tree, body, other);
+    Ok(node(place, kind, height, next))
+}
+
+/// `while ( test ) body`
+pub fn while_node(
+    alloc: Global,
+    place: Place,
+    test: Taken<RawExpr>,
+    body: Taken<RawStmt>,
+) -> Result<Taken<RawStmt>, AllocError>
+    requires low { (test.height < 2 ^ 32 - 1) × (body.height < 2 ^ 32 - 1) }
+    ensures { IfOk result (IsNode (WhileNode (written test.tree) (statement_of body.tree)) (max test.height body.height + 1) body.next) }
+{
+    let (height, next) = (test.height.max(body.height) + 1, body.next);
+    let body = Box::new(alloc, body.tree)?;
+    let kind = RawStmtKind::While(test.tree, body);
+    Ok(node(place, kind, height, next))
+}
+
+/// `do body while ( test ) ;`, with the token behind its semicolon
+pub fn do_node(
+    alloc: Global,
+    place: Place,
+    body: Taken<RawStmt>,
+    test: Taken<RawExpr>,
+    next: usize,
+) -> Result<Taken<RawStmt>, AllocError>
+    requires low { (body.height < 2 ^ 32 - 1) × (test.height < 2 ^ 32 - 1) }
+    ensures { IfOk result (IsNode (DoNode (statement_of body.tree) (written test.tree)) (max body.height test.height + 1) next) }
+{
+    let height = body.height.max(test.height) + 1;
+    let body = Box::new(alloc, body.tree)?;
+    let kind = RawStmtKind::Do(body, test.tree);
+    Ok(node(place, kind, height, next))
+}
+
+/// `for ( first ; test ; last ) body`
+pub fn for_node(
+    alloc: Global,
+    place: Place,
+    parts: Taken<ForParts>,
+    body: Taken<RawStmt>,
+) -> Result<Taken<RawStmt>, AllocError>
+    requires low { (parts.height < 2 ^ 32 - 1) × (body.height < 2 ^ 32 - 1) }
+    ensures { IfOk result (IsNode (ForNode (first_of parts.tree.first) (option_map written parts.tree.test) (option_map written parts.tree.last) (statement_of body.tree)) (max parts.height body.height + 1) body.next) }
+{
+    let (height, next) = (parts.height.max(body.height) + 1, body.next);
+    let body = Box::new(alloc, body.tree)?;
+    let ForParts { first, test, last } = parts.tree;
+    let kind = RawStmtKind::For(first, test, last, body);
+    Ok(node(place, kind, height, next))
+}

@@ -1,0 +1,123 @@
+//! Declared objects, each with what it holds at first (C11 6.7).
+ghost use Rattle.std.specs.Prelude.{◌≤◌, ◌<◌, ◌^◌, length};
+ghost use Rattle.cs_decl_parser.specs.Bounds.{IsBounded, IsUnclosedBounded, IsUnclosedRowBounded};
+
+use crate::declarator::{Declares, declarator};
+use crate::initial::initial;
+use crate::source::{Scope, Source, is_mark, place_at, reason_at, refuse_deep};
+use crate::stop::{Stop, Taken, Unclosed};
+use cs_ast::Mark;
+use cs_ast::raw::declaration::{RawDeclarator, RawFirstValue, RawInit};
+use std::alloc::Global;
+
+/// Objects with commas between them, one at least, to behind the semicolon. The height is that of the highest.
+pub fn objects(
+    alloc: Global,
+    source: &Source,
+    scope: Scope,
+    from: usize,
+    room: u32,
+) -> Result<Taken<Vec<RawInit>>, Stop>
+    requires within { from ≤ length source.now.tokens.now }
+    requires few { length source.now.tokens.now < 2 ^ 32 }
+    requires some { 1 ≤ room }
+    ensures bounds { IsBounded room source.now.tokens.now from result }
+{
+    let first = object(alloc, source, scope, from, room)?;
+    let all = with_others(alloc, source, scope, first, room)?;
+    Ok(all)
+}
+
+/// The objects of which the first was taken, to behind the semicolon.
+pub fn with_others(
+    alloc: Global,
+    source: &Source,
+    scope: Scope,
+    first: Unclosed<RawInit>,
+    room: u32,
+) -> Result<Taken<Vec<RawInit>>, Stop>
+    requires within { first.next ≤ length source.now.tokens.now }
+    requires few { length source.now.tokens.now < 2 ^ 32 }
+    requires some { 1 ≤ room }
+    requires low { first.height ≤ room }
+    ensures bounds { IsBounded room source.now.tokens.now first.next result }
+{
+    let mut list = Vec::new(alloc);
+    let mut height = first.height;
+    let mut last = first;
+    'objects: while is_mark(source, last.next, Mark::Comma) {
+        let following = object(alloc, source, scope, last.next + 1, room)?;
+        list.push(last.tree)?;
+        height = height.max(following.height);
+        last = following;
+    }
+    list.push(last.tree)?;
+    if !is_mark(source, last.next, Mark::Semicolon) {
+        return Err(Stop::Refused(last.next, last.otherwise));
+    }
+    Ok(Taken {
+        tree: list,
+        height,
+        next: last.next + 1,
+    })
+}
+
+fn object(
+    alloc: Global,
+    source: &Source,
+    scope: Scope,
+    from: usize,
+    room: u32,
+) -> Result<Unclosed<RawInit>, Stop>
+    requires within { from ≤ length source.now.tokens.now }
+    requires few { length source.now.tokens.now < 2 ^ 32 }
+    requires some { 1 ≤ room }
+    ensures bounds { IsUnclosedBounded room source.now.tokens.now from result }
+{
+    let declarator = declarator(alloc, source, scope, from, room, Declares::Names)?;
+    let object = with_value(alloc, source, scope, declarator, room)?;
+    Ok(object)
+}
+
+/// The object of a declarator, with the value behind it, if there is one.
+pub fn with_value(
+    alloc: Global,
+    source: &Source,
+    scope: Scope,
+    declarator: Taken<RawDeclarator>,
+    room: u32,
+) -> Result<Unclosed<RawInit>, Stop>
+    requires within { declarator.next ≤ length source.now.tokens.now }
+    requires few { length source.now.tokens.now < 2 ^ 32 }
+    requires low { declarator.height ≤ room }
+    ensures bounds { IsUnclosedRowBounded room source.now.tokens.now declarator.next result }
+{
+    let at = declarator.next;
+    if !is_mark(source, at, Mark::Equal) {
+        return Ok(Unclosed {
+            tree: RawInit {
+                declarator: declarator.tree,
+                initial: None,
+            },
+            height: declarator.height,
+            next: at,
+            otherwise: reason_at(source, at, scope),
+        });
+    }
+    if declarator.height >= room {
+        return Err(refuse_deep(at));
+    }
+    let value = initial(alloc, source, scope, at + 1, room - 1)?;
+    Ok(Unclosed {
+        tree: RawInit {
+            declarator: declarator.tree,
+            initial: Some(RawFirstValue {
+                place: place_at(source, at),
+                initial: value.tree,
+            }),
+        },
+        height: declarator.height.max(value.height) + 1,
+        next: value.next,
+        otherwise: value.otherwise,
+    })
+}

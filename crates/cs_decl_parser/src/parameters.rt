@@ -1,0 +1,141 @@
+//! The parameters of functions (C11 6.7.6.3).
+ghost use Rattle.std.specs.Prelude.{◌≤◌, ◌<◌, ◌^◌, ◌+◌, length, IsTrue};
+ghost use Rattle.cs_decl_parser.specs.Bounds.{IsBounded, IsRowBounded};
+
+use crate::declarator::{Declares, bounds};
+use crate::names::free_name_at;
+use crate::source::{Scope, Source, is_keyword, is_mark, place_at, refuse, refuse_but};
+use crate::specs::specs;
+use crate::stop::{Stop, Taken};
+use crate::words::stars;
+use cs_ast::raw::declaration::{RawName, RawParameter, RawParameters};
+use cs_ast::{Keyword, Mark};
+use std::alloc::Global;
+
+/// The parameters from behind an opening parenthesis to behind the closing one, as one node.
+pub fn parameters(
+    alloc: Global,
+    source: &Source,
+    from: usize,
+    room: u32,
+) -> Result<Taken<RawParameters>, Stop>
+    requires within { from ≤ length source.now.tokens.now }
+    requires few { length source.now.tokens.now < 2 ^ 32 }
+    requires enough { 3 ≤ room }
+    ensures bounds { IsBounded room source.now.tokens.now from result }
+{
+    if is_mark(source, from, Mark::CloseParenthesis) {
+        return Ok(Taken {
+            tree: RawParameters::Empty,
+            height: 1,
+            next: from + 1,
+        });
+    }
+    if is_void_alone(source, from) {
+        return Ok(Taken {
+            tree: RawParameters::Void,
+            height: 1,
+            next: from + 2,
+        });
+    }
+    let list = parameter_list(alloc, source, from, room - 1)?;
+    Ok(Taken {
+        tree: RawParameters::List(list.tree),
+        height: list.height + 1,
+        next: list.next,
+    })
+}
+
+/// Whether `void` alone stands before a closing parenthesis, from a number on.
+fn is_void_alone(source: &Source, from: usize) -> bool
+    requires few { from < 2 ^ 33 }
+    ensures within { IsTrue result → from + 1 < length source.now.tokens.now }
+{
+    is_keyword(source, from, Keyword::Void) && is_mark(source, from + 1, Mark::CloseParenthesis)
+}
+
+/// Parameters with commas between them, one at least, to behind the closing parenthesis. The height is that of the highest.
+fn parameter_list(
+    alloc: Global,
+    source: &Source,
+    from: usize,
+    room: u32,
+) -> Result<Taken<Vec<RawParameter>>, Stop>
+    requires within { from ≤ length source.now.tokens.now }
+    requires few { length source.now.tokens.now < 2 ^ 32 }
+    requires enough { 2 ≤ room }
+    ensures bounds { IsBounded room source.now.tokens.now from result }
+{
+    let mut list = Vec::new(alloc);
+    let mut last = parameter(alloc, source, from, room)?;
+    let mut height = last.height;
+    'parameters: while is_mark(source, last.next, Mark::Comma) {
+        let following = parameter(alloc, source, last.next + 1, room)?;
+        list.push(last.tree)?;
+        height = height.max(following.height);
+        last = following;
+    }
+    list.push(last.tree)?;
+    if !is_mark(source, last.next, Mark::CloseParenthesis) {
+        return Err(refuse(source, last.next, Scope::File));
+    }
+    Ok(Taken {
+        tree: list,
+        height,
+        next: last.next + 1,
+    })
+}
+
+fn parameter(
+    alloc: Global,
+    source: &Source,
+    from: usize,
+    room: u32,
+) -> Result<Taken<RawParameter>, Stop>
+    requires within { from ≤ length source.now.tokens.now }
+    requires few { length source.now.tokens.now < 2 ^ 32 }
+    requires enough { 2 ≤ room }
+    ensures bounds { IsBounded room source.now.tokens.now from result }
+{
+    let specs = specs(alloc, source, Scope::File, from, room - 1)?;
+    let pointers = stars(alloc, source, specs.next)?;
+    let name = parameter_name(source, pointers.next)?;
+    let bounds = bounds(alloc, source, name.next, room - 1, Declares::Names)?;
+    Ok(Taken {
+        tree: RawParameter {
+            place: place_at(source, from),
+            specs: specs.tree,
+            pointers: pointers.tree,
+            name: name.tree,
+            bounds: bounds.tree,
+        },
+        height: specs.height.max(bounds.height) + 1,
+        next: bounds.next,
+    })
+}
+
+/// The name of a parameter at a number, if it has one.
+fn parameter_name(source: &Source, at: usize) -> Result<Taken<Option<RawName>>, Stop>
+    requires within { at ≤ length source.now.tokens.now }
+    requires few { length source.now.tokens.now < 2 ^ 32 }
+    ensures bounds { IsRowBounded 0 source.now.tokens.now at result }
+{
+    if is_mark(source, at, Mark::OpenParenthesis) {
+        return Err(refuse_but(source, at, Scope::File, Mark::OpenParenthesis));
+    }
+    let name = free_name_at(source, at)?;
+    let next = if name.is_some() { at + 1 } else { at };
+    Ok(Taken {
+        tree: name,
+        height: 0,
+        next,
+    })
+}
+
+/// Whether every parameter has a name, so that a body may follow.
+pub fn are_named(parameters: &RawParameters) -> bool {
+    match parameters {
+        RawParameters::Empty | RawParameters::Void => true,
+        RawParameters::List(list) => list.iter().all(|parameter| parameter.name.is_some()),
+    }
+}

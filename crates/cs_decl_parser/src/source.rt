@@ -1,0 +1,206 @@
+//! Tokens by their numbers, and why they are refused.
+ghost use Rattle.std.specs.Prelude.{◌≡◌, ◌<◌, ◌↔◌, length, drop, IsSome, IsTrue};
+ghost use Rattle.std.specs.Option.{option_copied};
+ghost use Rattle.cs_ast.specs.declared.token.TokenKind.TheVariants as token;
+ghost use Rattle.cs_grammar.specs.FirstTokens.{begins_type as starts_type, keyword_begins_type};
+ghost use Rattle.cs_grammar.specs.Places.{StandsAt};
+ghost use Rattle.cs_expr_parser.specs.Positions.{kind_or_end, mark_of as mark_of_kind, keyword_of as keyword_of_kind, name_of as name_of_kind};
+ghost use Rattle.cs_grammar.specs.declared.refusal.Reason.TheVariants.{TooDeep};
+ghost use Rattle.cs_decl_parser.specs.declared.stop.Stop.TheVariants as stop;
+ghost use Rattle.cs_decl_parser.specs.Reasons.{is_left_out as left_out, plain_reason, RefusesBut};
+
+use crate::stop::Stop;
+use cs_ast::{Keyword, Mark, Place, Token, TokenKind};
+use cs_grammar::{Reason, TypedefNames};
+use cs_names::Name;
+
+/// What a part of the parser reads: the tokens, the place of the end of input, and the names of the typedefs before.
+#[derive(Clone, Copy)]
+pub struct Source<'a> {
+    pub tokens: &'a [Token],
+    pub end: Place,
+    pub names: &'a TypedefNames,
+}
+
+/// Whether tokens stand inside a block, where other words are left out.
+#[derive(Clone, Copy, Debug, PartialEq, Eq)]
+pub enum Scope {
+    File,
+    Block,
+}
+
+/// The mark that stands at a number, if one does.
+#[tactic(auto, using(std::proofs::lemmas::Option::slice_get_within))]
+pub fn mark_at(source: &Source, at: usize) -> Option<Mark>
+    ensures mark { result ≡ mark_of_kind (kind_or_end source.now.tokens.now at) }
+    ensures within { IsSome result → at < length source.now.tokens.now }
+{
+    match source.tokens.get(at) {
+        Some(token) => mark_of(&token.kind),
+        None => None,
+    }
+}
+
+fn mark_of(kind: &TokenKind) -> Option<Mark>
+    ensures { result ≡ mark_of_kind kind.now }
+{
+    match kind {
+        TokenKind::Mark(mark) => Some(*mark),
+        _ => None,
+    }
+}
+
+/// Whether this mark stands at a number.
+pub fn is_mark(source: &Source, at: usize, mark: Mark) -> bool
+    ensures mark { IsTrue result ↔ (kind_or_end source.now.tokens.now at ≡ token.Mark mark) }
+    ensures within { IsTrue result → at < length source.now.tokens.now }
+{
+    mark_at(source, at) == Some(mark)
+}
+
+/// The keyword that stands at a number, if one does.
+#[tactic(auto, using(std::proofs::lemmas::Option::slice_get_within))]
+pub fn keyword_at(source: &Source, at: usize) -> Option<Keyword>
+    ensures keyword { result ≡ keyword_of_kind (kind_or_end source.now.tokens.now at) }
+    ensures within { IsSome result → at < length source.now.tokens.now }
+{
+    match source.tokens.get(at) {
+        Some(token) => keyword_of(&token.kind),
+        None => None,
+    }
+}
+
+fn keyword_of(kind: &TokenKind) -> Option<Keyword>
+    ensures { result ≡ keyword_of_kind kind.now }
+{
+    match kind {
+        TokenKind::Keyword(keyword) => Some(*keyword),
+        _ => None,
+    }
+}
+
+/// Whether this keyword stands at a number.
+pub fn is_keyword(source: &Source, at: usize, keyword: Keyword) -> bool
+    ensures keyword { IsTrue result ↔ (kind_or_end source.now.tokens.now at ≡ token.Keyword keyword) }
+    ensures within { IsTrue result → at < length source.now.tokens.now }
+{
+    keyword_at(source, at) == Some(keyword)
+}
+
+/// The name that stands at a number, if one does.
+#[tactic(auto, using(std::proofs::lemmas::Option::slice_get_within))]
+pub fn name_at<'a>(source: &Source<'a>, at: usize) -> Option<&'a Name>
+    ensures name { option_copied result ≡ name_of_kind (kind_or_end source.now.tokens.now at) }
+    ensures within { IsSome result → at < length source.now.tokens.now }
+{
+    match source.tokens.get(at) {
+        Some(token) => name_of(&token.kind),
+        None => None,
+    }
+}
+
+fn name_of(kind: &TokenKind) -> Option<&Name>
+    ensures { option_copied result ≡ name_of_kind kind.now }
+{
+    match kind {
+        TokenKind::Name(name) => Some(name),
+        _ => None,
+    }
+}
+
+/// Whether a type without `static` may begin with the token at a number.
+pub fn begins_type(source: &Source, at: usize) -> bool
+    ensures { result ≡ starts_type source.now.names.now (kind_or_end source.now.tokens.now at) }
+{
+    match source.tokens.get(at) {
+        Some(token) => is_type_start(&token.kind, source.names),
+        None => false,
+    }
+}
+
+fn is_type_start(kind: &TokenKind, names: &TypedefNames) -> bool
+    ensures { result ≡ starts_type names.now kind.now }
+{
+    match kind {
+        TokenKind::Name(name) => names.contains(name),
+        TokenKind::Keyword(keyword) => is_type_keyword(*keyword),
+        _ => false,
+    }
+}
+
+fn is_type_keyword(keyword: Keyword) -> bool
+    ensures { result ≡ keyword_begins_type keyword }
+{
+    match keyword {
+        Keyword::Const | Keyword::Void | Keyword::Struct | Keyword::Enum => true,
+        Keyword::Char | Keyword::Short | Keyword::Int => true,
+        Keyword::Long | Keyword::Signed | Keyword::Unsigned => true,
+        _ => false,
+    }
+}
+
+/// Whether the token at a number is left out wherever it stands, outside expressions, in this scope.
+fn is_left_out(source: &Source, at: usize, scope: Scope) -> bool
+    ensures { result ≡ left_out scope (kind_or_end source.now.tokens.now at) }
+{
+    match source.tokens.get(at) {
+        Some(token) => is_left_out_kind(&token.kind, scope),
+        None => false,
+    }
+}
+
+fn is_left_out_kind(kind: &TokenKind, scope: Scope) -> bool
+    ensures { result ≡ left_out scope kind.now }
+{
+    match kind {
+        TokenKind::LeftOut(_) => true,
+        TokenKind::Mark(Mark::Ellipsis) => true,
+        TokenKind::Keyword(Keyword::Static) => scope == Scope::Block,
+        TokenKind::Keyword(Keyword::Typedef) => scope == Scope::Block,
+        _ => false,
+    }
+}
+
+/// Why the token at a number is refused where no tree of any height goes on with it.
+pub fn reason_at(source: &Source, at: usize, scope: Scope) -> Reason
+    ensures { result ≡ plain_reason scope (kind_or_end source.now.tokens.now at) }
+{
+    if is_left_out(source, at, scope) {
+        Reason::LeftOut
+    } else {
+        Reason::Syntax
+    }
+}
+
+/// The refusal of the token at a number, with which no tree of any height goes on.
+pub fn refuse(source: &Source, at: usize, scope: Scope) -> Stop
+    ensures { result ≡ stop.Refused at (plain_reason scope (kind_or_end source.now.tokens.now at)) }
+{
+    Stop::Refused(at, reason_at(source, at, scope))
+}
+
+/// The same, where besides a mark is left out.
+pub fn refuse_but(source: &Source, at: usize, scope: Scope, left_out: Mark) -> Stop
+    ensures { RefusesBut left_out scope at (kind_or_end source.now.tokens.now at) result }
+{
+    if is_mark(source, at, left_out) {
+        return Stop::Refused(at, Reason::LeftOut);
+    }
+    refuse(source, at, scope)
+}
+
+/// The refusal of the token at a number, with which only trees that are too high go on.
+pub fn refuse_deep(at: usize) -> Stop
+    ensures { result ≡ stop.Refused at TooDeep }
+{
+    Stop::Refused(at, Reason::TooDeep)
+}
+
+/// The place of the token at a number.
+pub fn place_at(source: &Source, at: usize) -> Place
+    requires { at < length source.now.tokens.now }
+    ensures { StandsAt result (drop at source.now.tokens.now) }
+{
+    let token = &source.tokens[at];
+    token.place
+}

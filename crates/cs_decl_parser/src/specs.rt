@@ -1,0 +1,261 @@
+//! What stands before declarators: words of types and bodies (C11 6.7.2).
+ghost use Rattle.std.specs.Prelude.{◌≡◌, ◌≤◌, ◌<◌, ◌^◌, ◌+◌, ◌-◌, length, IfSome};
+ghost use Rattle.cs_expr_parser.specs.Words.{names_some};
+ghost use Rattle.cs_decl_parser.specs.Bounds.{IsBounded, IsNextBounded, IsWordBounded, IsWordOf};
+
+use crate::constants::{ConstantList, constants};
+use crate::members::members;
+use crate::names::any_name_at;
+use crate::source::{
+    Scope, Source, begins_type, is_keyword, is_mark, keyword_at, refuse, refuse_deep,
+};
+use crate::stop::{Stop, Taken};
+use crate::words::type_word_at;
+use cs_ast::raw::declaration::{RawMember, RawName, RawSpecs, SpecWord};
+use cs_ast::raw::written_type::TypeWord;
+use cs_ast::{Keyword, Mark, Place};
+use cs_grammar::{Reason, TypeSoFar};
+use cs_names::Name;
+use std::alloc::Global;
+
+/// A word before declarators that fits behind those before it.
+#[derive(Drop)]
+pub struct NextWord {
+    pub word: SpecWord,
+    /// The place of its tag, if it has one.
+    pub tag: Option<Place>,
+    pub height: u32,
+    /// The number of the token behind it.
+    pub next: usize,
+    /// What the words leave open with this one.
+    pub so_far: TypeSoFar,
+}
+
+/// Whether what stands before declarators may begin with the token at a number.
+pub fn begins_specs(source: &Source, at: usize, scope: Scope) -> bool {
+    begins_type(source, at) || scope == Scope::File && is_keyword(source, at, Keyword::Static)
+}
+
+/// What stands before declarators, from a number on: as many words as fit together.
+#[cycle(specs)]
+pub fn specs(
+    alloc: Global,
+    source: &Source,
+    scope: Scope,
+    from: usize,
+    room: u32,
+) -> Result<Taken<RawSpecs>, Stop>
+    requires within { from ≤ length source.now.tokens.now }
+    requires few { length source.now.tokens.now < 2 ^ 32 }
+    requires some { 1 ≤ room }
+    ensures bounds { IsBounded room source.now.tokens.now from result }
+{
+    let mut words = Vec::new(alloc);
+    let mut tag = None;
+    let mut height = 0;
+    let mut next = from;
+    let mut so_far = TypeSoFar::Nothing;
+    'words: while let Some(found) = word_at(alloc, source, scope, next, room, so_far)? {
+        tag = tag.or(found.tag);
+        height = height.max(found.height);
+        next = found.next;
+        so_far = found.so_far;
+        words.push(found.word)?;
+    }
+    if !names_type(so_far) {
+        return Err(refuse(source, next, scope));
+    }
+    Ok(Taken {
+        tree: RawSpecs { words, tag },
+        height,
+        next,
+    })
+}
+
+/// The word at a number, if one stands there that fits behind those before it.
+#[cycle(specs)]
+fn word_at(
+    alloc: Global,
+    source: &Source,
+    scope: Scope,
+    at: usize,
+    room: u32,
+    so_far: TypeSoFar,
+) -> Result<Option<NextWord>, Stop>
+    requires within { at ≤ length source.now.tokens.now }
+    requires few { length source.now.tokens.now < 2 ^ 32 }
+    requires some { 1 ≤ room }
+    ensures bounds { IsWordBounded room source.now.tokens.now at result }
+{
+    match keyword_at(source, at) {
+        Some(Keyword::Struct | Keyword::Enum) => {
+            if names_type(so_far) {
+                return Ok(None);
+            }
+            let found = tagged(alloc, source, scope, at, room)?;
+            Ok(Some(found))
+        }
+        Some(Keyword::Static) => Ok(static_word(scope, at, so_far)),
+        _ => plain_word(source, at, so_far),
+    }
+}
+
+/// Whether words name a type.
+fn names_type(so_far: TypeSoFar) -> bool
+    ensures { result ≡ names_some so_far }
+{
+    match so_far {
+        TypeSoFar::Nothing => false,
+        TypeSoFar::Integers(_) | TypeSoFar::Whole => true,
+    }
+}
+
+/// `static`, at a number.
+fn static_word(scope: Scope, at: usize, so_far: TypeSoFar) -> Option<NextWord>
+    requires few { at < 2 ^ 32 }
+    ensures { IfSome result (IsWordOf 1 1 at) }
+{
+    match scope {
+        Scope::File => Some(NextWord {
+            word: SpecWord::Static,
+            tag: None,
+            height: 1,
+            next: at + 1,
+            so_far,
+        }),
+        Scope::Block => None,
+    }
+}
+
+/// The word of one token at a number, if it is one that fits behind the words before it.
+fn plain_word(source: &Source, at: usize, so_far: TypeSoFar) -> Result<Option<NextWord>, Stop>
+    requires few { length source.now.tokens.now < 2 ^ 32 }
+    ensures bounds { IsWordBounded 1 source.now.tokens.now at result }
+{
+    let Some(word) = type_word_at(source, at)? else {
+        return Ok(None);
+    };
+    match so_far.with(&word) {
+        None => Ok(None),
+        Some(so_far) => Ok(Some(NextWord {
+            word: SpecWord::Plain(word),
+            tag: None,
+            height: 1,
+            next: at + 1,
+            so_far,
+        })),
+    }
+}
+
+/// `struct` or `enum`, at a number, with a tag or a body behind it or both.
+#[cycle(specs)]
+fn tagged(
+    alloc: Global,
+    source: &Source,
+    scope: Scope,
+    at: usize,
+    room: u32,
+) -> Result<NextWord, Stop>
+    requires within { at < length source.now.tokens.now }
+    requires few { length source.now.tokens.now < 2 ^ 32 }
+    requires some { 1 ≤ room }
+    ensures bounds { IsNextBounded room source.now.tokens.now at result }
+{
+    let tag = any_name_at(source, at + 1)?;
+    let behind = if tag.is_some() { at + 2 } else { at + 1 };
+    if is_mark(source, behind, Mark::OpenBrace) {
+        return match scope {
+            Scope::File => with_body(alloc, source, at, tag, behind, room),
+            Scope::Block => Err(Stop::Refused(behind, Reason::LeftOut)),
+        };
+    }
+    match tag {
+        Some(tag) => Ok(without_body(source, at, tag)),
+        None => Err(refuse(source, behind, scope)),
+    }
+}
+
+/// `struct` or `enum`, at a number, and the tag behind it.
+fn without_body(source: &Source, at: usize, tag: RawName) -> NextWord
+    requires few { at < 2 ^ 32 }
+    ensures { IsWordOf 2 1 at result }
+{
+    let word = if is_keyword(source, at, Keyword::Struct) {
+        TypeWord::Struct(tag.name)
+    } else {
+        TypeWord::Enum(tag.name)
+    };
+    NextWord {
+        word: SpecWord::Plain(word),
+        tag: Some(tag.place),
+        height: 1,
+        next: at + 2,
+        so_far: TypeSoFar::Whole,
+    }
+}
+
+/// `struct` or `enum`, at a number, with its tag, if it has one, and a body, whose opening brace stands at another.
+#[cycle(specs)]
+fn with_body(
+    alloc: Global,
+    source: &Source,
+    at: usize,
+    tag: Option<RawName>,
+    brace: usize,
+    room: u32,
+) -> Result<NextWord, Stop>
+    requires onward { at < brace }
+    requires within { brace < length source.now.tokens.now }
+    requires few { length source.now.tokens.now < 2 ^ 32 }
+    requires some { 1 ≤ room }
+    ensures bounds { IsNextBounded room source.now.tokens.now at result }
+{
+    if is_keyword(source, at, Keyword::Struct) {
+        let members = members(alloc, source, brace + 1, room - 1)?;
+        return Ok(structure(tag, members));
+    }
+    if room < 2 {
+        return Err(refuse_deep(brace));
+    }
+    let constants = constants(alloc, source, brace + 1, room - 1)?;
+    Ok(enumeration(tag, constants))
+}
+
+/// A tag, if there is one, apart from its place.
+fn split(tag: Option<RawName>) -> (Option<Name>, Option<Place>) {
+    match tag {
+        Some(tag) => (Some(tag.name), Some(tag.place)),
+        None => (None, None),
+    }
+}
+
+/// The word of a structure with its body.
+fn structure(tag: Option<RawName>, members: Taken<Vec<RawMember>>) -> NextWord
+    requires low { members.height < 2 ^ 32 - 1 }
+    ensures { IsWordOf 0 (members.height + 1) members.next result }
+{
+    let (name, place) = split(tag);
+    NextWord {
+        word: SpecWord::Struct(name, members.tree),
+        tag: place,
+        height: members.height + 1,
+        next: members.next,
+        so_far: TypeSoFar::Whole,
+    }
+}
+
+/// The word of an enumeration with its body.
+fn enumeration(tag: Option<RawName>, constants: Taken<ConstantList>) -> NextWord
+    requires low { constants.height < 2 ^ 32 - 1 }
+    ensures { IsWordOf 0 (constants.height + 1) constants.next result }
+{
+    let (name, place) = split(tag);
+    let ConstantList { list, comma } = constants.tree;
+    NextWord {
+        word: SpecWord::Enum(name, list, comma),
+        tag: place,
+        height: constants.height + 1,
+        next: constants.next,
+        so_far: TypeSoFar::Whole,
+    }
+}

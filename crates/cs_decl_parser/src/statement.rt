@@ -1,0 +1,134 @@
+//! Statements (C11 6.8).
+ghost use Rattle.std.specs.Prelude.{◌≤◌, ◌<◌, ◌^◌, ◌+◌, length};
+ghost use Rattle.cs_decl_parser.specs.Bounds.{IsBounded, IsOf};
+
+use crate::block::block;
+use crate::branches::{if_statement, switch_statement};
+use crate::expression::{closed, closed_if_any};
+use crate::form::{Form, form_at};
+use crate::loops::{do_statement, for_statement, while_statement};
+use crate::names::any_name_at;
+use crate::nodes::{label_node, node};
+use crate::source::{Scope, Source, is_mark, place_at, refuse, refuse_deep};
+use crate::stop::{Stop, Taken};
+use cs_ast::Mark;
+use cs_ast::raw::statement::{RawStmt, RawStmtKind};
+use cs_expr_parser::ExprLevel;
+use std::alloc::Global;
+
+/// The statement that the tokens from a number on begin with.
+#[cycle(statement)]
+pub fn statement(
+    alloc: Global,
+    source: &Source,
+    from: usize,
+    room: u32,
+) -> Result<Taken<RawStmt>, Stop>
+    requires within { from ≤ length source.now.tokens.now }
+    requires few { length source.now.tokens.now < 2 ^ 32 }
+    ensures bounds { IsBounded room source.now.tokens.now from result }
+{
+    let form = form_at(source, from);
+    if room < form.least_height() {
+        return Err(refuse_deep(from));
+    }
+    match form {
+        Form::Block => block(alloc, source, from, room),
+        Form::If => if_statement(alloc, source, from, room),
+        Form::While => while_statement(alloc, source, from, room),
+        Form::Do => do_statement(alloc, source, from, room),
+        Form::For => for_statement(alloc, source, from, room),
+        Form::Switch => switch_statement(alloc, source, from, room),
+        Form::Label => label(alloc, source, from, room),
+        Form::Unlabelled => Err(refuse(source, from + 1, Scope::Block)),
+        Form::Run => run(alloc, source, from, room),
+        Form::Empty => Ok(leaf(source, from, from + 1, RawStmtKind::Empty)),
+        Form::Goto => goto(source, from),
+        Form::Continue => jump(source, from, RawStmtKind::Continue),
+        Form::Break => jump(source, from, RawStmtKind::Break),
+        Form::Return => return_statement(alloc, source, from, room),
+    }
+}
+
+/// A statement with no part, from a number on, up to another.
+fn leaf(source: &Source, from: usize, next: usize, kind: RawStmtKind) -> Taken<RawStmt>
+    requires within { from < length source.now.tokens.now }
+    ensures { IsOf 1 next result }
+{
+    node(place_at(source, from), kind, 1, next)
+}
+
+/// `name : body`, from a number on (C11 6.8.1).
+#[cycle(statement)]
+fn label(alloc: Global, source: &Source, from: usize, room: u32) -> Result<Taken<RawStmt>, Stop>
+    requires within { from + 2 ≤ length source.now.tokens.now }
+    requires few { length source.now.tokens.now < 2 ^ 32 }
+    requires enough { 2 ≤ room }
+    ensures bounds { IsBounded room source.now.tokens.now from result }
+{
+    let Some(name) = any_name_at(source, from)? else {
+        return Err(refuse(source, from, Scope::Block));
+    };
+    let body = statement(alloc, source, from + 2, room - 1)?;
+    let made = label_node(alloc, name, body)?;
+    Ok(made)
+}
+
+/// An expression with its semicolon, from a number on (C11 6.8.3).
+fn run(alloc: Global, source: &Source, from: usize, room: u32) -> Result<Taken<RawStmt>, Stop>
+    requires within { from ≤ length source.now.tokens.now }
+    requires few { length source.now.tokens.now < 2 ^ 32 }
+    ensures bounds { IsBounded room source.now.tokens.now from result }
+{
+    let (level, closing) = (ExprLevel::Expr, Mark::Semicolon);
+    let value = closed(alloc, source, from, room.saturating_sub(1), level, closing)?;
+    let (height, next) = (value.height + 1, value.next);
+    let kind = RawStmtKind::Run(value.tree);
+    Ok(node(place_at(source, from), kind, height, next))
+}
+
+/// `goto name ;`, from a number on (C11 6.8.6.1).
+fn goto(source: &Source, from: usize) -> Result<Taken<RawStmt>, Stop>
+    requires within { from < length source.now.tokens.now }
+    requires few { length source.now.tokens.now < 2 ^ 32 }
+    ensures bounds { IsBounded 1 source.now.tokens.now from result }
+{
+    let Some(name) = any_name_at(source, from + 1)? else {
+        return Err(refuse(source, from + 1, Scope::Block));
+    };
+    if !is_mark(source, from + 2, Mark::Semicolon) {
+        return Err(refuse(source, from + 2, Scope::Block));
+    }
+    Ok(leaf(source, from, from + 3, RawStmtKind::Goto(name.name)))
+}
+
+/// `continue ;` or `break ;`, from a number on (C11 6.8.6.2, 6.8.6.3).
+fn jump(source: &Source, from: usize, kind: RawStmtKind) -> Result<Taken<RawStmt>, Stop>
+    requires within { from < length source.now.tokens.now }
+    requires few { length source.now.tokens.now < 2 ^ 32 }
+    ensures bounds { IsBounded 1 source.now.tokens.now from result }
+{
+    if !is_mark(source, from + 1, Mark::Semicolon) {
+        return Err(refuse(source, from + 1, Scope::Block));
+    }
+    Ok(leaf(source, from, from + 2, kind))
+}
+
+/// `return value ;` or `return ;`, from a number on (C11 6.8.6.4).
+fn return_statement(
+    alloc: Global,
+    source: &Source,
+    from: usize,
+    room: u32,
+) -> Result<Taken<RawStmt>, Stop>
+    requires within { from < length source.now.tokens.now }
+    requires few { length source.now.tokens.now < 2 ^ 32 }
+    requires some { 1 ≤ room }
+    ensures bounds { IsBounded room source.now.tokens.now from result }
+{
+    let (level, closing) = (ExprLevel::Expr, Mark::Semicolon);
+    let value = closed_if_any(alloc, source, from + 1, room - 1, level, closing)?;
+    let (height, next) = (value.height + 1, value.next);
+    let kind = RawStmtKind::Return(value.tree);
+    Ok(node(place_at(source, from), kind, height, next))
+}

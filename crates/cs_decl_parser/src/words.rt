@@ -1,0 +1,68 @@
+//! The words of pointers, and the words of types that name no body (C11 6.7.2, 6.7.6.1).
+ghost use Rattle.std.specs.Prelude.{◌≤◌, ◌<◌, ◌^◌, length, IfOk, IsSome};
+
+use crate::source::{Source, begins_type, is_mark, keyword_at, name_at};
+use crate::stop::Taken;
+use cs_ast::raw::written_type::{PointerWord, TypeWord};
+use cs_ast::{Keyword, Mark};
+use cs_grammar::integer_word;
+use std::alloc::{AllocError, Global};
+
+/// The stars from a number on and the `const`s behind them, which are as high as nothing.
+pub fn stars(
+    alloc: Global,
+    source: &Source,
+    from: usize,
+) -> Result<Taken<Vec<PointerWord>>, AllocError>
+    requires within { from ≤ length source.now.tokens.now }
+    requires few { length source.now.tokens.now < 2 ^ 32 }
+    ensures bounds { IfOk result (λ taken. (from ≤ taken.next) × (taken.next ≤ length source.now.tokens.now)) }
+{
+    let mut words = Vec::new(alloc);
+    let mut next = from;
+    'stars: while let Some(word) = pointer_word_at(source, next) {
+        words.push(word)?;
+        next += 1;
+    }
+    Ok(Taken {
+        tree: words,
+        height: 0,
+        next,
+    })
+}
+
+fn pointer_word_at(source: &Source, at: usize) -> Option<PointerWord>
+    ensures within { IsSome result → at < length source.now.tokens.now }
+{
+    if is_mark(source, at, Mark::Star) {
+        return Some(PointerWord::Star);
+    }
+    match keyword_at(source, at) {
+        Some(Keyword::Const) => Some(PointerWord::Const),
+        _ => None,
+    }
+}
+
+/// The word of a type that the one token at a number is, if it is one.
+pub fn type_word_at(source: &Source, at: usize) -> Result<Option<TypeWord>, AllocError>
+    ensures within { IfOk result (λ word. IsSome word → at < length source.now.tokens.now) }
+{
+    if let Some(name) = name_at(source, at) {
+        if !begins_type(source, at) {
+            return Ok(None);
+        }
+        return Ok(Some(TypeWord::Typedef(name.copy()?)));
+    }
+    match keyword_at(source, at) {
+        Some(keyword) => Ok(type_word(keyword)),
+        None => Ok(None),
+    }
+}
+
+fn type_word(keyword: Keyword) -> Option<TypeWord> {
+    match keyword {
+        Keyword::Const => Some(TypeWord::Const),
+        Keyword::Void => Some(TypeWord::Void),
+        _ => Some(TypeWord::Integer(integer_word(keyword)?)),
+    }
+}
