@@ -1,0 +1,12 @@
+//! A plain interpreter: it runs a typed program as the plain machine does, step by step.
+#![tactic(auto, using(crate::proofs::Performing::performing))]
+
+mod arithmetic;
+mod guessing;
+mod logs;
+mod objects;
+mod settings;
+
+pub use logs::{Log, Stop, Touch};
+pub use objects::{Cell, Object, Operand};
+pub use settings::Setting;
