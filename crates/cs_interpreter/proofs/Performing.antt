@@ -48,5 +48,8 @@ pub map-push : {A B : Type 0} (f : A → B) (xs : List A) (x : A) → map f (xs 
 map-push f [] x = refl
 map-push f (y ∷ ys) x = ap (λ l. f y ∷ l) (map-push f ys x)
 
+-- what each act comes to that shows nothing, and numbers without the casts that change nothing
+pub ruleset silent = (perform-Goes, perform-Stops, perform-Touches, to_z-of_z)
+
 -- what each act comes to, and numbers without the casts that change nothing
 pub ruleset performing = (perform-Goes, perform-Stops, perform-Reads, perform-Touches, perform-Asks, perform-Allocates, perform-Reaches, map-push, to_z-of_z)

@@ -57,7 +57,13 @@ fn plain(number: i128) -> Computed
 }
 
 // An operator of two integers.
-fn binary(model: DataModel, operator: BinOp, ty: IntType, left: i128, right: i128) -> Option<Computed>
+fn binary(
+    model: DataModel,
+    operator: BinOp,
+    ty: IntType,
+    left: i128,
+    right: i128,
+) -> Option<Computed>
     ensures { IfSome result (IsConverted model ty (operations.exact model operator ty left right)) }
 {
     match operator {
@@ -235,7 +241,11 @@ fn moved(model: DataModel, offset: i128, amount: i128, size: u64) -> Option<i128
 fn within_bound(model: DataModel, moved: i128) -> i128
     ensures { result ≡ operations.within_bound model moved }
 {
-    if lies_in(offsets(model), moved) { moved } else { 0 }
+    if lies_in(offsets(model), moved) {
+        moved
+    } else {
+        0
+    }
 }
 
 /// Whether the number isn't 0.

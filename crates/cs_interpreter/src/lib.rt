@@ -1,10 +1,12 @@
 //! A plain interpreter: it runs a typed program as the plain machine does, step by step.
-#![tactic(auto, using(crate::proofs::Performing::performing))]
+#![tactic(auto, using(crate::proofs::Performing::silent))]
 
 mod arithmetic;
 mod guessing;
 mod logs;
 mod objects;
+mod operations;
+mod operators;
 mod settings;
 
 pub use logs::{Log, Stop, Touch};

@@ -1,4 +1,6 @@
 //! What a run has shown, read and touched, and the questions that it shows.
+#![tactic(auto, using(crate::proofs::Performing::performing))]
+
 ghost use Rattle.std.specs.Prelude.{◌≡◌, true, false, IfOk, OnOk, IfErr};
 ghost use Rattle.cs_runs.specs.Acts.{Asks, Allocates, Reaches, Reads, Touches};
 ghost use Rattle.cs_runs.specs.Runs as runs;
@@ -6,6 +8,7 @@ ghost use Rattle.cs_runs.specs.Operations as operations;
 ghost use Rattle.cs_plain.specs.Access.{shows_then};
 ghost use Rattle.cs_interpreter.specs.View.{object_of, touch_of, setting_of, log_of};
 ghost use Rattle.cs_interpreter.specs.declared.logs.Stop.TheVariants.{Memory};
+ghost use Rattle.cs_interpreter.specs.declared.settings.Setting.{Setting as SettingOfRun};
 ghost use Rattle.cs_interpreter.specs.Results.{IsOwn};
 ghost use Rattle.cs_interpreter.specs.Pieces.{GoesOn, Gives, EndsIn, StopsIn};
 
@@ -77,9 +80,14 @@ impl Log {
     }
 
     /// An operation shows at a place. Its result leads on, or the number that is guessed in its place.
-    pub fn ask(&mut self, setting: &Setting, place: Place, operation: Operation) -> Result<i128, Stop>
-        ensures ok { IfOk result (Gives (setting_of setting.now) (log_of self.old) (log_of self.new) (Asks place operation)) }
-        ensures err { IfErr result (StopsIn (setting_of setting.now) (log_of self.old) (log_of self.new) (Asks place operation)) }
+    pub fn ask(
+        &mut self,
+        setting: &Setting,
+        place: Place,
+        operation: Operation,
+    ) -> Result<i128, Stop>
+        ensures ok { IfOk result (Gives setting.now self.old self.new (Asks place operation)) }
+        ensures err { IfErr result (StopsIn setting.now self.old self.new (Asks place operation)) }
     {
         if !self.has_room(setting) {
             return Err(Stop::Outcome(Outcome::Over(Budget::Events, place)));
@@ -92,8 +100,8 @@ impl Log {
 
     /// A label shows at a place.
     pub fn show(&mut self, setting: &Setting, place: Place, label: Label) -> Result<(), Stop>
-        ensures ok { OnOk result (GoesOn (setting_of setting.now) (log_of self.old) (log_of self.new) (shows_then place label)) }
-        ensures err { IfErr result (EndsIn (setting_of setting.now) (log_of self.old) (log_of self.new) (shows_then place label)) }
+        ensures ok { OnOk result (GoesOn setting.now self.old self.new (shows_then place label)) }
+        ensures err { IfErr result (EndsIn setting.now self.old self.new (shows_then place label)) }
     {
         if !self.has_room(setting) {
             return Err(Stop::Outcome(Outcome::Over(Budget::Events, place)));
@@ -104,8 +112,8 @@ impl Log {
 
     /// The number of an input is looked up.
     pub fn read_input(&mut self, setting: &Setting, path: Path) -> Result<i128, Stop>
-        ensures ok { IfOk result (Gives (setting_of setting.now) (log_of self.old) (log_of self.new) (Reads path)) }
-        ensures err { IfErr result (StopsIn (setting_of setting.now) (log_of self.old) (log_of self.new) (Reads path)) }
+        ensures ok { IfOk result (Gives setting.now self.old self.new (Reads path)) }
+        ensures err { IfErr result (StopsIn setting.now self.old self.new (Reads path)) }
     {
         let number = setting.inputs.get(&path);
         self.read.push(path)?;
@@ -113,9 +121,14 @@ impl Log {
     }
 
     /// An allocation shows at a place: whether it gives a block is an input.
-    pub fn try_allocation(&mut self, setting: &Setting, place: Place, path: Path) -> Result<bool, Stop>
-        ensures ok { IfOk result (Gives (setting_of setting.now) (log_of self.old) (log_of self.new) (Allocates place path)) }
-        ensures err { IfErr result (StopsIn (setting_of setting.now) (log_of self.old) (log_of self.new) (Allocates place path)) }
+    pub fn try_allocation(
+        &mut self,
+        setting: &Setting,
+        place: Place,
+        path: Path,
+    ) -> Result<bool, Stop>
+        ensures ok { IfOk result (Gives setting.now self.old self.new (Allocates place path)) }
+        ensures err { IfErr result (StopsIn setting.now self.old self.new (Allocates place path)) }
     {
         if !self.has_room(setting) {
             return Err(Stop::Outcome(Outcome::Over(Budget::Events, place)));
@@ -127,9 +140,15 @@ impl Log {
     }
 
     /// An access shows the offset that it has reached in an object.
-    pub fn show_offset(&mut self, setting: &Setting, place: Place, object: &Object, offset: i128) -> Result<(), Stop>
-        ensures ok { OnOk result (GoesOn (setting_of setting.now) (log_of self.old) (log_of self.new) (Reaches place (object_of object.now) offset)) }
-        ensures err { IfErr result (EndsIn (setting_of setting.now) (log_of self.old) (log_of self.new) (Reaches place (object_of object.now) offset)) }
+    pub fn show_offset(
+        &mut self,
+        setting: &Setting,
+        place: Place,
+        object: &Object,
+        offset: i128,
+    ) -> Result<(), Stop>
+        ensures ok { OnOk result (GoesOn setting.now self.old self.new (Reaches place (object_of object.now) offset)) }
+        ensures err { IfErr result (EndsIn setting.now self.old self.new (Reaches place (object_of object.now) offset)) }
     {
         if !self.has_room(setting) {
             return Err(Stop::Outcome(Outcome::Over(Budget::Events, place)));
@@ -140,7 +159,7 @@ impl Log {
 
     /// A touch, which shows nothing.
     pub fn touch(&mut self, touch: Touch) -> Result<(), AllocError>
-        ensures { OnOk result ((setting : runs.Setting) → GoesOn setting (log_of self.old) (log_of self.new) (Touches (touch_of touch))) }
+        ensures { OnOk result ((setting : SettingOfRun) → GoesOn setting self.old self.new (Touches (touch_of touch))) }
     {
         self.touches.push(touch)?;
         Ok(())
@@ -167,7 +186,11 @@ impl Log {
     {
         let range = guess_range(setting.program.model, operation)?;
         let number = guess_at(setting.guesses, self.events.len() as u64 + 1)?;
-        if lies_in(range, number) { Some(number) } else { None }
+        if lies_in(range, number) {
+            Some(number)
+        } else {
+            None
+        }
     }
 }
 

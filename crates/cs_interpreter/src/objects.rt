@@ -1,11 +1,11 @@
 //! Objects, what their scalars hold, and what evaluated expressions leave.
 ghost use Rattle.std.specs.Prelude.{◌≡◌, IfOk};
 ghost use Rattle.cs_runs.specs.Objects.{same_object};
-ghost use Rattle.cs_plain.specs.Initials.{number_in, is_set};
+ghost use Rattle.cs_plain.specs.Initials.{number_in, is_set, further};
 ghost use Rattle.cs_plain.specs.Operators.{is_pointer};
 ghost use Rattle.cs_plain.specs.Calls.{returned_of, returned_cell};
 ghost use Rattle.cs_plain.specs.Machine as machine;
-ghost use Rattle.cs_interpreter.specs.View.{object_of, cell_of, operand_of};
+ghost use Rattle.cs_interpreter.specs.View.{object_of, cell_of, operand_of, is_null};
 
 use cs_inputs::Path;
 use cs_runs::Returned;
@@ -109,6 +109,31 @@ impl Cell {
             Cell::Number(number) => *number != 0,
             Cell::Pointer(_, _) => true,
             Cell::Null | Cell::Unset => false,
+        }
+    }
+
+    /// Whether it is null.
+    pub fn is_null(&self) -> bool
+        ensures { result ≡ is_null (cell_of self.now) }
+    {
+        match self {
+            Cell::Null => true,
+            Cell::Number(_) | Cell::Pointer(_, _) | Cell::Unset => false,
+        }
+    }
+
+    /// A pointer so many bytes further on; null stays null.
+    pub fn further(self, bytes: u64) -> Result<Cell, AllocError>
+        ensures { IfOk result (λ made. cell_of made ≡ further (cell_of self) bytes) }
+    {
+        match self {
+            Cell::Pointer(object, offset) => {
+                let offset = offset.checked_add(i128::from(bytes)).ok_or(AllocError)?;
+                Ok(Cell::Pointer(object, offset))
+            }
+            Cell::Number(number) => Ok(Cell::Number(number)),
+            Cell::Null => Ok(Cell::Null),
+            Cell::Unset => Ok(Cell::Unset),
         }
     }
 
