@@ -7,6 +7,9 @@ use Rattle.cs_runs.specs.declared.operation.Operation.{Operation}
 use Rattle.cs_runs.specs.declared.operation.Operation.TheVariants as operation
 use Rattle.cs_model.specs.declared.kind.Kind.TheVariants.{Bounds}
 use Rattle.cs_runs.specs.Operations.{is_true}
+use Rattle.cs_ast.specs.declared.typed.operator.CmpOp.{CmpOp}
+use Rattle.cs_runs.specs.Objects.{Cell}
+use Rattle.cs_plain.specs.Operators.{asks_order, in_relation, related, equality, both_null, in_one_object}
 use Rattle.cs_plain.specs.Access.{shows_then, ordered}
 use Rattle.cs_ast.specs.declared.place.Place.{Place}
 use Rattle.cs_model.specs.declared.kind.Kind.{Kind}
@@ -59,3 +62,10 @@ moves_offset model at offset amount size onward =
     (ordered at (offset +ℤ pos (offset_bound_of model)) (amount *ℤ pos size)
     (ordered at (pos (offset_bound_of model) -ℤ offset) (neg_ℤ (amount *ℤ pos size))
     (Asks at (operation.Sum offset amount size) onward)))
+
+-- two pointers compared that have shown whether they are null
+abbrev pub compares_seen : Place → CmpOp → Cell → Cell → (ℤ → Act State) → Act State
+compares_seen at operator left right onward =
+    if asks_order operator
+    then in_relation at (related left right) (λ one other. Asks at (operation.Compare operator one other) onward)
+    else equality at operator (both_null left right) (in_one_object left right) onward

@@ -1,5 +1,5 @@
 -- The interpreter's values, seen as those of the plain machine.
-use Rattle.std.specs.Prelude.{Bool, true, false, map}
+use Rattle.std.specs.Prelude.{map}
 use Rattle.cs_inputs.specs.Inputs.{number_at}
 use Rattle.cs_runs.specs.Objects as objects
 use Rattle.cs_runs.specs.Touches as touches
@@ -36,11 +36,6 @@ abbrev pub operand_of : Operand → machine.Operand
 operand_of (operand.Scalar cell) = machine.Scalar (cell_of cell)
 operand_of (operand.Whole cells) = machine.Whole (map cell_of cells.items)
 operand_of operand.Nothing = machine.Nothing
-
--- whether a scalar holds null
-abbrev pub is_null : objects.Cell → Bool
-is_null objects.NullCell = true
-is_null other = false
 
 -- a touch
 abbrev pub touch_of : Touch → touches.Touch

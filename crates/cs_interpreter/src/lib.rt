@@ -2,8 +2,10 @@
 #![tactic(auto, using(crate::proofs::Performing::silent))]
 
 mod arithmetic;
+mod blocks;
 mod guessing;
 mod logs;
+mod memory;
 mod objects;
 mod operations;
 mod operators;

@@ -5,7 +5,7 @@ ghost use Rattle.cs_plain.specs.Initials.{number_in, is_set, further};
 ghost use Rattle.cs_plain.specs.Operators.{is_pointer};
 ghost use Rattle.cs_plain.specs.Calls.{returned_of, returned_cell};
 ghost use Rattle.cs_plain.specs.Machine as machine;
-ghost use Rattle.cs_interpreter.specs.View.{object_of, cell_of, operand_of, is_null};
+ghost use Rattle.cs_interpreter.specs.View.{object_of, cell_of, operand_of};
 
 use cs_inputs::Path;
 use cs_runs::Returned;
@@ -109,16 +109,6 @@ impl Cell {
             Cell::Number(number) => *number != 0,
             Cell::Pointer(_, _) => true,
             Cell::Null | Cell::Unset => false,
-        }
-    }
-
-    /// Whether it is null.
-    pub fn is_null(&self) -> bool
-        ensures { result ≡ is_null (cell_of self.now) }
-    {
-        match self {
-            Cell::Null => true,
-            Cell::Number(_) | Cell::Pointer(_, _) | Cell::Unset => false,
         }
     }
 

@@ -6,7 +6,7 @@ ghost use Rattle.cs_plain.specs.Initials.{number_in};
 ghost use Rattle.cs_plain.specs.Machine.{State, Scalar};
 ghost use Rattle.cs_runs.specs.Acts.{Act};
 ghost use Rattle.cs_interpreter.specs.View.{cell_of, operand_of};
-ghost use Rattle.cs_interpreter.specs.Pieces.{GoesOn, Gives, EndsIn, StopsIn, or_fault, holds_or_faults, moves_offset};
+ghost use Rattle.cs_interpreter.specs.Pieces.{GoesOn, Gives, EndsIn, StopsIn, or_fault, holds_or_faults, moves_offset, compares_seen};
 
 use crate::arithmetic::{bytes, is_true};
 use crate::guessing::numbers_of;
@@ -288,13 +288,30 @@ impl Log {
     {
         self.look(setting, place, left)?;
         self.look(setting, place, right)?;
+        let number = self.compare_seen(setting, place, operator, left, right)?;
+        Ok(number)
+    }
+
+    // The same, once both have shown whether they are null.
+    fn compare_seen(
+        &mut self,
+        setting: &Setting,
+        place: Place,
+        operator: CmpOp,
+        left: &Cell,
+        right: &Cell,
+    ) -> Result<i128, Stop>
+        ensures ok { IfOk result (Gives setting.now self.old self.new (compares_seen place operator (cell_of left.now) (cell_of right.now))) }
+        ensures err { IfErr result (StopsIn setting.now self.old self.new (compares_seen place operator (cell_of left.now) (cell_of right.now))) }
+    {
         if asks_order(operator) {
             let offsets = in_relation(place, related(left, right))?;
             let number = self.ask(setting, place, offset_comparison(operator, offsets))?;
             Ok(number)
         } else {
-            let same = left.is_null() && right.is_null();
-            let number = self.equality(setting, place, operator, same, in_one_object(left, right))?;
+            let same = both_null(left, right);
+            let offsets = in_one_object(left, right);
+            let number = self.equality(setting, place, operator, same, offsets)?;
             Ok(number)
         }
     }
@@ -419,6 +436,13 @@ fn takes_all(model: DataModel, from: &CType, to: IntType) -> bool
         }
         _ => false,
     }
+}
+
+// Whether two values are both null.
+fn both_null(left: &Cell, right: &Cell) -> bool
+    ensures { result ≡ operators.both_null (cell_of left.now) (cell_of right.now) }
+{
+    matches!((left, right), (Cell::Null, Cell::Null))
 }
 
 // The offsets of two pointers into one object.
