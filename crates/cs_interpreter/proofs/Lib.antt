@@ -1,3 +1,4 @@
 pub mod Performing
 pub mod Numbers
 pub mod Chains
+pub mod Rows

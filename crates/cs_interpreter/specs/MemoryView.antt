@@ -1,8 +1,8 @@
 -- The interpreter's memory, seen as that of the plain machine.
-use Rattle.std.specs.Prelude.{ℕ, zero, suc, ◌+◌, List, map, Option, Some, None, option_map, slice_get}
+use Rattle.std.specs.Prelude.{ℕ, zero, suc, ◌+◌, List, map, Option, Some, None, option_map, slice_get, ◌==◌, if◌then◌else◌, Vec, Global}
 use Rattle.std.specs.Option.{option_and_then}
 use Rattle.std.specs.Map.{lookup}
-use Rattle.std.specs.BTreeMap.{get, is_at}
+use Rattle.std.specs.BTreeMap.{BTreeMap, get, is_at}
 use Rattle.std.specs.Ordering.{nat_cmp}
 use Rattle.cs_types.specs.declared.int_type.IntType.TheVariants.{Char, UChar}
 use Rattle.cs_types.specs.Shape.{Shape, integer, array, shape_of}
@@ -64,22 +64,30 @@ change_of (change.Refill fill) block = plain.refill (fill_of fill) block
 change_of (change.Stand standing) block = plain.stand standing block
 
 -- the block behind an unknown pointer with a path
-abbrev pub start_at : Memory → Path → Option Block
-start_at memory path = lookup (is_at (path_order path)) memory.starts.entries
+abbrev pub start_in : BTreeMap Path Block → Path → Option plain.Block
+start_in starts path = option_map block_of (lookup (is_at (path_order path)) starts.entries)
 
--- what an allocation gave
-abbrev pub given_by : List (Option Block) → ℕ → Option Block
-given_by heap zero = None
-given_by heap (suc before) = option_and_then (λ (given : Option Block). given) (slice_get heap before)
+-- an object of a row
+abbrev pub block_at : List Block → ℕ → Option plain.Block
+block_at row at = option_map block_of (slice_get row at)
 
 -- a local of a frame
-abbrev pub local_of : Memory → ℕ → ℕ → Option Block
-local_of memory frame declaration = option_and_then (λ locals. slice_get locals.items declaration) (slice_get memory.frames.items frame)
+abbrev pub local_in : List (Vec Block Global) → ℕ → ℕ → Option plain.Block
+local_in frames frame declaration = option_and_then (λ (locals : Vec Block Global). block_at locals.items declaration) (slice_get frames frame)
+
+-- the block of an allocation, of those from the first one on
+abbrev pub given_in : List (Option Block) → ℕ → Option plain.Block
+given_in heap zero = None
+given_in heap (suc before) = option_and_then (λ (given : Option Block). option_map block_of given) (slice_get heap before)
 
 -- memory
 abbrev pub memory_of : Memory → plain.Memory
-memory_of memory (StartBlock path) = option_map block_of (start_at memory path)
-memory_of memory (GlobalObject global) = option_map block_of (slice_get memory.globals.items global)
-memory_of memory (LiteralObject literal) = option_map block_of (slice_get memory.literals.items literal)
-memory_of memory (LocalObject frame declaration) = option_map block_of (local_of memory frame declaration)
-memory_of memory (HeapBlock allocation) = option_map block_of (given_by memory.heap.items allocation)
+memory_of memory (StartBlock path) = start_in memory.starts path
+memory_of memory (GlobalObject global) = block_at memory.globals.items global
+memory_of memory (LiteralObject literal) = block_at memory.literals.items literal
+memory_of memory (LocalObject frame declaration) = local_in memory.frames.items frame declaration
+memory_of memory (HeapBlock allocation) = given_in memory.heap.items allocation
+
+-- a row with the object at a place changed, if it is there
+abbrev pub changed_at : (plain.Block → plain.Block) → ℕ → (ℕ → Option plain.Block) → ℕ → Option plain.Block
+changed_at change at row n = if at == n then option_map change (row n) else row n

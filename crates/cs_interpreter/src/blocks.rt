@@ -66,7 +66,7 @@ pub enum Change<'a> {
 impl<'a> Block<'a> {
     /// An object that is there and was not written.
     pub fn new(alloc: Global, ty: BlockType<'a>, extent: u64, fill: Fill<'a>) -> Block<'a>
-        ensures { block_of result ≡ plain.new_block (type_of ty) extent (fill_of fill) }
+        ensures { block_of result ≡ plain.new_block (type_of ty.entry) extent (fill_of fill.entry) }
     {
         Block {
             ty,
@@ -79,7 +79,7 @@ impl<'a> Block<'a> {
 
     /// Changes the object.
     pub fn change(&mut self, change: Change<'a>) -> Result<(), AllocError>
-        ensures { OnOk result (block_of self.new ≡ change_of change (block_of self.old)) }
+        ensures { OnOk result (block_of self.new ≡ change_of change.entry (block_of self.old)) }
     {
         match change {
             Change::Write(offset, cell) => self.write(offset, cell),
@@ -106,7 +106,7 @@ impl<'a> Block<'a> {
 
     // Makes all scalars hold what a fill gives.
     fn refill(&mut self, fill: Fill<'a>)
-        ensures { block_of self.new ≡ plain.refill (fill_of fill) (block_of self.old) }
+        ensures { block_of self.new ≡ plain.refill (fill_of fill.entry) (block_of self.old) }
     {
         self.fill = fill;
         self.written.clear();
