@@ -2,3 +2,4 @@ pub mod Performing
 pub mod Numbers
 pub mod Chains
 pub mod Rows
+pub mod Starts

@@ -1,5 +1,6 @@
 -- The interpreter's memory, seen as that of the plain machine.
-use Rattle.std.specs.Prelude.{ℕ, zero, suc, ◌+◌, List, map, Option, Some, None, option_map, slice_get, ◌==◌, if◌then◌else◌, Vec, Global}
+use Rattle.std.specs.Prelude.{◌≡◌, ℕ, zero, suc, List, map, length, Option, Some, None, option_map, slice_get, ◌==◌, if◌then◌else◌, Vec}
+use Rattle.std.specs.declared.alloc.Global.{Global}
 use Rattle.std.specs.Option.{option_and_then}
 use Rattle.std.specs.Map.{lookup}
 use Rattle.std.specs.BTreeMap.{BTreeMap, get, is_at}
@@ -91,3 +92,13 @@ memory_of memory (HeapBlock allocation) = given_in memory.heap.items allocation
 -- a row with the object at a place changed, if it is there
 abbrev pub changed_at : (plain.Block → plain.Block) → ℕ → (ℕ → Option plain.Block) → ℕ → Option plain.Block
 changed_at change at row n = if at == n then option_map change (row n) else row n
+
+-- there are as many frames and allocations as there were
+pub record KeepsCounts (old new : Memory) : Type 0 where
+  pub frames : length new.frames.items ≡ length old.frames.items
+  pub allocations : length new.heap.items ≡ length old.heap.items
+
+-- memory with these locals in a frame
+abbrev pub with_frame : ℕ → (ℕ → Option plain.Block) → plain.Memory → plain.Memory
+with_frame frame locals memory (LocalObject n declaration) = if n == frame then locals declaration else memory (LocalObject n declaration)
+with_frame frame locals memory other = memory other

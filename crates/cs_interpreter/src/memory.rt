@@ -1,15 +1,17 @@
 //! The memory of a run: its objects, and what their scalars hold.
-ghost use Rattle.std.specs.Prelude.{◌≡◌, ◌==◌, ◌&&◌, ℕ, if◌then◌else◌, option_map, option_copied, OnOk};
+ghost use Rattle.std.specs.Prelude.{◌≡◌, ◌==◌, ◌&&◌, ◌+◌, ℕ, length, if◌then◌else◌, option_map, option_copied, OnOk};
 ghost use Rattle.cs_inputs.specs.declared.path.Path.{Path};
 ghost use Rattle.cs_inputs.specs.PathOrder.{path_order};
-ghost use Rattle.cs_runs.specs.Objects.{is_equal};
+ghost use Rattle.cs_runs.specs.Objects.{is_equal, StartBlock, HeapBlock};
+ghost use Rattle.cs_plain.specs.Calls.{without_locals};
 ghost use Rattle.cs_plain.specs.Memory as plain;
 ghost use Rattle.cs_interpreter.specs.View.{object_of};
-ghost use Rattle.cs_interpreter.specs.MemoryView.{block_of, memory_of, change_of, changed_at, block_at, start_in, local_in, given_in};
+ghost use Rattle.cs_interpreter.specs.MemoryView.{block_of, memory_of, change_of, changed_at, block_at, start_in, local_in, given_in, KeepsCounts, with_frame};
 
 use crate::blocks::{Block, Change};
 use crate::objects::Object;
 use cs_inputs::Path;
+use cs_model::Standing;
 use std::alloc::AllocError;
 use std::collections::BTreeMap;
 
@@ -47,7 +49,8 @@ impl<'a> Memory<'a> {
 
     /// Changes an object, if it is there.
     pub fn change(&mut self, object: &Object, change: Change<'a>) -> Result<(), AllocError>
-        ensures { OnOk result (memory_of self.new ≡ plain.changed (change_of change.entry) (object_of object.now) (memory_of self.old)) }
+        ensures memory { OnOk result (memory_of self.new ≡ plain.changed (change_of change.entry) (object_of object.now) (memory_of self.old)) }
+        ensures counts { OnOk result (KeepsCounts self.old self.new) }
     {
         match object {
             Object::Start(path) => change_start(&mut self.starts, path, change)?,
@@ -64,6 +67,81 @@ impl<'a> Memory<'a> {
             Object::Heap(allocation) => change_given(&mut self.heap, *allocation, change)?,
         }
         Ok(())
+    }
+
+    /// Adds the block behind an unknown pointer with a path, unless it is there.
+    pub fn add_start(&mut self, path: Path, block: Block<'a>) -> Result<(), AllocError>
+        ensures memory { OnOk result (memory_of self.new ≡ plain.with_new_block (StartBlock path) (block_of block.entry) (memory_of self.old)) }
+        ensures counts { OnOk result (KeepsCounts self.old self.new) }
+    {
+        add_if_new(&mut self.starts, path, block)?;
+        Ok(())
+    }
+
+    /// Adds what one more allocation gave.
+    pub fn allocate(&mut self, block: Block<'a>) -> Result<(), AllocError>
+        ensures memory { OnOk result (memory_of self.new ≡ plain.with_block (HeapBlock (length self.old.heap.items + 1)) (block_of block.entry) (memory_of self.old)) }
+        ensures allocations { OnOk result (length self.new.heap.items ≡ length self.old.heap.items + 1) }
+        ensures frames { OnOk result (length self.new.frames.items ≡ length self.old.frames.items) }
+    {
+        self.heap.push(Some(block))?;
+        Ok(())
+    }
+
+    /// Counts one more allocation, which gave none.
+    pub fn allocate_none(&mut self) -> Result<(), AllocError>
+        ensures memory { OnOk result (memory_of self.new ≡ memory_of self.old) }
+        ensures allocations { OnOk result (length self.new.heap.items ≡ length self.old.heap.items + 1) }
+        ensures frames { OnOk result (length self.new.frames.items ≡ length self.old.frames.items) }
+    {
+        self.heap.push(None)?;
+        Ok(())
+    }
+
+    /// Adds the locals of one more frame.
+    pub fn add_frame(&mut self, locals: Vec<Block<'a>>) -> Result<(), AllocError>
+        ensures memory { OnOk result (memory_of self.new ≡ with_frame (length self.old.frames.items) (block_at locals.entry.items) (memory_of self.old)) }
+        ensures frames { OnOk result (length self.new.frames.items ≡ length self.old.frames.items + 1) }
+        ensures allocations { OnOk result (length self.new.heap.items ≡ length self.old.heap.items) }
+    {
+        self.frames.push(locals)?;
+        Ok(())
+    }
+
+    /// A frame has ended, and with it its locals (C11 6.2.4, paragraph 2).
+    pub fn end_frame(&mut self, frame: u64)
+        ensures memory { memory_of self.new ≡ without_locals frame (memory_of self.old) }
+        ensures counts { KeepsCounts self.old self.new }
+    {
+        if (frame as usize) < self.frames.len() {
+            end_all(&mut self.frames[frame as usize]);
+        }
+    }
+}
+
+// Ends all objects of a row.
+fn end_all(row: &mut Vec<Block>)
+    ensures { (n : ℕ) → block_at row.new.items n ≡ option_map (plain.stand Standing.Ended) (block_at row.old.items n) }
+{
+    for block in row.iter_mut() {
+        block.standing = Standing::Ended;
+    }
+}
+
+// Adds the block behind an unknown pointer, unless it is there.
+fn add_if_new<'a>(
+    starts: &mut BTreeMap<Path, Block<'a>>,
+    path: Path,
+    block: Block<'a>,
+) -> Result<(), AllocError>
+    ensures { OnOk result ((other : Path) → start_in starts.new other ≡ (if is_equal (path_order path other) then plain.or_new (block_of block.entry) (start_in starts.old other) else start_in starts.old other)) }
+{
+    if starts.contains_key(&path) {
+        return Ok(());
+    }
+    match starts.insert(path, block) {
+        Ok(_) => Ok(()),
+        Err(_) => Err(AllocError),
     }
 }
 
