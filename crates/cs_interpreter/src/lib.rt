@@ -2,15 +2,18 @@
 #![tactic(auto, using(crate::proofs::Performing::silent))]
 
 mod arithmetic;
-mod blocks;
+pub mod blocks;
 mod guessing;
 mod logs;
-mod memory;
+pub mod memory;
 mod objects;
 mod operations;
 mod operators;
 mod settings;
+#[cfg(test)]
+mod tests;
 
 pub use logs::{Log, Stop, Touch};
 pub use objects::{Cell, Object, Operand};
+pub use operations::{Stride, stride_of};
 pub use settings::Setting;

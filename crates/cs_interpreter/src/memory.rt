@@ -123,8 +123,10 @@ impl<'a> Memory<'a> {
 fn end_all(row: &mut Vec<Block>)
     ensures { (n : ℕ) → block_at row.new.items n ≡ option_map (plain.stand Standing.Ended) (block_at row.old.items n) }
 {
-    for block in row.iter_mut() {
-        block.standing = Standing::Ended;
+    let mut ended = 0;
+    while ended < row.len() {
+        row[ended].standing = Standing::Ended;
+        ended += 1;
     }
 }
 
@@ -176,7 +178,8 @@ fn change_local<'a>(
     declaration: usize,
     change: Change<'a>,
 ) -> Result<(), AllocError>
-    ensures { OnOk result ((n d : ℕ) → local_in frames.new.items n d ≡ (if (frame == n) && (declaration == d) then option_map (change_of change.entry) (local_in frames.old.items n d) else local_in frames.old.items n d)) }
+    ensures frames { OnOk result (length frames.new.items ≡ length frames.old.items) }
+    ensures locals { OnOk result ((n d : ℕ) → local_in frames.new.items n d ≡ (if (frame == n) && (declaration == d) then option_map (change_of change.entry) (local_in frames.old.items n d) else local_in frames.old.items n d)) }
 {
     if frame < frames.len() {
         change_at(&mut frames[frame], declaration, change)?;
@@ -190,7 +193,8 @@ fn change_given<'a>(
     allocation: u64,
     change: Change<'a>,
 ) -> Result<(), AllocError>
-    ensures { OnOk result ((n : ℕ) → given_in heap.new.items n ≡ changed_at (change_of change.entry) allocation (given_in heap.old.items) n) }
+    ensures allocations { OnOk result (length heap.new.items ≡ length heap.old.items) }
+    ensures given { OnOk result ((n : ℕ) → given_in heap.new.items n ≡ changed_at (change_of change.entry) allocation (given_in heap.old.items) n) }
 {
     if 0 < allocation && allocation <= heap.len() as u64 {
         change_if_given(&mut heap[allocation as usize - 1], change)?;
