@@ -3,3 +3,4 @@ pub mod Numbers
 pub mod Chains
 pub mod Rows
 pub mod Starts
+pub mod Layouts

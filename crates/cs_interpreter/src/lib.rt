@@ -12,6 +12,7 @@ mod operators;
 mod settings;
 #[cfg(test)]
 mod tests;
+pub mod types;
 
 pub use logs::{Log, Stop, Touch};
 pub use objects::{Cell, Object, Operand};
