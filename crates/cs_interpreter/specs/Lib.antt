@@ -1,0 +1,4 @@
+pub mod Results
+pub mod View
+pub mod Pieces
+pub mod MemoryView
