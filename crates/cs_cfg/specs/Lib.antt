@@ -6,3 +6,4 @@ pub mod ControlPoints
 pub mod FlowText
 pub mod GraphPoints
 pub mod Lowered
+pub mod Placing
