@@ -7,3 +7,4 @@ pub mod FlowText
 pub mod GraphPoints
 pub mod Lowered
 pub mod Placing
+pub mod Executing
