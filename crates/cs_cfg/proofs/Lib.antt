@@ -1,2 +1,3 @@
 pub mod Building
 mod Samples
+pub mod Alike

@@ -8,3 +8,4 @@ pub mod GraphPoints
 pub mod Lowered
 pub mod Placing
 pub mod Executing
+pub mod Standing
