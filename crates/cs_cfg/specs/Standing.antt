@@ -1,6 +1,6 @@
 -- Where a state of the code's run stands for a state of the plain machine: the point that it has come to does what the machine has
 -- still to do. A recursion over the list of things to do.
-use Rattle.std.specs.Prelude.{◌≡◌, ℕ, suc, ◌+◌, pos, Bool, List, [], ◌∷◌}
+use Rattle.std.specs.Prelude.{◌≡◌, ℕ, suc, ◌+◌, pos, Bool, List, Option, Some, None, [], ◌∷◌}
 use Rattle.cs_types.specs.Shape.{Shape}
 use Rattle.cs_ast.specs.declared.place.Place.{Place}
 use Rattle.cs_ast.specs.declared.typed.operator.Direction.TheVariants.{Forward}
@@ -31,35 +31,40 @@ nowhere depth p = ⊥
 abbrev pub worked : Place → Work → ℕ → Behind → Behind
 worked at work leaves behind depth p = (number : ℕ) × (q : Point) × (depth ≡ takes work + number) × (p ≡ does at number work q) × behind (leaves + number) q
 
-module _ (program : TypedProgram) (flow : Flow) where
-  -- what an expression does with its parts, which are the newest temporaries
-  abbrev pub acts_form : Place → Shape → Form → Behind → Behind
-  acts_form at ty (Number n) behind = worked at (graph.Number n) 1 behind
-  acts_form at ty Null behind = worked at graph.Null 1 behind
-  acts_form at ty (Text literal) behind = worked at (graph.Text literal) 1 behind
-  acts_form at ty (Local declaration) behind = worked at (graph.Local declaration) 1 behind
-  acts_form at ty (Global global) behind = worked at (graph.Global global) 1 behind
-  acts_form at ty (Index a i order) behind = worked at (graph.Sum (size_of program ty) Forward order) 1 behind
-  acts_form at ty (Member a offset) behind = worked at (graph.Member offset) 1 behind
-  acts_form at ty (Arrow a offset) behind = worked at (graph.Arrow offset) 1 behind
-  acts_form at ty (Load a) behind = worked at (graph.Load (access_of a)) 1 behind
-  acts_form at ty (Convert a) behind = worked at (graph.Convert (type_of a) ty) 1 behind
-  acts_form at ty (Unary op a) behind = worked at (graph.Unary op (integer_of ty)) 1 behind
-  acts_form at ty (Not a) behind = worked at graph.Not 1 behind
-  acts_form at ty (Binary op a b) behind = worked at (graph.Binary op (integer_of ty)) 1 behind
-  acts_form at ty (Compare op a b) behind = worked at (graph.Compare op) 1 behind
-  acts_form at ty (Sum a n direction order) behind = worked at (graph.Sum (step_of program ty) direction order) 1 behind
-  acts_form at ty (Difference a b) behind = worked at (graph.Difference (step_of program (type_of a))) 1 behind
-  acts_form at ty (Assign a b) behind = worked at (graph.Store (access_of a)) 1 behind
-  acts_form at ty (Update op a b works_in gives) behind = worked at (graph.Update op (access_of a) works_in gives) 1 behind
-  acts_form at ty (Move a n direction gives) behind = worked at (graph.Move (access_of a) (step_of program (type_of a)) direction gives) 1 behind
-  acts_form at ty (Call function arguments) behind = worked at (graph.Call function (count_all arguments)) 1 behind
-  acts_form at ty (Allocate allocator arguments element) behind = worked at (graph.Allocate allocator element) 1 behind
-  acts_form at ty (Free a) behind = worked at graph.Free 1 behind
-  acts_form at ty other behind = nowhere
+-- the operation that does what an expression does with its parts, if it does something with them
+abbrev pub work_of : TypedProgram → Shape → Form → Option Work
+work_of program ty (Number n) = Some (graph.Number n)
+work_of program ty Null = Some graph.Null
+work_of program ty (Text literal) = Some (graph.Text literal)
+work_of program ty (Local declaration) = Some (graph.Local declaration)
+work_of program ty (Global global) = Some (graph.Global global)
+work_of program ty (Index a i order) = Some (graph.Sum (size_of program ty) Forward order)
+work_of program ty (Member a offset) = Some (graph.Member offset)
+work_of program ty (Arrow a offset) = Some (graph.Arrow offset)
+work_of program ty (Load a) = Some (graph.Load (access_of a))
+work_of program ty (Convert a) = Some (graph.Convert (type_of a) ty)
+work_of program ty (Unary op a) = Some (graph.Unary op (integer_of ty))
+work_of program ty (Not a) = Some graph.Not
+work_of program ty (Binary op a b) = Some (graph.Binary op (integer_of ty))
+work_of program ty (Compare op a b) = Some (graph.Compare op)
+work_of program ty (Sum a n direction order) = Some (graph.Sum (step_of program ty) direction order)
+work_of program ty (Difference a b) = Some (graph.Difference (step_of program (type_of a)))
+work_of program ty (Assign a b) = Some (graph.Store (access_of a))
+work_of program ty (Update op a b works_in gives) = Some (graph.Update op (access_of a) works_in gives)
+work_of program ty (Move a n direction gives) = Some (graph.Move (access_of a) (step_of program (type_of a)) direction gives)
+work_of program ty (Call function arguments) = Some (graph.Call function (count_all arguments))
+work_of program ty (Allocate allocator arguments element) = Some (graph.Allocate allocator element)
+work_of program ty (Free a) = Some graph.Free
+work_of program ty other = None
 
+-- that operation, whose operands are the newest temporaries
+abbrev pub acts_by : Place → Option Work → Behind → Behind
+acts_by at None behind = nowhere
+acts_by at (Some work) behind = worked at work 1 behind
+
+module _ (program : TypedProgram) (flow : Flow) where
   abbrev pub acts_at : Typed → Behind → Behind
-  acts_at (Of at ty form) behind = acts_form at ty form behind
+  acts_at (Of at ty form) behind = acts_by at (work_of program ty form) behind
 
   -- the load of an update
   abbrev pub fetches_form : Place → Form → Behind → Behind
