@@ -41,6 +41,17 @@ abbrev pub scalar_local : Typed → Option ℕ
 scalar_local (Of at ty (Local declaration)) = if is_scalar ty then Some declaration else None
 scalar_local other = None
 
+-- what a load or a store needs to know of the expression that names an object: its place and type, whether it is direct, and which
+-- scalar local it names, if it names one
+pub record Access : Type 0 where
+  pub at : Place
+  pub ty : Shape
+  pub direct : Bool
+  pub local : Option ℕ
+
+abbrev pub access_of : Typed → Access
+access_of e = record { at = place_of e; ty = type_of e; direct = is_direct e; local = scalar_local e }
+
 -- a struct's scalars written from an offset on, one at each of the given offsets
 abbrev pub write_cells : ℕ → List ℕ → List Cell → Block → Block
 write_cells from (offset ∷ offsets) (cell ∷ cells) block = write_cells from offsets cells (write_cell (from + offset) cell block)
@@ -110,9 +121,14 @@ module _ {S : Type 0} where
   direct at (PointerCell object offset) onward = onward object (offset_number offset)
   direct at other onward = Stops (Fault kind.Unset at)
 
-  -- the object that an expression names, whose place has this value
+  -- the object that is accessed, whose place has this value
+  abbrev pub locate_object : TypedProgram → Memory → Access → Cell → (Object → ℕ → Act S) → Act S
+  locate_object program memory access cell onward =
+      if access.direct then direct access.at cell onward else reach program memory access.at access.ty cell onward
+
+  -- the same of the object that an expression names
   abbrev pub locate : TypedProgram → Memory → Typed → Cell → (Object → ℕ → Act S) → Act S
-  locate program memory e cell onward = if is_direct e then direct (place_of e) cell onward else reach program memory (place_of e) (type_of e) cell onward
+  locate program memory e cell onward = locate_object program memory (access_of e) cell onward
 
   -- what was found in a scalar: an input is looked up
   abbrev pub receive : TypedProgram → Memory → Found → (Memory → Cell → Act S) → Act S
@@ -142,18 +158,26 @@ module _ {S : Type 0} where
   value_at program memory at other object offset onward =
       read program memory object offset (λ after cell. set_then at cell (onward after (Scalar cell)))
 
-  -- a load from the object that an expression names, in a frame
-  abbrev pub load : TypedProgram → Memory → ℕ → Typed → Cell → (Memory → Operand → Act S) → Act S
-  load program memory frame e cell onward =
-      locate program memory e cell (λ object offset.
-      touches_then (λ declaration. Loads frame declaration (place_of e)) (scalar_local e)
-      (value_at program memory (place_of e) (type_of e) object offset onward))
+  -- a load from an object, in a frame
+  abbrev pub load_object : TypedProgram → Memory → ℕ → Access → Cell → (Memory → Operand → Act S) → Act S
+  load_object program memory frame access cell onward =
+      locate_object program memory access cell (λ object offset.
+      touches_then (λ declaration. Loads frame declaration access.at) access.local
+      (value_at program memory access.at access.ty object offset onward))
 
-  -- a store at a place, in a frame, to the object that an expression names
-  abbrev pub store : TypedProgram → Memory → ℕ → Place → Typed → Cell → Operand → (Memory → Act S) → Act S
-  store program memory frame at e cell operand onward =
-      locate program memory e cell (λ object offset.
+  -- the same from the object that an expression names
+  abbrev pub load : TypedProgram → Memory → ℕ → Typed → Cell → (Memory → Operand → Act S) → Act S
+  load program memory frame e cell onward = load_object program memory frame (access_of e) cell onward
+
+  -- a store at a place, in a frame, to an object
+  abbrev pub store_object : TypedProgram → Memory → ℕ → Place → Access → Cell → Operand → (Memory → Act S) → Act S
+  store_object program memory frame at access cell operand onward =
+      locate_object program memory access cell (λ object offset.
       if is_constant program object
-      then Stops (Fault kind.ConstWrite (place_of e))
-      else touches_then (λ declaration. Stores frame declaration at) (scalar_local e)
-      (onward (changed (write_operand program (type_of e) offset operand) object memory)))
+      then Stops (Fault kind.ConstWrite access.at)
+      else touches_then (λ declaration. Stores frame declaration at) access.local
+      (onward (changed (write_operand program access.ty offset operand) object memory)))
+
+  -- the same to the object that an expression names
+  abbrev pub store : TypedProgram → Memory → ℕ → Place → Typed → Cell → Operand → (Memory → Act S) → Act S
+  store program memory frame at e cell operand onward = store_object program memory frame at (access_of e) cell operand onward

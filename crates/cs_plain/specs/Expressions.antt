@@ -15,10 +15,10 @@ use Rattle.cs_runs.specs.Objects.{GlobalObject, LiteralObject, LocalObject, Cell
 use Rattle.cs_runs.specs.Acts.{Act, Goes, Asks}
 use Rattle.cs_plain.specs.Types.{size_of, type_of, target_of, integer_of}
 use Rattle.cs_plain.specs.Initials.{number_in, truth_cell, further, directed}
-use Rattle.cs_plain.specs.Access.{shows_then, set_then, load, store}
+use Rattle.cs_plain.specs.Access.{Access, access_of, shows_then, set_then, load, store_object}
 use Rattle.cs_plain.specs.Operators.{truth, branch, operate, convert_number, convert, sum, compare, difference, arrow}
 use Rattle.cs_plain.specs.Calls.{call, allocate, release}
-use Rattle.cs_plain.specs.Machine.{Operand, Scalar, Item, Evaluate, EvaluateUnused, Act as Acting, Fetch, Choose, Judge, Use, Drop, State, to_do, push, push_cell, pop, pop_many, with_memory, operand_at, cell_of, cell_at}
+use Rattle.cs_plain.specs.Machine.{Operand, Scalar, Item, Evaluate, EvaluateUnused, Act as Acting, Fetch, Choose, Judge, Use, Drop, Running, State, to_do, push, push_cell, pop, pop_many, with_memory, operand_at, cell_of, cell_at}
 
 -- expressions in a row, evaluated from the first on
 abbrev pub evaluates_all : TypedList → List Item → List Item
@@ -94,13 +94,16 @@ given Old before after = before
 given New before after = after
 
 -- the number of an operand by its age
-abbrev pub number_at : State → ℕ → ℤ
+abbrev pub number_at : {Rest : Type 0} → Running Rest → ℕ → ℤ
 number_at m age = number_in (cell_at m age)
 
 -- a store to the object that an expression names, whose place is an operand of this age, before a value is left in place of some operands
+abbrev pub stores_to : {Rest : Type 0} → TypedProgram → Place → Access → ℕ → Operand → ℕ → Operand → Running Rest → Act (Running Rest)
+stores_to program at object age operand count left m =
+    store_object program m.memory m.frame.number at object (cell_at m age) operand (λ memory. Goes (push left (with_memory memory (pop_many count m))))
+
 abbrev pub stores : TypedProgram → Place → Typed → ℕ → Operand → ℕ → Operand → State → Act State
-stores program at a age operand count left m =
-    store program m.memory m.frame.number at a (cell_at m age) operand (λ memory. Goes (push left (with_memory memory (pop_many count m))))
+stores program at a age operand count left m = stores_to program at (access_of a) age operand count left m
 
 -- an update of a number: the operands are the place, the value before, the same converted, and the right operand
 abbrev pub updates : TypedProgram → Place → Typed → Gives → ℤ → State → Act State
@@ -178,10 +181,10 @@ abbrev pub choose : Typed → State → Act State
 choose (Of at ty form) m = choose_form at form m
 
 -- the right part of `&&` or `||`: whether it holds shows, and is the value
-abbrev pub judge : Place → State → Act State
+abbrev pub judge : {Rest : Type 0} → Place → Running Rest → Act (Running Rest)
 judge at m = truth at (cell_at m 0) (λ holds. shows_then at (label.Truth holds) (Goes (push_cell (truth_cell holds) (pop m))))
 
 -- the result of a call that is used was set (C11 6.9.1, paragraph 12)
-abbrev pub use_result : Place → Operand → State → Act State
+abbrev pub use_result : {Rest : Type 0} → Place → Operand → Running Rest → Act (Running Rest)
 use_result at (Scalar cell) m = set_then at cell (Goes m)
 use_result at other m = Goes m

@@ -54,24 +54,25 @@ pub data Item : Type 0 where
   -- leave the frame with the newest value
   Leave : Item
 
--- a call of a function that hasn't ended (C11 5.1.2.3)
-pub record Frame : Type 0 where
+-- a call of a function that hasn't ended (C11 5.1.2.3), in a machine that is told in some way what is still to be done there
+pub record CallFrame (Rest : Type 0) : Type 0 where
   -- the function's number in the program
   pub function : ℕ
   -- the frame's number in the run
   pub number : ℕ
-  -- what is to be done, first things first
-  pub todo : List Item
+  -- what is to be done
+  pub todo : Rest
   -- values and places, the newest first
   pub stack : List Operand
   -- how often each mark of the body was reached
   pub visits : List ℕ
 
-pub record State : Type 0 where
+-- a state of such a machine
+pub record Running (Rest : Type 0) : Type 0 where
   -- the frame that runs
-  pub frame : Frame
+  pub frame : CallFrame Rest
   -- the frames that called it, the nearest first
-  pub callers : List Frame
+  pub callers : List (CallFrame Rest)
   pub memory : Memory
   -- how many frames there were
   pub frames : ℕ
@@ -80,35 +81,42 @@ pub record State : Type 0 where
   -- how many calls of functions without a body there were
   pub calls : ℕ
 
+-- the plain machine has a list of things to do, first things first
+abbrev pub Frame : Type 0
+Frame = CallFrame (List Item)
+
+abbrev pub State : Type 0
+State = Running (List Item)
+
 -- the machine with this to be done in the frame that runs
-abbrev pub to_do : List Item → State → State
+abbrev pub to_do : {Rest : Type 0} → Rest → Running Rest → Running Rest
 to_do items m = record m { frame = record m.frame { todo = items } }
 
 -- the machine with these operands in the frame that runs
-abbrev pub with_stack : List Operand → State → State
+abbrev pub with_stack : {Rest : Type 0} → List Operand → Running Rest → Running Rest
 with_stack stack m = record m { frame = record m.frame { stack = stack } }
 
 -- the machine with one more operand
-abbrev pub push : Operand → State → State
+abbrev pub push : {Rest : Type 0} → Operand → Running Rest → Running Rest
 push operand m = with_stack (operand ∷ m.frame.stack) m
 
-abbrev pub push_cell : Cell → State → State
+abbrev pub push_cell : {Rest : Type 0} → Cell → Running Rest → Running Rest
 push_cell cell m = push (Scalar cell) m
 
 -- the machine without the newest operand
-abbrev pub pop : State → State
+abbrev pub pop : {Rest : Type 0} → Running Rest → Running Rest
 pop m = with_stack (drop 1 m.frame.stack) m
 
 -- the machine without so many of the newest operands
-abbrev pub pop_many : ℕ → State → State
+abbrev pub pop_many : {Rest : Type 0} → ℕ → Running Rest → Running Rest
 pop_many count m = with_stack (drop count m.frame.stack) m
 
 -- the machine with this memory
-abbrev pub with_memory : Memory → State → State
+abbrev pub with_memory : {Rest : Type 0} → Memory → Running Rest → Running Rest
 with_memory memory m = record m { memory = memory }
 
 -- an operand by its age, the newest being 0; unset where there is none
-abbrev pub operand_at : State → ℕ → Operand
+abbrev pub operand_at : {Rest : Type 0} → Running Rest → ℕ → Operand
 operand_at m age = unwrap_or (slice_get m.frame.stack age) (Scalar UnsetCell)
 
 -- the scalar that an operand is; any other counts as unset
@@ -116,11 +124,11 @@ abbrev pub cell_of : Operand → Cell
 cell_of (Scalar cell) = cell
 cell_of other = UnsetCell
 
-abbrev pub cell_at : State → ℕ → Cell
+abbrev pub cell_at : {Rest : Type 0} → Running Rest → ℕ → Cell
 cell_at m age = cell_of (operand_at m age)
 
 -- the newest operands, the oldest of them first
-abbrev pub newest : ℕ → State → List Operand
+abbrev pub newest : {Rest : Type 0} → ℕ → Running Rest → List Operand
 newest count m = reverse (take count m.frame.stack)
 
 -- a function that isn't there: it has no body and gives nothing

@@ -8,7 +8,7 @@ use Rattle.cs_runs.specs.declared.outcome.RunBudgets.{RunBudgets}
 use Rattle.cs_runs.specs.declared.point.PointKind.{PointKind}
 use Rattle.cs_runs.specs.Touches.{Meets}
 use Rattle.cs_runs.specs.Acts.{Act, Goes, Stops, Touches}
-use Rattle.cs_plain.specs.Machine.{State}
+use Rattle.cs_plain.specs.Machine.{Running}
 
 abbrev mutual
   -- how many loop heads and labels there are in a statement
@@ -34,15 +34,15 @@ abbrev mutual
   marks_in (Then first others) = marks first + marks_in others
 
 -- the machine in whose frame the mark with a number was reached so often
-abbrev pub with_visits : ℕ → ℕ → State → State
+abbrev pub with_visits : {Rest : Type 0} → ℕ → ℕ → Running Rest → Running Rest
 with_visits mark count m = record m { frame = record m.frame { visits = slice_set m.frame.visits mark count } }
 
 -- a mark that was reached so often is reached once more, unless the budget of visits is used up; one that has no count is over
-abbrev pub reached_again : RunBudgets → Place → PointKind → ℕ → Option ℕ → State → Act State
+abbrev pub reached_again : {Rest : Type 0} → RunBudgets → Place → PointKind → ℕ → Option ℕ → Running Rest → Act (Running Rest)
 reached_again budgets at kind mark None m = Stops (Over Visits at)
 reached_again budgets at kind mark (Some count) m =
     if nat_lt count budgets.visits then Touches (Meets kind at) (Goes (with_visits mark (count + 1) m)) else Stops (Over Visits at)
 
 -- a mark is reached
-abbrev pub reach_mark : RunBudgets → Place → PointKind → ℕ → State → Act State
+abbrev pub reach_mark : {Rest : Type 0} → RunBudgets → Place → PointKind → ℕ → Running Rest → Act (Running Rest)
 reach_mark budgets at kind mark m = reached_again budgets at kind mark (slice_get m.frame.visits mark) m

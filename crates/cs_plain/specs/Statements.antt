@@ -17,12 +17,12 @@ use Rattle.cs_plain.specs.Initials.{Piece, Evaluated, Spelled, pieces, number_in
 use Rattle.cs_plain.specs.Memory.{Fill, UnsetFill, ZeroFill, changed, refill}
 use Rattle.cs_plain.specs.Access.{shows_then, touches_then, write_operand, write_bytes}
 use Rattle.cs_plain.specs.Operators.{branch}
-use Rattle.cs_plain.specs.Machine.{Nothing, Item, Evaluate, EvaluateUnused, Drop, Store, Spell, Execute, Decide, Turn, Again, Out, Give, State, to_do, push, pop, with_memory, operand_at, cell_at, routine_of, body_of}
+use Rattle.cs_plain.specs.Machine.{Nothing, Item, Evaluate, EvaluateUnused, Drop, Store, Spell, Execute, Decide, Turn, Again, Out, Give, Running, State, to_do, push, pop, with_memory, operand_at, cell_at, routine_of, body_of}
 use Rattle.cs_plain.specs.Marks.{marks, marks_in, reach_mark}
 use Rattle.cs_plain.specs.Jumps.{executes, broken_out, continued, Landing, landing}
 
 -- the type of a local of the function that runs
-abbrev pub local_type : TypedProgram → ℕ → State → Shape
+abbrev pub local_type : {Rest : Type 0} → TypedProgram → ℕ → Running Rest → Shape
 local_type program declaration m =
     unwrap_or (option_map (λ (v : Variable). v.ty) (slice_get (routine_of program m.frame.function).variables declaration)) void
 
@@ -31,7 +31,7 @@ abbrev pub if_scalar : Shape → ℕ → Option ℕ
 if_scalar ty declaration = if is_scalar ty then Some declaration else None
 
 -- a local of the frame that runs, which holds what a fill gives
-abbrev pub refilled : Fill → ℕ → State → State
+abbrev pub refilled : {Rest : Type 0} → Fill → ℕ → Running Rest → Running Rest
 refilled fill declaration m = with_memory (changed (refill fill) (LocalObject m.frame.number declaration) m.memory) m
 
 -- the pieces of an initializer, stored one after another
@@ -40,22 +40,26 @@ stores_pieces at declaration [] behind = behind
 stores_pieces at declaration (Evaluated offset e ∷ others) behind = Evaluate e ∷ (Store at declaration offset (type_of e) ∷ stores_pieces at declaration others behind)
 stores_pieces at declaration (Spelled offset bytes ∷ others) behind = Spell declaration offset bytes ∷ stores_pieces at declaration others behind
 
+-- a declaration without an initializer is reached: the object becomes unset, which is a touch where it is a scalar
+abbrev pub clear_local : {Rest : Type 0} → TypedProgram → Place → ℕ → Running Rest → Act (Running Rest)
+clear_local program at declaration m =
+    touches_then (λ local. Clears m.frame.number local at) (if_scalar (local_type program declaration m) declaration) (Goes (refilled UnsetFill declaration m))
+
 -- a declaration is reached (C11 6.2.4, paragraph 6; 6.7.9): the object becomes unset, or takes a value, or becomes zero before its pieces are stored
 abbrev pub declare : TypedProgram → Place → ℕ → Option Initial → State → Act State
-declare program at declaration None m =
-    touches_then (λ local. Clears m.frame.number local at) (if_scalar (local_type program declaration m) declaration) (Goes (refilled UnsetFill declaration m))
+declare program at declaration None m = clear_local program at declaration m
 declare program at declaration (Some (Value e)) m = Goes (to_do (Evaluate e ∷ (Store at declaration 0 (type_of e) ∷ m.frame.todo)) m)
 declare program at declaration (Some initial) m =
     Goes (to_do (stores_pieces at declaration (pieces program (local_type program declaration m) 0 initial) m.frame.todo) (refilled ZeroFill declaration m))
 
 -- the newest value is stored in a local
-abbrev pub store_local : TypedProgram → Place → ℕ → ℕ → Shape → State → Act State
+abbrev pub store_local : {Rest : Type 0} → TypedProgram → Place → ℕ → ℕ → Shape → Running Rest → Act (Running Rest)
 store_local program at declaration offset ty m =
     touches_then (λ local. Stores m.frame.number local at) (if_scalar (local_type program declaration m) declaration)
     (Goes (with_memory (changed (write_operand program ty offset (operand_at m 0)) (LocalObject m.frame.number declaration) m.memory) (pop m)))
 
 -- bytes are stored in a local
-abbrev pub spell_local : TypedProgram → ℕ → ℕ → List ℕ → State → Act State
+abbrev pub spell_local : {Rest : Type 0} → TypedProgram → ℕ → ℕ → List ℕ → Running Rest → Act (Running Rest)
 spell_local program declaration offset bytes m =
     Goes (with_memory (changed (write_bytes program offset bytes) (LocalObject m.frame.number declaration) m.memory) m)
 

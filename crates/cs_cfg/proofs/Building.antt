@@ -1,0 +1,45 @@
+-- Words for small graphs by hand, and for how runs of code end beside those of the plain machine.
+use Rattle.std.proofs.Common.{ℕ, true, false, Option, Some, None}
+use Rattle.cs_types.specs.Shape.{Shape}
+use Rattle.cs_ast.specs.TypedProgram.{TypedProgram}
+use Rattle.cs_runs.specs.declared.outcome.Outcome.{Outcome}
+use Rattle.cs_runs.specs.declared.outcome.RunBudgets.{RunBudgets}
+use Rattle.cs_runs.specs.Runs.{Log, empty, Performed, Continues, Finishes}
+use Rattle.cs_runs.specs.Counted.{followed}
+use Rattle.cs_plain.specs.Access.{Access}
+use Rattle.cs_plain.specs.Steps.{step}
+use Rattle.cs_plain.specs.PlainRuns.{PlainRun, setting_of, start_of}
+use Rattle.cs_plain.proofs.Building.{at}
+use Rattle.cs_cfg.specs.Graph.{Work, Operation, Code}
+use Rattle.cs_cfg.specs.CodeSteps.{code_step, code_start}
+
+-- an operation at a column, on the temporaries from a number on
+abbrev pub does : ℕ → ℕ → Work → Operation
+does column temporary work = record { at = at column; temporary = temporary; work = work }
+
+-- the access to a local at a column
+abbrev pub direct_local : ℕ → Shape → ℕ → Access
+direct_local column ty declaration = record { at = at column; ty = ty; direct = true; local = Some declaration }
+
+-- the access to what a pointer points to
+abbrev pub pointed : ℕ → Shape → Access
+pointed column ty = record { at = at column; ty = ty; direct = false; local = None }
+
+-- how a run has ended, and with which log
+abbrev pub ended : {State : Type 0} → Performed State → Option (Outcome × Log)
+ended (Continues m log) = None
+ended (Finishes outcome log) = Some (outcome, log)
+
+-- how the run of a program's entry has ended after so many steps
+abbrev pub machine_run : TypedProgram → ℕ → PlainRun → RunBudgets → ℕ → Option (Outcome × Log)
+machine_run program entry run budgets steps = ended (followed (step program budgets) (setting_of program run budgets) steps (start_of program entry run) empty)
+
+-- the same of the run of code
+abbrev pub code_run : Code → TypedProgram → ℕ → PlainRun → RunBudgets → ℕ → Option (Outcome × Log)
+code_run code program entry run budgets steps =
+    ended (followed (code_step code program budgets) (setting_of program run budgets) steps (code_start code program entry run) empty)
+
+-- a run has ended so
+abbrev pub outcome_of : Option (Outcome × Log) → Option Outcome
+outcome_of None = None
+outcome_of (Some ended) = Some ended.0

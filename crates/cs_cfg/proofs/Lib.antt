@@ -1,0 +1,4 @@
+pub mod Building
+mod Samples
+pub mod Alike
+pub mod Acting

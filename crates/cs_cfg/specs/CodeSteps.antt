@@ -1,0 +1,92 @@
+-- The run of the code: what it does at each step, and how it begins.
+use Rattle.std.specs.Prelude.{ℕ, ◌+◌, ℤ, List, [], ◌∷◌, map, unwrap_or, if◌then◌else◌}
+use Rattle.std.specs.Ordering.{int_eq}
+use Rattle.cs_inputs.specs.declared.path.Path.{Path}
+use Rattle.cs_inputs.specs.Inputs.{number_at as input_at}
+use Rattle.cs_ast.specs.declared.place.Place.{Place}
+use Rattle.cs_ast.specs.TypedProgram.{TypedProgram, Routine}
+use Rattle.cs_runs.specs.declared.event.Label.TheVariants as label
+use Rattle.cs_runs.specs.declared.outcome.Outcome.{Outcome}
+use Rattle.cs_runs.specs.declared.outcome.RunBudgets.{RunBudgets}
+use Rattle.cs_runs.specs.declared.point.PointKind.TheVariants as point
+use Rattle.cs_runs.specs.Objects.{UnsetCell}
+use Rattle.cs_runs.specs.Touches.{Meets}
+use Rattle.cs_runs.specs.Acts.{Act, Goes, Touches}
+use Rattle.cs_runs.specs.Runs.{Log, Ends}
+use Rattle.cs_runs.specs.Pending.{Pending, IsPending}
+use Rattle.cs_plain.specs.Initials.{number_in}
+use Rattle.cs_plain.specs.Access.{shows_then}
+use Rattle.cs_plain.specs.Operators.{branch}
+use Rattle.cs_plain.specs.Machine.{Scalar, to_do, pop, operand_at, cell_at, routine_of}
+use Rattle.cs_plain.specs.Calls.{with_locals, leave}
+use Rattle.cs_plain.specs.Steps.{static_memory, received, with_received, parameters_of}
+use Rattle.cs_plain.specs.PlainRuns.{PlainRun, setting_of}
+use Rattle.cs_cfg.specs.Graph.{Operation, SwitchCase, BlockEnd, Jump, Branch, Switch, Return, Finish, Code, no_flow, flow_of, block_in}
+use Rattle.cs_cfg.specs.Working.{CodeState, takes, cut, code_frame, do_work}
+
+-- the run goes on with a block of the function that runs
+abbrev pub enters : Code → ℕ → CodeState → CodeState
+enters code block m = to_do (block_in code m.frame.function block) m
+
+-- a case that a number leads to: its number among the cases, and its block
+pub record Way : Type 0 where
+  pub number : ℕ
+  pub block : ℕ
+
+-- the way that a number leads, the cases being counted from a number on; the number of cases shows where none has it
+abbrev pub way_of : List SwitchCase → ℕ → ℤ → ℕ → Way
+way_of [] otherwise number count = record { number = count; block = otherwise }
+way_of (one ∷ cases) otherwise number count =
+    if int_eq one.value number then record { number = count; block = one.block } else way_of cases otherwise number (count + 1)
+
+-- a `switch` goes its way, which shows
+abbrev pub goes_way : Code → Place → Way → CodeState → Act CodeState
+goes_way code at way m = Touches (Meets point.Switch at) (shows_then at (label.Case way.number) (Goes (enters code way.block m)))
+
+-- what the end of a block does; the temporaries that it doesn't need are dropped
+abbrev pub do_end : Code → BlockEnd → CodeState → Act CodeState
+do_end code (Jump block) m = Goes (enters code block m)
+do_end code (Branch at temporary one other) m =
+    branch at (cell_at (cut (temporary + 1) m) 0) (λ holds. Goes (enters code (if holds then one else other) (pop (cut (temporary + 1) m))))
+do_end code (Switch at temporary cases otherwise) m =
+    goes_way code at (way_of cases otherwise (number_in (cell_at (cut (temporary + 1) m) 0)) 0) (pop (cut (temporary + 1) m))
+do_end code (Return temporary) m = leave (operand_at (cut (temporary + 1) m) 0) m
+do_end code Finish m = leave (Scalar UnsetCell) m
+
+-- an operation works on the temporaries from its number on
+abbrev pub do_operation : Code → TypedProgram → RunBudgets → Operation → CodeState → Act CodeState
+do_operation code program budgets operation m = do_work code program budgets operation.at operation.work (cut (operation.temporary + takes operation.work) m)
+
+-- what the next operation of a block does, or its end
+abbrev pub step_at : Code → TypedProgram → RunBudgets → List Operation → BlockEnd → CodeState → Act CodeState
+step_at code program budgets [] end m = do_end code end m
+step_at code program budgets (operation ∷ operations) end m =
+    do_operation code program budgets operation (to_do (record { operations = operations; end = end }) m)
+
+-- one step of the run of the code
+abbrev pub code_step : Code → TypedProgram → RunBudgets → CodeState → Act CodeState
+code_step code program budgets m = step_at code program budgets m.frame.todo.operations m.frame.todo.end m
+
+-- the first frame of an entry, whose parameters hold the values of their paths
+abbrev pub code_started : Code → TypedProgram → (Path → ℤ) → ℕ → Routine → CodeState
+code_started code program inputs entry routine = record {
+  frame = code_frame entry (unwrap_or (flow_of code entry) no_flow) 0;
+  callers = [];
+  memory = with_locals program 0 routine.variables (map (received program inputs) (parameters_of routine)) (with_received program inputs (parameters_of routine) (static_memory program));
+  frames = 1;
+  allocations = 0;
+  calls = 0;
+}
+
+-- the state in which the run of an entry begins
+abbrev pub code_start : Code → TypedProgram → ℕ → PlainRun → CodeState
+code_start code program entry run = code_started code program (input_at run.inputs) entry (routine_of program entry)
+
+-- the run of the code ends so, with this log: its events, the paths that it has read, and its touches
+abbrev pub CodeGives : Code → TypedProgram → ℕ → PlainRun → RunBudgets → Outcome → Log → Type 0
+CodeGives code program entry run budgets outcome log = Ends (code_step code program budgets) (setting_of program run budgets) (code_start code program entry run) outcome log
+
+-- this is pending in the run of the code at the event with this number
+abbrev pub CodeIsPending : Code → TypedProgram → ℕ → PlainRun → RunBudgets → ℕ → Pending → Type 0
+CodeIsPending code program entry run budgets event pending =
+    IsPending (code_step code program budgets) (setting_of program run budgets) (code_start code program entry run) event pending

@@ -1,0 +1,150 @@
+-- Where a point of the code executes a statement, and behind it the graph goes on at a point. No temporary is in use there.
+use Rattle.std.specs.Prelude.{◌≡◌, ℤ, ℕ, zero, suc, ◌+◌, true, List, [], ◌∷◌, Option, Some, None, unwrap_or, option_map, slice_get}
+use Rattle.cs_types.specs.Shape.{Shape, void}
+use Rattle.cs_ast.specs.declared.place.Place.{Place}
+use Rattle.cs_ast.specs.declared.typed.statement.Case.{Case}
+use Rattle.cs_ast.specs.TypedTree.{Typed, Initial, Value, Parts, Bytes, Statement, Block, Declare, Run, If, IfElse, While, Do, For, Switch, Goto, Label, Break, Continue, Return, Statements, Empty, Then}
+use Rattle.cs_ast.specs.TypedProgram.{TypedProgram, Routine, Variable}
+use Rattle.cs_runs.specs.declared.point.PointKind.TheVariants as point
+use Rattle.cs_plain.specs.Types.{type_of, is_scalar}
+use Rattle.cs_plain.specs.Initials.{Piece, Evaluated, Spelled, pieces}
+use Rattle.cs_plain.specs.Machine.{body_of}
+use Rattle.cs_plain.specs.Marks.{marks, marks_in}
+use Rattle.cs_plain.specs.Jumps.{landing}
+use Rattle.cs_plain.specs.Statements.{default_item, count_of}
+use Rattle.cs_cfg.specs.Graph as graph
+use Rattle.cs_cfg.specs.Graph.{SwitchCase, Point, Flow, block_of}
+use Rattle.cs_cfg.specs.Placing.{does, split, Joins, evaluates, used}
+use Rattle.cs_cfg.specs.Lowered.{is_there}
+
+-- the type of a local of a function
+abbrev pub type_in : Routine → ℕ → Shape
+type_in routine declaration = unwrap_or (option_map (λ (v : Variable). v.ty) (slice_get routine.variables declaration)) void
+
+-- the frame is left with the temporary 0
+abbrev pub leaving : Point
+leaving = record { operations = []; end = graph.Return 0 }
+
+-- the frame is left with a value that was never set
+abbrev pub finishing : Point
+finishing = record { operations = []; end = graph.Finish }
+
+-- what a loop's body, or any statement, is at a point: where `break` and `continue` lead, the point, and the one behind it
+abbrev pub Part : Type 1
+Part = Point → Point → Point → Point → Type 0
+
+module _ (program : TypedProgram) (flow : Flow) where
+  -- jumps alone lead from the block with a number to a point
+  abbrev pub falls_to : ℕ → Point → Type 0
+  falls_to block q = Joins program flow (block_of flow block) q
+
+  -- a part, and then jumps to a point
+  abbrev pub part_to : Part → Point → Point → Point → Point → Type 0
+  part_to part out again p q = (v : Point) × part out again p v × Joins program flow v q
+
+  -- a test, and what stands at the beginning of its two ways
+  abbrev pub tests_at : Place → Typed → Point → (Point → Point → Type 0) → Type 0
+  tests_at at test p Ways = (one other : ℕ) × used program flow test 0 p (split at 0 one other) × Ways (block_of flow one) (block_of flow other)
+
+  -- a `while` with this head, behind which stands a point (C11 6.8.5.1)
+  abbrev pub while_loop : Place → Typed → ℕ → Part → Point → Point → Type 0
+  while_loop at test mark body head q =
+      (r : Point) × (head ≡ does at 0 (graph.Reach point.Head mark) r)
+      × tests_at at test r (λ one other. part_to body q head one head × Joins program flow other q)
+
+  -- a `do` with this head, and with this point behind its body (C11 6.8.5.2)
+  abbrev pub do_loop : Place → Typed → ℕ → Part → Point → Point → Point → Type 0
+  do_loop at test mark body head again q =
+      (r : Point) × (head ≡ does at 0 (graph.Reach point.Head mark) r) × part_to body q again r again
+      × tests_at at test again (λ one other. Joins program flow one head × Joins program flow other q)
+
+  -- the last part of a `for`, which leads back to its head
+  abbrev pub last_at : Option Typed → Point → Point → Type 0
+  last_at None p head = Joins program flow p head
+  last_at (Some e) p head = (at : Place) × (w : Point) × used program flow e 0 p (does at 0 graph.Drop w) × Joins program flow w head
+
+  -- the test of a `for`, if it has one, before its body
+  abbrev pub for_test_at : Place → Option Typed → Point → Point → Point → Type 0
+  for_test_at at None r body q = r ≡ body
+  for_test_at at (Some test) r body q = tests_at at test r (λ one other. (one ≡ body) × Joins program flow other q)
+
+  -- a `for` with this head, and with this point behind its body (C11 6.8.5.3)
+  abbrev pub for_loop : Place → Option Typed → Option Typed → ℕ → Part → Point → Point → Point → Type 0
+  for_loop at test last mark body head again q =
+      (r inside : Point) × (head ≡ does at 0 (graph.Reach point.Head mark) r) × for_test_at at test r inside q
+      × part_to body q again inside again × last_at last again head
+
+  module _ (routine : Routine) (labels : ℕ → Point) where
+    -- the pieces of an initializer, stored one after another
+    abbrev pub stores_at : Place → ℕ → List Piece → Point → Point → Type 0
+    stores_at at declaration [] p q = p ≡ q
+    stores_at at declaration (Evaluated offset e ∷ others) p q =
+        (r : Point) × used program flow e 0 p (does at 0 (graph.StoreLocal declaration offset (type_of e) (is_scalar (type_in routine declaration))) r) × stores_at at declaration others r q
+    stores_at at declaration (Spelled offset bytes ∷ others) p q = (r : Point) × (p ≡ does at 0 (graph.Spell declaration offset bytes) r) × stores_at at declaration others r q
+
+    -- a declaration (C11 6.7.9)
+    abbrev pub declares_at : Place → ℕ → Option Initial → Point → Point → Type 0
+    declares_at at declaration None p q = p ≡ does at 0 (graph.Clear declaration (is_scalar (type_in routine declaration))) q
+    declares_at at declaration (Some (Value e)) p q = used program flow e 0 p (does at 0 (graph.StoreLocal declaration 0 (type_of e) (is_scalar (type_in routine declaration))) q)
+    declares_at at declaration (Some (Parts parts)) p q =
+        (r : Point) × (p ≡ does at 0 (graph.Zero declaration) r) × stores_at at declaration (pieces program (type_in routine declaration) 0 (Parts parts)) r q
+    declares_at at declaration (Some (Bytes bytes)) p q =
+        (r : Point) × (p ≡ does at 0 (graph.Zero declaration) r) × stores_at at declaration (pieces program (type_in routine declaration) 0 (Bytes bytes)) r q
+
+    -- a `return` (C11 6.8.6.4)
+    abbrev pub returns_at : Place → Option Typed → Point → Type 0
+    returns_at at None p = p ≡ does at 0 graph.Nothing (does at 1 (graph.Meet point.Return) leaving)
+    returns_at at (Some e) p = used program flow e 0 p (does at 1 (graph.Meet point.Return) leaving)
+
+    -- the cases of a `switch` with a value lead to the entries of their statements
+    abbrev pub case_leads : (ℕ → Point) → Option ℤ → ℕ → List SwitchCase → (List SwitchCase → Type 0) → Type 0
+    case_leads entries None item cases Others = Others cases
+    case_leads entries (Some value) item [] Others = ⊥
+    case_leads entries (Some value) item (one ∷ cases) Others = (one.value ≡ value) × (block_of flow one.block ≡ entries item) × Others cases
+
+    abbrev pub cases_lead : (ℕ → Point) → List Case → List SwitchCase → Type 0
+    cases_lead entries [] cases = cases ≡ []
+    cases_lead entries (one ∷ others) cases = case_leads entries one.value one.item cases (cases_lead entries others)
+
+    abbrev mutual
+      -- the point executes a statement, the first mark of which has this number, and then the graph goes on at a point; `break` and
+      -- `continue` lead to two others
+      pub executes_at : Statement → ℕ → Point → Point → Point → Point → Type 0
+      executes_at (Block at statements) mark out again p q = all_at statements mark out again p q
+      executes_at (Declare at declaration initial) mark out again p q = declares_at at declaration initial p q
+      executes_at (Run at e) mark out again p q = evaluates program flow e 0 p (does at 0 graph.Drop q)
+      executes_at (If at test body) mark out again p q =
+          tests_at at test p (λ one other. part_to (λ o a x y. executes_at body mark o a x y) out again one q × Joins program flow other q)
+      executes_at (IfElse at test body behind) mark out again p q =
+          tests_at at test p (λ one other. part_to (λ o a x y. executes_at body mark o a x y) out again one q × part_to (λ o a x y. executes_at behind (mark + marks body) o a x y) out again other q)
+      executes_at (While at test body) mark out again p q =
+          (head : Point) × Joins program flow p head × while_loop at test mark (λ o a x y. executes_at body (mark + 1) o a x y) head q
+      executes_at (Do at body test) mark out again p q =
+          (head test_at : Point) × Joins program flow p head × do_loop at test mark (λ o a x y. executes_at body (mark + 1) o a x y) head test_at q
+      executes_at (For at first test last body) mark out again p q =
+          (head last_part : Point) × all_at first (mark + 1) out again p head
+          × for_loop at test last mark (λ o a x y. executes_at body (mark + 1 + marks_in first) o a x y) head last_part q
+      executes_at (Switch at value cases statements) mark out again p q =
+          (ways : List SwitchCase) × (otherwise : ℕ) × (entries : ℕ → Point)
+          × used program flow value 0 p (record { operations = []; end = graph.Switch at 0 ways otherwise })
+          × ((item : ℕ) → from_at item statements mark q again (entries item) q) × cases_lead entries cases ways
+          × (block_of flow otherwise ≡ entries (default_item cases (count_of statements)))
+      executes_at (Goto at label) mark out again p q = Joins program flow p (labels label) × (is_there (landing label (body_of routine) 0 []) ≡ true)
+      executes_at (Label at label body) mark out again p q =
+          (r : Point) × Joins program flow p (labels label) × (labels label ≡ does at 0 (graph.Reach point.Label mark) r) × executes_at body (mark + 1) out again r q
+      executes_at (Break at) mark out again p q = Joins program flow p out
+      executes_at (Continue at) mark out again p q = Joins program flow p again
+      executes_at (Return at value) mark out again p q = returns_at at value p
+
+      -- statements one after another
+      pub all_at : Statements → ℕ → Point → Point → Point → Point → Type 0
+      all_at Empty mark out again p q = Joins program flow p q
+      all_at (Then first others) mark out again p q =
+          (r : Point) × part_to (λ o a x y. executes_at first mark o a x y) out again p r × all_at others (mark + marks first) out again r q
+
+      -- the same from the statement with a number on
+      pub from_at : ℕ → Statements → ℕ → Point → Point → Point → Point → Type 0
+      from_at number Empty mark out again p q = Joins program flow p q
+      from_at zero (Then first others) mark out again p q =
+          (r : Point) × part_to (λ o a x y. executes_at first mark o a x y) out again p r × all_at others (mark + marks first) out again r q
+      from_at (suc number) (Then first others) mark out again p q = from_at number others (mark + marks first) out again p q

@@ -1,0 +1,11 @@
+pub mod Graph
+pub mod GraphView
+pub mod Working
+pub mod CodeSteps
+pub mod ControlPoints
+pub mod FlowText
+pub mod GraphPoints
+pub mod Lowered
+pub mod Placing
+pub mod Executing
+pub mod Standing

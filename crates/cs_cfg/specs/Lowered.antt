@@ -1,0 +1,69 @@
+-- When code is the lowering of a program.
+use Rattle.std.specs.Prelude.{◌≡◌, ℕ, List, [], ◌∷◌, ◌+◌, Bool, true, false, Option, Some, None, ⊤}
+use Rattle.cs_ast.specs.TypedTree.{Statement}
+use Rattle.cs_ast.specs.TypedProgram.{TypedProgram, Routine}
+use Rattle.cs_runs.specs.declared.outcome.Outcome.{Outcome}
+use Rattle.cs_runs.specs.declared.outcome.Outcome.TheVariants.{Done}
+use Rattle.cs_runs.specs.declared.outcome.Returned.{Returned}
+use Rattle.cs_runs.specs.declared.outcome.RunBudgets.{RunBudgets}
+use Rattle.cs_runs.specs.Objects.{UnsetCell}
+use Rattle.cs_runs.specs.Runs.{Log}
+use Rattle.cs_runs.specs.Pending.{Pending}
+use Rattle.cs_plain.specs.Machine.{Operand, Scalar, Item, State, operand_at, routine_of}
+use Rattle.cs_plain.specs.PlainRuns.{PlainRun, RunGives, RunIsPending}
+use Rattle.cs_cfg.specs.Graph.{BlockEnd, Return, Flow, Code, flow_of}
+use Rattle.cs_cfg.specs.Working.{CodeState, cut}
+use Rattle.cs_cfg.specs.CodeSteps.{CodeGives, CodeIsPending}
+use Rattle.cs_cfg.specs.ControlPoints.{control_points}
+use Rattle.cs_cfg.specs.GraphPoints.{HasPoints}
+
+-- what the machine returns in a state in which it is done: the newest value, or one that was never set where nothing is to be done
+abbrev pub returned_with : List Item → State → Operand
+returned_with [] m = Scalar UnsetCell
+returned_with (item ∷ items) m = operand_at m 0
+
+abbrev pub returned_value : State → Operand
+returned_value m = returned_with m.frame.todo m
+
+-- what the run of the code returns in such a state
+abbrev pub end_value : BlockEnd → CodeState → Operand
+end_value (Return temporary) m = operand_at (cut (temporary + 1) m) 0
+end_value other m = Scalar UnsetCell
+
+abbrev pub code_returned : CodeState → Operand
+code_returned m = end_value m.frame.todo.end m
+
+abbrev pub is_there : {T : Type 0} → Option T → Bool
+is_there None = false
+is_there (Some x) = true
+
+-- the functions with a body are those that have a graph
+abbrev pub HasGraphs : Code → TypedProgram → Type 0
+HasGraphs code program = (function : ℕ) → is_there (flow_of code function) ≡ is_there (routine_of program function).body
+
+-- the graph of a function has just the control points of its statements
+abbrev pub ReadsOff : Routine → Option Flow → Type 0
+ReadsOff routine None = ⊤
+ReadsOff routine (Some flow) = HasPoints flow (control_points routine)
+
+-- the code is the lowering of a program: its runs end as those of the plain machine do, with the same events, paths read and touches;
+-- the same is pending at each event; and its control points are those of the statements
+pub record IsLowered (code : Code) (program : TypedProgram) : Type 0 where
+  pub graphs : HasGraphs code program
+  -- the run of the code ends so where the machine's run does, with the same log
+  pub ends : (entry : ℕ) (body : Statement) (run : PlainRun) (budgets : RunBudgets) (outcome : Outcome) (log : Log) →
+      (routine_of program entry).body ≡ Some body → RunGives program entry run budgets outcome log → CodeGives code program entry run budgets outcome log
+  -- and only there
+  pub ends_only : (entry : ℕ) (body : Statement) (run : PlainRun) (budgets : RunBudgets) (outcome : Outcome) (log : Log) →
+      (routine_of program entry).body ≡ Some body → CodeGives code program entry run budgets outcome log → RunGives program entry run budgets outcome log
+  -- the same is pending at each event, an access with the same object and offset
+  pub pends : (entry : ℕ) (body : Statement) (run : PlainRun) (budgets : RunBudgets) (event : ℕ) (pending : Pending) →
+      (routine_of program entry).body ≡ Some body → RunIsPending program entry run budgets event pending → CodeIsPending code program entry run budgets event pending
+  pub pends_only : (entry : ℕ) (body : Statement) (run : PlainRun) (budgets : RunBudgets) (event : ℕ) (pending : Pending) →
+      (routine_of program entry).body ≡ Some body → CodeIsPending code program entry run budgets event pending → RunIsPending program entry run budgets event pending
+  -- where the run is done, the value that it returns and its memory are those of the machine's run
+  pub returns : (entry : ℕ) (body : Statement) (run : PlainRun) (budgets : RunBudgets) (what : Returned) (log : Log) → (routine_of program entry).body ≡ Some body →
+      (one : RunGives program entry run budgets (Done what) log) (other : CodeGives code program entry run budgets (Done what) log) →
+      (returned_value one.last ≡ code_returned other.last) × (one.last.memory ≡ other.last.memory)
+  -- the control points of each graph are just those of the function's statements, with what is met next on each way
+  pub flows : (function : ℕ) → ReadsOff (routine_of program function) (flow_of code function)

@@ -1,0 +1,10 @@
+//! The code of a program: for each function its flow graph, blocks of operations over numbered temporaries.
+//!
+//! What a run of the code is, and when code is the lowering of a program, is stated in `specs/`.
+#![tactic(auto)]
+
+pub mod code;
+pub mod operation;
+
+pub use code::{Block, BlockEnd, Code, Flow, Mark, Spot, SwitchCase};
+pub use operation::{Access, Operation, Work};
