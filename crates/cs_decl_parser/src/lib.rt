@@ -20,8 +20,6 @@ mod source;
 mod specs;
 mod statement;
 mod stop;
-#[cfg(test)]
-mod tests;
 mod words;
 
 pub use file::parse;
