@@ -12,7 +12,7 @@ use Rattle.cs_ast.specs.declared.raw.declaration.RawInitial as first_value
 use Rattle.cs_ast.specs.declared.raw.declaration.RawInitial.{RawInitial}
 use Rattle.cs_ast.specs.declared.raw.declaration.RawFirstValue.{RawFirstValue}
 use Rattle.cs_ast.specs.declared.raw.declaration.RawInit.{RawInit}
-use Rattle.cs_ast.specs.declared.raw.declaration.RawName.{RawName}
+use Rattle.cs_ast.specs.declared.raw.name.RawName.{RawName}
 use Rattle.cs_ast.specs.declared.raw.declaration.RawParameter.{RawParameter}
 use Rattle.cs_ast.specs.declared.raw.declaration.RawParameters.{RawParameters}
 use Rattle.cs_ast.specs.declared.raw.declaration.RawParameters.TheVariants as parameter_lists

@@ -15,8 +15,8 @@ abbrev mutual
   written_kind (kind.Parenthesis' p place inner) = Enclosed (written_kind inner)
   written_kind (kind.Index' p place array q place' number) = Index (written_kind array) (written_kind number)
   written_kind (kind.Call' p place function shape row) = Call (written_kind function) (written_row row)
-  written_kind (kind.Member' p place object name) = Member (written_kind object) name
-  written_kind (kind.Arrow' p place pointer name) = Arrow (written_kind pointer) name
+  written_kind (kind.Member' p place object name) = Member (written_kind object) name.name
+  written_kind (kind.Arrow' p place pointer name) = Arrow (written_kind pointer) name.name
   written_kind (kind.StepBehind' step p place object) = StepBehind step (written_kind object)
   written_kind (kind.StepBefore' step p place object) = StepBefore step (written_kind object)
   written_kind (kind.Prefix' operator p place operand) = Prefix operator (written_kind operand)

@@ -7,6 +7,7 @@ pub mod expression;
 pub mod external;
 pub mod external_height;
 pub mod height;
+pub mod name;
 pub mod operator;
 pub mod statement;
 pub mod statement_height;

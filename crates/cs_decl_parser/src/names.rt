@@ -2,7 +2,7 @@
 ghost use Rattle.std.specs.Prelude.{◌<◌, length, IfOk, IsSome};
 
 use crate::source::{Source, begins_type, name_at, place_at};
-use cs_ast::raw::declaration::RawName;
+use cs_ast::raw::name::RawName;
 use std::alloc::AllocError;
 
 /// The name at a number, which may be that of a typedef, if one stands there.

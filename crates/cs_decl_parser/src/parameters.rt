@@ -8,7 +8,8 @@ use crate::source::{Scope, Source, is_keyword, is_mark, place_at, refuse, refuse
 use crate::specs::specs;
 use crate::stop::{Stop, Taken};
 use crate::words::stars;
-use cs_ast::raw::declaration::{RawName, RawParameter, RawParameters};
+use cs_ast::raw::declaration::{RawParameter, RawParameters};
+use cs_ast::raw::name::RawName;
 use cs_ast::{Keyword, Mark};
 use std::alloc::Global;
 

@@ -11,7 +11,8 @@ use crate::source::{
 };
 use crate::stop::{Stop, Taken};
 use crate::words::type_word_at;
-use cs_ast::raw::declaration::{RawMember, RawName, RawSpecs, SpecWord};
+use cs_ast::raw::declaration::{RawMember, RawSpecs, SpecWord};
+use cs_ast::raw::name::RawName;
 use cs_ast::raw::written_type::TypeWord;
 use cs_ast::{Keyword, Mark, Place};
 use cs_grammar::{Reason, TypeSoFar};

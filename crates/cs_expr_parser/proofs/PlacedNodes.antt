@@ -4,6 +4,7 @@ use Rattle.std.specs.Prelude.{IfOk}
 use Rattle.std.proofs.Math.Seq.{drop-cons}
 use Rattle.cs_ast.specs.declared.place.Place.{Place}
 use Rattle.cs_ast.specs.declared.token.Token.{Token}
+use Rattle.cs_ast.specs.declared.raw.name.RawName.{RawName}
 use Rattle.cs_ast.specs.declared.raw.operator.Step.{Step}
 use Rattle.cs_ast.specs.declared.raw.operator.PrefixOp.{PrefixOp}
 use Rattle.cs_ast.specs.declared.raw.operator.InfixOp.{InfixOp}
@@ -44,11 +45,19 @@ comma_placed x y at left right list ex ey a b d = (
   subst (λ (e : RawExpr). HasPlaces y.value (drop 1 (behind e.kind list))) (sym ex) (subst (λ (e : RawExpr). HasPlaces e (drop 1 (behind left.kind list))) (sym ey) d),
 )
 
-pub member_placed : (name : List ℕ) (x : Box RawExpr Global) (at : Place) (part : RawExpr) (list : List Token) → x.value ≡ part → HasPlaces part list → StandsAt at (behind part.kind list) → IsPlaced at (kind.Member x name) list
-member_placed name x at part list ex a b = (subst (λ (e : RawExpr). HasPlaces e list) (sym ex) a, subst (λ (e : RawExpr). StandsAt at (behind e.kind list)) (sym ex) b)
+pub member_placed : (name : RawName) (x : Box RawExpr Global) (at : Place) (part : RawExpr) (list : List Token) → x.value ≡ part → HasPlaces part list → StandsAt at (behind part.kind list) → StandsAt name.place (drop 1 (behind part.kind list)) → IsPlaced at (kind.Member x name) list
+member_placed name x at part list ex a b d = (
+  subst (λ (e : RawExpr). HasPlaces e list) (sym ex) a,
+  subst (λ (e : RawExpr). StandsAt at (behind e.kind list)) (sym ex) b,
+  subst (λ (e : RawExpr). StandsAt name.place (drop 1 (behind e.kind list))) (sym ex) d,
+)
 
-pub arrow_placed : (name : List ℕ) (x : Box RawExpr Global) (at : Place) (part : RawExpr) (list : List Token) → x.value ≡ part → HasPlaces part list → StandsAt at (behind part.kind list) → IsPlaced at (kind.Arrow x name) list
-arrow_placed name x at part list ex a b = (subst (λ (e : RawExpr). HasPlaces e list) (sym ex) a, subst (λ (e : RawExpr). StandsAt at (behind e.kind list)) (sym ex) b)
+pub arrow_placed : (name : RawName) (x : Box RawExpr Global) (at : Place) (part : RawExpr) (list : List Token) → x.value ≡ part → HasPlaces part list → StandsAt at (behind part.kind list) → StandsAt name.place (drop 1 (behind part.kind list)) → IsPlaced at (kind.Arrow x name) list
+arrow_placed name x at part list ex a b d = (
+  subst (λ (e : RawExpr). HasPlaces e list) (sym ex) a,
+  subst (λ (e : RawExpr). StandsAt at (behind e.kind list)) (sym ex) b,
+  subst (λ (e : RawExpr). StandsAt name.place (drop 1 (behind e.kind list))) (sym ex) d,
+)
 
 pub step_behind_placed : (step : Step) (x : Box RawExpr Global) (at : Place) (part : RawExpr) (list : List Token) → x.value ≡ part → HasPlaces part list → StandsAt at (behind part.kind list) → IsPlaced at (kind.StepBehind step x) list
 step_behind_placed step x at part list ex a b = (subst (λ (e : RawExpr). HasPlaces e list) (sym ex) a, subst (λ (e : RawExpr). StandsAt at (behind e.kind list)) (sym ex) b)

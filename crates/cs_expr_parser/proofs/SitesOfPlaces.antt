@@ -52,6 +52,9 @@ same_placed tokens from tree other e p = subst (λ (x : RawExpr). HasPlaces x (d
 pub between_stands : (tokens : List Token) (from : ℕ) (tree : RawExpr) (next : ℕ) (at : Place) → EndsAt tokens from tree next → StandsAt at (drop next tokens) → StandsAt at (behind tree.kind (drop from tokens))
 between_stands tokens from tree next at e s = subst (StandsAt at) (sym e) s
 
+pub between_behind : (tokens : List Token) (from : ℕ) (tree : RawExpr) (next : ℕ) (at : Place) → EndsAt tokens from tree next → StandsAt at (drop (next + 1) tokens) → StandsAt at (drop 1 (behind tree.kind (drop from tokens)))
+between_behind tokens from tree next at e s = subst (StandsAt at) (sym (ap (λ (x : List Token). drop 1 x) e ∙ drop_one tokens next)) s
+
 pub between_placed : (tokens : List Token) (from : ℕ) (tree : RawExpr) (next : ℕ) (right : RawExpr) → EndsAt tokens from tree next → HasPlaces right (drop (next + 1) tokens) → HasPlaces right (drop 1 (behind tree.kind (drop from tokens)))
 between_placed tokens from tree next right e p = subst (HasPlaces right) (sym (ap (λ (x : List Token). drop 1 x) e ∙ drop_one tokens next)) p
 

@@ -9,11 +9,11 @@ ghost use Rattle.cs_expr_parser.specs.Leaves.{IsLeafOf, IsLeafKindOf};
 ghost use Rattle.cs_expr_parser.specs.Positions.{kind_or_end};
 
 use cs_ast::raw::expression::{RawExpr, RawExprKind};
+use cs_ast::raw::name::RawName;
 use cs_ast::raw::operator::{AssignOp, InfixOp, PrefixOp, Step};
 use cs_ast::raw::written_type::WrittenType;
 use cs_ast::{Place, Token, TokenKind};
 use cs_grammar::TypedefNames;
-use cs_names::Name;
 use std::alloc::{AllocError, Global};
 
 /// The expression of the one token at a number, if that is one.
@@ -117,10 +117,10 @@ pub fn member(
     alloc: Global,
     place: Place,
     object: RawExpr,
-    name: Name,
+    name: RawName,
 ) -> Result<RawExpr, AllocError>
-    ensures tree { IfOk result (λ tree. written tree ≡ MemberNode (written object) name) }
-    ensures placed { IfOk result (λ tree. (list : List OneToken) → HasPlaces object list → StandsAt place (behind object.kind list) → HasPlaces tree list) }
+    ensures tree { IfOk result (λ tree. written tree ≡ MemberNode (written object) name.name) }
+    ensures placed { IfOk result (λ tree. (list : List OneToken) → HasPlaces object list → StandsAt place (behind object.kind list) → StandsAt name.place (drop 1 (behind object.kind list)) → HasPlaces tree list) }
 {
     let object = Box::new(alloc, object)?;
     Ok(RawExpr {
@@ -134,10 +134,10 @@ pub fn arrow(
     alloc: Global,
     place: Place,
     pointer: RawExpr,
-    name: Name,
+    name: RawName,
 ) -> Result<RawExpr, AllocError>
-    ensures tree { IfOk result (λ tree. written tree ≡ ArrowNode (written pointer) name) }
-    ensures placed { IfOk result (λ tree. (list : List OneToken) → HasPlaces pointer list → StandsAt place (behind pointer.kind list) → HasPlaces tree list) }
+    ensures tree { IfOk result (λ tree. written tree ≡ ArrowNode (written pointer) name.name) }
+    ensures placed { IfOk result (λ tree. (list : List OneToken) → HasPlaces pointer list → StandsAt place (behind pointer.kind list) → StandsAt name.place (drop 1 (behind pointer.kind list)) → HasPlaces tree list) }
 {
     let pointer = Box::new(alloc, pointer)?;
     Ok(RawExpr {

@@ -18,10 +18,10 @@ use crate::primary::primary;
 use crate::stop::{Stop, Taken};
 use crate::tokens::{is_mark, mark_at, name_at, place_at, refuse, refuse_behind};
 use cs_ast::raw::expression::RawExpr;
+use cs_ast::raw::name::RawName;
 use cs_ast::raw::operator::Step;
 use cs_ast::{Mark, Place, Token};
 use cs_grammar::TypedefNames;
-use cs_names::Name;
 use std::alloc::{AllocError, Global};
 
 /// The postfix expression that the tokens from a number on begin with.
@@ -172,7 +172,10 @@ fn selected(alloc: Global, tokens: &[Token], left: Taken, through: bool) -> Resu
         return Err(refuse(tokens, left.next + 1, false));
     };
     let place = place_at(tokens, left.next);
-    let name = name.copy()?;
+    let name = RawName {
+        place: place_at(tokens, left.next + 1),
+        name: name.copy()?,
+    };
     let tree = selected_node(alloc, place, left.tree, name, through)?;
     Ok(Taken {
         tree,
@@ -186,11 +189,11 @@ fn selected_node(
     alloc: Global,
     place: Place,
     object: RawExpr,
-    name: Name,
+    name: RawName,
     through: bool,
 ) -> Result<RawExpr, AllocError>
-    ensures tree { IfOk result (λ tree. written tree ≡ (if through then Arrow (written object) name else Member (written object) name)) }
-    ensures placed { IfOk result (λ tree. (list : List OneToken) → HasPlaces object list → StandsAt place (behind object.kind list) → HasPlaces tree list) }
+    ensures tree { IfOk result (λ tree. written tree ≡ (if through then Arrow (written object) name.name else Member (written object) name.name)) }
+    ensures placed { IfOk result (λ tree. (list : List OneToken) → HasPlaces object list → StandsAt place (behind object.kind list) → StandsAt name.place (drop 1 (behind object.kind list)) → HasPlaces tree list) }
 {
     if through {
         arrow(alloc, place, object, name)

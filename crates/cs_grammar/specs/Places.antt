@@ -1,4 +1,5 @@
--- That each node of a written expression has the place of its token: that of its operator, or its first one where it has none.
+-- That each node of a written expression has the place of its token: that of its operator, or its first one where it has none. The
+-- name of a member has a place of its own.
 use Rattle.std.specs.Prelude.{◌≡◌, ℕ, suc, List, [], ◌∷◌, drop, Option, None, Some, slice_get}
 use Rattle.std.specs.Option.{option_map, option_and_then}
 use Rattle.cs_ast.specs.declared.raw.written_type.TypeWord.{TypeWord}
@@ -55,8 +56,10 @@ abbrev mutual
       IsPlaced place array tokens × StandsAt at (behind array tokens) × IsPlaced place' number (drop 1 (behind array tokens))
   IsPlaced at (kind.Call' p place function shape row) tokens =
       IsPlaced place function tokens × StandsAt at (behind function tokens) × ArePlaced row (drop 1 (behind function tokens))
-  IsPlaced at (kind.Member' p place object name) tokens = IsPlaced place object tokens × StandsAt at (behind object tokens)
-  IsPlaced at (kind.Arrow' p place pointer name) tokens = IsPlaced place pointer tokens × StandsAt at (behind pointer tokens)
+  IsPlaced at (kind.Member' p place object name) tokens =
+      IsPlaced place object tokens × StandsAt at (behind object tokens) × StandsAt name.place (drop 1 (behind object tokens))
+  IsPlaced at (kind.Arrow' p place pointer name) tokens =
+      IsPlaced place pointer tokens × StandsAt at (behind pointer tokens) × StandsAt name.place (drop 1 (behind pointer tokens))
   IsPlaced at (kind.StepBehind' step p place object) tokens = IsPlaced place object tokens × StandsAt at (behind object tokens)
   IsPlaced at (kind.StepBefore' step p place object) tokens = StandsAt at tokens × IsPlaced place object (drop 1 tokens)
   IsPlaced at (kind.Prefix' operator p place operand) tokens = StandsAt at tokens × IsPlaced place operand (drop 1 tokens)

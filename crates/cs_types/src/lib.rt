@@ -17,6 +17,6 @@ pub use ctype::CType;
 pub use data_model::{
     DataModel, difference_type, offset_bound, product_bound, size_type, start_extent,
 };
-pub use int_type::IntType;
+pub use int_type::{IntType, bytes, is_signed};
 pub use layout::{align, leaf_at, size};
 pub use structs::{Member, Members, StructTable, StructType, Structs};

@@ -2,6 +2,7 @@
 
 use crate::place::Place;
 use crate::raw::expression::RawExpr;
+use crate::raw::name::RawName;
 use crate::raw::written_type::{PointerWord, TypeWord};
 use cs_names::Name;
 
@@ -110,11 +111,4 @@ pub struct RawParameter {
     pub pointers: Vec<PointerWord>,
     pub name: Option<RawName>,
     pub bounds: Vec<Option<RawExpr>>,
-}
-
-/// A name at its place.
-#[derive(Debug, Drop, PartialEq, Eq)]
-pub struct RawName {
-    pub place: Place,
-    pub name: Name,
 }

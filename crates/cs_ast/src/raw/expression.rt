@@ -1,6 +1,7 @@
 //! Written expressions (C11 6.5).
 
 use crate::place::Place;
+use crate::raw::name::RawName;
 use crate::raw::operator::{AssignOp, InfixOp, PrefixOp, Step};
 use crate::raw::written_type::WrittenType;
 use crate::token::IntegerConstant;
@@ -32,10 +33,10 @@ pub enum RawExprKind {
     Index(Box<RawExpr>, Box<RawExpr>),
     /// `a ( b , .. )`, at its parenthesis (C11 6.5.2.2).
     Call(Box<RawExpr>, Vec<RawExpr>),
-    /// `a . name` (C11 6.5.2.3).
-    Member(Box<RawExpr>, Name),
-    /// `a -> name` (C11 6.5.2.3).
-    Arrow(Box<RawExpr>, Name),
+    /// `a . name`, at its dot (C11 6.5.2.3).
+    Member(Box<RawExpr>, RawName),
+    /// `a -> name`, at its arrow (C11 6.5.2.3).
+    Arrow(Box<RawExpr>, RawName),
     /// `a ++` or `a --`.
     StepBehind(Step, Box<RawExpr>),
     /// `++ a` or `-- a`.

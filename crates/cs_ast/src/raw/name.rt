@@ -1,0 +1,11 @@
+//! Names at their places.
+
+use crate::place::Place;
+use cs_names::Name;
+
+/// A name at its place.
+#[derive(Debug, Drop, PartialEq, Eq)]
+pub struct RawName {
+    pub place: Place,
+    pub name: Name,
+}
