@@ -1,0 +1,87 @@
+//! What the front end says of whole files: how many parts they have, or which token is refused and why.
+
+use cs_decl_parser::parse;
+use cs_grammar::SyntaxRefusal;
+use cs_lexer::tokens;
+use std::alloc::{AllocError, Global};
+use std::str::from_utf8;
+use std::test::Fail;
+
+/// Files with what the front end says of them.
+const FILES: [(&str, &str); 32] = [
+    ("", "0 parts"),
+    ("int f(int x){return 1/x;}", "1 parts"),
+    ("typedef int T;T x;", "2 parts"),
+    ("int f(int x){if(x)if(x)x;else x;}", "1 parts"),
+    ("int f(void){T:;T:T:;}", "1 parts"),
+    ("enum{A,B,};int a[]={1,2,};", "2 parts"),
+    ("struct S{int a;struct S*b;}*p;", "1 parts"),
+    ("int a[sizeof(int*[2])];", "1 parts"),
+    ("int x; /* a", "no tokens"),
+    ("int x", "syntax 1:6"),
+    (";", "syntax 1:1"),
+    ("int f(int x){return x}", "syntax 1:22"),
+    ("int T;T x;", "syntax 1:7"),
+    ("int f(int){}", "syntax 1:11"),
+    ("int f(void,int);", "1 parts"),
+    ("int f(int x){else x;}", "syntax 1:14"),
+    ("int f(int x){x=;}", "syntax 1:16"),
+    ("int f(int x){(int x)1;}", "syntax 1:19"),
+    ("int f(int x){x+1=x;}", "syntax 1:17"),
+    ("int f(int x){case 1:;}", "syntax 1:14"),
+    ("int f(int x){do x;while(x)}", "syntax 1:27"),
+    ("float x;", "left out float 1:1"),
+    ("int f(int a,...);", "left out ... 1:13"),
+    ("int f(int (", "left out ( 1:11"),
+    ("int (*f);", "left out ( 1:5"),
+    ("struct S{int a:3;};", "left out : 1:15"),
+    ("int a[2]={[0]=1};", "left out [ 1:11"),
+    ("struct S{int a;}s={.a=1};", "left out . 1:20"),
+    ("int f(void){static int x;}", "left out static 1:13"),
+    ("int f(void){typedef int T;}", "left out typedef 1:13"),
+    ("int f(void){struct S{int a;}s;}", "left out { 1:21"),
+    ("int x=(int){3};", "left out { 1:12"),
+];
+
+/// What the front end says of a file.
+fn verdict(alloc: Global, file: &str) -> Result<String, AllocError> {
+    if file.as_bytes().len() > 4_194_304 {
+        return String::from_str(alloc, "too long");
+    }
+    let Ok(lexed) = tokens(alloc, file.as_bytes()) else {
+        return String::from_str(alloc, "no tokens");
+    };
+    let list = lexed.list.as_slice();
+    if list.len() > 400_000 {
+        return String::from_str(alloc, "too many tokens");
+    }
+    match parse(alloc, list, lexed.end) {
+        Ok(tree) => {
+            let count = tree.externals.len();
+            format!(in alloc; "{count} parts")
+        }
+        Err(refusal) => told(alloc, &refusal),
+    }
+}
+
+/// A refusal in words.
+fn told(alloc: Global, refusal: &SyntaxRefusal) -> Result<String, AllocError> {
+    match refusal {
+        SyntaxRefusal::Syntax(at) => format!(in alloc; "syntax {}:{}", at.line, at.column),
+        SyntaxRefusal::TooDeep(at) => format!(in alloc; "too deep {}:{}", at.line, at.column),
+        SyntaxRefusal::LeftOut(at, word) => {
+            let word = from_utf8(word.as_bytes()).unwrap_or("?");
+            format!(in alloc; "left out {word} {}:{}", at.line, at.column)
+        }
+        SyntaxRefusal::Memory => String::from_str(alloc, "no memory"),
+    }
+}
+
+#[test]
+fn parses_files_or_tells_the_first_refused_token(rt: HostRuntime) -> Result<(), Fail> {
+    for (file, expected) in FILES {
+        let said = verdict(rt.alloc(), file)?;
+        assert_eq!(rt; said.as_str(), expected, "{file}");
+    }
+    Ok(())
+}
