@@ -4,3 +4,7 @@ pub mod Chains
 pub mod Rows
 pub mod Starts
 pub mod Layouts
+pub mod Changes
+pub mod Rising
+pub mod Nested
+pub mod Reading
