@@ -8,3 +8,4 @@ pub mod Changes
 pub mod Rising
 pub mod Nested
 pub mod Reading
+pub mod States

@@ -1,5 +1,5 @@
 -- Structs in structs: for the contract of `begins_in_struct`.
-use Rattle.std.proofs.Common.{◌≡◌, ◌==◌, ◌&&◌, ℕ, zero, suc, ◌-◌, ◌<◌, Bool, false, List, [], Some, ap, ◌∙◌, arith}
+use Rattle.std.proofs.Common.{◌≡◌, ◌==◌, ◌&&◌, ℕ, zero, suc, ◌-◌, ◌<◌, false, List, [], Some, ap, ◌∙◌, arith}
 use Rattle.std.specs.Prelude.{unwrap_or, ◌||◌}
 use Rattle.cs_types.specs.declared.structs.Member.{Member}
 use Rattle.cs_types.specs.Layout.{members_of}

@@ -5,3 +5,5 @@ pub mod MemoryView
 pub mod TypeView
 pub mod FoundView
 pub mod AccessView
+pub mod MachineView
+pub mod Choosing

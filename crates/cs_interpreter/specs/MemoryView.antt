@@ -1,5 +1,5 @@
 -- The interpreter's memory, seen as that of the plain machine.
-use Rattle.std.specs.Prelude.{◌≡◌, ℕ, zero, suc, List, map, length, Option, Some, None, option_map, slice_get, ◌==◌, if◌then◌else◌, Vec}
+use Rattle.std.specs.Prelude.{◌≡◌, ℕ, zero, suc, List, map, length, Option, None, option_map, slice_get, ◌==◌, if◌then◌else◌, Vec}
 use Rattle.std.specs.declared.alloc.Global.{Global}
 use Rattle.std.specs.Option.{option_and_then}
 use Rattle.std.specs.Map.{lookup}
@@ -13,7 +13,6 @@ use Rattle.cs_ast.specs.TypedView.{typed}
 use Rattle.cs_runs.specs.Objects.{StartBlock, GlobalObject, LiteralObject, LocalObject, HeapBlock, Cell}
 use Rattle.cs_plain.specs.Initials as initials
 use Rattle.cs_plain.specs.Memory as plain
-use Rattle.cs_interpreter.specs.declared.objects.Cell.{Cell as HeldCell}
 use Rattle.cs_interpreter.specs.declared.blocks.BlockType.{BlockType}
 use Rattle.cs_interpreter.specs.declared.blocks.BlockType.TheVariants.{Of, Integer, Text, Void}
 use Rattle.cs_interpreter.specs.declared.blocks.Piece.{Piece}

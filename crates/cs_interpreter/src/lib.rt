@@ -4,11 +4,15 @@
 mod access;
 mod arithmetic;
 pub mod blocks;
+mod choosing;
 mod constants;
+mod evaluating;
 mod found;
 mod guessing;
 mod inputs;
+mod items;
 mod logs;
+pub mod machine;
 pub mod memory;
 mod objects;
 mod offsets;

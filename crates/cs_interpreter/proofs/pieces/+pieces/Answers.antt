@@ -1,4 +1,4 @@
-use Rattle.std.proofs.Common.{◌≡◌, ap, ◌∙◌}
+use Rattle.std.proofs.Common.{ap, ◌∙◌}
 use Rattle.cs_ast.specs.TypedView.{initial}
 use Rattle.cs_ast.proofs.TypedRows.{initial-List}
 use Rattle.cs_interpreter.proofs.pieces.+pieces.Goals as goal

@@ -1,4 +1,4 @@
-use Rattle.std.proofs.Common.{◌≡◌, ◌<◌, ◌-◌, sym, ◌∙◌, arith}
+use Rattle.std.proofs.Common.{sym, ◌∙◌, arith}
 use Rattle.cs_ast.specs.TypedProgram.{typed_program}
 use Rattle.cs_interpreter.proofs.Nested.{struct_members}
 use Rattle.cs_interpreter.proofs.scalars.+begins.Goals as goal

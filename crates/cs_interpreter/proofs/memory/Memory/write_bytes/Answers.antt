@@ -3,7 +3,7 @@ use Rattle.cs_ast.specs.TypedProgram.{typed_program}
 use Rattle.cs_plain.specs.Access.{write_bytes}
 use Rattle.cs_interpreter.specs.AccessView.{spells}
 use Rattle.cs_interpreter.specs.View.{object_of}
-use Rattle.cs_interpreter.specs.MemoryView.{memory_of, block_of, type_of}
+use Rattle.cs_interpreter.specs.MemoryView.{memory_of, block_of}
 use Rattle.cs_interpreter.proofs.Changes.{changed-as, changed-none, write_bytes-spells}
 use Rattle.cs_interpreter.proofs.memory.Memory.write_bytes.Goals as goal
 

@@ -1,4 +1,4 @@
-use Rattle.std.proofs.Common.{◌≡◌, ◌+◌, ◌∷◌, map, drop, get_or, sym, ap, ◌∙◌, inl, inr, rules, arith}
+use Rattle.std.proofs.Common.{◌≡◌, ◌+◌, ◌∷◌, map, drop, get_or, sym, ap, ◌∙◌, inl, inr, rules}
 use Rattle.std.proofs.lemmas.List.{drop_all}
 use Rattle.cs_interpreter.specs.View.{cell_of, object_of}
 use Rattle.cs_interpreter.specs.MemoryView.{memory_of}
