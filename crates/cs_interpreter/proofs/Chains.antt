@@ -1,5 +1,5 @@
 -- Pieces in a row of which the last one ends the run: for the contracts of what asks several questions.
-use Rattle.std.proofs.Common.{◌≡◌, refl, sym, subst}
+use Rattle.std.proofs.Common.{◌≡◌, sym, subst}
 use Rattle.cs_runs.specs.Runs.{Log, Performed}
 use Rattle.cs_plain.specs.Machine.{State}
 use Rattle.cs_interpreter.specs.declared.logs.Stop.{Stop}

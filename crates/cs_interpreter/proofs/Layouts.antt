@@ -1,12 +1,15 @@
 -- The sizes of types in a table that is laid out: for the contracts of `size_of` and `is_small`.
-use Rattle.std.proofs.Common.{◌≡◌, ℕ, zero, suc, ◌*◌, ◌^◌, ◌≤◌, List, Option, Some, None, refl, sym, ap, ◌∙◌, subst}
-use Rattle.std.specs.Prelude.{slice_get, IfSome}
+use Rattle.std.proofs.Common.{◌≡◌, arith, ℕ, zero, suc, ◌*◌, ◌^◌, ◌≤◌, List, Option, Some, None, refl, sym, ap, ◌∙◌, subst}
+use Rattle.std.specs.Prelude.{slice_get, IfSome, nat_lt, if◌then◌else◌}
+use Rattle.std.proofs.lemmas.Bool.Decides.{nat_tests}
+use Rattle.cs_types.specs.declared.int_type.IntType.TheVariants.{Char}
+use Rattle.cs_types.proofs.Leaves.{scalar_at-moved}
 use Rattle.std.specs.Option.{option_map, option_and_then}
 use Rattle.cs_types.specs.declared.data_model.DataModel.{DataModel}
 use Rattle.cs_types.specs.declared.structs.StructType.{StructType}
 use Rattle.cs_types.specs.declared.structs.Member.{Member}
-use Rattle.cs_types.specs.Shape.{Shape, array, struct}
-use Rattle.cs_types.specs.Layout.{Layout, layout_of, struct_layout, member_layouts, layout_with, padded, side_by_side, repeated, members_of, complete_count, IsSmall, HasSmallSizes, IsLaidOut}
+use Rattle.cs_types.specs.Shape.{Shape, array, struct, integer}
+use Rattle.cs_types.specs.Layout.{Layout, alone, row, scalar_at, leaf_of, layout_of, struct_layout, member_layouts, layout_with, padded, side_by_side, repeated, members_of, complete_count, IsSmall, HasSmallSizes, IsLaidOut}
 
 -- a struct without members has no layout
 no_layout : (model : DataModel) (table : List StructType) (number : ℕ) (depth : ℕ) → members_of table number ≡ None → struct_layout model table depth number ≡ None
@@ -35,3 +38,12 @@ array_is_small model table element count bytes is small = by_layout (layout_of m
     by_layout : (found : Option Layout) → IfSome (option_map (λ (layout : Layout). layout.size) found) (λ b. count * b ≤ 2 ^ 40) → IfSome (option_map (repeated count) found) (λ (layout : Layout). layout.size ≤ 2 ^ 40)
     by_layout (Some layout) h = h
     by_layout None h = tt
+
+-- the scalar at an offset of so many characters
+pub char_at : (model : DataModel) (table : List StructType) (count offset : ℕ) → leaf_of model table (array (integer Char) count) offset ≡ (if nat_lt offset count then Some (integer Char) else None)
+char_at model table count offset = at_index count offset
+  where
+    at_index : (n o : ℕ) → scalar_at o (row n (alone 1 (integer Char))) ≡ (if nat_lt o n then Some (integer Char) else None)
+    at_index zero o = grind arith
+    at_index (suc n) zero = grind (arith, nat_tests)
+    at_index (suc n) (suc o) = grind (arith, nat_tests, scalar_at-moved 1 (suc o) (row n (alone 1 (integer Char))) (omega arith), at_index n o)

@@ -4,3 +4,8 @@ pub mod Chains
 pub mod Rows
 pub mod Starts
 pub mod Layouts
+pub mod Changes
+pub mod Rising
+pub mod Nested
+pub mod Reading
+pub mod States

@@ -12,7 +12,7 @@ use Rattle.cs_runs.specs.Operations.{is_true}
 use Rattle.cs_runs.specs.Objects.{Object}
 use Rattle.cs_runs.specs.Touches.{Touch}
 use Rattle.cs_runs.specs.Acts.{Act, Goes, Stops, Reads, Asks, Allocates, Reaches, Touches}
-use Rattle.cs_runs.specs.Runs.{Setting, Log, Performed, Continues, Finishes, perform, with_event, with_read, with_touch, has_room, operation_event, number_of, allocation_event, access_event}
+use Rattle.cs_runs.specs.Runs.{Setting, Log, Continues, Finishes, perform, with_event, with_read, with_touch, has_room, operation_event, number_of, allocation_event, access_event}
 use Rattle.cs_plain.specs.Machine.{State}
 
 pub perform-Goes : (s : Setting) (log : Log) (next : State) → perform s log (Goes next) ≡ Continues next log

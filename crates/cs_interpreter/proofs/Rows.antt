@@ -1,5 +1,5 @@
 -- Rows of objects, one of which is changed: for the contracts of memory.
-use Rattle.std.proofs.Common.{◌≡◌, ℕ, zero, suc, ◌+◌, ◌<◌, ◌≤◌, ◌==◌, List, [], ◌∷◌, length, set, get_or, Option, Some, None, Vec, refl, ap, ◌++◌, Bool, true, false, arith}
+use Rattle.std.proofs.Common.{◌≡◌, ℕ, zero, suc, ◌+◌, ◌<◌, ◌≤◌, ◌==◌, List, [], ◌∷◌, length, set, get_or, Some, Vec, refl, ◌++◌, Bool, true, false, arith}
 use Rattle.std.specs.declared.alloc.Global.{Global}
 use mathlib.Core.Path.{fun_ext}
 use Rattle.std.specs.Prelude.{option_map, slice_get, nat_lt, if◌then◌else◌}

@@ -1,21 +1,20 @@
 -- The interpreter's memory, seen as that of the plain machine.
-use Rattle.std.specs.Prelude.{◌≡◌, ℕ, zero, suc, List, map, length, Option, Some, None, option_map, slice_get, ◌==◌, if◌then◌else◌, Vec}
+use Rattle.std.specs.Prelude.{◌≡◌, ℕ, zero, suc, List, map, length, Option, None, option_map, slice_get, ◌==◌, if◌then◌else◌, Vec}
 use Rattle.std.specs.declared.alloc.Global.{Global}
 use Rattle.std.specs.Option.{option_and_then}
 use Rattle.std.specs.Map.{lookup}
 use Rattle.std.specs.BTreeMap.{BTreeMap, get, is_at}
 use Rattle.std.specs.Ordering.{nat_cmp}
-use Rattle.cs_types.specs.declared.int_type.IntType.TheVariants.{Char, UChar}
-use Rattle.cs_types.specs.Shape.{Shape, integer, array, shape_of}
+use Rattle.cs_types.specs.declared.int_type.IntType.TheVariants.{Char}
+use Rattle.cs_types.specs.Shape.{Shape, void, integer, array, shape_of}
 use Rattle.cs_inputs.specs.declared.path.Path.{Path}
 use Rattle.cs_inputs.specs.PathOrder.{path_order}
 use Rattle.cs_ast.specs.TypedView.{typed}
 use Rattle.cs_runs.specs.Objects.{StartBlock, GlobalObject, LiteralObject, LocalObject, HeapBlock, Cell}
 use Rattle.cs_plain.specs.Initials as initials
 use Rattle.cs_plain.specs.Memory as plain
-use Rattle.cs_interpreter.specs.declared.objects.Cell.{Cell as HeldCell}
 use Rattle.cs_interpreter.specs.declared.blocks.BlockType.{BlockType}
-use Rattle.cs_interpreter.specs.declared.blocks.BlockType.TheVariants.{Of, Byte, Text}
+use Rattle.cs_interpreter.specs.declared.blocks.BlockType.TheVariants.{Of, Integer, Text, Void}
 use Rattle.cs_interpreter.specs.declared.blocks.Piece.{Piece}
 use Rattle.cs_interpreter.specs.declared.blocks.Piece.TheVariants as piece
 use Rattle.cs_interpreter.specs.declared.blocks.Fill.{Fill}
@@ -29,8 +28,9 @@ use Rattle.cs_interpreter.specs.View.{cell_of}
 -- the type of an object
 abbrev pub type_of : BlockType → Shape
 type_of (Of ty) = shape_of ty.now
-type_of Byte = integer UChar
+type_of (Integer ty) = integer ty
 type_of (Text count) = array (integer Char) count
+type_of Void = void
 
 -- a piece of an initializer
 abbrev pub piece_of : Piece → initials.Piece

@@ -16,7 +16,7 @@ use Rattle.cs_model.specs.declared.kind.Kind.{Kind}
 use Rattle.cs_runs.specs.declared.outcome.Outcome.TheVariants.{Fault}
 use Rattle.cs_runs.specs.Acts.{Act, Stops, Asks}
 use Rattle.cs_runs.specs.Runs as runs
-use Rattle.cs_runs.specs.Runs.{Performed, Finishes, perform}
+use Rattle.cs_runs.specs.Runs.{Performed, Continues, Finishes, perform}
 use Rattle.cs_plain.specs.Machine.{State}
 use Rattle.cs_interpreter.specs.declared.logs.Log.{Log}
 use Rattle.cs_interpreter.specs.declared.settings.Setting.{Setting}
@@ -45,6 +45,23 @@ module _ (setting : Setting) (before behind : Log) where
   -- the same of a piece that would have an answer
   abbrev pub StopsIn : {A : Type 0} → ((A → Act State) → Act State) → Stop → Type 0
   StopsIn {A = A} piece stop = (onward : A → Act State) → perform (setting_of setting) (log_of before) (piece onward) ≡ finished stop (log_of behind) (perform (setting_of setting) (log_of before) (piece onward))
+
+module _ (setting : Setting) (before behind : Log) where
+  -- the same of a piece that has two answers, of which the first may be memory
+  abbrev pub GivesBoth : {A B : Type 0} → ((A → B → Act State) → Act State) → A → B → Type 0
+  GivesBoth {A = A} {B = B} piece one other = (onward : A → B → Act State) → perform (setting_of setting) (log_of before) (piece onward) ≡ perform (setting_of setting) (log_of behind) (onward one other)
+
+  -- the same of a piece that would have two answers
+  abbrev pub StopsInBoth : {A B : Type 0} → ((A → B → Act State) → Act State) → Stop → Type 0
+  StopsInBoth {A = A} {B = B} piece stop = (onward : A → B → Act State) → perform (setting_of setting) (log_of before) (piece onward) ≡ finished stop (log_of behind) (perform (setting_of setting) (log_of before) (piece onward))
+
+  -- an act leads to this state
+  abbrev pub LeadsTo : Act State → State → Type 0
+  LeadsTo act next = perform (setting_of setting) (log_of before) act ≡ Continues next (log_of behind)
+
+  -- an act ends the run
+  abbrev pub EndsBy : Act State → Stop → Type 0
+  EndsBy act stop = perform (setting_of setting) (log_of before) act ≡ finished stop (log_of behind) (perform (setting_of setting) (log_of before) act)
 
 -- an act that follows where there is no fault
 abbrev pub or_fault : Place → Option Kind → Act State → Act State

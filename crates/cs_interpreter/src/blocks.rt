@@ -8,7 +8,7 @@ use crate::objects::Cell;
 use cs_ast::typed::expression::Expr;
 use cs_inputs::Path;
 use cs_model::Standing;
-use cs_types::CType;
+use cs_types::{CType, IntType};
 use std::alloc::{AllocError, Global};
 use std::collections::BTreeMap;
 
@@ -16,10 +16,12 @@ use std::collections::BTreeMap;
 #[derive(Clone, Copy)]
 pub enum BlockType<'a> {
     Of(&'a CType),
-    /// Bytes, as behind a `void *`.
-    Byte,
+    /// An integer type.
+    Integer(IntType),
     /// Characters, so many of them.
     Text(u64),
+    /// None.
+    Void,
 }
 
 /// A piece of an initializer: a value, or the bytes of a text, with the offset at which it begins.

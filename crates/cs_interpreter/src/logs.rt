@@ -195,7 +195,7 @@ impl Log {
 }
 
 // The result that an operation has of its own.
-fn own_result(model: DataModel, operation: Operation) -> Result<Computed, AllocError>
+pub fn own_result(model: DataModel, operation: Operation) -> Result<Computed, AllocError>
     ensures { IfOk result (IsOwn model operation) }
 {
     compute(model, operation).ok_or(AllocError)

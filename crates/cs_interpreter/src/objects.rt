@@ -1,5 +1,5 @@
 //! Objects, what their scalars hold, and what evaluated expressions leave.
-ghost use Rattle.std.specs.Prelude.{◌≡◌, IfOk};
+ghost use Rattle.std.specs.Prelude.{◌≡◌, IfOk, map};
 ghost use Rattle.cs_runs.specs.Objects.{same_object};
 ghost use Rattle.cs_plain.specs.Initials.{number_in, is_set, further};
 ghost use Rattle.cs_plain.specs.Operators.{is_pointer};
@@ -151,6 +151,23 @@ impl Cell {
 }
 
 impl Operand {
+    /// The same value once more.
+    pub fn copy(&self) -> Result<Operand, AllocError>
+        ensures { IfOk result (λ made. operand_of made ≡ operand_of self.now) }
+    {
+        match self {
+            Operand::Scalar(cell) => {
+                let cell = cell.copy()?;
+                Ok(Operand::Scalar(cell))
+            }
+            Operand::Whole(cells) => {
+                let cells = copied(cells)?;
+                Ok(Operand::Whole(cells))
+            }
+            Operand::Nothing => Ok(Operand::Nothing),
+        }
+    }
+
     /// The scalar that an operand is; any other counts as unset.
     pub fn into_cell(self) -> Cell
         ensures { cell_of result ≡ machine.cell_of (operand_of self) }
@@ -171,4 +188,16 @@ impl Operand {
             Operand::Nothing => Returned::Nothing,
         }
     }
+}
+
+// The same scalars once more.
+fn copied(cells: &Vec<Cell>) -> Result<Vec<Cell>, AllocError>
+    ensures { IfOk result (λ made. map cell_of made.items ≡ map cell_of cells.now.items) }
+{
+    let mut made = Vec::new(*cells.allocator());
+    for cell in cells {
+        let cell = cell.copy()?;
+        made.push(cell)?;
+    }
+    Ok(made)
 }

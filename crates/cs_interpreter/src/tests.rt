@@ -143,9 +143,9 @@ fn memory_keeps_what_was_freed(rt: HostRuntime) -> Result<(), Fail> {
         frames: Vec::new(alloc),
         heap: Vec::new(alloc),
     };
-    memory.allocate(Block::new(alloc, BlockType::Byte, 4, Fill::Unset))?;
+    memory.allocate(Block::new(alloc, BlockType::Integer(IntType::UChar), 4, Fill::Unset))?;
     memory.allocate_none()?;
-    memory.allocate(Block::new(alloc, BlockType::Byte, 8, Fill::Zero))?;
+    memory.allocate(Block::new(alloc, BlockType::Integer(IntType::UChar), 8, Fill::Zero))?;
     memory.change(&Object::Heap(1), Change::Stand(Standing::Freed))?;
     for (number, wanted) in [
         (0, None),

@@ -21,7 +21,7 @@ pub fn size_of(program: &Program, ty: &CType) -> Result<u64, AllocError>
 }
 
 // Whether no size in a type passes 2^40.
-fn is_small(model: DataModel, table: &StructTable, ty: &CType) -> bool
+pub fn is_small(model: DataModel, table: &StructTable, ty: &CType) -> bool
     requires { IsLaidOut model table.now.list }
     ensures { IsTrue result → HasSmallSizes model table.now.list (shape_of ty.now) }
 {

@@ -1,5 +1,4 @@
-use Rattle.std.proofs.Common.{◌≡◌, true, false, rules}
-use Rattle.std.specs.Prelude.{is_some}
+use Rattle.std.proofs.Common.{rules}
 use Rattle.cs_interpreter.specs.MemoryView.{block_of}
 use Rattle.cs_interpreter.proofs.Starts.{start_there, start_added}
 use Rattle.cs_interpreter.proofs.memory.add_if_new.Goals as goal

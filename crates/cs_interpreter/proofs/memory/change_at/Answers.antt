@@ -1,4 +1,4 @@
-use Rattle.std.proofs.Common.{rules, arith}
+use Rattle.std.proofs.Common.{rules}
 use Rattle.cs_interpreter.specs.MemoryView.{change_of}
 use Rattle.cs_interpreter.proofs.Rows.{row_changed, row_stays}
 use Rattle.cs_interpreter.proofs.memory.change_at.Goals as goal

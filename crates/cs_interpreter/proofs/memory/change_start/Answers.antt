@@ -1,7 +1,6 @@
-use Rattle.std.proofs.Common.{◌≡◌, Result, Ok, Err, rules}
+use Rattle.std.proofs.Common.{Result, Ok, Err, rules}
 use Rattle.std.specs.Prelude.{OnOk}
-use Rattle.cs_inputs.specs.declared.path.Path.{Path}
-use Rattle.cs_interpreter.specs.MemoryView.{change_of, block_of}
+use Rattle.cs_interpreter.specs.MemoryView.{change_of}
 use Rattle.cs_interpreter.proofs.Starts.{start_changed, start_stays}
 use Rattle.cs_interpreter.proofs.memory.change_start.Goals as goal
 

@@ -1,4 +1,4 @@
-use Rattle.std.proofs.Common.{refl, rules, arith}
+use Rattle.std.proofs.Common.{refl, rules}
 use Rattle.cs_model.specs.declared.standing.Standing.TheVariants.{Ended}
 use Rattle.cs_interpreter.proofs.Rows.{one_more, all_ended}
 use Rattle.cs_interpreter.proofs.memory.end_all.Goals as goal
