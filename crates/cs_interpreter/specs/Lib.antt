@@ -7,3 +7,8 @@ pub mod FoundView
 pub mod AccessView
 pub mod MachineView
 pub mod Choosing
+pub mod Acting
+pub mod Fetching
+pub mod Calling
+pub mod RunView
+pub mod Jumping

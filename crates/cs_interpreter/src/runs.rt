@@ -1,0 +1,36 @@
+//! Whole runs.
+ghost use Rattle.std.specs.Prelude.{IfOk};
+ghost use Rattle.cs_types.specs.Layout.{IsLaidOut};
+ghost use Rattle.cs_ast.specs.TypedProgram.{typed_program};
+ghost use Rattle.cs_plain.specs.PlainRuns.{RunGives};
+ghost use Rattle.cs_interpreter.specs.View.{log_of};
+ghost use Rattle.cs_interpreter.specs.RunView.{run_of};
+
+use crate::logs::{Log, Stop};
+use crate::settings::Setting;
+use crate::starting::start;
+use cs_runs::Outcome;
+use std::alloc::{AllocError, Global};
+
+/// A run that has ended: how, and what it has shown, read and touched.
+#[derive(Debug, Drop)]
+pub struct Ended {
+    pub outcome: Outcome,
+    pub log: Log,
+}
+
+/// Runs a function of a program as the plain machine does, until the run ends.
+pub fn run(alloc: Global, setting: &Setting, entry: u32) -> Result<Ended, AllocError>
+    requires { IsLaidOut setting.now.program.now.model setting.now.program.now.table.list }
+    ensures { IfOk result (λ ended. RunGives (typed_program setting.now.program.now) entry (run_of setting.now) setting.now.budgets ended.outcome (log_of ended.log)) }
+{
+    let mut log = Log::new(alloc);
+    let mut machine = start(alloc, setting, entry)?;
+    loop {
+        match machine.step(&mut log, setting) {
+            Ok(()) => {}
+            Err(Stop::Outcome(outcome)) => return Ok(Ended { outcome, log }),
+            Err(Stop::Memory) => return Err(AllocError),
+        }
+    }
+}
