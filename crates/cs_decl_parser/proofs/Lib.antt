@@ -1,0 +1,6 @@
+pub mod Standing
+pub mod StatementStops
+pub mod StatementForms
+pub mod StatementSites
+pub mod Passing
+pub mod BlockSites
