@@ -3,4 +3,6 @@ pub mod Bounds
 pub mod Forms
 pub mod Nodes
 pub mod Answers
+pub mod DeclarationAnswers
+pub mod SpecWords
 pub mod Blocks

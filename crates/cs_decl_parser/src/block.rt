@@ -10,11 +10,11 @@ ghost use Rattle.cs_decl_parser.specs.Answers.{Answers, ExactAnswers};
 ghost use Rattle.cs_decl_parser.specs.Blocks.{Locals, local_of, ItemsAnswers};
 ghost use Rattle.cs_decl_parser.specs.Bounds.{IsBounded, IsRowBounded};
 
+use crate::block_specs::block_specs;
 use crate::form::is_label;
 use crate::nodes::node;
 use crate::objects::objects;
 use crate::source::{Scope, Source, begins_type, is_mark, place_at, refuse_deep};
-use crate::specs::specs;
 use crate::statement::statement;
 use crate::stop::{Stop, Taken};
 use cs_ast::Mark;
@@ -117,7 +117,7 @@ pub fn declaration(
         return Err(refuse_deep(from));
     }
     let scope = Scope::Block;
-    let specs = specs(alloc, source, scope, from, room - 1)?;
+    let specs = block_specs(alloc, source, from, room - 1)?;
     let objects = objects(alloc, source, scope, specs.next, room - 1)?;
     Ok(Taken {
         tree: DeclaredObjects {

@@ -44,7 +44,7 @@ fn typedef(alloc: Global, source: &Source, from: usize) -> Result<Taken<RawExter
     requires few { length source.now.tokens.now < 2 ^ 32 }
     ensures bounds { IsBounded 200 source.now.tokens.now from result }
 {
-    let specs = specs(alloc, source, Scope::File, from + 1, MOST - 1)?;
+    let specs = specs(alloc, source, from + 1, MOST - 1)?;
     let names = declarators(alloc, source, specs.next, MOST - 1, Declares::Names)?;
     Ok(Taken {
         tree: RawExternalKind::Typedef(specs.tree, names.tree),
@@ -60,7 +60,7 @@ fn declared(alloc: Global, source: &Source, from: usize) -> Result<Taken<RawExte
     ensures bounds { IsBounded 200 source.now.tokens.now from result }
 {
     let scope = Scope::File;
-    let specs = specs(alloc, source, scope, from, MOST - 1)?;
+    let specs = specs(alloc, source, from, MOST - 1)?;
     if is_mark(source, specs.next, Mark::Semicolon) {
         return Ok(Taken {
             tree: RawExternalKind::Type(specs.tree),

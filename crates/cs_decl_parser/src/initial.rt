@@ -1,5 +1,11 @@
 //! What objects hold at first (C11 6.7.9).
-ghost use Rattle.std.specs.Prelude.{◌≤◌, ◌<◌, ◌^◌, length};
+ghost use Rattle.std.specs.Prelude.{◌≡◌, ◌≤◌, ◌<◌, ◌^◌, length};
+ghost use Rattle.cs_ast.specs.declared.token.TokenKind.TheVariants as token;
+ghost use Rattle.cs_ast.specs.declared.token.Mark.TheVariants as mark;
+ghost use Rattle.cs_ast.specs.RawDeclarationView.{initial as initial_of};
+ghost use Rattle.cs_grammar.specs.DeclarationClasses.{Values};
+ghost use Rattle.cs_expr_parser.specs.Positions.{kind_or_end};
+ghost use Rattle.cs_decl_parser.specs.Answers.{UnclosedAnswers};
 ghost use Rattle.cs_decl_parser.specs.Bounds.{IsUnclosedBounded};
 
 use crate::constants::goes_on;
@@ -23,7 +29,9 @@ pub fn initial(
 ) -> Result<Unclosed<RawInitial>, Stop>
     requires within { from ≤ length source.now.tokens.now }
     requires few { length source.now.tokens.now < 2 ^ 32 }
+    requires some { 1 ≤ room }
     ensures bounds { IsUnclosedBounded room source.now.tokens.now from result }
+    ensures parsed { UnclosedAnswers (Values source.now.names.now) initial_of room source.now.tokens.now source.now.end from result }
 {
     match mark_at(source, from) {
         Some(Mark::OpenBrace) => items(alloc, source, scope, from, room),
@@ -51,7 +59,9 @@ fn items(
 ) -> Result<Unclosed<RawInitial>, Stop>
     requires within { from < length source.now.tokens.now }
     requires few { length source.now.tokens.now < 2 ^ 32 }
+    requires stands { kind_or_end source.now.tokens.now from ≡ token.Mark mark.OpenBrace }
     ensures bounds { IsUnclosedBounded room source.now.tokens.now from result }
+    ensures parsed { UnclosedAnswers (Values source.now.names.now) initial_of room source.now.tokens.now source.now.end from result }
 {
     if room < 2 {
         return Err(refuse_deep(from));
