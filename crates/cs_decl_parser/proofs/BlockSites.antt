@@ -250,6 +250,12 @@ near_no_case first tokens e near t more same =
           ap is_case k ∙ e
     ]
 
+-- the token is neither `case` nor `default`
+pub no_case : (first : TokenKind) → (first ≡ word keyword.Case → ⊥) → (first ≡ word keyword.Default → ⊥) → is_case first ≡ false
+no_case (token.Keyword keyword.Case) other another = absurd (other refl)
+no_case (token.Keyword keyword.Default) other another = absurd (another refl)
+no_case _ other another = refl
+
 pub inside_stops : (names : Names) (room : ℕ) (tokens : List Token) (end : Place) (from : ℕ) → is_case (kind_or_end tokens from) ≡ false → (s : Stop) → Stops (BlockItems names) room tokens end from s → Stops (SwitchParts names) room tokens end from s
 inside_stops names room tokens end from other s r =
     pass_stops (SwitchParts names) (BlockItems names) Inside HasNoCase (inside_single names).production item_append room tokens end from

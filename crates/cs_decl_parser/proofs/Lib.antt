@@ -4,3 +4,6 @@ pub mod StatementForms
 pub mod StatementSites
 pub mod Passing
 pub mod BlockSites
+pub mod LocalSites
+pub mod ForSites
+pub mod RunSites

@@ -19,7 +19,7 @@ use Rattle.cs_decl_parser.specs.Answers.{Stops}
 use Rattle.cs_decl_parser.proofs.Standing.{kinds_first, spells_none, spells_more, spells_as}
 use Rattle.cs_decl_parser.proofs.StatementStops.{Standing, StandingExactly, FitsAll, near_start, stops_in, stops_pass}
 
-pass_tail : (C D : Class) (build : D.Tree → C.Tree) (Fit : Kinds → Type 0) (room : ℕ) → Production C D 0 [] build Fit → Tail C D room room [] build Fit
+pub pass_tail : (C D : Class) (build : D.Tree → C.Tree) (Fit : Kinds → Type 0) (room : ℕ) → Production C D 0 [] build Fit → Tail C D room room [] build Fit
 pass_tail C D build Fit room p = record {
   started = inl refl;
   invert = λ whole after behind is shut fit same. p.invert whole after behind is fit same;

@@ -54,7 +54,7 @@ pub fn items(
     ensures closing { IfOk result (λ taken. taken.next < length source.now.tokens.now) }
 {
     let mut list = Vec::new(alloc);
-    let mut height = 0;
+    let mut height: u32 = 0;
     let mut next = from;
     'items: while !is_mark(source, next, Mark::CloseBrace) {
         let taken = item(alloc, source, next, room)?;

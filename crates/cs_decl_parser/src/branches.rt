@@ -12,9 +12,7 @@ ghost use Rattle.cs_decl_parser.specs.Bounds.{IsBounded};
 use crate::block::item;
 use crate::expression::{closed, parenthesised};
 use crate::nodes::{if_else_node, if_node, node};
-use crate::source::{
-    Scope, Source, is_keyword, is_mark, keyword_at, place_at, refuse, refuse_deep,
-};
+use crate::source::{Scope, Source, is_keyword, is_mark, place_at, refuse, refuse_deep};
 use crate::statement::statement;
 use crate::stop::{Stop, Taken};
 use cs_ast::raw::statement::{RawStmt, RawStmtKind, RawSwitchItem};
@@ -88,7 +86,7 @@ fn switch_items(
     ensures parsed { ExactAnswers (SwitchRows source.now.names.now) switch_items_of room source.now.tokens.now source.now.end from result }
 {
     let mut list = Vec::new(alloc);
-    let mut height = 0;
+    let mut height: u32 = 0;
     let mut next = from;
     'items: while !is_mark(source, next, Mark::CloseBrace) {
         let taken = switch_item(alloc, source, next, room)?;
@@ -116,18 +114,18 @@ fn switch_item(
     ensures bounds { IsBounded room source.now.tokens.now from result }
     ensures parsed { Answers (SwitchParts source.now.names.now) switch_item_of room source.now.tokens.now source.now.end from result }
 {
-    match keyword_at(source, from) {
-        Some(Keyword::Case) => case(alloc, source, from, room),
-        Some(Keyword::Default) => default(source, from),
-        _ => {
-            let inner = item(alloc, source, from, room)?;
-            Ok(Taken {
-                tree: RawSwitchItem::Item(inner.tree),
-                height: inner.height,
-                next: inner.next,
-            })
-        }
+    if is_keyword(source, from, Keyword::Case) {
+        return case(alloc, source, from, room);
     }
+    if is_keyword(source, from, Keyword::Default) {
+        return default(source, from);
+    }
+    let inner = item(alloc, source, from, room)?;
+    Ok(Taken {
+        tree: RawSwitchItem::Item(inner.tree),
+        height: inner.height,
+        next: inner.next,
+    })
 }
 
 /// `case value :`, from a number on.

@@ -108,7 +108,6 @@ pub fn for_statement(
 fn control(alloc: Global, source: &Source, from: usize, room: u32) -> Result<Taken<ForParts>, Stop>
     requires within { from ≤ length source.now.tokens.now }
     requires few { length source.now.tokens.now < 2 ^ 32 }
-    requires some { 1 ≤ room }
     ensures bounds { IsBounded room source.now.tokens.now from result }
     ensures parsed { ExactAnswers (Controls source.now.names.now) control_of room source.now.tokens.now source.now.end from result }
 {
@@ -146,7 +145,6 @@ fn first_part(
 ) -> Result<Taken<RawFirst>, Stop>
     requires within { from ≤ length source.now.tokens.now }
     requires few { length source.now.tokens.now < 2 ^ 32 }
-    requires some { 1 ≤ room }
     ensures bounds { IsBounded room source.now.tokens.now from result }
     ensures parsed { ExactAnswers (Firsts source.now.names.now) first_of room source.now.tokens.now source.now.end from result }
 {
