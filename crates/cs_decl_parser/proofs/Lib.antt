@@ -1,1 +1,3 @@
 pub mod StatementStops
+pub mod ExpressionSites
+pub mod DeclaratorSites

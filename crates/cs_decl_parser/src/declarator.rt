@@ -179,9 +179,8 @@ fn bound(
 ) -> Result<Taken<Option<RawExpr>>, Stop>
     requires within { at < length source.now.tokens.now }
     requires few { length source.now.tokens.now < 2 ^ 32 }
-    requires bracket { kind_or_end source.now.tokens.now at ≡ token.Mark mark.OpenBracket }
     ensures bounds { IsBounded room source.now.tokens.now at result }
-    ensures parsed { BoundAnswer declares source.now.names.now room source.now.tokens.now source.now.end at result }
+    ensures parsed { BoundAnswer declares source.now.names.now room source.now.tokens.now source.now.end (at + 1) result }
 {
     let (level, closing) = (ExprLevel::Cond, Mark::CloseBracket);
     match declares {

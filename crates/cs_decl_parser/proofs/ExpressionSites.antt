@@ -1,0 +1,148 @@
+-- Expressions as parts of declarations and statements: what each return gives. For the contracts of `expression` and its like.
+use Rattle.std.proofs.Common.{◌≡◌, ℕ, ◌+◌, ◌<◌, ◌≤◌, ◌⊎◌, inl, inr, Bool, true, false, IsTrue, Option, Some, None, List, [], ◌∷◌, ◌++◌, length, drop, refl, sym, ap, ◌∙◌, subst, arith}
+use Rattle.std.proofs.lemmas.Bool.{false≢true}
+use Rattle.cs_ast.specs.declared.place.Place.{Place}
+use Rattle.cs_ast.specs.declared.token.Token.{Token}
+use Rattle.cs_ast.specs.declared.token.TokenKind.{TokenKind}
+use Rattle.cs_ast.specs.declared.token.TokenKind.TheVariants as token
+use Rattle.cs_ast.specs.declared.token.Mark.{Mark}
+use Rattle.cs_ast.specs.declared.token.Mark.TheVariants as mark
+use Rattle.cs_ast.specs.declared.raw.expression.RawExpr.{RawExpr}
+use Rattle.cs_ast.specs.RawTree.{Written}
+use Rattle.cs_ast.specs.RawView.{written}
+use Rattle.cs_ast.specs.RawHeight.{height}
+use Rattle.cs_grammar.specs.declared.refusal.Reason.{Reason}
+use Rattle.cs_grammar.specs.declared.refusal.SyntaxRefusal.{SyntaxRefusal}
+use Rattle.cs_grammar.specs.declared.refusal.SyntaxRefusal.TheVariants as refusal
+use Rattle.cs_grammar.specs.TypeWords.{Names}
+use Rattle.cs_grammar.specs.Text.{Kinds, text}
+use Rattle.cs_grammar.specs.Phrases.{IsPhrase}
+use Rattle.cs_grammar.specs.Parsing.{Class, Expressions, Near, Took, Refused, Exactly}
+use Rattle.cs_grammar.specs.Composed.{ClosedSome}
+use Rattle.cs_grammar.specs.FileClasses.{Tests}
+use Rattle.cs_grammar.proofs.Levels.{text_law}
+use Rattle.cs_grammar.proofs.Holes.{Lawful, Tail, ClosedBy, closed_law, closed_refused, closed_wrong, closed_exact, tail_refused}
+use Rattle.cs_grammar.proofs.Tails.{first_or, Least, none_refused}
+use Rattle.cs_grammar.proofs.Optional.{Closes, IsUnclosed, no_close, some_none}
+use Rattle.cs_expr_parser.specs.Positions.{kinds, kind_or_end}
+use Rattle.cs_expr_parser.specs.Parts.{Spells, IsRefused, is_deep}
+use Rattle.cs_expr_parser.specs.Expression.{level_asked, IsRefusal, IsRefusedAt}
+use Rattle.cs_expr_parser.specs.Expression.{IsTaken as IsPhraseTaken}
+use Rattle.cs_expr_parser.specs.declared.answer.ExprLevel.{ExprLevel}
+use Rattle.cs_expr_parser.specs.declared.answer.ExprLevel.TheVariants.{Expr, Assign, Cond}
+use Rattle.cs_expr_parser.specs.declared.answer.Phrase.{Phrase}
+use Rattle.cs_expr_parser.proofs.Standing.{spells_one, spells_none, spells_more, spells_as}
+use Rattle.cs_decl_parser.specs.declared.stop.Stop.{Stop}
+use Rattle.cs_decl_parser.specs.declared.stop.Stop.TheVariants as stop
+use Rattle.cs_decl_parser.specs.declared.stop.Taken.{Taken}
+use Rattle.cs_decl_parser.specs.declared.stop.Unclosed.{Unclosed}
+use Rattle.cs_decl_parser.specs.Bounds.{IsPhraseOf}
+use Rattle.cs_decl_parser.specs.Answers.{Stops, IsExactly, IsUnclosed as IsUnclosedTaken, closes}
+use Rattle.cs_decl_parser.specs.DeclarationAnswers.{ClosedExpressions}
+use Rattle.cs_decl_parser.proofs.StatementStops.{stops_in, stops_pass, front_of, near_start}
+
+-- what the parser of expressions took
+pub phrase_taken : (names : Names) (level room : ℕ) (tokens : List Token) (from : ℕ) (phrase : Phrase) (taken : Unclosed RawExpr) → IsPhraseOf phrase taken → IsPhraseTaken names level room tokens from phrase → IsUnclosedTaken (Expressions names level) written room tokens from taken
+phrase_taken names level room tokens from phrase taken is t = record {
+  height_is = is.1 ∙ t.height_is ∙ ap (λ (e : RawExpr). height (written e)) (sym is.0);
+  spelled =
+      subst (λ (n : ℕ). Spells tokens from n (text (written taken.tree))) (sym is.2)
+      (subst (λ (e : RawExpr). Spells tokens from phrase.next (text (written e))) (sym is.0) t.spelled);
+  took =
+      subst (λ (n : ℕ). Took (Expressions names level) room (written taken.tree) (kind_or_end tokens n) (is_deep taken.otherwise)) (sym is.2)
+      (subst (λ (r : Reason). Took (Expressions names level) room (written taken.tree) (kind_or_end tokens phrase.next) (is_deep r)) (sym is.3)
+      (subst (λ (e : RawExpr). Took (Expressions names level) room (written e) (kind_or_end tokens phrase.next) (is_deep phrase.otherwise)) (sym is.0) t.took));
+}
+
+refused_expression : (names : Names) (level room : ℕ) (tokens : List Token) (from at : ℕ) (reason : Reason) → IsRefusedAt names level room tokens from at reason → IsRefused (Expressions names level) room tokens from at reason
+refused_expression names level room tokens from at reason r = record { front = r.front; spelled = r.spelled; refused = r.refused }
+
+-- what it refused
+pub phrase_stops : (names : Names) (level room : ℕ) (tokens : List Token) (end : Place) (from : ℕ) (r : SyntaxRefusal) → IsRefusal names level room tokens end from r → Stops (Expressions names level) room tokens end from (stop.Expression r)
+phrase_stops names level room tokens end from refusal.Memory r = tt
+phrase_stops names level room tokens end from (refusal.Syntax place) r = (r.0, r.1, r.2, refused_expression names level room tokens from r.0 r.1 r.3)
+phrase_stops names level room tokens end from (refusal.LeftOut place word) r = (r.0, r.1, r.2, refused_expression names level room tokens from r.0 r.1 r.3)
+phrase_stops names level room tokens end from (refusal.TooDeep place) r = (r.0, r.1, r.2, refused_expression names level room tokens from r.0 r.1 r.3)
+
+-- the marks that close expressions of each level
+pub mark_closes : (names : Names) (level : ℕ) (m : Mark) → IsTrue (closes m) → Closes names level (token.Mark m)
+mark_closes names level mark.CloseParenthesis is = record { shut = omega arith; begins_none = refl }
+mark_closes names level mark.CloseBracket is = record { shut = omega arith; begins_none = refl }
+mark_closes names level mark.Semicolon is = record { shut = omega arith; begins_none = refl }
+mark_closes names level mark.Colon is = record { shut = omega arith; begins_none = refl }
+mark_closes names level _ is = absurd (false≢true is)
+
+-- the expression was refused
+pub closed_stops : (names : Names) (level room : ℕ) (m : Mark) → IsTrue (closes m) → (tokens : List Token) (end : Place) (from : ℕ) (s : Stop) → Stops (Expressions names level) room tokens end from s → Stops (ClosedExpressions names level (token.Mark m)) room tokens end from s
+closed_stops names level room m is tokens end from s r =
+    let c = mark_closes names level m is in
+    stops_pass (ClosedExpressions names level (token.Mark m)) (Expressions names level) room room tokens end from
+    (λ front at deep here x. closed_refused (Expressions names level) (token.Mark m) room (text_law names level) (λ part more. c.shut) front (kind_or_end tokens at) deep x) s r
+
+-- another token stands behind it
+pub closed_missing : (names : Names) (level room : ℕ) (m : Mark) → IsTrue (closes m) → (tokens : List Token) (end : Place) (from : ℕ) (taken : Unclosed RawExpr) → IsUnclosedTaken (Expressions names level) written room tokens from taken → (kind_or_end tokens taken.next ≡ token.Mark m → ⊥) → Stops (ClosedExpressions names level (token.Mark m)) room tokens end from (stop.Refused taken.next taken.otherwise)
+closed_missing names level room m is tokens end from taken t other =
+    let c = mark_closes names level m is in
+    record {
+      front = text (written taken.tree) [];
+      spelled = front_of (Expressions names level) (text_law names level) tokens from taken.next (written taken.tree) t.spelled;
+      refused = closed_wrong (Expressions names level) (token.Mark m) room (text_law names level) (λ part more. c.shut) (written taken.tree) (kind_or_end tokens taken.next) (is_deep taken.otherwise) t.took other;
+    }
+
+-- what closes it stands behind it
+pub closed_taken : (names : Names) (level room : ℕ) (m : Mark) → IsTrue (closes m) → (tokens : List Token) (from : ℕ) (taken : Unclosed RawExpr) (whole : Taken RawExpr) → IsUnclosedTaken (Expressions names level) written room tokens from taken → kind_or_end tokens taken.next ≡ token.Mark m → whole.tree ≡ taken.tree → whole.height ≡ taken.height → whole.next ≡ taken.next + 1 → IsExactly (ClosedExpressions names level (token.Mark m)) written room tokens from whole
+closed_taken names level room m is tokens from taken whole t k tree tall next =
+    let c = mark_closes names level m is in
+    record {
+      height_is = tall ∙ t.height_is ∙ ap (λ (e : RawExpr). height (written e)) (sym tree);
+      spelled =
+          subst (λ (n : ℕ). Spells tokens from n ((ClosedExpressions names level (token.Mark m)).spell (written whole.tree))) (sym next)
+          (subst (λ (e : RawExpr). Spells tokens from (taken.next + 1) ((ClosedExpressions names level (token.Mark m)).spell (written e))) (sym tree)
+          (spells_more tokens from taken.next (taken.next + 1) (text (written taken.tree)) (λ rest. token.Mark m ∷ rest) t.spelled (spells_one tokens taken.next (token.Mark m) k (λ x. cc))));
+      exactly =
+          subst (λ (e : RawExpr). Exactly (ClosedExpressions names level (token.Mark m)) room (written e)) (sym tree)
+          (closed_exact (Expressions names level) (token.Mark m) room (λ part more. c.shut) (written taken.tree) (is_deep taken.otherwise)
+          (subst (λ (x : TokenKind). Took (Expressions names level) room (written taken.tree) x (is_deep taken.otherwise)) k t.took));
+    }
+
+none_some : (names : Names) (level : ℕ) (MayLack : Type 0) (close : TokenKind) (whole : Option Written) (after behind : Kinds) → (ClosedSome names level MayLack close).Is whole → IsUnclosed close behind → (ClosedSome names level MayLack close).spell whole after ≡ behind → (part : Written) × (whole ≡ Some part) × IsPhrase names level part × (behind ≡ text part (close ∷ after))
+none_some names level MayLack close None after behind is other same = absurd (other after (sym same))
+none_some names level MayLack close (Some e) after behind is other same = (e, refl, is, sym same)
+
+-- an expression that may lack, where what closes it doesn't stand there
+pub some_tail : (names : Names) (level : ℕ) (MayLack : Type 0) (close : TokenKind) (room : ℕ) → Tail (ClosedSome names level MayLack close) (ClosedExpressions names level close) room room [] Some (IsUnclosed close)
+some_tail names level MayLack close room = record {
+  started = inl refl;
+  invert = λ whole after behind is shut fit same. none_some names level MayLack close whole after behind is fit same;
+  shut = λ part after shut. tt;
+  spelled = λ part after. refl;
+  is_phrase = λ part is. is;
+  low = λ part is low. low;
+  rises = λ part high. high;
+}
+
+unclosed_near : (close next : TokenKind) (behind : Kinds) → (next ≡ close → ⊥) → Near next behind → IsUnclosed close behind
+unclosed_near close next behind other near more same =
+    elim near [ inl none ↦ let z = sym same ∙ none in cc | inr m ↦ let z : next ∷ m.0 ≡ close ∷ more = sym m.1 ∙ same in other cc ]
+
+-- it was refused
+pub some_stops : (names : Names) (level : ℕ) (MayLack : Type 0) (close : TokenKind) (room : ℕ) (tokens : List Token) (end : Place) (from : ℕ) → (kind_or_end tokens from ≡ close → ⊥) → (s : Stop) → Stops (ClosedExpressions names level close) room tokens end from s → Stops (ClosedSome names level MayLack close) room tokens end from s
+some_stops names level MayLack close room tokens end from other s r =
+    stops_pass (ClosedSome names level MayLack close) (ClosedExpressions names level close) room room tokens end from
+    (λ front at deep here x.
+    tail_refused (ClosedSome names level MayLack close) (ClosedExpressions names level close) room room [] Some (IsUnclosed close) (closed_law (Expressions names level) close (text_law names level)) (some_tail names level MayLack close room) front (kind_or_end tokens at) deep
+    (λ behind near. unclosed_near close (kind_or_end tokens from) (front ++ behind) other (near_start tokens from at front here behind near)) x) s r
+
+some_exact : (names : Names) (level : ℕ) (MayLack : Type 0) (close : TokenKind) (room : ℕ) → Closes names level close → (e : Written) → Exactly (ClosedExpressions names level close) room e → (other : Option Written) (after behind : Kinds) → (ClosedSome names level MayLack close).Is other → (ClosedSome names level MayLack close).spell other after ≡ text e (close ∷ behind) → (other ≡ Some e) × (after ≡ behind)
+some_exact names level MayLack close room c e x None after behind is same = absurd (no_close names level close c e (close ∷ behind) after x.is_phrase (sym same))
+some_exact names level MayLack close room c e x (Some o) after behind is same =
+    let k = x.exact o after behind is same in
+    (ap Some k.0, k.1)
+
+-- it was taken
+pub some_exactly : (names : Names) (level : ℕ) (MayLack : Type 0) (close : TokenKind) (room : ℕ) → Closes names level close → (e : Written) → Exactly (ClosedExpressions names level close) room e → Exactly (ClosedSome names level MayLack close) room (Some e)
+some_exactly names level MayLack close room c e x = record {
+  is_phrase = x.is_phrase;
+  low = x.low;
+  exact = λ other after behind is same. some_exact names level MayLack close room c e x other after behind is same;
+}
