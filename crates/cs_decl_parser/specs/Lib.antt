@@ -5,3 +5,4 @@ pub mod Nodes
 pub mod Answers
 pub mod DeclarationAnswers
 pub mod SpecWords
+pub mod Blocks
