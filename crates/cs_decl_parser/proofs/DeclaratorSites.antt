@@ -1,5 +1,5 @@
 -- Words of pointers, names and declarators: what each return gives. For the contracts of the parts that read declarators.
-use Rattle.std.proofs.Common.{◌≡◌, ℕ, suc, ◌+◌, ◌-◌, ◌==◌, ◌<◌, ◌≤◌, max, ◌⊎◌, inl, inr, Bool, true, false, ◌&&◌, if◌then◌else◌, IsTrue, map, Option, Some, None, List, [], ◌∷◌, ◌++◌, Result, Ok, Err, length, drop, refl, sym, ap, ◌∙◌, subst, arith, append_assoc, append-nil}
+use Rattle.std.proofs.Common.{◌≡◌, ℕ, zero, suc, ◌+◌, ◌-◌, ◌==◌, ◌<◌, ◌≤◌, max, ◌⊎◌, inl, inr, Bool, true, false, ◌&&◌, if◌then◌else◌, IsTrue, map, Option, Some, None, List, [], ◌∷◌, ◌++◌, Result, Ok, Err, length, drop, refl, sym, ap, ◌∙◌, subst, arith, append_assoc, append-nil}
 use Rattle.std.specs.Option.{option_map}
 use Rattle.std.proofs.lemmas.Bool.{false≢true, cases_lt}
 use Rattle.std.proofs.lemmas.List.{map-append}
@@ -28,16 +28,16 @@ use Rattle.cs_grammar.specs.DeclarationClasses.{Bounds, Brackets, Declarators, H
 use Rattle.cs_grammar.specs.FilePhrases.{IsFree}
 use Rattle.cs_grammar.proofs.Texts.{pointers_append}
 use Rattle.cs_grammar.proofs.Holes.{Lawful, Tail, splits}
-use Rattle.cs_grammar.proofs.Tails.{none_refused, Least}
+use Rattle.cs_grammar.proofs.Tails.{first_or, none_refused, Least}
 use Rattle.cs_grammar.proofs.Pairs.{Single, HasPlace}
 use Rattle.cs_grammar.proofs.Rows.{Separates, SoFar, before_commas}
 use Rattle.cs_grammar.proofs.Optional.{some_least, some_law}
 use Rattle.cs_grammar.proofs.StatementParts.{nought, expression_height}
 use Rattle.cs_grammar.proofs.FreshNames.{fresh, fresh_free}
-use Rattle.cs_grammar.proofs.Declarators.{BracketsSoFar, brackets_none, brackets_more, brackets_refused, brackets_end, brackets_full, brackets_took, brackets_law, declarator_of, declarator_single, declarators_law, IsNoName, name_missing, bound_refused, bound_exact}
+use Rattle.cs_grammar.proofs.Declarators.{BracketsSoFar, brackets_none, brackets_more, brackets_refused, brackets_end, brackets_full, brackets_took, brackets_law, declarator_of, declarator_single, declarators_law, declarators_least, IsNoName, name_missing, bound_refused, bound_exact}
 use Rattle.cs_expr_parser.specs.Positions.{kinds, kind_or_end}
 use Rattle.cs_expr_parser.specs.Parts.{Spells, IsRefused, is_deep}
-use Rattle.cs_expr_parser.proofs.Standing.{spells_one, spells_none, spells_more, spells_as}
+use Rattle.cs_decl_parser.proofs.Standing.{spells_one, spells_none, spells_more, spells_as}
 use Rattle.cs_decl_parser.specs.declared.stop.Stop.{Stop}
 use Rattle.cs_decl_parser.specs.declared.stop.Stop.TheVariants as stop
 use Rattle.cs_decl_parser.specs.declared.stop.Taken.{Taken}
@@ -45,8 +45,10 @@ use Rattle.cs_decl_parser.specs.declared.declarator.Declares.{Declares}
 use Rattle.cs_decl_parser.specs.declared.declarator.Declares.TheVariants as declaring
 use Rattle.cs_decl_parser.specs.declared.declarator.Pointed.{Pointed}
 use Rattle.cs_decl_parser.specs.Answers.{Stops, IsTaken, IsExactly}
-use Rattle.cs_decl_parser.specs.DeclarationAnswers.{IsPointerWord, ArePointers, IsNameFor, MayLackFor, DeclaratorsFor, BracketsFor, has_no_room, is_bracket, is_full, IsPointed, IsNameMissing, IsDeclaratorTaken, DeclaratorAnswers, PointedAnswers, BoundsAnswer}
+use Rattle.cs_decl_parser.specs.DeclarationAnswers.{IsPointerWord, ArePointers, IsNameAt, IsNameFor, RefusesBehind, MayLackFor, DeclaratorsFor, BracketsFor, has_no_room, is_bracket, is_full, IsPointed, IsNameMissing, IsDeclaratorTaken, DeclaratorAnswers, PointedAnswers, BoundsAnswer}
+use Rattle.cs_decl_parser.proofs.RowSites.{highest_more}
 use Rattle.cs_decl_parser.proofs.StatementStops.{stops_in, stops_pass, front_of, single_stops, no_fits}
+use Rattle.cs_grammar.proofs.Pairs.{single_took}
 
 -- the words of pointers so far
 pub record PointersSoFar (tokens : List Token) (from next : ℕ) (words : List PointerWord) : Type 0 where
@@ -113,8 +115,8 @@ some_name declaring.Names names = (fresh names, fresh_free names)
 some_name declaring.Members names = ([], tt)
 
 first_pointer : (IsName : List ℕ → Type 0) (ps : List PointerWord) (n : List ℕ) (x : Kinds) (next : TokenKind) (more : Kinds) → IsTrue (is_pointer ps) → IsName n → (next ≡ token.Mark mark.Star → ⊥) → ((name : List ℕ) → next ≡ token.Name name → IsName name → ⊥) → pointers_text ps (token.Name n ∷ x) ≡ next ∷ more → ⊥
-first_pointer IsName [] n x next more is named no_star no_name same = no_name n cc named
-first_pointer IsName (pointer.Star ∷ ps) n x next more is named no_star no_name same = no_star cc
+first_pointer IsName [] n x next more is named no_star no_name same = no_name n (sym (ap (λ (k : Kinds). first_or k next) same)) named
+first_pointer IsName (pointer.Star ∷ ps) n x next more is named no_star no_name same = no_star (sym (ap (λ (k : Kinds). first_or k next) same))
 first_pointer IsName (pointer.Const ∷ ps) n x next more is named no_star no_name same = false≢true is
 
 pointers_some : (ps : List PointerWord) (n : List ℕ) (x : Kinds) → pointers_text ps (token.Name n ∷ x) ≡ [] → ⊥
@@ -157,11 +159,6 @@ brackets_split : (done rest : List (Option Written)) (x : Kinds) → brackets_te
 brackets_split [] rest x = refl
 brackets_split (b ∷ bs) rest x = ap (λ (r : Kinds). (Bounds [] (Unit {0})).spell b r) (brackets_split bs rest x)
 
--- the height of a list and one more
-pub highest_more : {A : Type 0} (by : A → ℕ) (done : List A) (a : A) → highest_by by (done ++ a ∷ []) ≡ max (highest_by by done) (by a)
-highest_more by [] a = omega arith
-highest_more by (d ∷ ds) a = let h = highest_more by ds a in omega (arith, h)
-
 bracket_stands : (declares : Declares) (names : Names) (room : ℕ) (tokens : List Token) (from next : ℕ) (list : List (Option RawExpr)) (tall : ℕ) → BoundsSoFar declares names room tokens from next list tall → kind_or_end tokens next ≡ token.Mark mark.OpenBracket → Spells tokens from (next + 1) (λ rest. brackets_text (bounds_of list) (token.Mark mark.OpenBracket ∷ rest))
 bracket_stands declares names room tokens from next list tall b k =
     spells_more tokens from next (next + 1) (brackets_text (bounds_of list)) (λ rest. token.Mark mark.OpenBracket ∷ rest) b.spelled (spells_one tokens next (token.Mark mark.OpenBracket) k (λ x. cc))
@@ -175,7 +172,7 @@ member_least names = record { tree = Some nought; is_phrase = (omega arith, tt);
 
 least_bound : (declares : Declares) (names : Names) (room : ℕ) → has_no_room declares room ≡ false → (least : Least (ClosedSome names 2 (MayLackFor declares) (token.Mark mark.CloseBracket))) × ((ClosedSome names 2 (MayLackFor declares) (token.Mark mark.CloseBracket)).tall least.tree ≤ room)
 least_bound declaring.Names names room has = (some_least names 2 (Unit {0}) (token.Mark mark.CloseBracket) tt, omega arith)
-least_bound declaring.Members names 0 has = absurd (false≢true (sym has))
+least_bound declaring.Members names zero has = absurd (false≢true (sym has))
 least_bound declaring.Members names (suc room) has = (member_least names, omega arith)
 
 -- a bound was refused
@@ -226,7 +223,7 @@ no_bound : (declares : Declares) (names : Names) (room : ℕ) (next : TokenKind)
 no_bound declares names room next false bracket has is only = brackets_end names (MayLackFor declares) room next (λ k. false≢true (only k))
 no_bound declares names room next true false has is only = brackets_end names (MayLackFor declares) room next (λ k. false≢true (sym is ∙ is_one next k))
 no_bound declaring.Names names room next true true has is only = absurd (false≢true has)
-no_bound declaring.Members names 0 next true true has is only = subst (λ (x : TokenKind). Took (Brackets names ⊥) 0 [] x true) (sym (bracket_is next is)) (brackets_full names next)
+no_bound declaring.Members names zero next true true has is only = subst (λ (x : TokenKind). Took (Brackets names ⊥) 0 [] x true) (sym (bracket_is next is)) (brackets_full names next)
 no_bound declaring.Members names (suc room) next true true has is only = absurd (false≢true has)
 
 -- no other bound is taken
@@ -242,3 +239,55 @@ bounds_taken view declares names room tokens from next list tall taken b only tr
       (brackets_took names (MayLackFor declares) room (bounds_of list) (kind_or_end tokens next) (is_full declares room (kind_or_end tokens next)) b.so_far
       (no_bound declares names room (kind_or_end tokens next) (has_no_room declares room) (is_bracket (kind_or_end tokens next)) refl refl only)));
 }
+
+-- the refusal of what stands where a name is awaited
+pub pointed_missing : (declares : Declares) (names : Names) (tokens : List Token) (from at : ℕ) (words : List PointerWord) → ArePointers tokens from at words → IsNameAt (IsNameFor declares names) (kind_or_end tokens at) None → (s : Stop) → RefusesBehind at false s → PointedAnswers declares names tokens from (Err s)
+pointed_missing declares names tokens from at words p none stop.Memory is = absurd is
+pointed_missing declares names tokens from at words p none (stop.Expression r) is = absurd is
+pointed_missing declares names tokens from at words p none (stop.Refused refused reason) is =
+    subst (λ (n : ℕ). IsNameMissing declares names tokens from n reason) (sym is.0) (record { words = words; pointers = p; no_name = none; plain = is.1 })
+
+abbrev pointed_single : (declares : Declares) (names : Names) (tokens : List Token) (from : ℕ) (pointed : Taken Pointed) → IsPointed declares names tokens from pointed → Single (DeclaratorsFor declares names) (BracketsFor declares names) 1 (pointers_text pointed.tree.pointers.items (token.Name pointed.tree.name.name ∷ [])) (declarator_of pointed.tree.pointers.items pointed.tree.name.name) (λ rest. Unit {0})
+pointed_single declares names tokens from pointed p = declarator_single (IsNameFor declares names) names (MayLackFor declares) pointed.tree.pointers.items pointed.tree.name.name p.pointers p.named
+
+-- the bounds behind a name were refused
+pub bounds_stop : (declares : Declares) (names : Names) (room inner : ℕ) → room ≡ 1 + inner → (tokens : List Token) (end : Place) (from : ℕ) (pointed : Taken Pointed) → IsPointed declares names tokens from pointed → (s : Stop) → Stops (BracketsFor declares names) inner tokens end pointed.next s → Stops (DeclaratorsFor declares names) room tokens end from s
+bounds_stop declares names room inner less tokens end from pointed p s r =
+    single_stops (pointed_single declares names tokens from pointed p) room inner (less, omega arith) tokens end from pointed.next
+    (spells_as tokens from pointed.next (λ rest. pointers_text pointed.tree.pointers.items (token.Name pointed.tree.name.name ∷ rest)) (λ rest. pointers_text pointed.tree.pointers.items (token.Name pointed.tree.name.name ∷ []) ++ rest) p.spelled
+    (λ rest. sym (pointers_append pointed.tree.pointers.items (token.Name pointed.tree.name.name ∷ []) rest)))
+    (no_fits tokens pointed.next) s r
+
+-- a declarator was taken, in one room
+bounded : {A : Type 0} (view : A → List (Option Written)) (declares : Declares) (names : Names) (room inner : ℕ) → room ≡ 1 + inner → (tokens : List Token) (from : ℕ) (pointed : Taken Pointed) → IsPointed declares names tokens from pointed → (bounds : Taken A) → IsTaken (BracketsFor declares names) view inner tokens pointed.next (is_full declares inner (kind_or_end tokens bounds.next)) bounds → (whole : Taken RawDeclarator) → declarator whole.tree ≡ declarator_of pointed.tree.pointers.items pointed.tree.name.name (view bounds.tree) → whole.height ≡ bounds.height + 1 → whole.next ≡ bounds.next → IsTaken (DeclaratorsFor declares names) declarator room tokens from (is_full declares inner (kind_or_end tokens whole.next)) whole
+bounded view declares names room inner less tokens from pointed p bounds b whole tree tall number =
+    let d = declarator_of pointed.tree.pointers.items pointed.tree.name.name (view bounds.tree) in
+    record {
+      height_is = let h = b.height_is in let e : whole.height ≡ declarator_height d = omega (arith, h, tall) in e ∙ ap declarator_height (sym tree);
+      spelled =
+          subst (λ (n : ℕ). Spells tokens from n (declarator_text (declarator whole.tree))) (sym number)
+          (subst (λ (x : Declarator). Spells tokens from bounds.next (declarator_text x)) (sym tree)
+          (spells_more tokens from pointed.next bounds.next (λ rest. pointers_text pointed.tree.pointers.items (token.Name pointed.tree.name.name ∷ rest)) (brackets_text (view bounds.tree)) p.spelled b.spelled));
+      took =
+          subst (λ (n : ℕ). Took (DeclaratorsFor declares names) room (declarator whole.tree) (kind_or_end tokens n) (is_full declares inner (kind_or_end tokens n))) (sym number)
+          (subst (λ (x : Declarator). Took (DeclaratorsFor declares names) room x (kind_or_end tokens bounds.next) (is_full declares inner (kind_or_end tokens bounds.next))) (sym tree)
+          (single_took (pointed_single declares names tokens from pointed p) room inner (less, omega arith) (view bounds.tree) (kind_or_end tokens bounds.next) (is_full declares inner (kind_or_end tokens bounds.next)) (λ behind near. tt) b.took));
+    }
+
+pub declarator_taken : {A : Type 0} (view : A → List (Option Written)) (declares : Declares) (names : Names) (room inner : ℕ) → room ≡ 1 + inner → (tokens : List Token) (from : ℕ) (pointed : Taken Pointed) → IsPointed declares names tokens from pointed → (bounds : Taken A) → IsTaken (BracketsFor declares names) view inner tokens pointed.next (is_full declares inner (kind_or_end tokens bounds.next)) bounds → (whole : Taken RawDeclarator) → declarator whole.tree ≡ declarator_of pointed.tree.pointers.items pointed.tree.name.name (view bounds.tree) → whole.height ≡ bounds.height + 1 → whole.next ≡ bounds.next → IsDeclaratorTaken declares names room tokens from whole
+declarator_taken view declares names room inner less tokens from pointed p bounds b whole tree tall number = λ other is.
+    let e : inner ≡ other = omega (arith, less, is) in
+    subst (λ (n : ℕ). IsTaken (DeclaratorsFor declares names) declarator room tokens from (is_full declares n (kind_or_end tokens whole.next)) whole) e
+    (bounded view declares names room inner less tokens from pointed p bounds b whole tree tall number)
+
+-- declarators with commas between them
+pub declarators_row : (declares : Declares) (names : Names) → Separates (DeclaratorsFor declares names) (token.Mark mark.Semicolon)
+declarators_row declares names =
+    let n = some_name declares names in
+    record {
+      law = declarators_law (IsNameFor declares names) names (MayLackFor declares);
+      least = declarators_least (IsNameFor declares names) names (MayLackFor declares) n.0 n.1;
+      comma = λ d more. tt;
+      closed = λ d more. tt;
+      differs = λ e. cc;
+    }

@@ -23,6 +23,10 @@ use Rattle.cs_grammar.specs.FileClasses.{Tests}
 use Rattle.cs_grammar.proofs.Levels.{text_law}
 use Rattle.cs_grammar.proofs.Holes.{Lawful, Tail, ClosedBy, closed_law, closed_refused, closed_wrong, closed_exact, tail_refused}
 use Rattle.cs_grammar.proofs.Tails.{first_or, Least, none_refused}
+use Rattle.std.specs.Option.{option_map}
+use Rattle.cs_ast.specs.RawFileHeight.{height_of_some}
+use Rattle.cs_grammar.proofs.Sequences.{behind_tail, closed_least}
+use Rattle.cs_grammar.proofs.StatementParts.{expression_least}
 use Rattle.cs_grammar.proofs.Optional.{Closes, IsUnclosed, no_close, some_none}
 use Rattle.cs_expr_parser.specs.Positions.{kinds, kind_or_end}
 use Rattle.cs_expr_parser.specs.Parts.{Spells, IsRefused, is_deep}
@@ -31,7 +35,7 @@ use Rattle.cs_expr_parser.specs.Expression.{IsTaken as IsPhraseTaken}
 use Rattle.cs_expr_parser.specs.declared.answer.ExprLevel.{ExprLevel}
 use Rattle.cs_expr_parser.specs.declared.answer.ExprLevel.TheVariants.{Expr, Assign, Cond}
 use Rattle.cs_expr_parser.specs.declared.answer.Phrase.{Phrase}
-use Rattle.cs_expr_parser.proofs.Standing.{spells_one, spells_none, spells_more, spells_as}
+use Rattle.cs_decl_parser.proofs.Standing.{spells_one, spells_none, spells_more, spells_as}
 use Rattle.cs_decl_parser.specs.declared.stop.Stop.{Stop}
 use Rattle.cs_decl_parser.specs.declared.stop.Stop.TheVariants as stop
 use Rattle.cs_decl_parser.specs.declared.stop.Taken.{Taken}
@@ -145,4 +149,50 @@ some_exactly names level MayLack close room c e x = record {
   is_phrase = x.is_phrase;
   low = x.low;
   exact = λ other after behind is same. some_exact names level MayLack close room c e x other after behind is same;
+}
+
+-- it was left out
+pub none_taken : (names : Names) (level room : ℕ) (m : Mark) → IsTrue (closes m) → (tokens : List Token) (from : ℕ) (whole : Taken (Option RawExpr)) → kind_or_end tokens from ≡ token.Mark m → whole.tree ≡ None → whole.height ≡ 0 → whole.next ≡ from + 1 → IsExactly (ClosedSome names level (Unit {0}) (token.Mark m)) (option_map written) room tokens from whole
+none_taken names level room m is tokens from whole k tree tall next = record {
+  height_is = tall ∙ ap (λ (e : Option RawExpr). height_of_some (option_map written e)) (sym tree);
+  spelled =
+      subst (λ (n : ℕ). Spells tokens from n ((ClosedSome names level (Unit {0}) (token.Mark m)).spell (option_map written whole.tree))) (sym next)
+      (subst (λ (e : Option RawExpr). Spells tokens from (from + 1) ((ClosedSome names level (Unit {0}) (token.Mark m)).spell (option_map written e))) (sym tree)
+      (spells_one tokens from (token.Mark m) k (λ x. cc)));
+  exactly =
+      subst (λ (e : Option RawExpr). Exactly (ClosedSome names level (Unit {0}) (token.Mark m)) room (option_map written e)) (sym tree)
+      (some_none names level (Unit {0}) (token.Mark m) room (mark_closes names level m is) tt);
+}
+
+-- it is there
+pub some_taken : (names : Names) (level : ℕ) (MayLack : Type 0) (room : ℕ) (m : Mark) → IsTrue (closes m) → (tokens : List Token) (from : ℕ) (taken : Taken RawExpr) (whole : Taken (Option RawExpr)) → IsExactly (ClosedExpressions names level (token.Mark m)) written room tokens from taken → whole.tree ≡ Some taken.tree → whole.height ≡ taken.height → whole.next ≡ taken.next → IsExactly (ClosedSome names level MayLack (token.Mark m)) (option_map written) room tokens from whole
+some_taken names level MayLack room m is tokens from taken whole t tree tall next = record {
+  height_is = tall ∙ t.height_is ∙ ap (λ (e : Option RawExpr). height_of_some (option_map written e)) (sym tree);
+  spelled =
+      subst (λ (n : ℕ). Spells tokens from n ((ClosedSome names level MayLack (token.Mark m)).spell (option_map written whole.tree))) (sym next)
+      (subst (λ (e : Option RawExpr). Spells tokens from taken.next ((ClosedSome names level MayLack (token.Mark m)).spell (option_map written e))) (sym tree) t.spelled);
+  exactly =
+      subst (λ (e : Option RawExpr). Exactly (ClosedSome names level MayLack (token.Mark m)) room (option_map written e)) (sym tree)
+      (some_exactly names level MayLack (token.Mark m) room (mark_closes names level m is) (written taken.tree) t.exactly);
+}
+
+-- no expression between parentheses begins with another token
+pub test_missing : (names : Names) (room : ℕ) (next : TokenKind) → (next ≡ token.Mark mark.OpenParenthesis → ⊥) → Refused (Tests names) room [] next false
+test_missing names room next other = none_refused (Tests names) room next (λ e after is same. cc) (λ e after more is same. other (sym (ap (λ (k : Kinds). first_or k next) same)))
+
+abbrev test_tail : (names : Names) (room : ℕ) → 1 ≤ room → Tail (Tests names) (ClosedExpressions names 0 (token.Mark mark.CloseParenthesis)) room room (token.Mark mark.OpenParenthesis ∷ []) (λ e. e) (λ rest. Unit {0})
+test_tail names room some = behind_tail (token.Mark mark.OpenParenthesis) (ClosedExpressions names 0 (token.Mark mark.CloseParenthesis)) room (closed_least (Expressions names 0) (token.Mark mark.CloseParenthesis) (expression_least names 0 (omega arith))) some
+
+-- what stands between the parentheses was refused
+pub test_stops : (names : Names) (room : ℕ) → 1 ≤ room → (tokens : List Token) (end : Place) (from : ℕ) → kind_or_end tokens from ≡ token.Mark mark.OpenParenthesis → (s : Stop) → Stops (ClosedExpressions names 0 (token.Mark mark.CloseParenthesis)) room tokens end (from + 1) s → Stops (Tests names) room tokens end from s
+test_stops names room some tokens end from k s r =
+    stops_in (Tests names) (ClosedExpressions names 0 (token.Mark mark.CloseParenthesis)) room room tokens end from (from + 1) (token.Mark mark.OpenParenthesis ∷ []) (spells_one tokens from (token.Mark mark.OpenParenthesis) k (λ x. cc))
+    (λ front at deep here x.
+    tail_refused (Tests names) (ClosedExpressions names 0 (token.Mark mark.CloseParenthesis)) room room (token.Mark mark.OpenParenthesis ∷ []) (λ e. e) (λ rest. Unit {0}) (closed_law (Expressions names 0) (token.Mark mark.CloseParenthesis) (text_law names 0)) (test_tail names room some) front (kind_or_end tokens at) deep (λ behind near. tt) x) s r
+
+pub test_taken : (names : Names) (room : ℕ) (tokens : List Token) (from : ℕ) → kind_or_end tokens from ≡ token.Mark mark.OpenParenthesis → (taken : Taken RawExpr) → IsExactly (ClosedExpressions names 0 (token.Mark mark.CloseParenthesis)) written room tokens (from + 1) taken → IsExactly (Tests names) written room tokens from taken
+test_taken names room tokens from k taken t = record {
+  height_is = t.height_is;
+  spelled = spells_more tokens from (from + 1) taken.next (λ rest. token.Mark mark.OpenParenthesis ∷ rest) ((ClosedExpressions names 0 (token.Mark mark.CloseParenthesis)).spell (written taken.tree)) (spells_one tokens from (token.Mark mark.OpenParenthesis) k (λ x. cc)) t.spelled;
+  exactly = record { is_phrase = t.exactly.is_phrase; low = t.exactly.low; exact = λ other after behind is same. t.exactly.exact other after behind is cc };
 }

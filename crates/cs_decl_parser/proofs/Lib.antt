@@ -4,5 +4,6 @@ pub mod StatementForms
 pub mod StatementSites
 pub mod Passing
 pub mod BlockSites
+pub mod RowSites
 pub mod ExpressionSites
 pub mod DeclaratorSites
