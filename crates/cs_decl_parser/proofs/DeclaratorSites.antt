@@ -1,7 +1,7 @@
 -- Words of pointers, names and declarators: what each return gives. For the contracts of the parts that read declarators.
 use Rattle.std.proofs.Common.{◌≡◌, ℕ, zero, suc, ◌+◌, ◌-◌, ◌==◌, ◌<◌, ◌≤◌, max, ◌⊎◌, inl, inr, Bool, true, false, ◌&&◌, if◌then◌else◌, IsTrue, map, Option, Some, None, List, [], ◌∷◌, ◌++◌, Result, Ok, Err, length, drop, refl, sym, ap, ◌∙◌, subst, arith, append_assoc, append-nil}
 use Rattle.std.specs.Option.{option_map}
-use Rattle.std.proofs.lemmas.Bool.{false≢true, cases_lt}
+use Rattle.std.proofs.lemmas.Bool.{false≢true, cases_lt, eqb-true}
 use Rattle.std.proofs.lemmas.List.{map-append}
 use Rattle.cs_ast.specs.declared.place.Place.{Place}
 use Rattle.cs_ast.specs.declared.token.Token.{Token}
@@ -46,7 +46,7 @@ use Rattle.cs_decl_parser.specs.declared.declarator.Declares.TheVariants as decl
 use Rattle.cs_decl_parser.specs.declared.declarator.Pointed.{Pointed}
 use Rattle.cs_decl_parser.specs.Answers.{Stops, IsTaken, IsExactly}
 use Rattle.cs_decl_parser.specs.DeclarationAnswers.{IsPointerWord, ArePointers, IsNameAt, IsNameFor, RefusesBehind, MayLackFor, DeclaratorsFor, BracketsFor, has_no_room, is_bracket, is_full, IsPointed, IsNameMissing, IsDeclaratorTaken, DeclaratorAnswers, PointedAnswers, BoundsAnswer}
-use Rattle.cs_decl_parser.proofs.RowSites.{highest_more}
+use Rattle.cs_decl_parser.proofs.RowSites.{highest_more, RowSoFar, row_wrong}
 use Rattle.cs_decl_parser.proofs.StatementStops.{stops_in, stops_pass, front_of, single_stops, no_fits}
 use Rattle.cs_grammar.proofs.Pairs.{single_took}
 
@@ -224,7 +224,7 @@ no_bound declares names room next false bracket has is only = brackets_end names
 no_bound declares names room next true false has is only = brackets_end names (MayLackFor declares) room next (λ k. false≢true (sym is ∙ is_one next k))
 no_bound declaring.Names names room next true true has is only = absurd (false≢true has)
 no_bound declaring.Members names zero next true true has is only = subst (λ (x : TokenKind). Took (Brackets names ⊥) 0 [] x true) (sym (bracket_is next is)) (brackets_full names next)
-no_bound declaring.Members names (suc room) next true true has is only = absurd (false≢true has)
+no_bound declaring.Members names (suc room) next true true has is only = absurd (let z = eqb-true (suc room) 0 has in omega arith)
 
 -- no other bound is taken
 pub bounds_taken : {A : Type 0} (view : A → List (Option Written)) (declares : Declares) (names : Names) (room : ℕ) (tokens : List Token) (from next : ℕ) (list : List (Option RawExpr)) (tall : ℕ) (taken : Taken A) → BoundsSoFar declares names room tokens from next list tall → (kind_or_end tokens next ≡ token.Mark mark.OpenBracket → has_no_room declares room ≡ true) → view taken.tree ≡ bounds_of list → taken.height ≡ tall → taken.next ≡ next → IsTaken (BracketsFor declares names) view room tokens from (is_full declares room (kind_or_end tokens taken.next)) taken
@@ -281,7 +281,7 @@ declarator_taken view declares names room inner less tokens from pointed p bound
     (bounded view declares names room inner less tokens from pointed p bounds b whole tree tall number)
 
 -- declarators with commas between them
-pub declarators_row : (declares : Declares) (names : Names) → Separates (DeclaratorsFor declares names) (token.Mark mark.Semicolon)
+abbrev pub declarators_row : (declares : Declares) (names : Names) → Separates (DeclaratorsFor declares names) (token.Mark mark.Semicolon)
 declarators_row declares names =
     let n = some_name declares names in
     record {
@@ -291,3 +291,15 @@ declarators_row declares names =
       closed = λ d more. tt;
       differs = λ e. cc;
     }
+
+pub declarators_low : (declares : Declares) (names : Names) (room : ℕ) → 1 ≤ room → (DeclaratorsFor declares names).tall (declarators_row declares names).least.tree ≤ room
+declarators_low declares names room some = some
+
+-- what stands behind a declarator is neither a comma nor a semicolon
+pub declarators_wrong : (declares : Declares) (names : Names) (room inner : ℕ) (tokens : List Token) (end : Place) (from : ℕ) (done : List Declarator) (last : Declarator) (next : ℕ) (tall : ℕ) → RowSoFar (DeclaratorsFor declares names) (token.Mark mark.Semicolon) room tokens from done last next (is_full declares inner (kind_or_end tokens next)) tall → (kind_or_end tokens next ≡ token.Mark mark.Comma → ⊥) → (kind_or_end tokens next ≡ token.Mark mark.Semicolon → ⊥) → (s : Stop) → RefusesBehind next (is_full declares inner (kind_or_end tokens next)) s → Stops (Separated (DeclaratorsFor declares names) (token.Mark mark.Semicolon)) room tokens end from s
+declarators_wrong declares names room inner tokens end from done last next tall r comma closed stop.Memory is = absurd is
+declarators_wrong declares names room inner tokens end from done last next tall r comma closed (stop.Expression x) is = absurd is
+declarators_wrong declares names room inner tokens end from done last next tall r comma closed (stop.Refused at reason) is =
+    subst (λ (n : ℕ). IsRefused (Separated (DeclaratorsFor declares names) (token.Mark mark.Semicolon)) room tokens from n reason) (sym is.0)
+    (row_wrong (DeclaratorsFor declares names) (token.Mark mark.Semicolon) room (declarators_row declares names) tokens from done last next reason tall
+    (subst (λ (d : Bool). RowSoFar (DeclaratorsFor declares names) (token.Mark mark.Semicolon) room tokens from done last next d tall) (sym is.1) r) comma closed)

@@ -30,14 +30,14 @@ pub highest_more : {A : Type 0} (by : A → ℕ) (done : List A) (a : A) → hig
 highest_more by [] a = omega arith
 highest_more by (d ∷ ds) a = let h = highest_more by ds a in omega (arith, h)
 
+behind_last : {A : Type 0} (spell : A → Kinds → Kinds) (done : List A) (last : A) (rest : Kinds) → each_behind_comma spell (done ++ last ∷ []) rest ≡ comma_token ∷ before_commas spell done (spell last rest)
+behind_last spell [] last rest = refl
+behind_last spell (d ∷ ds) last rest = ap (λ (x : Kinds). comma_token ∷ spell d x) (behind_last spell ds last rest)
+
 -- the tokens of phrases with commas between them
 pub commas_last : {A : Type 0} (spell : A → Kinds → Kinds) (done : List A) (last : A) (rest : Kinds) → with_commas spell (done ++ last ∷ []) rest ≡ before_commas spell done (spell last rest)
 commas_last spell [] last rest = refl
 commas_last spell (d ∷ ds) last rest = ap (spell d) (behind_last spell ds last rest)
-
-behind_last : {A : Type 0} (spell : A → Kinds → Kinds) (done : List A) (last : A) (rest : Kinds) → each_behind_comma spell (done ++ last ∷ []) rest ≡ comma_token ∷ before_commas spell done (spell last rest)
-behind_last spell [] last rest = refl
-behind_last spell (d ∷ ds) last rest = ap (λ (x : Kinds). comma_token ∷ spell d x) (behind_last spell ds last rest)
 
 -- phrases with a comma behind each were taken, and one more
 pub record RowSoFar (D : Class) (close : TokenKind) (room : ℕ) (tokens : List Token) (from : ℕ) (done : List D.Tree) (last : D.Tree) (next : ℕ) (deep : Bool) (tall : ℕ) : Type 0 where

@@ -1,4 +1,5 @@
 use Rattle.std.proofs.Common.{◌≡◌, ◌<◌, ◌+◌, ◌-◌, refl, sym, subst, arith}
+use Rattle.std.proofs.lemmas.Bool.{ltb-true, lt-ltb}
 use Rattle.cs_decl_parser.proofs.DeclaratorSites.{PointersSoFar, pointers_none, pointers_one_more, pointers_taken}
 use Rattle.cs_decl_parser.proofs.words.stars.Goals as goal
 
@@ -12,7 +13,7 @@ stars-init c = record {
 pub stars-preserved : goal.stars-preserved
 stars-preserved c =
     let i = c.stars.invariant in
-    let p = pointers_one_more c.args.source.now.tokens.now c.args.from c.stars.next _ c.stars.words.items c.in-Some.word (λ e. omega arith) i.so_far c.in-Some.ensures.word in
+    let p = pointers_one_more c.args.source.now.tokens.now c.args.from c.stars.next _ c.stars.words.items c.in-Some.word (λ e. ltb-true c.args.from c.stars.next e) i.so_far c.in-Some.ensures.word in
     record {
       onward = omega arith;
       inside = p.spelled.within;
@@ -21,4 +22,4 @@ stars-preserved c =
 
 pub returns-clause-pointers : goal.returns-clause-pointers
 returns-clause-pointers c =
-    pointers_taken c.args.source.now.tokens.now c.args.from c.stars.next _ c.stars.words.items (λ less. omega arith) c.stars.invariant.so_far c.in_default.ensures.word
+    pointers_taken c.args.source.now.tokens.now c.args.from c.stars.next _ c.stars.words.items (λ less. lt-ltb c.args.from c.stars.next less) c.stars.invariant.so_far c.in_default.ensures.word
