@@ -33,6 +33,7 @@ use Rattle.cs_grammar.proofs.Pairs.{Single, HasPlace}
 use Rattle.cs_grammar.proofs.Rows.{Separates, SoFar, before_commas}
 use Rattle.cs_grammar.proofs.Optional.{some_least, some_law}
 use Rattle.cs_grammar.proofs.StatementParts.{nought, expression_height}
+use Rattle.cs_grammar.proofs.DeclaredObjects.{semicolon_differs}
 use Rattle.cs_grammar.proofs.FreshNames.{fresh, fresh_free}
 use Rattle.cs_grammar.proofs.Declarators.{BracketsSoFar, brackets_none, brackets_more, brackets_refused, brackets_end, brackets_full, brackets_took, brackets_law, declarator_of, declarator_single, declarators_law, declarators_least, IsNoName, name_missing, bound_refused, bound_exact}
 use Rattle.cs_expr_parser.specs.Positions.{kinds, kind_or_end}
@@ -110,7 +111,7 @@ name_pointed declares names tokens from at words name taken p k is items named n
 }
 
 -- a name that may be declared
-some_name : (declares : Declares) (names : Names) → (name : List ℕ) × IsNameFor declares names name
+pub some_name : (declares : Declares) (names : Names) → (name : List ℕ) × IsNameFor declares names name
 some_name declaring.Names names = (fresh names, fresh_free names)
 some_name declaring.Members names = ([], tt)
 
@@ -289,7 +290,7 @@ declarators_row declares names =
       least = declarators_least (IsNameFor declares names) names (MayLackFor declares) n.0 n.1;
       comma = λ d more. tt;
       closed = λ d more. tt;
-      differs = λ e. cc;
+      differs = semicolon_differs;
     }
 
 pub declarators_low : (declares : Declares) (names : Names) (room : ℕ) → 1 ≤ room → (DeclaratorsFor declares names).tall (declarators_row declares names).least.tree ≤ room
@@ -303,3 +304,8 @@ declarators_wrong declares names room inner tokens end from done last next tall 
     subst (λ (n : ℕ). IsRefused (Separated (DeclaratorsFor declares names) (token.Mark mark.Semicolon)) room tokens from n reason) (sym is.0)
     (row_wrong (DeclaratorsFor declares names) (token.Mark mark.Semicolon) room (declarators_row declares names) tokens from done last next reason tall
     (subst (λ (d : Bool). RowSoFar (DeclaratorsFor declares names) (token.Mark mark.Semicolon) room tokens from done last next d tall) (sym is.1) r) comma closed)
+
+pub refuses_at : (number : ℕ) (deep : Bool) (s : Stop) → RefusesBehind number deep s → (reason : Reason) × (s ≡ stop.Refused number reason)
+refuses_at number deep stop.Memory is = absurd is
+refuses_at number deep (stop.Expression r) is = absurd is
+refuses_at number deep (stop.Refused at reason) is = (reason, ap (λ (n : ℕ). stop.Refused n reason) is.0)

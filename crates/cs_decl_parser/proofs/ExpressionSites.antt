@@ -42,7 +42,9 @@ use Rattle.cs_decl_parser.specs.declared.stop.Taken.{Taken}
 use Rattle.cs_decl_parser.specs.declared.stop.Unclosed.{Unclosed}
 use Rattle.cs_decl_parser.specs.Bounds.{IsPhraseOf}
 use Rattle.cs_decl_parser.specs.Answers.{Stops, IsExactly, IsUnclosed as IsUnclosedTaken, closes}
-use Rattle.cs_decl_parser.specs.DeclarationAnswers.{ClosedExpressions}
+use Rattle.cs_decl_parser.specs.DeclarationAnswers.{ClosedExpressions, MayLackFor}
+use Rattle.cs_decl_parser.specs.declared.declarator.Declares.{Declares}
+use Rattle.cs_decl_parser.specs.declared.declarator.Declares.TheVariants as declaring
 use Rattle.cs_decl_parser.proofs.StatementStops.{stops_in, stops_pass, front_of, near_start}
 
 -- what the parser of expressions took
@@ -125,6 +127,22 @@ some_tail names level MayLack close room = record {
   rises = λ part high. high;
 }
 
+full_some : (names : Names) (level : ℕ) (close : TokenKind) (whole : Option Written) (after behind : Kinds) → (ClosedSome names level ⊥ close).Is whole → (ClosedSome names level ⊥ close).spell whole after ≡ behind → (part : Written) × (whole ≡ Some part) × IsPhrase names level part × (behind ≡ text part (close ∷ after))
+full_some names level close None after behind is same = absurd is
+full_some names level close (Some e) after behind is same = (e, refl, is, sym same)
+
+-- an expression that may not lack
+full_tail : (names : Names) (close : TokenKind) (room : ℕ) → Tail (ClosedSome names 2 ⊥ close) (ClosedExpressions names 2 close) room room [] Some (λ rest. Unit {0})
+full_tail names close room = record {
+  started = inl refl;
+  invert = λ whole after behind is shut fit same. full_some names 2 close whole after behind is same;
+  shut = λ part after shut. tt;
+  spelled = λ part after. refl;
+  is_phrase = λ part is. is;
+  low = λ part is low. low;
+  rises = λ part high. high;
+}
+
 unclosed_near : (close next : TokenKind) (behind : Kinds) → (next ≡ close → ⊥) → Near next behind → IsUnclosed close behind
 unclosed_near close next behind other near more same =
     elim near [ inl none ↦ let z = sym same ∙ none in cc | inr m ↦ let z : next ∷ m.0 ≡ close ∷ more = sym m.1 ∙ same in other cc ]
@@ -196,3 +214,15 @@ test_taken names room tokens from k taken t = record {
   spelled = spells_more tokens from (from + 1) taken.next (λ rest. token.Mark mark.OpenParenthesis ∷ rest) ((ClosedExpressions names 0 (token.Mark mark.CloseParenthesis)).spell (written taken.tree)) (spells_one tokens from (token.Mark mark.OpenParenthesis) k (λ x. cc)) t.spelled;
   exactly = record { is_phrase = t.exactly.is_phrase; low = t.exactly.low; exact = λ other after behind is same. t.exactly.exact other after behind is cc };
 }
+
+-- a bound of a member, which may not lack
+pub member_bound_stops : (names : Names) (room : ℕ) (tokens : List Token) (end : Place) (from : ℕ) (s : Stop) → Stops (ClosedExpressions names 2 (token.Mark mark.CloseBracket)) room tokens end from s → Stops (ClosedSome names 2 ⊥ (token.Mark mark.CloseBracket)) room tokens end from s
+member_bound_stops names room tokens end from s r =
+    stops_pass (ClosedSome names 2 ⊥ (token.Mark mark.CloseBracket)) (ClosedExpressions names 2 (token.Mark mark.CloseBracket)) room room tokens end from
+    (λ front at deep here x.
+    tail_refused (ClosedSome names 2 ⊥ (token.Mark mark.CloseBracket)) (ClosedExpressions names 2 (token.Mark mark.CloseBracket)) room room [] Some (λ rest. Unit {0}) (closed_law (Expressions names 2) (token.Mark mark.CloseBracket) (text_law names 2)) (full_tail names (token.Mark mark.CloseBracket) room) front (kind_or_end tokens at) deep
+    (λ behind near. tt) x) s r
+
+pub bound_stops : (declares : Declares) (names : Names) (room : ℕ) (tokens : List Token) (end : Place) (from : ℕ) (s : Stop) → declares ≡ declaring.Members → Stops (ClosedExpressions names 2 (token.Mark mark.CloseBracket)) room tokens end from s → Stops (ClosedSome names 2 (MayLackFor declares) (token.Mark mark.CloseBracket)) room tokens end from s
+bound_stops declaring.Members names room tokens end from s is r = member_bound_stops names room tokens end from s r
+bound_stops declaring.Names names room tokens end from s is r = absurd cc

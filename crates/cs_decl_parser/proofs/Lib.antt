@@ -7,3 +7,4 @@ pub mod BlockSites
 pub mod RowSites
 pub mod ExpressionSites
 pub mod DeclaratorSites
+pub mod ListSites

@@ -1,6 +1,8 @@
 -- Rows of phrases with commas between them, by the numbers of tokens: what each return of their loops gives. For the contracts of
 -- `declarators`, `with_others` and `parameter_list`, and of the lists that may end with a comma.
-use Rattle.std.proofs.Common.{◌≡◌, ℕ, ◌+◌, ◌<◌, ◌≤◌, max, Bool, true, false, List, [], ◌∷◌, ◌++◌, length, drop, refl, sym, ap, ◌∙◌, subst, arith, append_assoc}
+use Rattle.std.proofs.Common.{◌≡◌, ℕ, ◌+◌, ◌<◌, ◌≤◌, max, Bool, true, false, if◌then◌else◌, List, [], ◌∷◌, ◌++◌, length, drop, refl, sym, ap, ◌∙◌, subst, arith, append_assoc}
+use Rattle.std.proofs.lemmas.Grind.{common_steps}
+use Rattle.std.specs.Ordering.{ord_max, nat_cmp}
 use Rattle.cs_ast.specs.declared.place.Place.{Place}
 use Rattle.cs_ast.specs.declared.token.Token.{Token}
 use Rattle.cs_ast.specs.declared.token.TokenKind.{TokenKind}
@@ -21,6 +23,10 @@ use Rattle.cs_decl_parser.specs.declared.stop.Stop.{Stop}
 use Rattle.cs_decl_parser.specs.declared.stop.Taken.{Taken}
 use Rattle.cs_decl_parser.specs.Answers.{Stops, IsExactly}
 use Rattle.cs_decl_parser.proofs.StatementStops.{stops_in, stops_pass, front_of}
+
+-- the greater of two heights
+pub max_is : (a b : ℕ) → ord_max nat_cmp a b ≡ max a b
+max_is a b = grind (arith, common_steps)
 
 comma_some : comma_token ≡ token.Attribute → ⊥
 comma_some e = cc
@@ -119,4 +125,111 @@ row_taken D close room s some view tokens from done last next deep tall r k take
   exactly =
       subst (λ (x : List D.Tree). Exactly (Separated D close) room x) (sym tree)
       (so_far_exact D close room s done r.so_far last deep (subst (λ (x : TokenKind). Took D room last x deep) k r.took));
+}
+
+-- what may stand behind phrases with a comma behind each: anything at first, and then not what closes the row
+abbrev pub FitFor : {A : Type 0} → TokenKind → List A → Kinds → Type 0
+FitFor close [] behind = Unit {0}
+FitFor close (a ∷ all) behind = NotClosed close behind
+
+-- phrases with a comma behind each were taken, and one more; a comma may end the row
+pub record TrailingRow (D : Class) (close : TokenKind) (room : ℕ) (tokens : List Token) (from : ℕ) (done : List D.Tree) (last : D.Tree) (next : ℕ) (deep : Bool) (tall : ℕ) : Type 0 where
+  pub at : ℕ
+  pub spelled : Spells tokens from at (before_commas D.spell done)
+  pub so_far : TrailingSoFar D close room done (FitFor close done)
+  pub last_spelled : Spells tokens at next (D.spell last)
+  pub took : Took D room last (kind_or_end tokens next) deep
+  pub height_is : tall ≡ max (highest_by D.tall done) (D.tall last)
+
+pub trailing_first : (D : Class) (close : TokenKind) (room : ℕ) → (s : Separates D close) → D.tall s.least.tree ≤ room → (tokens : List Token) (from : ℕ) → from ≤ length tokens → (first : D.Tree) (next : ℕ) (deep : Bool) (tall : ℕ) → Spells tokens from next (D.spell first) → Took D room first (kind_or_end tokens next) deep → tall ≡ D.tall first → TrailingRow D close room tokens from [] first next deep tall
+trailing_first D close room s fits tokens from within first next deep tall sp t h = record {
+  at = from;
+  spelled = spells_none tokens from within;
+  so_far = trailing_start D close room s fits;
+  last_spelled = sp;
+  took = t;
+  height_is = omega (arith, h);
+}
+
+opens_for : (D : Class) (close : TokenKind) → NoneCloses D close → (done : List D.Tree) → Opens D (FitFor close done)
+opens_for D close none [] = λ d behind is. tt
+opens_for D close none (d ∷ ds) = opens_not_closed D close none
+
+trailing_spelled : (D : Class) (close : TokenKind) (room : ℕ) (tokens : List Token) (from : ℕ) (done : List D.Tree) (last : D.Tree) (next : ℕ) (deep : Bool) (tall : ℕ) → TrailingRow D close room tokens from done last next deep tall → kind_or_end tokens next ≡ comma_token → Spells tokens from (next + 1) (before_commas D.spell (done ++ last ∷ []))
+trailing_spelled D close room tokens from done last next deep tall r k =
+    spells_as tokens from (next + 1) (λ rest. before_commas D.spell done (D.spell last (comma_token ∷ rest))) (before_commas D.spell (done ++ last ∷ []))
+    (spells_more tokens from r.at (next + 1) (before_commas D.spell done) (λ rest. D.spell last (comma_token ∷ rest)) r.spelled
+    (spells_more tokens r.at next (next + 1) (D.spell last) (λ rest. comma_token ∷ rest) r.last_spelled (spells_one tokens next comma_token k comma_some)))
+    (λ rest. sym (before_more D done last rest))
+
+comma_row : (D : Class) (close : TokenKind) (room : ℕ) → (s : Separates D close) → NoneCloses D close → (tokens : List Token) (from : ℕ) (done : List D.Tree) (last : D.Tree) (next : ℕ) (deep : Bool) (tall : ℕ) → TrailingRow D close room tokens from done last next deep tall → kind_or_end tokens next ≡ comma_token → CommaSoFar D close room (done ++ last ∷ [])
+comma_row D close room s none tokens from done last next deep tall r k =
+    trailing_comma D close room s done (FitFor close done) (opens_for D close none done) last deep r.so_far (subst (λ (x : TokenKind). Took D room last x deep) k r.took)
+
+fit_more : (D : Class) (close : TokenKind) (room : ℕ) (done : List D.Tree) (last : D.Tree) → TrailingSoFar D close room (done ++ last ∷ []) (NotClosed close) → TrailingSoFar D close room (done ++ last ∷ []) (FitFor close (done ++ last ∷ []))
+fit_more D close room [] last t = t
+fit_more D close room (d ∷ ds) last t = t
+
+pub trailing_next : (D : Class) (close : TokenKind) (room : ℕ) → (s : Separates D close) → D.tall s.least.tree ≤ room → NoneCloses D close → (tokens : List Token) (from : ℕ) (done : List D.Tree) (last : D.Tree) (next : ℕ) (deep : Bool) (tall : ℕ) → TrailingRow D close room tokens from done last next deep tall → kind_or_end tokens next ≡ comma_token → (following : D.Tree) (next' : ℕ) (deep' : Bool) (tall' : ℕ) → Spells tokens (next + 1) next' (D.spell following) → Took D room following (kind_or_end tokens next') deep' → tall' ≡ D.tall following → TrailingRow D close room tokens from (done ++ last ∷ []) following next' deep' (max tall tall')
+trailing_next D close room s fits none tokens from done last next deep tall r k following next' deep' tall' sp t h = record {
+  at = next + 1;
+  spelled = trailing_spelled D close room tokens from done last next deep tall r k;
+  so_far = fit_more D close room done last (comma_more D close room s fits (done ++ last ∷ []) (comma_row D close room s none tokens from done last next deep tall r k));
+  last_spelled = sp;
+  took = t;
+  height_is = let m = highest_more D.tall done last in let g = r.height_is in omega (arith, m, g, h);
+}
+
+-- the first phrase was refused
+pub trailing_first_stops : (D : Class) (close : TokenKind) (room : ℕ) → (s : Separates D close) → D.tall s.least.tree ≤ room → (tokens : List Token) (end : Place) (from : ℕ) (stop : Stop) → Stops D room tokens end from stop → Stops (Trailing D close) room tokens end from stop
+trailing_first_stops D close room s fits tokens end from stop r =
+    stops_pass (Trailing D close) D room room tokens end from (λ front at deep here x. trailing_refused D close room s [] (λ rest. Unit {0}) (trailing_start D close room s fits) front (kind_or_end tokens at) deep (λ behind near. tt) x) stop r
+
+-- a phrase behind a comma was refused
+pub trailing_next_stops : (D : Class) (close : TokenKind) (room : ℕ) → (s : Separates D close) → D.tall s.least.tree ≤ room → NoneCloses D close → (tokens : List Token) (end : Place) (from : ℕ) (done : List D.Tree) (last : D.Tree) (next : ℕ) (deep : Bool) (tall : ℕ) → TrailingRow D close room tokens from done last next deep tall → kind_or_end tokens next ≡ comma_token → (kind_or_end tokens (next + 1) ≡ close → ⊥) → (stop : Stop) → Stops D room tokens end (next + 1) stop → Stops (Trailing D close) room tokens end from stop
+trailing_next_stops D close room s fits none tokens end from done last next deep tall r k other stop x =
+    stops_in (Trailing D close) D room room tokens end from (next + 1) (before_commas D.spell (done ++ last ∷ []) [])
+    (spells_as tokens from (next + 1) (before_commas D.spell (done ++ last ∷ [])) (λ rest. before_commas D.spell (done ++ last ∷ []) [] ++ rest) (trailing_spelled D close room tokens from done last next deep tall r k)
+    (λ rest. sym (before_append D s.law (done ++ last ∷ []) [] rest)))
+    (λ front at deep' here y.
+    comma_refused D close room s none (done ++ last ∷ []) (comma_more D close room s fits (done ++ last ∷ []) (comma_row D close room s none tokens from done last next deep tall r k)) front (kind_or_end tokens at) deep'
+    (λ empty closed. other (sym (refused_here tokens (next + 1) at front here empty) ∙ closed)) y) stop x
+
+-- neither a comma nor what closes the row stands behind the last phrase
+pub trailing_missing : (D : Class) (close : TokenKind) (room : ℕ) → (s : Separates D close) → NoneCloses D close → (tokens : List Token) (from : ℕ) (done : List D.Tree) (last : D.Tree) (next : ℕ) (reason : Reason) (tall : ℕ) → TrailingRow D close room tokens from done last next (is_deep reason) tall → (kind_or_end tokens next ≡ comma_token → ⊥) → (kind_or_end tokens next ≡ close → ⊥) → IsRefused (Trailing D close) room tokens from next reason
+trailing_missing D close room s none tokens from done last next reason tall r comma closed = record {
+  front = before_commas D.spell done [] ++ D.spell last [];
+  spelled = last_front D s.law tokens from r.at next done last r.spelled r.last_spelled;
+  refused = trailing_wrong D close room s done (FitFor close done) (opens_for D close none done) r.so_far last (kind_or_end tokens next) (is_deep reason) r.took comma closed;
+}
+
+-- what closes the row stands there, behind a comma or not
+row_closed : (D : Class) (close : TokenKind) (room : ℕ) → (s : Separates D close) → NoneCloses D close → (tokens : List Token) (from : ℕ) (done : List D.Tree) (last : D.Tree) (next : ℕ) (deep : Bool) (tall : ℕ) → TrailingRow D close room tokens from done last next deep tall → (comma : Bool) → (comma ≡ true → kind_or_end tokens next ≡ comma_token) → kind_or_end tokens (if comma then next + 1 else next) ≡ close → Exactly (Trailing D close) room (done ++ last ∷ [], comma)
+row_closed D close room s none tokens from done last next deep tall r true comma k = comma_exact D close room s none (done ++ last ∷ []) (comma_row D close room s none tokens from done last next deep tall r (comma refl))
+row_closed D close room s none tokens from done last next deep tall r false comma k = trailing_exact D close room s done (FitFor close done) (opens_for D close none done) r.so_far last deep (subst (λ (x : TokenKind). Took D room last x deep) k r.took)
+
+closed_spelled : (D : Class) (close : TokenKind) (room : ℕ) → (close ≡ token.Attribute → ⊥) → (tokens : List Token) (from : ℕ) (done : List D.Tree) (last : D.Tree) (next : ℕ) (deep : Bool) (tall : ℕ) → TrailingRow D close room tokens from done last next deep tall → (comma : Bool) → (comma ≡ true → kind_or_end tokens next ≡ comma_token) → kind_or_end tokens (if comma then next + 1 else next) ≡ close → Spells tokens from ((if comma then next + 1 else next) + 1) ((Trailing D close).spell (done ++ last ∷ [], comma))
+closed_spelled D close room some tokens from done last next deep tall r true comma k =
+    spells_as tokens from (next + 1 + 1) (λ rest. before_commas D.spell done (D.spell last (comma_token ∷ close ∷ rest))) ((Trailing D close).spell (done ++ last ∷ [], true))
+    (spells_more tokens from r.at (next + 1 + 1) (before_commas D.spell done) (λ rest. D.spell last (comma_token ∷ close ∷ rest)) r.spelled
+    (spells_more tokens r.at next (next + 1 + 1) (D.spell last) (λ rest. comma_token ∷ close ∷ rest) r.last_spelled
+    (spells_more tokens next (next + 1) (next + 1 + 1) (λ rest. comma_token ∷ rest) (λ rest. close ∷ rest) (spells_one tokens next comma_token (comma refl) comma_some) (spells_one tokens (next + 1) close k some))))
+    (λ rest. sym (commas_last D.spell done last (comma_token ∷ close ∷ rest)))
+closed_spelled D close room some tokens from done last next deep tall r false comma k =
+    spells_as tokens from (next + 1) (λ rest. before_commas D.spell done (D.spell last (close ∷ rest))) ((Trailing D close).spell (done ++ last ∷ [], false))
+    (spells_more tokens from r.at (next + 1) (before_commas D.spell done) (λ rest. D.spell last (close ∷ rest)) r.spelled
+    (spells_more tokens r.at next (next + 1) (D.spell last) (λ rest. close ∷ rest) r.last_spelled (spells_one tokens next close k some)))
+    (λ rest. sym (commas_last D.spell done last (close ∷ rest)))
+
+-- a row that was taken
+pub record IsRowTaken (D : Class) (close : TokenKind) (room : ℕ) (tokens : List Token) (from next : ℕ) (row : List D.Tree × Bool) (tall : ℕ) : Type 0 where
+  pub height_is : tall ≡ highest_by D.tall row.0
+  pub spelled : Spells tokens from next ((Trailing D close).spell row)
+  pub exactly : Exactly (Trailing D close) room row
+
+pub trailing_taken : (D : Class) (close : TokenKind) (room : ℕ) → (s : Separates D close) → (close ≡ token.Attribute → ⊥) → NoneCloses D close → (tokens : List Token) (from : ℕ) (done : List D.Tree) (last : D.Tree) (next : ℕ) (deep : Bool) (tall : ℕ) → TrailingRow D close room tokens from done last next deep tall → (comma : Bool) → (comma ≡ true → kind_or_end tokens next ≡ comma_token) → kind_or_end tokens (if comma then next + 1 else next) ≡ close → IsRowTaken D close room tokens from ((if comma then next + 1 else next) + 1) (done ++ last ∷ [], comma) tall
+trailing_taken D close room s some none tokens from done last next deep tall r comma behind k = record {
+  height_is = let m = highest_more D.tall done last in let g = r.height_is in omega (arith, m, g);
+  spelled = closed_spelled D close room some tokens from done last next deep tall r comma behind k;
+  exactly = row_closed D close room s none tokens from done last next deep tall r comma behind k;
 }

@@ -182,11 +182,12 @@ BoundAnswer declares names room tokens end from result =
 abbrev pub IsConstantOf : List ℕ → Option Written → RawEnumerator → Type 0
 IsConstantOf name value made = constant made ≡ record { name = name; value = value }
 
-abbrev is_comma : TokenKind → Bool
+-- a comma, and a closing brace
+abbrev pub is_comma : TokenKind → Bool
 is_comma (token.Mark mark.Comma) = true
 is_comma other = false
 
-abbrev is_closing_brace : TokenKind → Bool
+abbrev pub is_closing_brace : TokenKind → Bool
 is_closing_brace (token.Mark mark.CloseBrace) = true
 is_closing_brace other = false
 

@@ -8,7 +8,7 @@ ghost use Rattle.cs_expr_parser.specs.Positions.{kind_or_end};
 ghost use Rattle.cs_decl_parser.specs.Answers.{UnclosedAnswers};
 ghost use Rattle.cs_decl_parser.specs.Bounds.{IsUnclosedBounded};
 
-use crate::constants::goes_on;
+use crate::constants::{closing_at, goes_on};
 use crate::expression::expression;
 use crate::source::{Scope, Source, is_mark, mark_at, reason_at, refuse_deep};
 use crate::stop::{Stop, Unclosed};
@@ -77,7 +77,7 @@ fn items(
     }
     list.push(last.tree)?;
     let comma = is_mark(source, last.next, Mark::Comma);
-    let closing = if comma { last.next + 1 } else { last.next };
+    let closing = closing_at(last.next, comma);
     if !is_mark(source, closing, Mark::CloseBrace) {
         return Err(Stop::Refused(closing, last.otherwise));
     }

@@ -3,6 +3,7 @@ use Rattle.std.proofs.lemmas.Bool.{false≢true}
 use Rattle.cs_ast.specs.declared.raw.expression.RawExpr.{RawExpr}
 use Rattle.cs_ast.specs.RawDeclarationView.{bounds_of}
 use Rattle.cs_decl_parser.specs.DeclarationAnswers.{BoundsAnswer}
+use Rattle.cs_decl_parser.proofs.RowSites.{max_is}
 use Rattle.cs_decl_parser.proofs.DeclaratorSites.{BoundsSoFar, bounds_none, bound_stops, next_bound, bounds_taken}
 use Rattle.cs_decl_parser.proofs.declarator.bounds.Goals as goal
 
@@ -18,7 +19,7 @@ pub bounds-preserved : goal.bounds-preserved
 bounds-preserved c =
     let i = c.bounds.invariant in
     let b = c.in_ok-taken.ensures.bounds in
-    let h = c.max-height.ensures in
+    let h : c.max-height.result ≡ max c.bounds.height c.in_ok-taken.taken.height = c.max-height.ensures ∙ max_is c.bounds.height c.in_ok-taken.taken.height in
     let next = next_bound c.args.declares c.args.source.now.names.now c.args.room c.args.source.now.tokens.now c.args.from c.bounds.next c.bounds.list.items c.push.new.self.items c.bounds.height c.in_ok-taken.taken i.so_far (c.begins_bound.ensures.bracket c.bounds-test.true) c.in_ok-taken.ensures.parsed c.in_ok-push.ensures.items in
     record {
       onward = omega arith;

@@ -8,10 +8,11 @@ use Rattle.cs_ast.specs.RawDeclarations.{Declarator}
 use Rattle.cs_ast.specs.RawDeclarationView.{declarator}
 use Rattle.cs_grammar.specs.Composed.{Separated}
 use Rattle.cs_expr_parser.specs.Positions.{kind_or_end}
+use Rattle.cs_decl_parser.specs.Bounds.{StopsInside}
 use Rattle.cs_decl_parser.specs.Answers.{ExactAnswers}
 use Rattle.cs_decl_parser.specs.DeclarationAnswers.{DeclaratorsFor, is_full}
-use Rattle.cs_decl_parser.proofs.RowSites.{RowSoFar, row_first, row_next, row_first_stops, row_next_stops, row_taken}
-use Rattle.cs_decl_parser.proofs.DeclaratorSites.{declarators_row, declarators_low, declarators_wrong}
+use Rattle.cs_decl_parser.proofs.RowSites.{max_is, RowSoFar, row_first, row_next, row_first_stops, row_next_stops, row_taken}
+use Rattle.cs_decl_parser.proofs.DeclaratorSites.{refuses_at, declarators_row, declarators_low, declarators_wrong}
 use Rattle.cs_decl_parser.proofs.declarator.declarators.Goals as goal
 
 pub returns-in_err-last-clause-parsed : goal.returns-in_err-last-clause-parsed
@@ -45,7 +46,7 @@ pub declarators-preserved : goal.declarators-preserved
 declarators-preserved c =
     let i = c.declarators.invariant in
     let b = c.in_ok-following.ensures.bounds in
-    let h = c.max-height.ensures in
+    let h : c.max-height.result ≡ max c.declarators.height c.in_ok-following.following.height = c.max-height.ensures ∙ max_is c.declarators.height c.in_ok-following.following.height in
     let some = c.requires.some in
     let t = c.in_ok-following.ensures.parsed (c.args.room - 1) (omega arith) in
     let all : map declarator c.push.new.self.items ≡ map declarator c.declarators.list.items ++ declarator c.declarators.last.tree ∷ [] = ap (map declarator) c.in_ok-push.ensures.items ∙ map-append declarator c.declarators.list.items (c.declarators.last.tree ∷ []) in
@@ -70,3 +71,10 @@ pub returns-clause-parsed : goal.returns-clause-parsed
 returns-clause-parsed c =
     row_taken (DeclaratorsFor c.args.declares c.args.source.now.names.now) (token.Mark mark.Semicolon) c.args.room (declarators_row c.args.declares c.args.source.now.names.now) (λ x. cc) (λ list. map declarator list.items) c.args.source.now.tokens.now c.args.from (map declarator c.declarators.list.items) (declarator c.declarators.last.tree) c.declarators.last.next (is_full c.args.declares (c.args.room - 1) (kind_or_end c.args.source.now.tokens.now c.declarators.last.next)) c.declarators.height c.declarators.invariant.so_far
     (c.is_mark-2.ensures.mark.0 c.if-not-is_mark.false) _ (ap (map declarator) c.in_ok-push-2.ensures.items ∙ map-append declarator c.declarators.list.items (c.declarators.last.tree ∷ [])) refl refl
+
+pub returns-then-not-is_mark-clause-bounds : goal.returns-then-not-is_mark-clause-bounds
+returns-then-not-is_mark-clause-bounds c =
+    let some = c.requires.some in
+    let i = c.declarators.invariant in
+    let r = refuses_at c.declarators.last.next _ c.refuse_behind.result (c.refuse_behind.ensures (c.args.room - 1) (omega arith)) in
+    subst (StopsInside c.args.source.now.tokens.now c.args.from) (sym r.1) (omega arith, i.inside)
