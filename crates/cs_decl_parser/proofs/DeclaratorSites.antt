@@ -95,7 +95,7 @@ pointers_taken tokens from next behind_star words star p none = record {
   spelled = p.spelled;
   pointers = p.pointers;
   no_star = none.0;
-  no_const = λ k. elim (cases_lt from next) [ | inl less ↦ absurd (none.1 k (star less)) | inr more ↦ p.none (let o = p.spelled.onward in omega arith) ];
+  no_const = λ k. elim (cases_lt from next) [ inl less ↦ absurd (none.1 k (star less)) | inr more ↦ p.none (let o = p.spelled.onward in omega arith) ];
 }
 
 -- the name behind pointers

@@ -8,3 +8,4 @@ pub mod RowSites
 pub mod ExpressionSites
 pub mod DeclaratorSites
 pub mod ListSites
+pub mod ObjectSites

@@ -42,7 +42,7 @@ use Rattle.cs_decl_parser.specs.declared.stop.Taken.{Taken}
 use Rattle.cs_decl_parser.specs.declared.stop.Unclosed.{Unclosed}
 use Rattle.cs_decl_parser.specs.Reasons.{plain_reason}
 use Rattle.cs_decl_parser.specs.Answers.{Stops, IsExactly, IsUnclosed}
-use Rattle.cs_decl_parser.specs.DeclarationAnswers.{IsNameAt, IsConstantOf, goes_on, is_comma, is_closing_brace}
+use Rattle.cs_decl_parser.specs.DeclarationAnswers.{IsNameAt, IsConstantOf, goes_on, is_comma, is_closing_brace, is_designator}
 use Rattle.cs_decl_parser.proofs.Standing.{spells_one, spells_none, spells_more, spells_as, refused_here}
 use Rattle.cs_decl_parser.proofs.StatementStops.{stops_in, stops_pass, stops_plain, plain_flat, front_of, single_stops, no_fits}
 use Rattle.cs_decl_parser.proofs.RowSites.{TrailingRow, trailing_missing, IsRowTaken}
@@ -188,3 +188,14 @@ items_taken names room inner less some tokens from next k row tall r taken is ta
 pub items_listed : (list : List RawInitial) → initials_list list ≡ items_of (map initial list)
 items_listed [] = refl
 items_listed (i ∷ is) = ap (MoreItems (initial i)) (items_listed is)
+
+designator_is : (next : TokenKind) → is_designator next ≡ true → ((names : Names) → begins_expression names next ≡ false) × (next ≡ token.Mark mark.OpenBrace → ⊥)
+designator_is (token.Mark mark.Dot) e = (λ names. refl, λ k. cc)
+designator_is (token.Mark mark.OpenBracket) e = (λ names. refl, λ k. cc)
+designator_is _ e = absurd cc
+
+-- a designator
+pub designator_stops : (names : Names) (room : ℕ) (tokens : List Token) (end : Place) (from : ℕ) (reason : Reason) → from ≤ length tokens → is_deep reason ≡ false → is_designator (kind_or_end tokens from) ≡ true → IsRefused (Values names) room tokens from from reason
+designator_stops names room tokens end from reason within plain is =
+    let d = designator_is (kind_or_end tokens from) is in
+    no_value_stops names room tokens end from reason within plain (d.0 names) d.1

@@ -164,7 +164,7 @@ trailing_spelled D close room tokens from done last next deep tall r k =
 
 comma_row : (D : Class) (close : TokenKind) (room : ℕ) → (s : Separates D close) → NoneCloses D close → (tokens : List Token) (from : ℕ) (done : List D.Tree) (last : D.Tree) (next : ℕ) (deep : Bool) (tall : ℕ) → TrailingRow D close room tokens from done last next deep tall → kind_or_end tokens next ≡ comma_token → CommaSoFar D close room (done ++ last ∷ [])
 comma_row D close room s none tokens from done last next deep tall r k =
-    trailing_comma D close room s done (FitFor close done) (opens_for D close none done) last deep r.so_far (subst (λ (x : TokenKind). Took D room last x deep) k r.took)
+    trailing_comma D close room s done (FitFor close done) (opens_for D close none done) r.so_far last deep (subst (λ (x : TokenKind). Took D room last x deep) k r.took)
 
 fit_more : (D : Class) (close : TokenKind) (room : ℕ) (done : List D.Tree) (last : D.Tree) → TrailingSoFar D close room (done ++ last ∷ []) (NotClosed close) → TrailingSoFar D close room (done ++ last ∷ []) (FitFor close (done ++ last ∷ []))
 fit_more D close room [] last t = t
@@ -232,4 +232,14 @@ trailing_taken D close room s some none tokens from done last next deep tall r c
   height_is = let m = highest_more D.tall done last in let g = r.height_is in omega (arith, m, g);
   spelled = closed_spelled D close room some tokens from done last next deep tall r comma behind k;
   exactly = row_closed D close room s none tokens from done last next deep tall r comma behind k;
+}
+
+-- the same of what was taken
+pub row_is_exact : {B : Type 0} (D : Class) (close : TokenKind) (room : ℕ) (view : B → List D.Tree × Bool) (tokens : List Token) (from next : ℕ) (row : List D.Tree × Bool) (tall : ℕ) (taken : Taken B) → IsRowTaken D close room tokens from next row tall → view taken.tree ≡ row → taken.height ≡ tall → taken.next ≡ next → IsExactly (Trailing D close) view room tokens from taken
+row_is_exact D close room view tokens from next row tall taken r tree tallness number = record {
+  height_is = tallness ∙ r.height_is ∙ ap (λ (x : List D.Tree × Bool). highest_by D.tall x.0) (sym tree);
+  spelled =
+      subst (λ (n : ℕ). Spells tokens from n ((Trailing D close).spell (view taken.tree))) (sym number)
+      (subst (λ (x : List D.Tree × Bool). Spells tokens from next ((Trailing D close).spell x)) (sym tree) r.spelled);
+  exactly = subst (λ (x : List D.Tree × Bool). Exactly (Trailing D close) room x) (sym tree) r.exactly;
 }

@@ -202,3 +202,9 @@ IsAlone d made = declared made ≡ record { declarator = declarator d; initial =
 -- `void` alone stands before a closing parenthesis
 abbrev pub IsVoidAlone : List Token → ℕ → Type 0
 IsVoidAlone tokens from = (kind_or_end tokens from ≡ token.Keyword keyword.Void) × (kind_or_end tokens (from + 1) ≡ token.Mark mark.CloseParenthesis)
+
+-- a designator would begin with the token
+abbrev pub is_designator : TokenKind → Bool
+is_designator (token.Mark mark.Dot) = true
+is_designator (token.Mark mark.OpenBracket) = true
+is_designator other = false

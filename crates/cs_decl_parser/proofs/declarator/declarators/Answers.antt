@@ -11,7 +11,7 @@ use Rattle.cs_expr_parser.specs.Positions.{kind_or_end}
 use Rattle.cs_decl_parser.specs.Bounds.{StopsInside}
 use Rattle.cs_decl_parser.specs.Answers.{ExactAnswers}
 use Rattle.cs_decl_parser.specs.DeclarationAnswers.{DeclaratorsFor, is_full}
-use Rattle.cs_decl_parser.proofs.RowSites.{max_is, RowSoFar, row_first, row_next, row_first_stops, row_next_stops, row_taken}
+use Rattle.cs_decl_parser.proofs.RowSites.{RowSoFar, row_first, row_next, row_first_stops, row_next_stops, row_taken}
 use Rattle.cs_decl_parser.proofs.DeclaratorSites.{refuses_at, declarators_row, declarators_low, declarators_wrong}
 use Rattle.cs_decl_parser.proofs.declarator.declarators.Goals as goal
 
@@ -46,7 +46,7 @@ pub declarators-preserved : goal.declarators-preserved
 declarators-preserved c =
     let i = c.declarators.invariant in
     let b = c.in_ok-following.ensures.bounds in
-    let h : c.max-height.result ≡ max c.declarators.height c.in_ok-following.following.height = c.max-height.ensures ∙ max_is c.declarators.height c.in_ok-following.following.height in
+    let h : c.max-height.result ≡ max c.declarators.height c.in_ok-following.following.height = c.max-height.ensures in
     let some = c.requires.some in
     let t = c.in_ok-following.ensures.parsed (c.args.room - 1) (omega arith) in
     let all : map declarator c.push.new.self.items ≡ map declarator c.declarators.list.items ++ declarator c.declarators.last.tree ∷ [] = ap (map declarator) c.in_ok-push.ensures.items ∙ map-append declarator c.declarators.list.items (c.declarators.last.tree ∷ []) in
