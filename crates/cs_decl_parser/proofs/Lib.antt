@@ -7,3 +7,8 @@ pub mod BlockSites
 pub mod LocalSites
 pub mod ForSites
 pub mod RunSites
+pub mod RowSites
+pub mod ExpressionSites
+pub mod DeclaratorSites
+pub mod ListSites
+pub mod ObjectSites

@@ -22,13 +22,16 @@ use Rattle.cs_ast.specs.RawDeclarations.{Declarator, Constant}
 use Rattle.cs_ast.specs.RawDeclarationView.{bounds_of, declarator, constant, initial, declared, parameter, parameters}
 use Rattle.cs_grammar.specs.declared.refusal.Reason.{Reason}
 use Rattle.cs_grammar.specs.TypeWords.{Names, is_pointer}
-use Rattle.cs_grammar.specs.Text.{pointers_text}
+use Rattle.cs_grammar.specs.Text.{Kinds, text, pointers_text}
+use Rattle.cs_grammar.specs.Phrases.{IsPhrase}
+use Rattle.cs_ast.specs.RawHeight.{height}
 use Rattle.cs_grammar.specs.FileText.{name_text}
 use Rattle.cs_grammar.specs.FilePhrases.{IsFree}
 use Rattle.cs_grammar.specs.Parsing.{Class}
+use Rattle.cs_grammar.specs.Levels.{CHOICE}
 use Rattle.cs_grammar.specs.Composed.{ClosedSome, Separated, Trailing}
 use Rattle.cs_grammar.specs.FileClasses.{Tests}
-use Rattle.cs_grammar.specs.DeclarationClasses.{Brackets, Bounds, Declarators, Constants, Values, Objects, ParameterClass, ParameterRows, ParameterLists}
+use Rattle.cs_grammar.specs.DeclarationClasses.{Brackets, Declarators, Constants, Values, Objects, ParameterClass, ParameterRows, ParameterLists}
 use Rattle.cs_expr_parser.specs.Positions.{kind_or_end}
 use Rattle.cs_expr_parser.specs.Parts.{Spells, is_deep}
 use Rattle.cs_decl_parser.specs.declared.stop.Stop.{Stop}
@@ -133,10 +136,19 @@ abbrev pub BoundsAnswer : {A : Type 0} → Declares → Names → (A → List (O
 BoundsAnswer declares names view room tokens end from (Ok taken) = IsTaken (BracketsFor declares names) view room tokens from (is_full declares room (kind_or_end tokens taken.next)) taken
 BoundsAnswer declares names view room tokens end from (Err stop) = Stops (BracketsFor declares names) room tokens end from stop
 
+-- expressions of a level with a token behind each that closes it
+abbrev pub ClosedExpressions : Names → ℕ → TokenKind → Class
+ClosedExpressions names level close = record {
+  Tree = Written;
+  spell = λ e after. text e (close ∷ after);
+  tall = height;
+  Is = IsPhrase names level;
+  Shut = λ e after. Unit {0};
+}
+
 -- an expression of a level with the mark that closes it
 abbrev pub ClosedAnswer : Names → ExprLevel → Mark → ℕ → List Token → Place → ℕ → Result (Taken RawExpr) Stop → Type 0
-ClosedAnswer names level closing room tokens end from result =
-    ExactAnswers (ClosedSome names (level_asked level) ⊥ (token.Mark closing)) (λ e. Some (written e)) room tokens end from result
+ClosedAnswer names level closing room tokens end from result = ExactAnswers (ClosedExpressions names (level_asked level) (token.Mark closing)) written room tokens end from result
 
 -- the same, where the expression may lack
 abbrev pub ClosedIfAnyAnswer : Names → ExprLevel → Mark → ℕ → List Token → Place → ℕ → Result (Taken (Option RawExpr)) Stop → Type 0
@@ -161,19 +173,21 @@ ParameterNameAnswer names tokens at (Err stop.Memory) = Unit {0}
 ParameterNameAnswer names tokens at (Err (stop.Refused refused reason)) = (refused ≡ at) × (is_deep reason ≡ false) × (kind_or_end tokens at ≡ token.Mark mark.OpenParenthesis)
 ParameterNameAnswer names tokens at (Err (stop.Expression refusal)) = ⊥
 
--- a bound between brackets
+-- a bound behind its opening bracket, with the closing one
 abbrev pub BoundAnswer : Declares → Names → ℕ → List Token → Place → ℕ → Result (Taken (Option RawExpr)) Stop → Type 0
-BoundAnswer declares names room tokens end at result = ExactAnswers (Bounds names (MayLackFor declares)) (option_map written) room tokens end at result
+BoundAnswer declares names room tokens end from result =
+    ExactAnswers (ClosedSome names CHOICE (MayLackFor declares) (token.Mark mark.CloseBracket)) (option_map written) room tokens end from result
 
 -- a constant of this name and this value
 abbrev pub IsConstantOf : List ℕ → Option Written → RawEnumerator → Type 0
 IsConstantOf name value made = constant made ≡ record { name = name; value = value }
 
-abbrev is_comma : TokenKind → Bool
+-- a comma, and a closing brace
+abbrev pub is_comma : TokenKind → Bool
 is_comma (token.Mark mark.Comma) = true
 is_comma other = false
 
-abbrev is_closing_brace : TokenKind → Bool
+abbrev pub is_closing_brace : TokenKind → Bool
 is_closing_brace (token.Mark mark.CloseBrace) = true
 is_closing_brace other = false
 
@@ -188,3 +202,9 @@ IsAlone d made = declared made ≡ record { declarator = declarator d; initial =
 -- `void` alone stands before a closing parenthesis
 abbrev pub IsVoidAlone : List Token → ℕ → Type 0
 IsVoidAlone tokens from = (kind_or_end tokens from ≡ token.Keyword keyword.Void) × (kind_or_end tokens (from + 1) ≡ token.Mark mark.CloseParenthesis)
+
+-- a designator would begin with the token
+abbrev pub is_designator : TokenKind → Bool
+is_designator (token.Mark mark.Dot) = true
+is_designator (token.Mark mark.OpenBracket) = true
+is_designator other = false

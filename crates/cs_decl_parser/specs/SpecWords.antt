@@ -5,6 +5,7 @@ use Rattle.cs_ast.specs.declared.place.Place.{Place}
 use Rattle.cs_ast.specs.declared.token.Token.{Token}
 use Rattle.cs_ast.specs.declared.token.TokenKind.{TokenKind}
 use Rattle.cs_ast.specs.declared.token.TokenKind.TheVariants as token
+use Rattle.cs_ast.specs.declared.token.Keyword.{Keyword}
 use Rattle.cs_ast.specs.declared.token.Keyword.TheVariants as keyword
 use Rattle.cs_ast.specs.declared.token.Mark.TheVariants as mark
 use Rattle.cs_ast.specs.declared.raw.declaration.RawMember.{RawMember}
@@ -13,6 +14,7 @@ use Rattle.cs_ast.specs.declared.raw.declaration.SpecWord.{SpecWord}
 use Rattle.cs_ast.specs.declared.raw.declaration.SpecWord.TheVariants as words
 use Rattle.cs_ast.specs.declared.raw.name.RawName.{RawName}
 use Rattle.cs_ast.specs.declared.raw.written_type.TypeWord.{TypeWord}
+use Rattle.cs_ast.specs.declared.raw.written_type.TypeWord.TheVariants as word
 use Rattle.cs_ast.specs.RawDeclarations.{Declarator, Constant, EnumBody, Spec, Plain, Static, Specs, NoSpec, MoreSpecs}
 use Rattle.cs_ast.specs.RawDeclarationView.{spec, specs, declarator, members_list}
 use Rattle.cs_ast.specs.RawFileHeight.{spec_height}
@@ -21,7 +23,7 @@ use Rattle.cs_grammar.specs.declared.refusal.Reason.TheVariants.{TooDeep}
 use Rattle.cs_grammar.specs.declared.refusal.SyntaxRefusal.TheVariants as refusal
 use Rattle.cs_grammar.specs.declared.type_words.TypeSoFar.{TypeSoFar}
 use Rattle.cs_grammar.specs.declared.type_words.TypeSoFar.TheVariants.{Nothing, Integers, Whole}
-use Rattle.cs_grammar.specs.TypeWords.{Names, is_among}
+use Rattle.cs_grammar.specs.TypeWords.{Names, word_of}
 use Rattle.cs_grammar.specs.TypesSoFar.{Describes, is_known}
 use Rattle.cs_grammar.specs.FirstTokens.{begins_type}
 use Rattle.cs_grammar.specs.Text.{Kinds, type_word_text}
@@ -50,6 +52,12 @@ begins_words scope names next = begins_type names next
 abbrev pub tag_keyword : Bool → TokenKind
 tag_keyword true = token.Keyword keyword.Struct
 tag_keyword false = token.Keyword keyword.Enum
+
+-- the word of a type that a keyword is alone
+abbrev pub word_of_keyword : Keyword → Option TypeWord
+word_of_keyword keyword.Const = Some word.Const
+word_of_keyword keyword.Void = Some word.Void
+word_of_keyword other = option_map word.Integer (word_of other)
 
 -- the word of a type that a token is alone
 abbrev pub IsTypeWord : Names → TokenKind → Option TypeWord → Type 0

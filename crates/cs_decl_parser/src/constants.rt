@@ -1,5 +1,5 @@
 //! The constants of an enumeration (C11 6.7.2.2).
-ghost use Rattle.std.specs.Prelude.{◌≡◌, ◌≤◌, ◌<◌, ◌^◌, ◌+◌, length, IsTrue, None};
+ghost use Rattle.std.specs.Prelude.{◌≡◌, ◌≤◌, ◌<◌, ◌^◌, ◌+◌, length, IsTrue, None, if◌then◌else◌};
 ghost use Rattle.std.specs.Option.{option_map};
 ghost use Rattle.cs_ast.specs.RawView.{written};
 ghost use Rattle.cs_ast.specs.RawDeclarationView.{constant as constant_of};
@@ -53,7 +53,7 @@ pub fn constants(
     }
     list.push(last.tree)?;
     let comma = is_mark(source, last.next, Mark::Comma);
-    let closing = if comma { last.next + 1 } else { last.next };
+    let closing = closing_at(last.next, comma);
     if !is_mark(source, closing, Mark::CloseBrace) {
         return Err(Stop::Refused(closing, last.otherwise));
     }
@@ -62,6 +62,14 @@ pub fn constants(
         height,
         next: closing + 1,
     })
+}
+
+/// The number at which a list between braces is to be closed, where its last part ends before a number.
+pub fn closing_at(at: usize, comma: bool) -> usize
+    requires few { at < 2 ^ 33 }
+    ensures { result ≡ (if comma then at + 1 else at) }
+{
+    if comma { at + 1 } else { at }
 }
 
 /// Whether a comma stands at a number, and doesn't end a list between braces.

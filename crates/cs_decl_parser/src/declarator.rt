@@ -1,5 +1,5 @@
 //! Declarators: names with the pointers before them and the bounds of arrays behind them (C11 6.7.6).
-ghost use Rattle.std.specs.Prelude.{◌≡◌, ℕ, ◌+◌, ◌≤◌, ◌<◌, ◌^◌, true, false, length, map, IfOk, IsTrue};
+ghost use Rattle.std.specs.Prelude.{◌≡◌, ℕ, ◌+◌, ◌≤◌, ◌<◌, ◌^◌, true, false, length, map, IfOk, IsSome, IsTrue};
 ghost use Rattle.cs_ast.specs.declared.token.TokenKind.TheVariants as token;
 ghost use Rattle.cs_ast.specs.declared.token.Mark.TheVariants as mark;
 ghost use Rattle.cs_ast.specs.RawDeclarationView.{bounds_of, declarator as declarator_of};
@@ -7,7 +7,7 @@ ghost use Rattle.cs_grammar.specs.Composed.{Separated};
 ghost use Rattle.cs_expr_parser.specs.Positions.{kind_or_end};
 ghost use Rattle.cs_decl_parser.specs.Answers.{ExactAnswers};
 ghost use Rattle.cs_decl_parser.specs.Bounds.{IsBounded, IsRowBounded};
-ghost use Rattle.cs_decl_parser.specs.DeclarationAnswers.{has_no_room, is_full, IsPointed, PointedAnswers, DeclaratorAnswers, DeclaratorsFor, BoundAnswer, BoundsAnswer, RefusesBehind};
+ghost use Rattle.cs_decl_parser.specs.DeclarationAnswers.{has_no_room, is_full, IsNameAt, IsNameFor, IsPointed, PointedAnswers, DeclaratorAnswers, DeclaratorsFor, BoundAnswer, BoundsAnswer, RefusesBehind};
 
 use crate::expression::{closed, closed_if_any};
 use crate::names::{any_name_at, free_name_at};
@@ -20,7 +20,7 @@ use cs_ast::raw::expression::RawExpr;
 use cs_ast::raw::name::RawName;
 use cs_ast::raw::written_type::PointerWord;
 use cs_expr_parser::ExprLevel;
-use std::alloc::Global;
+use std::alloc::{AllocError, Global};
 
 /// What a declarator declares.
 #[derive(Clone, Copy, Debug, PartialEq, Eq)]
@@ -73,11 +73,7 @@ pub fn pointed_name(
     ensures parsed { PointedAnswers declares source.now.names.now source.now.tokens.now from result }
 {
     let pointers = stars(alloc, source, from)?;
-    let name = match declares {
-        Declares::Names => free_name_at(source, pointers.next)?,
-        Declares::Members => any_name_at(source, pointers.next)?,
-    };
-    let Some(name) = name else {
+    let Some(name) = name_at(source, pointers.next, declares)? else {
         let left_out = Mark::OpenParenthesis;
         return Err(refuse_but(source, pointers.next, scope, left_out));
     };
@@ -89,6 +85,17 @@ pub fn pointed_name(
         height: 1,
         next: pointers.next + 1,
     })
+}
+
+/// The name at a number, if one stands there that may be declared.
+fn name_at(source: &Source, at: usize, declares: Declares) -> Result<Option<RawName>, AllocError>
+    ensures within { IfOk result (λ name. IsSome name → at < length source.now.tokens.now) }
+    ensures name { IfOk result (IsNameAt (IsNameFor declares source.now.names.now) (kind_or_end source.now.tokens.now at)) }
+{
+    match declares {
+        Declares::Names => free_name_at(source, at),
+        Declares::Members => any_name_at(source, at),
+    }
 }
 
 /// The declarator of a name with the bounds behind it.
@@ -179,9 +186,8 @@ fn bound(
 ) -> Result<Taken<Option<RawExpr>>, Stop>
     requires within { at < length source.now.tokens.now }
     requires few { length source.now.tokens.now < 2 ^ 32 }
-    requires bracket { kind_or_end source.now.tokens.now at ≡ token.Mark mark.OpenBracket }
     ensures bounds { IsBounded room source.now.tokens.now at result }
-    ensures parsed { BoundAnswer declares source.now.names.now room source.now.tokens.now source.now.end at result }
+    ensures parsed { BoundAnswer declares source.now.names.now room source.now.tokens.now source.now.end (at + 1) result }
 {
     let (level, closing) = (ExprLevel::Cond, Mark::CloseBracket);
     match declares {

@@ -1,8 +1,8 @@
 //! The words of pointers, and the words of types that name no body (C11 6.7.2, 6.7.6.1).
-ghost use Rattle.std.specs.Prelude.{◌≤◌, ◌<◌, ◌^◌, length, IfOk, IsSome};
+ghost use Rattle.std.specs.Prelude.{◌≡◌, ◌≤◌, ◌<◌, ◌^◌, length, IfOk, IsSome};
 ghost use Rattle.cs_expr_parser.specs.Positions.{kind_or_end};
 ghost use Rattle.cs_decl_parser.specs.DeclarationAnswers.{IsPointerWord, ArePointers};
-ghost use Rattle.cs_decl_parser.specs.SpecWords.{IsTypeWord};
+ghost use Rattle.cs_decl_parser.specs.SpecWords.{IsTypeWord, word_of_keyword};
 
 use crate::source::{Source, begins_type, is_mark, keyword_at, name_at};
 use crate::stop::Taken;
@@ -66,7 +66,10 @@ pub fn type_word_at(source: &Source, at: usize) -> Result<Option<TypeWord>, Allo
     }
 }
 
-fn type_word(keyword: Keyword) -> Option<TypeWord> {
+/// The word of a type that a keyword is alone.
+fn type_word(keyword: Keyword) -> Option<TypeWord>
+    ensures { result ≡ word_of_keyword keyword }
+{
     match keyword {
         Keyword::Const => Some(TypeWord::Const),
         Keyword::Void => Some(TypeWord::Void),
