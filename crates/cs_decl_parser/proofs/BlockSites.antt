@@ -25,7 +25,6 @@ use Rattle.cs_grammar.specs.FileFirstTokens.{begins_item, is_case, begins_switch
 use Rattle.cs_grammar.specs.FileText.{items_text}
 use Rattle.cs_grammar.specs.FileClasses.{Tests, Sentences, BlockItems, BlockRows, SwitchParts, SwitchRows, SwitchBodies}
 use Rattle.cs_grammar.specs.Parsing.{Expressions, Near, Begins, BeginsLow, Took, Refused, Exactly}
-use Rattle.cs_grammar.specs.Composed.{ClosedSome}
 use Rattle.cs_grammar.proofs.FileTexts.{item_append}
 use Rattle.cs_grammar.proofs.FileBeginnings.{item_begins, switch_part_begins}
 use Rattle.cs_grammar.proofs.Holes.{ClosedBy, Ended, ended_law, ended_exact, exact_took}
@@ -160,40 +159,6 @@ switch_taken names room tokens from value items whole enough k t brace i n =
     (single_stands (switch_body_single names) (room - 1) (room - 2) (less_two room enough, omega arith) tokens value.next (value.next + 1) items.next (mark_stands tokens value.next mark.OpenBrace brace) false (switch_items_of items.tree) (λ behind near. tt)
     (exactly_stands (SwitchRows names) (room - 2) tokens (value.next + 1) items.next (switch_items_of items.tree) (exact_stands (SwitchRows names) switch_items_of (room - 2) tokens (value.next + 1) items i))))
 
--- an expression with what closes it, in other words
-some_low : (names : Names) (level : ℕ) (close : TokenKind) (room : ℕ) (front : Kinds) (phrase : Option Written) (more : Kinds) → (ClosedSome names level ⊥ close).Is phrase → (ClosedSome names level ⊥ close).tall phrase ≤ room → (ClosedSome names level ⊥ close).spell phrase [] ≡ front ++ more → BeginsLow (ClosedBy (Expressions names level) close) room front
-some_low names level close room front None more is low same = absurd is
-some_low names level close room front (Some e) more is low same = record { phrase = e; more = more; is_phrase = is; low = low; spelled = same }
-
-some_begins : (names : Names) (level : ℕ) (close : TokenKind) (front : Kinds) (phrase : Option Written) (more : Kinds) → (ClosedSome names level ⊥ close).Is phrase → (ClosedSome names level ⊥ close).spell phrase [] ≡ front ++ more → Begins (ClosedBy (Expressions names level) close) front
-some_begins names level close front None more is same = absurd is
-some_begins names level close front (Some e) more is same = record { phrase = e; more = more; is_phrase = is; spelled = same }
-
-some_refused : (names : Names) (level : ℕ) (close : TokenKind) (room : ℕ) (front : Kinds) (next : TokenKind) (deep : Bool) → Refused (ClosedSome names level ⊥ close) room front next deep → Refused (ClosedBy (Expressions names level) close) room front next deep
-some_refused names level close room front next deep r = record {
-  begun = elim r.begun [ inl none ↦ inl none | inr b ↦ inr (some_low names level close room front b.phrase b.more b.is_phrase b.low b.spelled) ];
-  never = λ other after behind is shut near same. let v = r.never (Some other) after behind is tt near same in record { told = v.told; high = v.high; onward = v.onward };
-  further = λ told. let b = r.further told in some_begins names level close (front ++ next ∷ []) b.phrase b.more b.is_phrase b.spelled;
-}
-
-pub some_stops : (names : Names) (level : ℕ) (close : TokenKind) (room : ℕ) (tokens : List Token) (end : Place) (from : ℕ) (s : Stop) → Stops (ClosedSome names level ⊥ close) room tokens end from s → Stops (ClosedBy (Expressions names level) close) room tokens end from s
-some_stops names level close room tokens end from s r =
-    stops_pass (ClosedBy (Expressions names level) close) (ClosedSome names level ⊥ close) room room tokens end from (λ front at deep here x. some_refused names level close room front (kind_or_end tokens at) deep x) s r
-
-some_same : (a b : Written) → Some a ≡ Some b → a ≡ b
-some_same a b e = cc
-
-abbrev pub some_written : RawExpr → Option Written
-some_written e = Some (written e)
-
-pub some_exactly : (names : Names) (level : ℕ) (close : TokenKind) (room : ℕ) (tokens : List Token) (from : ℕ) (value : Taken RawExpr) → IsExactly (ClosedSome names level ⊥ close) some_written room tokens from value → StandingExactly (ClosedBy (Expressions names level) close) room tokens from value.next (written value.tree)
-some_exactly names level close room tokens from value t =
-    let x = t.exactly in
-    record {
-      spelled = t.spelled;
-      exactly = record { is_phrase = x.is_phrase; low = x.low; exact = λ other after behind is same. let k = x.exact (Some other) after behind is same in (some_same other (written value.tree) k.0, k.1) };
-    }
-
 -- a part of a `switch`, as the answer
 part_taken : (names : Names) (room : ℕ) (tokens : List Token) (from : ℕ) (tree : SwitchItem) (whole : Taken RawSwitchItem) → switch_item whole.tree ≡ tree → whole.height ≡ switch_item_height tree → Standing (SwitchParts names) room tokens from whole.next false tree → IsTaken (SwitchParts names) switch_item room tokens from false whole
 part_taken names room tokens from tree whole e h s = record {
@@ -207,16 +172,16 @@ pub case_full : (names : Names) (room : ℕ) (tokens : List Token) (end : Place)
 case_full names room tokens end from s within full k is =
     stops_full (SwitchParts names) room tokens end from s within is (subst (λ (x : TokenKind). Refused (SwitchParts names) room [] x true) (sym k) (case_none names room (omega (arith, full))))
 
-pub case_stops : (names : Names) (room : ℕ) (tokens : List Token) (end : Place) (from : ℕ) → 1 ≤ room → kind_or_end tokens from ≡ word keyword.Case → (s : Stop) → Stops (ClosedSome names 2 ⊥ colon) room tokens end (from + 1) s → Stops (SwitchParts names) room tokens end from s
+pub case_stops : (names : Names) (room : ℕ) (tokens : List Token) (end : Place) (from : ℕ) → 1 ≤ room → kind_or_end tokens from ≡ word keyword.Case → (s : Stop) → Stops (ClosedBy (Expressions names 2) colon) room tokens end (from + 1) s → Stops (SwitchParts names) room tokens end from s
 case_stops names room tokens end from some k s r =
-    single_stops (case_single names) room room (omega arith, omega arith) tokens end from (from + 1) (word_stands tokens from keyword.Case k) (no_fits tokens (from + 1)) s (some_stops names 2 colon room tokens end (from + 1) s r)
+    single_stops (case_single names) room room (omega arith, omega arith) tokens end from (from + 1) (word_stands tokens from keyword.Case k) (no_fits tokens (from + 1)) s r
 
-pub case_taken : (names : Names) (room : ℕ) (tokens : List Token) (from : ℕ) (value : Taken RawExpr) (whole : Taken RawSwitchItem) → 1 ≤ room → kind_or_end tokens from ≡ word keyword.Case → IsExactly (ClosedSome names 2 ⊥ colon) some_written room tokens (from + 1) value → switch_item whole.tree ≡ Case (written value.tree) → whole.height ≡ value.height → whole.next ≡ value.next → IsTaken (SwitchParts names) switch_item room tokens from false whole
+pub case_taken : (names : Names) (room : ℕ) (tokens : List Token) (from : ℕ) (value : Taken RawExpr) (whole : Taken RawSwitchItem) → 1 ≤ room → kind_or_end tokens from ≡ word keyword.Case → IsExactly (ClosedBy (Expressions names 2) colon) written room tokens (from + 1) value → switch_item whole.tree ≡ Case (written value.tree) → whole.height ≡ value.height → whole.next ≡ value.next → IsTaken (SwitchParts names) switch_item room tokens from false whole
 case_taken names room tokens from value whole some k t tree height later =
     part_taken names room tokens from (Case (written value.tree)) whole tree (height ∙ t.height_is)
     (subst (λ (m : ℕ). Standing (SwitchParts names) room tokens from m false (Case (written value.tree))) (sym later)
     (single_stands (case_single names) room room (omega arith, omega arith) tokens from (from + 1) value.next (word_stands tokens from keyword.Case k) false (written value.tree) (λ behind near. tt)
-    (exactly_stands (ClosedBy (Expressions names 2) colon) room tokens (from + 1) value.next (written value.tree) (some_exactly names 2 colon room tokens (from + 1) value t))))
+    (exactly_stands (ClosedBy (Expressions names 2) colon) room tokens (from + 1) value.next (written value.tree) (exact_stands (ClosedBy (Expressions names 2) colon) written room tokens (from + 1) value t))))
 
 -- `default`
 ended_stands : (room : ℕ) (tokens : List Token) (from : ℕ) → from ≤ length tokens → Standing Ended room tokens from from false tt

@@ -23,7 +23,6 @@ use Rattle.cs_grammar.specs.FirstTokens.{begins_expression, opens_expression, is
 use Rattle.cs_grammar.specs.FileFirstTokens.{begins_sentence, mark_begins_sentence, keyword_begins_sentence}
 use Rattle.cs_grammar.specs.FileClasses.{Sentences}
 use Rattle.cs_grammar.specs.Parsing.{Class, Expressions, Near, Begins, BeginsLow, Took, Refused, Exactly}
-use Rattle.cs_grammar.specs.Composed.{ClosedSome}
 use Rattle.cs_grammar.proofs.Texts.{text_append}
 use Rattle.cs_grammar.proofs.FileBeginnings.{expression_sentence}
 use Rattle.cs_grammar.proofs.Holes.{ClosedBy, Ended, ended_law, ended_exact, exact_took}
@@ -44,10 +43,9 @@ use Rattle.cs_decl_parser.specs.Answers.{Stops, IsExactly, IsTaken}
 use Rattle.cs_decl_parser.proofs.Standing.{spells_none, refused_here, second_front}
 use Rattle.cs_decl_parser.proofs.StatementStops.{Standing, StandingExactly, IsPlainStop, stops_pass, first_front, near_start, single_stops, single_stands, no_fits, exactly_stands, closed_missing, closed_stands}
 use Rattle.cs_decl_parser.proofs.StatementForms.{run_name, no_colon}
-use Rattle.cs_decl_parser.proofs.StatementSites.{word_stands, node_taken, told_form}
-use Rattle.cs_decl_parser.proofs.BlockSites.{some_written, some_stops, some_exactly}
+use Rattle.cs_decl_parser.proofs.StatementSites.{word_stands, exact_stands, node_taken, told_form}
 
-abbrev Closed : Names → Class
+abbrev pub Closed : Names → Class
 Closed names = ClosedBy (Expressions names 0) semicolon
 
 mark_expression : (names : Names) (m : Mark) → mark_begins_sentence m ≡ true → begins_other_sentence (token.Mark m) ≡ false → begins_expression names (token.Mark m) ≡ true
@@ -194,10 +192,10 @@ run_lift names room tokens from st front at deep here x =
     ]
 
 -- an expression statement was refused
-pub run_stops : (names : Names) (room inner : ℕ) (tokens : List Token) (end : Place) (from : ℕ) → inner ≡ room - 1 → form_of names (kind_or_end tokens from) (kind_or_end tokens (from + 1)) ≡ form.Run → (s : Stop) → Stops (ClosedSome names 0 ⊥ semicolon) inner tokens end from s → Stops (Sentences names) room tokens end from s
+pub run_stops : (names : Names) (room inner : ℕ) (tokens : List Token) (end : Place) (from : ℕ) → inner ≡ room - 1 → form_of names (kind_or_end tokens from) (kind_or_end tokens (from + 1)) ≡ form.Run → (s : Stop) → Stops (Closed names) inner tokens end from s → Stops (Sentences names) room tokens end from s
 run_stops names room inner tokens end from less e s r =
-    let r' = subst (λ (m : ℕ). Stops (ClosedSome names 0 ⊥ semicolon) m tokens end from s) less r in
-    stops_pass (Sentences names) (Closed names) room (room - 1) tokens end from (run_lift names room tokens from (run_stands names tokens from e)) s (some_stops names 0 semicolon (room - 1) tokens end from s r')
+    let r' = subst (λ (m : ℕ). Stops (Closed names) m tokens end from s) less r in
+    stops_pass (Sentences names) (Closed names) room (room - 1) tokens end from (run_lift names room tokens from (run_stands names tokens from e)) s r'
 
 text_run : (names : Names) (e : Written) (behind : Kinds) → IsPhrase names 0 e → IsRun (text e (semicolon ∷ behind))
 text_run names e behind is = record {
@@ -206,16 +204,16 @@ text_run names e behind is = record {
 }
 
 -- it was taken
-pub run_taken : (names : Names) (room inner : ℕ) (tokens : List Token) (from : ℕ) (value : Taken RawExpr) (whole : Taken RawStmt) → inner ≡ room - 1 → from ≤ length tokens → IsExactly (ClosedSome names 0 ⊥ semicolon) some_written inner tokens from value → IsNode (Runs (written value.tree)) (value.height + 1) value.next whole → IsTaken (Sentences names) statement_of room tokens from false whole
+pub run_taken : (names : Names) (room inner : ℕ) (tokens : List Token) (from : ℕ) (value : Taken RawExpr) (whole : Taken RawStmt) → inner ≡ room - 1 → from ≤ length tokens → IsExactly (Closed names) written inner tokens from value → IsNode (Runs (written value.tree)) (value.height + 1) value.next whole → IsTaken (Sentences names) statement_of room tokens from false whole
 run_taken names room inner tokens from value whole less within v n =
-    let t = subst (λ (m : ℕ). IsExactly (ClosedSome names 0 ⊥ semicolon) some_written m tokens from value) less v in
+    let t = subst (λ (m : ℕ). IsExactly (Closed names) written m tokens from value) less v in
     let h = t.height_is in
     let l = t.exactly.low in
     let some = expression_height (written value.tree) in
     let enough : 2 ≤ room = omega (arith, l, some) in
     node_taken names room tokens from (Runs (written value.tree)) (value.height + 1) value.next whole n (omega (arith, h))
     (single_stands (runs_single names) room (room - 1) (omega (arith, enough), omega (arith, enough)) tokens from from value.next (spells_none tokens from within) false (written value.tree) (λ behind near. text_run names (written value.tree) behind t.exactly.is_phrase)
-    (exactly_stands (Closed names) (room - 1) tokens from value.next (written value.tree) (some_exactly names 0 semicolon (room - 1) tokens from value t)))
+    (exactly_stands (Closed names) (room - 1) tokens from value.next (written value.tree) (exact_stands (Closed names) written (room - 1) tokens from value t)))
 
 ended_stands : (room : ℕ) (tokens : List Token) (from : ℕ) → from ≤ length tokens → Standing Ended room tokens from from false tt
 ended_stands room tokens from within = record { spelled = spells_none tokens from within; took = exact_took Ended room tt (ended_exact room) (kind_or_end tokens from) }
