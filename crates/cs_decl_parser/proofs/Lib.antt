@@ -12,3 +12,5 @@ pub mod ExpressionSites
 pub mod DeclaratorSites
 pub mod ListSites
 pub mod ObjectSites
+pub mod StuckWords
+pub mod BlockSpecSites

@@ -1,15 +1,16 @@
 //! What stands before declarators inside blocks: words of types, and no body (C11 6.7.2).
-ghost use Rattle.std.specs.Prelude.{◌≡◌, ◌≤◌, ◌<◌, ◌^◌, length};
+ghost use Rattle.std.specs.Prelude.{◌≡◌, ◌≤◌, ◌<◌, ◌^◌, length, false};
 ghost use Rattle.cs_expr_parser.specs.Positions.{kind_or_end};
 ghost use Rattle.cs_decl_parser.specs.Bounds.{IsBounded, IsNextBounded, IsWordBounded};
+ghost use Rattle.cs_decl_parser.specs.DeclarationAnswers.{RefusesBehind};
 ghost use Rattle.cs_decl_parser.specs.SpecWords.{IsTagKeyword, BlockTagAnswer, BlockWordAnswer, BlockSpecsAnswer};
 
 use crate::names::any_name_at;
-use crate::source::{Scope, Source, is_mark, keyword_at, refuse};
-use crate::specs::{NextWord, names_type, plain_word, without_body};
+use crate::source::{Scope, Source, is_mark, refuse, refuse_but};
+use crate::specs::{NextWord, begins_tagged, names_type, plain_word, without_body};
 use crate::stop::{Stop, Taken};
+use cs_ast::Mark;
 use cs_ast::raw::declaration::RawSpecs;
-use cs_ast::{Keyword, Mark};
 use cs_grammar::{Reason, TypeSoFar};
 use std::alloc::Global;
 
@@ -53,16 +54,14 @@ fn block_word_at(source: &Source, at: usize, so_far: TypeSoFar) -> Result<Option
     ensures bounds { IsWordBounded 1 source.now.tokens.now at result }
     ensures word { BlockWordAnswer source.now.names.now source.now.tokens.now at so_far result }
 {
-    match keyword_at(source, at) {
-        Some(Keyword::Struct | Keyword::Enum) => {
-            if names_type(so_far) {
-                return Ok(None);
-            }
-            let found = tag_at(source, at)?;
-            Ok(Some(found))
-        }
-        _ => plain_word(source, at, so_far),
+    if !begins_tagged(source, at) {
+        return plain_word(source, at, so_far);
     }
+    if names_type(so_far) {
+        return Ok(None);
+    }
+    let found = tag_at(source, at)?;
+    Ok(Some(found))
 }
 
 /// `struct` or `enum`, at a number, with a tag behind it.
@@ -73,13 +72,18 @@ fn tag_at(source: &Source, at: usize) -> Result<NextWord, Stop>
     ensures bounds { IsNextBounded 1 source.now.tokens.now at result }
     ensures tag { BlockTagAnswer source.now.names.now source.now.tokens.now at result }
 {
-    let tag = any_name_at(source, at + 1)?;
-    let behind = if tag.is_some() { at + 2 } else { at + 1 };
-    if is_mark(source, behind, Mark::OpenBrace) {
-        return Err(Stop::Refused(behind, Reason::LeftOut));
+    let Some(tag) = any_name_at(source, at + 1)? else {
+        return Err(refuse_body(source, at + 1));
+    };
+    if is_mark(source, at + 2, Mark::OpenBrace) {
+        return Err(Stop::Refused(at + 2, Reason::LeftOut));
     }
-    match tag {
-        Some(tag) => Ok(without_body(source, at, tag)),
-        None => Err(refuse(source, behind, Scope::Block)),
-    }
+    Ok(without_body(source, at, tag))
+}
+
+/// The refusal of what stands at a number, where bodies are left out.
+fn refuse_body(source: &Source, at: usize) -> Stop
+    ensures { RefusesBehind at false result }
+{
+    refuse_but(source, at, Scope::Block, Mark::OpenBrace)
 }

@@ -1,19 +1,17 @@
 //! What stands before declarators: words of types and bodies (C11 6.7.2).
-ghost use Rattle.std.specs.Prelude.{◌≡◌, ◌≤◌, ◌<◌, ◌^◌, ◌+◌, ◌-◌, length};
+ghost use Rattle.std.specs.Prelude.{◌≡◌, ◌≤◌, ◌<◌, ◌^◌, ◌+◌, ◌-◌, length, false, IsTrue};
 ghost use Rattle.cs_ast.specs.RawDeclarations.{StructBody};
 ghost use Rattle.cs_ast.specs.RawDeclarationView.{members_list};
 ghost use Rattle.cs_expr_parser.specs.Positions.{kind_or_end};
 ghost use Rattle.cs_expr_parser.specs.Words.{names_some};
 ghost use Rattle.cs_decl_parser.specs.Bounds.{IsBounded, IsNextBounded, IsWordBounded, IsWordOf};
 ghost use Rattle.cs_decl_parser.specs.DeclarationAnswers.{constant_row};
-ghost use Rattle.cs_decl_parser.specs.SpecWords.{begins_words, name_in, enum_of, IsTagKeyword, IsTagged, IsOpened, IsSpecOf, IsStatic, PlainAnswer, ElementAnswer, SpecAnswer, SpecsAnswer};
+ghost use Rattle.cs_decl_parser.specs.SpecWords.{begins_words, name_in, enum_of, IsTagKeyword, HasNoTag, IsTagged, IsOpened, IsSpecOf, IsStatic, PlainAnswer, ElementAnswer, SpecAnswer, SpecsAnswer};
 
 use crate::constants::{ConstantList, constants};
 use crate::members::members;
 use crate::names::any_name_at;
-use crate::source::{
-    Scope, Source, begins_type, is_keyword, is_mark, keyword_at, refuse, refuse_deep,
-};
+use crate::source::{Scope, Source, begins_type, is_keyword, is_mark, refuse, refuse_deep};
 use crate::stop::{Stop, Taken};
 use crate::words::type_word_at;
 use cs_ast::raw::declaration::{RawMember, RawSpecs, SpecWord};
@@ -80,6 +78,18 @@ pub fn specs(
     })
 }
 
+/// Whether `struct` or `enum` stands at a number.
+pub fn begins_tagged(source: &Source, at: usize) -> bool
+    ensures tag { IsTrue result → IsTagKeyword (kind_or_end source.now.tokens.now at) }
+    ensures none { result ≡ false → HasNoTag (kind_or_end source.now.tokens.now at) }
+    ensures within { IsTrue result → at < length source.now.tokens.now }
+{
+    if is_keyword(source, at, Keyword::Struct) {
+        return true;
+    }
+    is_keyword(source, at, Keyword::Enum)
+}
+
 /// The word at a number, if one stands there that fits behind those before it.
 #[cycle(specs)]
 fn word_at(
@@ -95,17 +105,17 @@ fn word_at(
     ensures bounds { IsWordBounded room source.now.tokens.now at result }
     ensures word { SpecAnswer source.now.names.now room source.now.tokens.now source.now.end at so_far result }
 {
-    match keyword_at(source, at) {
-        Some(Keyword::Struct | Keyword::Enum) => {
-            if names_type(so_far) {
-                return Ok(None);
-            }
-            let found = tagged(alloc, source, at, room)?;
-            Ok(Some(found))
-        }
-        Some(Keyword::Static) => Ok(Some(static_word(at, so_far))),
-        _ => plain_word(source, at, so_far),
+    if is_keyword(source, at, Keyword::Static) {
+        return Ok(Some(static_word(at, so_far)));
     }
+    if !begins_tagged(source, at) {
+        return plain_word(source, at, so_far);
+    }
+    if names_type(so_far) {
+        return Ok(None);
+    }
+    let found = tagged(alloc, source, at, room)?;
+    Ok(Some(found))
 }
 
 /// Whether words name a type.
