@@ -177,10 +177,10 @@ local_taken names room tokens from type list whole enough within t o tree height
     let l = front_of (Separated (Objects names) semicolon) (object_list_law names) tokens type.next list.next objects o.spelled in
     let some : with_commas declared_text objects (semicolon ∷ []) ≡ [] → ⊥ = λ none. no_object (with_commas declared_text objects (semicolon ∷ [])) (objects_start names objects (semicolon ∷ []) x.is_phrase.0 x.is_phrase.1) none in
     let starts : (next : TokenKind) → first_or (with_commas declared_text objects (semicolon ∷ [])) next ≡ kind_or_end tokens type.next =
-        λ next. first_any (with_commas declared_text objects (semicolon ∷ [])) next (kind_or_end tokens list.next) some ∙ first_front tokens type.next list.next (with_commas declared_text objects (semicolon ∷ [])) l in
+    λ next. first_any (with_commas declared_text objects (semicolon ∷ [])) next (kind_or_end tokens list.next) some ∙ first_front tokens type.next list.next (with_commas declared_text objects (semicolon ∷ [])) l in
     let took : (next : TokenKind) → Took (Locals names) room (specs type.tree, objects) next false =
-        λ next. single_took (local_single names) room (room - 1) (omega arith, omega arith) (specs type.tree, objects) next false (λ behind near. tt)
-        (block_declaration_took names (room - 1) (omega arith) (specs type.tree) (kind_or_end tokens type.next) t.took objects next (starts next) (exact_took (Separated (Objects names) semicolon) (room - 1) objects x next)) in
+    λ next. single_took (local_single names) room (room - 1) (omega arith, omega arith) (specs type.tree, objects) next false (λ behind near. tt)
+    (block_declaration_took names (room - 1) (omega arith) (specs type.tree) (kind_or_end tokens type.next) t.took objects next (starts next) (exact_took (Separated (Objects names) semicolon) (room - 1) objects x next)) in
     record {
       height_is = height ∙ two_heights names type.height list.height (specs type.tree) objects th oh ∙ ap (λ (d : Specs × List Declared). declaration_height d.0 d.1) (sym tree);
       spelled =
