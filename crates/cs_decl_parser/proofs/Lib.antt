@@ -14,3 +14,5 @@ pub mod ListSites
 pub mod ObjectSites
 pub mod StuckWords
 pub mod BlockSpecSites
+pub mod ExternalSites
+pub mod FileSites

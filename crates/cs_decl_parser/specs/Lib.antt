@@ -6,3 +6,6 @@ pub mod Answers
 pub mod DeclarationAnswers
 pub mod SpecWords
 pub mod Blocks
+pub mod FileAnswers
+pub mod Files
+pub mod FileStops
