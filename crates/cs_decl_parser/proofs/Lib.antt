@@ -11,3 +11,4 @@ pub mod ListSites
 pub mod ObjectSites
 pub mod StuckWords
 pub mod BlockSpecSites
+pub mod SpecSites

@@ -1,0 +1,75 @@
+use Rattle.std.proofs.Common.{◌≡◌, ℕ, ◌≤◌, ◌<◌, max, Err, Ok, List, [], Option, Some, refl, sym, ap, ◌∙◌, subst, arith, rules}
+use Rattle.std.proofs.lemmas.Bool.{false≢true}
+use Rattle.cs_ast.specs.declared.raw.declaration.SpecWord.{SpecWord}
+use Rattle.cs_grammar.specs.declared.type_words.TypeSoFar.TheVariants.{Nothing}
+use Rattle.cs_expr_parser.specs.Positions.{kind_or_end}
+use Rattle.cs_decl_parser.specs.declared.specs.NextWord.{NextWord}
+use Rattle.cs_decl_parser.specs.SpecWords.{SpecsAnswer, SpecAnswer}
+use Rattle.cs_decl_parser.proofs.SpecSites.{SpecsSoFar, specs_none, spec_more, specs_stop, specs_taken, spec_stops, plain_answer, static_found, tag_none, element_error, element_found}
+use Rattle.cs_decl_parser.proofs.+specs.Goals as goal
+
+pub specs::specs-words-init : goal.specs::specs-words-init
+specs::specs-words-init t c = record {
+  onward = omega arith;
+  inside = c.requires.within;
+  low = omega arith;
+  typed = λ some. absurd (false≢true some);
+  so_far = subst (λ (x : List SpecWord). SpecsSoFar c.args.source.now.names.now c.args.source.now.tokens.now c.args.from c.args.from Nothing x 0) (sym c.new-words.ensures.items) (specs_none c.args.source.now.names.now c.args.source.now.tokens.now c.args.from c.requires.within);
+}
+
+pub specs::specs-words-preserved : goal.specs::specs-words-preserved
+specs::specs-words-preserved t c =
+    let i = c.words.invariant in
+    let w = subst (λ (x : Option NextWord). SpecAnswer c.args.source.now.names.now c.args.room c.args.source.now.tokens.now c.args.source.now.end c.words.next c.words.so_far (Ok x)) c.in-Some.is c.in_ok-found.ensures.word in
+    let later = w.later in
+    let within = w.spelled.within in
+    let fits = w.low in
+    let h : c.max-height.result ≡ max c.words.height c.in-Some.found.height = c.max-height.ensures in
+    record {
+      onward = omega arith;
+      inside = within;
+      low = omega arith;
+      typed = λ some. omega arith;
+      so_far =
+          subst (λ (x : ℕ). SpecsSoFar c.args.source.now.names.now c.args.source.now.tokens.now c.args.from c.in-Some.found.next c.in-Some.found.so_far c.push.new.self.items x) (sym h)
+          (spec_more c.args.source.now.names.now c.args.room c.args.source.now.tokens.now c.args.from c.words.next c.words.so_far c.words.words.items c.push.new.self.items c.words.height c.in-Some.found i.so_far w c.in_ok-push.ensures.items);
+    }
+
+pub specs::specs-returns-in_err-found-clause-parsed : goal.specs::specs-returns-in_err-found-clause-parsed
+specs::specs-returns-in_err-found-clause-parsed t c =
+    let e : c.from_residual.result ≡ Err c.in_err-found.field-0.0 = search rules in
+    subst (SpecsAnswer c.args.source.now.names.now c.args.room c.args.source.now.tokens.now c.args.source.now.end c.args.from) (sym e)
+    (spec_stops c.args.source.now.names.now c.args.room c.requires.some c.args.source.now.tokens.now c.args.source.now.end c.args.from c.words.next c.words.so_far c.words.words.items c.words.height c.words.invariant.low c.words.invariant.so_far c.in_err-found.field-0.0 c.in_err-found.ensures.word)
+
+pub specs::specs-returns-then-not-names_type-clause-parsed : goal.specs::specs-returns-then-not-names_type-clause-parsed
+specs::specs-returns-then-not-names_type-clause-parsed t c =
+    let n = (subst (λ (x : Option NextWord). SpecAnswer c.args.source.now.names.now c.args.room c.args.source.now.tokens.now c.args.source.now.end c.words.next c.words.so_far (Ok x)) c.in_default.is c.in_ok-found.ensures.word) in
+    specs_stop c.args.source.now.names.now c.args.room c.requires.some c.args.source.now.tokens.now c.args.source.now.end c.args.from c.words.next c.words.so_far c.words.words.items c.words.height c.refuse.result c.words.invariant.low c.words.invariant.so_far (sym c.names_type.ensures ∙ c.if-not-names_type.true) n.0 n.1 c.refuse.ensures
+
+pub specs::specs-returns-clause-parsed : goal.specs::specs-returns-clause-parsed
+specs::specs-returns-clause-parsed t c =
+    let n = (subst (λ (x : Option NextWord). SpecAnswer c.args.source.now.names.now c.args.room c.args.source.now.tokens.now c.args.source.now.end c.words.next c.words.so_far (Ok x)) c.in_default.is c.in_ok-found.ensures.word) in
+    specs_taken c.args.source.now.names.now c.args.room c.args.source.now.tokens.now c.args.from c.words.next c.words.so_far c.words.height _ c.words.invariant.low c.words.invariant.so_far (sym c.names_type.ensures ∙ c.if-not-names_type.false) n.0 n.1 refl refl
+
+pub specs::word_at-returns-then-is_keyword-clause-word : goal.specs::word_at-returns-then-is_keyword-clause-word
+specs::word_at-returns-then-is_keyword-clause-word t c =
+    static_found c.args.source.now.names.now c.args.room c.requires.some c.args.source.now.tokens.now c.args.at c.args.so_far c.static_word.result (c.is_keyword.ensures.keyword.0 c.if-is_keyword.true) c.static_word.ensures
+
+pub specs::word_at-returns-then-not-begins_tagged-clause-word : goal.specs::word_at-returns-then-not-begins_tagged-clause-word
+specs::word_at-returns-then-not-begins_tagged-clause-word t c =
+    plain_answer c.args.source.now.names.now c.args.room c.requires.some c.args.source.now.tokens.now c.args.source.now.end c.args.at c.args.so_far c.plain_word.result (c.begins_tagged.ensures.none c.if-not-begins_tagged.true) (λ k. false≢true (sym c.if-is_keyword.false ∙ c.is_keyword.ensures.keyword.1 k)) c.plain_word.ensures.word
+
+pub specs::word_at-returns-then-names_type-clause-word : goal.specs::word_at-returns-then-names_type-clause-word
+specs::word_at-returns-then-names_type-clause-word t c =
+    let k = c.begins_tagged.ensures.tag c.if-not-begins_tagged.false in
+    tag_none c.args.source.now.names.now c.args.so_far (kind_or_end c.args.source.now.tokens.now c.args.at) k.0 k.1 (sym c.names_type.ensures ∙ c.if-names_type.true)
+
+pub specs::word_at-returns-in_err-found-clause-word : goal.specs::word_at-returns-in_err-found-clause-word
+specs::word_at-returns-in_err-found-clause-word t c =
+    let e : c.from_residual.result ≡ Err c.in_err-found.field-0.0 = search rules in
+    subst (SpecAnswer c.args.source.now.names.now c.args.room c.args.source.now.tokens.now c.args.source.now.end c.args.at c.args.so_far) (sym e)
+    (element_error c.args.source.now.names.now c.args.room c.args.source.now.tokens.now c.args.source.now.end c.args.at c.args.so_far c.in_err-found.field-0.0 (sym c.names_type.ensures ∙ c.if-names_type.false) c.in_err-found.ensures.element)
+
+pub specs::word_at-returns-clause-word : goal.specs::word_at-returns-clause-word
+specs::word_at-returns-clause-word t c =
+    element_found c.args.source.now.names.now c.args.room c.args.source.now.tokens.now c.args.at c.args.so_far c.in_ok-found.found (sym c.names_type.ensures ∙ c.if-names_type.false) c.in_ok-found.ensures.element
