@@ -25,7 +25,8 @@ use Rattle.cs_grammar.specs.declared.refusal.SyntaxRefusal.TheVariants as refusa
 use Rattle.cs_grammar.specs.declared.type_words.TypeSoFar.{TypeSoFar}
 use Rattle.cs_grammar.specs.declared.type_words.TypeSoFar.TheVariants.{Nothing, Integers, Whole}
 use Rattle.cs_grammar.specs.TypeWords.{Names, named_by, names_type, is_type}
-use Rattle.cs_grammar.specs.TypesSoFar.{Describes}
+use Rattle.cs_grammar.specs.TypesSoFar.{Describes, is_whole}
+use Rattle.cs_grammar.proofs.WordsOfTypes.{named_more}
 use Rattle.cs_grammar.specs.Text.{Kinds, type_word_text}
 use Rattle.cs_grammar.specs.FileText.{name_text, spec_text, specs_text, members_text, with_commas, constant_text, comma_text}
 use Rattle.cs_grammar.specs.FilePhrases.{HasBody, words_of}
@@ -48,7 +49,7 @@ use Rattle.cs_decl_parser.specs.declared.stop.Stop.TheVariants as stop
 use Rattle.cs_decl_parser.specs.declared.stop.Taken.{Taken}
 use Rattle.cs_decl_parser.specs.Reasons.{plain_reason}
 use Rattle.cs_decl_parser.specs.Answers.{Stops, StopsOrBrace, IsTaken, IsExactly, IsBraceRefused}
-use Rattle.cs_decl_parser.specs.SpecWords.{NothingFits, HasNoTag, IsPlainWord, PlainAnswer, IsSpecTaken, IsElementRefused, IsEnumFull, ElementStops, ElementAnswer, SpecAnswer, IsStatic, IsToldByTokens, tag_keyword}
+use Rattle.cs_decl_parser.specs.SpecWords.{NothingFits, HasNoTag, IsPlainWord, PlainAnswer, IsSpecTaken, IsElementRefused, IsEnumFull, ElementStops, ElementAnswer, SpecAnswer, IsStatic, IsToldByTokens, tag_keyword, IsOpened, IsSpecOf, enum_of}
 use Rattle.cs_decl_parser.proofs.Standing.{spells_one, spells_none, spells_more, spells_as}
 use Rattle.cs_decl_parser.proofs.StatementStops.{plain_flat}
 use Rattle.cs_decl_parser.proofs.RowSites.{highest_more}
@@ -230,3 +231,82 @@ element_error names room tokens end at so_far (stop.Expression r) none e = (none
 
 pub element_found : (names : Names) (room : ℕ) (tokens : List Token) (at : ℕ) (so_far : TypeSoFar) (found : NextWord) → names_some so_far ≡ false → IsSpecTaken names room tokens at Nothing found → IsSpecTaken names room tokens at so_far found
 element_found names room tokens at so_far found none e = subst (λ (x : TypeSoFar). IsSpecTaken names room tokens at x found) (sym (fresh_nothing so_far none)) e
+
+same_struct : (b is_struct : Bool) (kind : TokenKind) → kind ≡ tag_keyword b → ((is_struct ≡ true → kind ≡ token.Keyword keyword.Struct) × (kind ≡ token.Keyword keyword.Struct → is_struct ≡ true)) → b ≡ is_struct
+same_struct true true kind s k = refl
+same_struct true false kind s k = absurd (false≢true (k.1 s))
+same_struct false true kind s k = absurd (let z = sym s ∙ k.0 refl in cc)
+same_struct false false kind s k = refl
+
+-- which of both stands there
+pub with_struct : (tokens : List Token) (at brace : ℕ) (tag : Option (List ℕ)) (is_struct : Bool) → IsOpened tokens at brace tag → ((is_struct ≡ true → kind_or_end tokens at ≡ token.Keyword keyword.Struct) × (kind_or_end tokens at ≡ token.Keyword keyword.Struct → is_struct ≡ true)) → Spells tokens at (brace + 1) (λ rest. tag_keyword is_struct ∷ name_text tag (token.Mark mark.OpenBrace ∷ rest))
+with_struct tokens at brace tag is_struct o k =
+    let e : o.is_struct ≡ is_struct = same_struct o.is_struct is_struct (kind_or_end tokens at) o.stands k in
+    subst (λ (b : Bool). Spells tokens at (brace + 1) (λ rest. tag_keyword b ∷ name_text tag (token.Mark mark.OpenBrace ∷ rest))) e
+    (spells_more tokens at brace (brace + 1) (λ rest. tag_keyword o.is_struct ∷ name_text tag rest) (λ rest. token.Mark mark.OpenBrace ∷ rest) o.spelled (spells_one tokens brace (token.Mark mark.OpenBrace) o.opening (λ x. cc)))
+
+name_append : (tag : Option (List ℕ)) (x y : Kinds) → name_text tag (x ++ y) ≡ name_text tag x ++ y
+name_append None x y = refl
+name_append (Some n) x y = refl
+
+-- the first tokens of a type with a body, and a refusal inside that
+body_refused : (names : Names) (room inner : ℕ) (D : Class) (is_struct : Bool) (tag : Option (List ℕ)) → ((front : Kinds) (next : TokenKind) (deep : Bool) → Refused D inner front next deep → Refused (SpecElements names) room (tag_keyword is_struct ∷ (name_text tag (token.Mark mark.OpenBrace ∷ []) ++ front)) next deep) → (tokens : List Token) (at mid : ℕ) → Spells tokens at mid (λ rest. tag_keyword is_struct ∷ name_text tag (token.Mark mark.OpenBrace ∷ rest)) → (refused : ℕ) (reason : Reason) → IsRefused D inner tokens mid refused reason → IsElementRefused names room tokens at refused reason
+body_refused names room inner D is_struct tag lift tokens at mid sp refused reason r = record {
+  is_struct = is_struct;
+  front = name_text tag (token.Mark mark.OpenBrace ∷ []) ++ r.front;
+  spelled =
+      spells_as tokens at refused (λ rest. tag_keyword is_struct ∷ name_text tag (token.Mark mark.OpenBrace ∷ (r.front ++ rest))) (λ rest. tag_keyword is_struct ∷ ((name_text tag (token.Mark mark.OpenBrace ∷ []) ++ r.front) ++ rest))
+      (spells_more tokens at mid refused (λ rest. tag_keyword is_struct ∷ name_text tag (token.Mark mark.OpenBrace ∷ rest)) (λ rest. r.front ++ rest) sp r.spelled)
+      (λ rest. ap (λ (x : Kinds). tag_keyword is_struct ∷ x) (name_append tag (token.Mark mark.OpenBrace ∷ []) (r.front ++ rest) ∙ sym (append_assoc (name_text tag (token.Mark mark.OpenBrace ∷ [])) r.front rest)));
+  refused_is = lift r.front (kind_or_end tokens refused) (is_deep reason) r.refused;
+}
+
+body_stops : (names : Names) (room inner : ℕ) (D : Class) (is_struct : Bool) (tag : Option (List ℕ)) → ((front : Kinds) (next : TokenKind) (deep : Bool) → Refused D inner front next deep → Refused (SpecElements names) room (tag_keyword is_struct ∷ (name_text tag (token.Mark mark.OpenBrace ∷ []) ++ front)) next deep) → (tokens : List Token) (end : Place) (at mid : ℕ) → Spells tokens at mid (λ rest. tag_keyword is_struct ∷ name_text tag (token.Mark mark.OpenBrace ∷ rest)) → (s : Stop) → Stops D inner tokens end mid s → ElementStops names room tokens end at s
+body_stops names room inner D is_struct tag lift tokens end at mid sp stop.Memory r = tt
+body_stops names room inner D is_struct tag lift tokens end at mid sp (stop.Refused refused reason) r = inl (body_refused names room inner D is_struct tag lift tokens at mid sp refused reason r)
+body_stops names room inner D is_struct tag lift tokens end at mid sp (stop.Expression refusal.Memory) r = tt
+body_stops names room inner D is_struct tag lift tokens end at mid sp (stop.Expression (refusal.Syntax place)) r = (r.0, r.1, r.2, body_refused names room inner D is_struct tag lift tokens at mid sp r.0 r.1 r.3)
+body_stops names room inner D is_struct tag lift tokens end at mid sp (stop.Expression (refusal.LeftOut place text)) r = (r.0, r.1, r.2, body_refused names room inner D is_struct tag lift tokens at mid sp r.0 r.1 r.3)
+body_stops names room inner D is_struct tag lift tokens end at mid sp (stop.Expression (refusal.TooDeep place)) r = (r.0, r.1, r.2, body_refused names room inner D is_struct tag lift tokens at mid sp r.0 r.1 r.3)
+
+-- members or constants were refused
+pub struct_stops : (names : Names) (room inner : ℕ) → room ≡ 1 + inner → (tag : Option (List ℕ)) (tokens : List Token) (end : Place) (at mid : ℕ) → Spells tokens at mid (λ rest. tag_keyword true ∷ name_text tag (token.Mark mark.OpenBrace ∷ rest)) → (s : Stop) → Stops (MemberRows names) inner tokens end mid s → ElementStops names room tokens end at s
+struct_stops names room inner less tag tokens end at mid sp s r = body_stops names room inner (MemberRows names) true tag (λ front next deep x. struct_refused names room inner less tag front next deep x) tokens end at mid sp s r
+
+pub enum_stops : (names : Names) (room inner : ℕ) → room ≡ 1 + inner → 1 ≤ inner → (tag : Option (List ℕ)) (tokens : List Token) (end : Place) (at mid : ℕ) → Spells tokens at mid (λ rest. tag_keyword false ∷ name_text tag (token.Mark mark.OpenBrace ∷ rest)) → (s : Stop) → Stops (Trailing (Constants names) (token.Mark mark.CloseBrace)) inner tokens end mid s → ElementStops names room tokens end at s
+enum_stops names room inner less some tag tokens end at mid sp s r = body_stops names room inner (Trailing (Constants names) (token.Mark mark.CloseBrace)) false tag (λ front next deep x. enum_refused names room inner less some tag front next deep x) tokens end at mid sp s r
+
+-- there is no room for constants
+pub enum_little : (names : Names) (room : ℕ) → 1 ≤ room → room < 2 → (tag : Option (List ℕ)) (tokens : List Token) (end : Place) (at brace : ℕ) → Spells tokens at brace (λ rest. tag_keyword false ∷ name_text tag rest) → kind_or_end tokens brace ≡ token.Mark mark.OpenBrace → ElementStops names room tokens end at (stop.Refused brace TooDeep)
+enum_little names room some little None tokens end at brace sp k = inl (record {
+  is_struct = false;
+  front = [];
+  spelled = sp;
+  refused_is = subst (λ (x : TokenKind). Refused (SpecElements names) room (tag_keyword false ∷ []) x true) (sym k) (enum_full names room little some);
+})
+enum_little names room some little (Some tag) tokens end at brace sp k = inr (record { tag = tag; spelled = sp; brace = k; little = little; deep = refl })
+
+struct_whole : (before : List TypeWord) (names : Names) (w : TypeWord) → named_by (w ∷ []) ≡ w ∷ [] → is_whole names w ≡ true → named_by before ≡ [] → Describes names Whole (before ++ w ∷ [])
+struct_whole before names w n is none = (w, named_more before (w ∷ []) ∙ ap (λ (x : List TypeWord). x ++ named_by (w ∷ [])) none ∙ n, is)
+
+pub struct_found : (names : Names) (room inner : ℕ) → room ≡ 1 + inner → (tag : Option (List ℕ)) (tokens : List Token) (at mid : ℕ) → at < mid → Spells tokens at mid (λ rest. tag_keyword true ∷ name_text tag (token.Mark mark.OpenBrace ∷ rest)) → {A : Type 0} (view : A → Members) (body : Taken A) → IsExactly (MemberRows names) view inner tokens mid body → (found : NextWord) → IsSpecOf (StructBody tag (view body.tree)) found → found.height ≡ body.height + 1 → found.next ≡ body.next → IsSpecTaken names room tokens at Nothing found
+struct_found names room inner less tag tokens at mid later sp view body b found is tall next =
+    let h = b.height_is in
+    let l = b.exactly.low in
+    let o = b.spelled.onward in
+    spec_found names room tokens at Nothing found (StructBody tag (view body.tree)) is.word_is (omega (arith, h, tall)) (omega (arith, h, l, tall, less)) (omega (arith, o, later, next))
+    (subst (λ (n : ℕ). Spells tokens at n (spec_text (StructBody tag (view body.tree)))) (sym next)
+    (spells_more tokens at mid body.next (λ rest. tag_keyword true ∷ name_text tag (token.Mark mark.OpenBrace ∷ rest)) (λ rest. members_text (view body.tree) (token.Mark mark.CloseBrace ∷ rest)) sp b.spelled))
+    b.exactly.is_phrase (struct_exact names inner tag (view body.tree) b.exactly) (λ behind near. tt)
+    (λ before none. subst (λ (x : TypeSoFar). Describes names x (before ++ word.Struct [] ∷ [])) (sym is.whole) (struct_whole before names (word.Struct []) refl refl none))
+
+pub enum_found : (names : Names) (room inner : ℕ) → room ≡ 1 + inner → (tag : Option (List ℕ)) (tokens : List Token) (at mid : ℕ) → at < mid → Spells tokens at mid (λ rest. tag_keyword false ∷ name_text tag (token.Mark mark.OpenBrace ∷ rest)) → {A : Type 0} (view : A → List Constant × Bool) (body : Taken A) → IsExactly (Trailing (Constants names) (token.Mark mark.CloseBrace)) view inner tokens mid body → (found : NextWord) → IsSpecOf (enum_of tag (view body.tree)) found → found.height ≡ body.height + 1 → found.next ≡ body.next → IsSpecTaken names room tokens at Nothing found
+enum_found names room inner less tag tokens at mid later sp view body b found is tall next =
+    let h = b.height_is in
+    let l = b.exactly.low in
+    let o = b.spelled.onward in
+    spec_found names room tokens at Nothing found (enum_of tag (view body.tree)) is.word_is (omega (arith, h, tall)) (omega (arith, h, l, tall, less)) (omega (arith, o, later, next))
+    (subst (λ (n : ℕ). Spells tokens at n (spec_text (enum_of tag (view body.tree)))) (sym next)
+    (spells_more tokens at mid body.next (λ rest. tag_keyword false ∷ name_text tag (token.Mark mark.OpenBrace ∷ rest)) ((Trailing (Constants names) (token.Mark mark.CloseBrace)).spell (view body.tree)) sp b.spelled))
+    b.exactly.is_phrase (enum_exact names inner tag (view body.tree) b.exactly) (λ behind near. tt)
+    (λ before none. subst (λ (x : TypeSoFar). Describes names x (before ++ word.Enum [] ∷ [])) (sym is.whole) (struct_whole before names (word.Enum []) refl refl none))

@@ -1,11 +1,18 @@
-use Rattle.std.proofs.Common.{◌≡◌, ℕ, ◌≤◌, ◌<◌, max, Err, Ok, List, [], Option, Some, refl, sym, ap, ◌∙◌, subst, arith, rules}
+use Rattle.std.proofs.Common.{◌≡◌, ℕ, ◌+◌, ◌-◌, ◌∷◌, Bool, ◌≤◌, ◌<◌, max, Err, Ok, List, [], Option, Some, refl, sym, ap, ◌∙◌, subst, arith, rules}
 use Rattle.std.proofs.lemmas.Bool.{false≢true}
 use Rattle.cs_ast.specs.declared.raw.declaration.SpecWord.{SpecWord}
 use Rattle.cs_grammar.specs.declared.type_words.TypeSoFar.TheVariants.{Nothing}
 use Rattle.cs_expr_parser.specs.Positions.{kind_or_end}
 use Rattle.cs_decl_parser.specs.declared.specs.NextWord.{NextWord}
-use Rattle.cs_decl_parser.specs.SpecWords.{SpecsAnswer, SpecAnswer}
-use Rattle.cs_decl_parser.proofs.SpecSites.{SpecsSoFar, specs_none, spec_more, specs_stop, specs_taken, spec_stops, plain_answer, static_found, tag_none, element_error, element_found}
+use Rattle.cs_ast.specs.declared.token.TokenKind.TheVariants as token
+use Rattle.cs_ast.specs.declared.token.Mark.TheVariants as mark
+use Rattle.cs_ast.specs.RawDeclarationView.{members_list}
+use Rattle.cs_grammar.specs.FileText.{name_text}
+use Rattle.cs_expr_parser.specs.Parts.{Spells}
+use Rattle.cs_decl_parser.specs.DeclarationAnswers.{constant_row}
+use Rattle.cs_decl_parser.specs.SpecWords.{ElementAnswer, tag_keyword, name_in, SpecsAnswer, SpecAnswer}
+use Rattle.cs_decl_parser.proofs.RowSites.{max_is}
+use Rattle.cs_decl_parser.proofs.SpecSites.{with_struct, struct_stops, struct_found, enum_stops, enum_found, SpecsSoFar, specs_none, spec_more, specs_stop, specs_taken, spec_stops, plain_answer, static_found, tag_none, element_error, element_found}
 use Rattle.cs_decl_parser.proofs.+specs.Goals as goal
 
 pub specs::specs-words-init : goal.specs::specs-words-init
@@ -24,7 +31,7 @@ specs::specs-words-preserved t c =
     let later = w.later in
     let within = w.spelled.within in
     let fits = w.low in
-    let h : c.max-height.result ≡ max c.words.height c.in-Some.found.height = c.max-height.ensures in
+    let h : c.max-height.result ≡ max c.words.height c.in-Some.found.height = c.max-height.ensures ∙ max_is c.words.height c.in-Some.found.height in
     record {
       onward = omega arith;
       inside = within;
@@ -73,3 +80,23 @@ specs::word_at-returns-in_err-found-clause-word t c =
 pub specs::word_at-returns-clause-word : goal.specs::word_at-returns-clause-word
 specs::word_at-returns-clause-word t c =
     element_found c.args.source.now.names.now c.args.room c.args.source.now.tokens.now c.args.at c.args.so_far c.in_ok-found.found (sym c.names_type.ensures ∙ c.if-names_type.false) c.in_ok-found.ensures.element
+
+pub specs::with_body-returns-in_err-members-clause-element : goal.specs::with_body-returns-in_err-members-clause-element
+specs::with_body-returns-in_err-members-clause-element t c =
+    let e : c.from_residual.result ≡ Err c.in_err-members.field-0.0 = search rules in
+    subst (ElementAnswer c.args.source.now.names.now c.args.room c.args.source.now.tokens.now c.args.source.now.end c.args.at) (sym e) (struct_stops c.args.source.now.names.now c.args.room (c.args.room - 1) (let some = c.requires.some in omega arith) (name_in c.args.tag) c.args.source.now.tokens.now c.args.source.now.end c.args.at (c.args.brace + 1) (subst (λ (b : Bool). Spells c.args.source.now.tokens.now c.args.at (c.args.brace + 1) (λ rest. tag_keyword b ∷ name_text (name_in c.args.tag) (token.Mark mark.OpenBrace ∷ rest))) c.if-is_keyword.true (with_struct c.args.source.now.tokens.now c.args.at c.args.brace (name_in c.args.tag) c.is_keyword.result c.requires.opened (c.is_keyword.ensures.keyword.0, c.is_keyword.ensures.keyword.1))) c.in_err-members.field-0.0 c.in_err-members.ensures.parsed)
+
+pub specs::with_body-returns-then-is_keyword-clause-element : goal.specs::with_body-returns-then-is_keyword-clause-element
+specs::with_body-returns-then-is_keyword-clause-element t c =
+    let b = c.structure.ensures.bounds in
+    struct_found c.args.source.now.names.now c.args.room (c.args.room - 1) (let some = c.requires.some in omega arith) (name_in c.args.tag) c.args.source.now.tokens.now c.args.at (c.args.brace + 1) (let o = c.requires.onward in omega arith) (subst (λ (b : Bool). Spells c.args.source.now.tokens.now c.args.at (c.args.brace + 1) (λ rest. tag_keyword b ∷ name_text (name_in c.args.tag) (token.Mark mark.OpenBrace ∷ rest))) c.if-is_keyword.true (with_struct c.args.source.now.tokens.now c.args.at c.args.brace (name_in c.args.tag) c.is_keyword.result c.requires.opened (c.is_keyword.ensures.keyword.0, c.is_keyword.ensures.keyword.1))) (λ list. members_list list.items) c.in_ok-members.members c.in_ok-members.ensures.parsed c.structure.result c.structure.ensures.word b.1 (let n = b.0 in omega arith)
+
+pub specs::with_body-returns-in_err-constants-clause-element : goal.specs::with_body-returns-in_err-constants-clause-element
+specs::with_body-returns-in_err-constants-clause-element t c =
+    let e : c.from_residual-in_err-constants.result ≡ Err c.in_err-constants.field-0.0 = search rules in
+    subst (ElementAnswer c.args.source.now.names.now c.args.room c.args.source.now.tokens.now c.args.source.now.end c.args.at) (sym e) (enum_stops c.args.source.now.names.now c.args.room (c.args.room - 1) (let some = c.requires.some in omega arith) (let enough = c.if-room-lt2.false in omega arith) (name_in c.args.tag) c.args.source.now.tokens.now c.args.source.now.end c.args.at (c.args.brace + 1) (subst (λ (b : Bool). Spells c.args.source.now.tokens.now c.args.at (c.args.brace + 1) (λ rest. tag_keyword b ∷ name_text (name_in c.args.tag) (token.Mark mark.OpenBrace ∷ rest))) c.if-is_keyword.false (with_struct c.args.source.now.tokens.now c.args.at c.args.brace (name_in c.args.tag) c.is_keyword.result c.requires.opened (c.is_keyword.ensures.keyword.0, c.is_keyword.ensures.keyword.1))) c.in_err-constants.field-0.0 c.in_err-constants.ensures.parsed)
+
+pub specs::with_body-returns-clause-element : goal.specs::with_body-returns-clause-element
+specs::with_body-returns-clause-element t c =
+    let b = c.enumeration.ensures.bounds in
+    enum_found c.args.source.now.names.now c.args.room (c.args.room - 1) (let some = c.requires.some in omega arith) (name_in c.args.tag) c.args.source.now.tokens.now c.args.at (c.args.brace + 1) (let o = c.requires.onward in omega arith) (subst (λ (b : Bool). Spells c.args.source.now.tokens.now c.args.at (c.args.brace + 1) (λ rest. tag_keyword b ∷ name_text (name_in c.args.tag) (token.Mark mark.OpenBrace ∷ rest))) c.if-is_keyword.false (with_struct c.args.source.now.tokens.now c.args.at c.args.brace (name_in c.args.tag) c.is_keyword.result c.requires.opened (c.is_keyword.ensures.keyword.0, c.is_keyword.ensures.keyword.1))) constant_row c.in_ok-constants.constants c.in_ok-constants.ensures.parsed c.enumeration.result c.enumeration.ensures.word b.1 (let n = b.0 in omega arith)
