@@ -41,7 +41,7 @@ use Rattle.cs_grammar.proofs.SmallRooms.{stuck_after, with_enum, enum_tag_full, 
 use Rattle.cs_expr_parser.specs.Positions.{kinds, kind_or_end}
 use Rattle.cs_expr_parser.specs.Parts.{Spells, IsRefused, is_deep}
 use Rattle.cs_expr_parser.specs.Expression.{IsRefusalFor}
-use Rattle.cs_expr_parser.specs.Words.{names_some}
+use Rattle.cs_expr_parser.specs.Words.{names_some, word_of_tag}
 use Rattle.cs_decl_parser.specs.declared.source.Scope.TheVariants.{File}
 use Rattle.cs_decl_parser.specs.declared.specs.NextWord.{NextWord}
 use Rattle.cs_decl_parser.specs.declared.stop.Stop.{Stop}
@@ -49,11 +49,12 @@ use Rattle.cs_decl_parser.specs.declared.stop.Stop.TheVariants as stop
 use Rattle.cs_decl_parser.specs.declared.stop.Taken.{Taken}
 use Rattle.cs_decl_parser.specs.Reasons.{plain_reason}
 use Rattle.cs_decl_parser.specs.Answers.{Stops, StopsOrBrace, IsTaken, IsExactly, IsBraceRefused}
-use Rattle.cs_decl_parser.specs.SpecWords.{NothingFits, HasNoTag, IsPlainWord, PlainAnswer, IsSpecTaken, IsElementRefused, IsEnumFull, ElementStops, ElementAnswer, SpecAnswer, IsStatic, IsToldByTokens, tag_keyword, IsOpened, IsSpecOf, enum_of}
+use Rattle.cs_decl_parser.specs.SpecWords.{NothingFits, HasNoTag, IsPlainWord, PlainAnswer, IsSpecTaken, IsElementRefused, IsEnumFull, ElementStops, ElementAnswer, SpecAnswer, IsStatic, IsToldByTokens, tag_keyword, IsOpened, IsSpecOf, IsTagKeyword, IsTagged, enum_of, name_in, number_behind}
+use Rattle.cs_decl_parser.specs.DeclarationAnswers.{IsNameAt}
 use Rattle.cs_decl_parser.proofs.Standing.{spells_one, spells_none, spells_more, spells_as}
 use Rattle.cs_decl_parser.proofs.StatementStops.{plain_flat}
 use Rattle.cs_decl_parser.proofs.RowSites.{highest_more}
-use Rattle.cs_decl_parser.proofs.StuckWords.{some_type, nothing_named, fresh_nothing, tag_unfit}
+use Rattle.cs_decl_parser.proofs.StuckWords.{some_type, nothing_named, fresh_nothing, tag_unfit, tag_some, tag_spelled, tag_taken}
 use Rattle.cs_decl_parser.proofs.BlockSpecSites.{stuck_at}
 
 -- the words so far
@@ -232,7 +233,7 @@ element_error names room tokens end at so_far (stop.Expression r) none e = (none
 pub element_found : (names : Names) (room : ℕ) (tokens : List Token) (at : ℕ) (so_far : TypeSoFar) (found : NextWord) → names_some so_far ≡ false → IsSpecTaken names room tokens at Nothing found → IsSpecTaken names room tokens at so_far found
 element_found names room tokens at so_far found none e = subst (λ (x : TypeSoFar). IsSpecTaken names room tokens at x found) (sym (fresh_nothing so_far none)) e
 
-same_struct : (b is_struct : Bool) (kind : TokenKind) → kind ≡ tag_keyword b → ((is_struct ≡ true → kind ≡ token.Keyword keyword.Struct) × (kind ≡ token.Keyword keyword.Struct → is_struct ≡ true)) → b ≡ is_struct
+pub same_struct : (b is_struct : Bool) (kind : TokenKind) → kind ≡ tag_keyword b → ((is_struct ≡ true → kind ≡ token.Keyword keyword.Struct) × (kind ≡ token.Keyword keyword.Struct → is_struct ≡ true)) → b ≡ is_struct
 same_struct true true kind s k = refl
 same_struct true false kind s k = absurd (false≢true (k.1 s))
 same_struct false true kind s k = absurd (let z = sym s ∙ k.0 refl in cc)
@@ -310,3 +311,46 @@ enum_found names room inner less tag tokens at mid later sp view body b found is
     (spells_more tokens at mid body.next (λ rest. tag_keyword false ∷ name_text tag (token.Mark mark.OpenBrace ∷ rest)) ((Trailing (Constants names) (token.Mark mark.CloseBrace)).spell (view body.tree)) sp b.spelled))
     b.exactly.is_phrase (enum_exact names inner tag (view body.tree) b.exactly) (λ behind near. tt)
     (λ before none. subst (λ (x : TypeSoFar). Describes names x (before ++ word.Enum [] ∷ [])) (sym is.whole) (struct_whole before names (word.Enum []) refl refl none))
+
+-- a brace stands behind `struct` or `enum` and its tag
+pub opened_at : (tokens : List Token) (at brace : ℕ) (tag : Option RawName) → IsTagKeyword (kind_or_end tokens at) → IsNameAt (λ name. Unit {0}) (kind_or_end tokens (at + 1)) tag → brace ≡ number_behind at (name_in tag) → kind_or_end tokens brace ≡ token.Mark mark.OpenBrace → IsOpened tokens at brace (name_in tag)
+opened_at tokens at brace None k named number b = record {
+  is_struct = k.0;
+  stands = k.1;
+  spelled = subst (λ (n : ℕ). Spells tokens at n (λ rest. tag_keyword k.0 ∷ rest)) (sym number) (spells_one tokens at (tag_keyword k.0) k.1 (tag_some k.0));
+  opening = b;
+}
+opened_at tokens at brace (Some tag) k named number b = record {
+  is_struct = k.0;
+  stands = k.1;
+  spelled = subst (λ (n : ℕ). Spells tokens at n (λ rest. tag_keyword k.0 ∷ token.Name tag.name ∷ rest)) (sym number) (tag_spelled tokens at k.0 tag.name k.1 named.0);
+  opening = b;
+}
+
+-- a tag alone
+pub tagged_found : (names : Names) (room : ℕ) → 1 ≤ room → (tokens : List Token) (at behind : ℕ) (tag : Option RawName) (name : RawName) → tag ≡ Some name → IsTagKeyword (kind_or_end tokens at) → IsNameAt (λ name. Unit {0}) (kind_or_end tokens (at + 1)) tag → behind ≡ number_behind at (name_in tag) → (kind_or_end tokens behind ≡ token.Mark mark.OpenBrace → ⊥) → (found : NextWord) → IsTagged (kind_or_end tokens at) name.name found → found.height ≡ 1 → found.next ≡ at + 2 → IsSpecTaken names room tokens at Nothing found
+tagged_found names room some tokens at behind tag name is k named number other found t tall next =
+    let n : IsNameAt (λ name. Unit {0}) (kind_or_end tokens (at + 1)) (Some name) = subst (IsNameAt (λ name. Unit {0}) (kind_or_end tokens (at + 1))) is named in
+    let e : behind ≡ at + 2 = number ∙ ap (λ (x : Option RawName). number_behind at (name_in x)) is in
+    plain_found names room some tokens at Nothing found (word_of_tag k.0 name.name)
+    (tag_taken names tokens at k.0 name.name found k.1 n.0 (λ b. other (ap (kind_or_end tokens) e ∙ b)) t tall next)
+
+-- neither a tag nor a brace
+pub untagged_stops : (names : Names) (room : ℕ) → 1 ≤ room → (tokens : List Token) (end : Place) (at behind : ℕ) (tag : Option RawName) → tag ≡ None → IsTagKeyword (kind_or_end tokens at) → IsNameAt (λ name. Unit {0}) (kind_or_end tokens (at + 1)) tag → behind ≡ number_behind at (name_in tag) → (kind_or_end tokens behind ≡ token.Mark mark.OpenBrace → ⊥) → (s : Stop) → s ≡ stop.Refused behind (plain_reason File (kind_or_end tokens behind)) → ElementStops names room tokens end at s
+untagged_stops names room some tokens end at behind tag is k named number other s why =
+    let n : IsNameAt (λ name. Unit {0}) (kind_or_end tokens (at + 1)) None = subst (IsNameAt (λ name. Unit {0}) (kind_or_end tokens (at + 1))) is named in
+    let e : behind ≡ at + 1 = number ∙ ap (λ (x : Option RawName). number_behind at (name_in x)) is in
+    let kind = kind_or_end tokens behind in
+    subst (ElementStops names room tokens end at) (sym why) (inl (record {
+      is_struct = k.0;
+      front = [];
+      spelled = subst (λ (m : ℕ). Spells tokens at m (λ rest. tag_keyword k.0 ∷ rest)) (sym e) (spells_one tokens at (tag_keyword k.0) k.1 (tag_some k.0));
+      refused_is =
+          subst (λ (d : Bool). Refused (SpecElements names) room (tag_keyword k.0 ∷ []) (kind_or_end tokens behind) d) (sym (plain_flat File (kind_or_end tokens behind)))
+          (subst (λ (x : TokenKind). Refused (SpecElements names) room (x ∷ []) (kind_or_end tokens behind) false) (sym (same_tag k.0))
+          (tag_missing names room some k.0 (kind_or_end tokens behind) (λ name q. n name (sym (ap (kind_or_end tokens) e) ∙ q) tt) other));
+    }))
+
+pub opened_later : (tokens : List Token) (at brace : ℕ) (tag : Option RawName) → brace ≡ number_behind at (name_in tag) → at < brace
+opened_later tokens at brace None e = omega (arith, e)
+opened_later tokens at brace (Some tag) e = omega (arith, e)

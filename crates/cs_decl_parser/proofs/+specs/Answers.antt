@@ -1,4 +1,4 @@
-use Rattle.std.proofs.Common.{◌≡◌, ℕ, ◌+◌, ◌-◌, ◌∷◌, Bool, ◌≤◌, ◌<◌, max, Err, Ok, List, [], Option, Some, refl, sym, ap, ◌∙◌, subst, arith, rules}
+use Rattle.std.proofs.Common.{◌≡◌, ℕ, ◌+◌, ◌-◌, ◌∷◌, Bool, ◌≤◌, ◌<◌, max, Err, Ok, List, [], Option, Some, false, refl, sym, ap, ◌∙◌, subst, arith, rules}
 use Rattle.std.proofs.lemmas.Bool.{false≢true}
 use Rattle.cs_ast.specs.declared.raw.declaration.SpecWord.{SpecWord}
 use Rattle.cs_grammar.specs.declared.type_words.TypeSoFar.TheVariants.{Nothing}
@@ -10,9 +10,9 @@ use Rattle.cs_ast.specs.RawDeclarationView.{members_list}
 use Rattle.cs_grammar.specs.FileText.{name_text}
 use Rattle.cs_expr_parser.specs.Parts.{Spells}
 use Rattle.cs_decl_parser.specs.DeclarationAnswers.{constant_row}
-use Rattle.cs_decl_parser.specs.SpecWords.{ElementAnswer, tag_keyword, name_in, SpecsAnswer, SpecAnswer}
+use Rattle.cs_decl_parser.specs.SpecWords.{ElementAnswer, ElementStops, tag_keyword, name_in, SpecsAnswer, SpecAnswer}
 use Rattle.cs_decl_parser.proofs.RowSites.{max_is}
-use Rattle.cs_decl_parser.proofs.SpecSites.{with_struct, struct_stops, struct_found, enum_stops, enum_found, SpecsSoFar, specs_none, spec_more, specs_stop, specs_taken, spec_stops, plain_answer, static_found, tag_none, element_error, element_found}
+use Rattle.cs_decl_parser.proofs.SpecSites.{enum_little, same_struct, opened_at, opened_later, tagged_found, untagged_stops, with_struct, struct_stops, struct_found, enum_stops, enum_found, SpecsSoFar, specs_none, spec_more, specs_stop, specs_taken, spec_stops, plain_answer, static_found, tag_none, element_error, element_found}
 use Rattle.cs_decl_parser.proofs.+specs.Goals as goal
 
 pub specs::specs-words-init : goal.specs::specs-words-init
@@ -100,3 +100,29 @@ pub specs::with_body-returns-clause-element : goal.specs::with_body-returns-clau
 specs::with_body-returns-clause-element t c =
     let b = c.enumeration.ensures.bounds in
     enum_found c.args.source.now.names.now c.args.room (c.args.room - 1) (let some = c.requires.some in omega arith) (name_in c.args.tag) c.args.source.now.tokens.now c.args.at (c.args.brace + 1) (let o = c.requires.onward in omega arith) (subst (λ (b : Bool). Spells c.args.source.now.tokens.now c.args.at (c.args.brace + 1) (λ rest. tag_keyword b ∷ name_text (name_in c.args.tag) (token.Mark mark.OpenBrace ∷ rest))) c.if-is_keyword.false (with_struct c.args.source.now.tokens.now c.args.at c.args.brace (name_in c.args.tag) c.is_keyword.result c.requires.opened (c.is_keyword.ensures.keyword.0, c.is_keyword.ensures.keyword.1))) constant_row c.in_ok-constants.constants c.in_ok-constants.ensures.parsed c.enumeration.result c.enumeration.ensures.word b.1 (let n = b.0 in omega arith)
+
+pub specs::with_body-returns-then-room-lt2-clause-element : goal.specs::with_body-returns-then-room-lt2-clause-element
+specs::with_body-returns-then-room-lt2-clause-element t c =
+    let o = c.requires.opened in
+    let f : o.is_struct ≡ false = same_struct o.is_struct false (kind_or_end c.args.source.now.tokens.now c.args.at) o.stands ((λ e. absurd (false≢true e)), (λ k. sym c.if-is_keyword.false ∙ c.is_keyword.ensures.keyword.1 k)) in
+    subst (ElementStops c.args.source.now.names.now c.args.room c.args.source.now.tokens.now c.args.source.now.end c.args.at) (sym c.refuse_deep.ensures)
+    (enum_little c.args.source.now.names.now c.args.room c.requires.some c.if-room-lt2.true (name_in c.args.tag) c.args.source.now.tokens.now c.args.source.now.end c.args.at c.args.brace (subst (λ (b : Bool). Spells c.args.source.now.tokens.now c.args.at c.args.brace (λ rest. tag_keyword b ∷ name_text (name_in c.args.tag) rest)) f o.spelled) o.opening)
+
+pub specs::tagged-with_body-requires : goal.specs::tagged-with_body-requires
+specs::tagged-with_body-requires t c =
+    let o = opened_at c.args.source.now.tokens.now c.args.at c.behind_tag-behind.result c.in_ok-tag.tag c.requires.stands c.in_ok-tag.ensures.name c.behind_tag-behind.ensures (c.is_mark.ensures.mark.0 c.if-is_mark.true) in
+    record {
+      onward = opened_later c.args.source.now.tokens.now c.args.at c.behind_tag-behind.result c.in_ok-tag.tag c.behind_tag-behind.ensures;
+      within = c.is_mark.ensures.within c.if-is_mark.true;
+      few = c.requires.few;
+      some = c.requires.some;
+      opened = o;
+    }
+
+pub specs::tagged-returns-in-Some-clause-element : goal.specs::tagged-returns-in-Some-clause-element
+specs::tagged-returns-in-Some-clause-element t c =
+    tagged_found c.args.source.now.names.now c.args.room c.requires.some c.args.source.now.tokens.now c.args.at c.behind_tag-behind.result c.in_ok-tag.tag c.in-Some.tag c.in-Some.is c.requires.stands c.in_ok-tag.ensures.name c.behind_tag-behind.ensures (λ b. false≢true (sym c.if-is_mark.false ∙ c.is_mark.ensures.mark.1 b)) c.without_body.result c.without_body.ensures.word c.without_body.ensures.bounds.1 c.without_body.ensures.bounds.0
+
+pub specs::tagged-returns-in-None-clause-element : goal.specs::tagged-returns-in-None-clause-element
+specs::tagged-returns-in-None-clause-element t c =
+    untagged_stops c.args.source.now.names.now c.args.room c.requires.some c.args.source.now.tokens.now c.args.source.now.end c.args.at c.behind_tag-behind.result c.in_ok-tag.tag c.in-None.is c.requires.stands c.in_ok-tag.ensures.name c.behind_tag-behind.ensures (λ b. false≢true (sym c.if-is_mark.false ∙ c.is_mark.ensures.mark.1 b)) c.refuse.result c.refuse.ensures

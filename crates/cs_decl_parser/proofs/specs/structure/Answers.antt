@@ -6,6 +6,6 @@ use Rattle.cs_decl_parser.proofs.specs.structure.Goals as goal
 
 pub returns-clause-word : goal.returns-clause-word
 returns-clause-word c = record {
-  word_is = spec-Struct _ c.args.members.tree ∙ ap (λ n. StructBody n (members_list c.args.members.tree.items)) c.split.ensures;
+  word_is = spec-Struct _ c.args.members.tree ∙ ap (λ n. StructBody n (members_list c.args.members.tree.items)) c.split-name.ensures;
   whole = refl;
 }
