@@ -109,15 +109,14 @@ specs::with_body-returns-then-room-lt2-clause-element t c =
     (enum_little c.args.source.now.names.now c.args.room c.requires.some c.if-room-lt2.true (name_in c.args.tag) c.args.source.now.tokens.now c.args.source.now.end c.args.at c.args.brace (subst (λ (b : Bool). Spells c.args.source.now.tokens.now c.args.at c.args.brace (λ rest. tag_keyword b ∷ name_text (name_in c.args.tag) rest)) f o.spelled) o.opening)
 
 pub specs::tagged-with_body-requires : goal.specs::tagged-with_body-requires
-specs::tagged-with_body-requires t c =
-    let o = opened_at c.args.source.now.tokens.now c.args.at c.behind_tag-behind.result c.in_ok-tag.tag c.requires.stands c.in_ok-tag.ensures.name c.behind_tag-behind.ensures (c.is_mark.ensures.mark.0 c.if-is_mark.true) in
-    record {
-      onward = opened_later c.args.source.now.tokens.now c.args.at c.behind_tag-behind.result c.in_ok-tag.tag c.behind_tag-behind.ensures;
-      within = c.is_mark.ensures.within c.if-is_mark.true;
-      few = c.requires.few;
-      some = c.requires.some;
-      opened = o;
-    }
+specs::tagged-with_body-requires t c = (
+  omega arith,
+  opened_later c.args.source.now.tokens.now c.args.at c.behind_tag-behind.result c.in_ok-tag.tag c.behind_tag-behind.ensures,
+  c.is_mark.ensures.within c.if-is_mark.true,
+  c.requires.few,
+  c.requires.some,
+  opened_at c.args.source.now.tokens.now c.args.at c.behind_tag-behind.result c.in_ok-tag.tag c.requires.stands c.in_ok-tag.ensures.name c.behind_tag-behind.ensures (c.is_mark.ensures.mark.0 c.if-is_mark.true),
+)
 
 pub specs::tagged-returns-in-Some-clause-element : goal.specs::tagged-returns-in-Some-clause-element
 specs::tagged-returns-in-Some-clause-element t c =
