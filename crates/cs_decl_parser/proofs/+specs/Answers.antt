@@ -111,11 +111,7 @@ specs::with_body-returns-then-room-lt2-clause-element t c =
 pub specs::tagged-with_body-requires : goal.specs::tagged-with_body-requires
 specs::tagged-with_body-requires t c = (
   omega arith,
-  opened_later c.args.source.now.tokens.now c.args.at c.behind_tag-behind.result c.in_ok-tag.tag c.behind_tag-behind.ensures,
-  c.is_mark.ensures.within c.if-is_mark.true,
-  c.requires.few,
-  c.requires.some,
-  opened_at c.args.source.now.tokens.now c.args.at c.behind_tag-behind.result c.in_ok-tag.tag c.requires.stands c.in_ok-tag.ensures.name c.behind_tag-behind.ensures (c.is_mark.ensures.mark.0 c.if-is_mark.true),
+  (opened_later c.args.source.now.tokens.now c.args.at c.behind_tag-behind.result c.in_ok-tag.tag c.behind_tag-behind.ensures, (c.is_mark.ensures.within c.if-is_mark.true, (c.requires.few, (c.requires.some, opened_at c.args.source.now.tokens.now c.args.at c.behind_tag-behind.result c.in_ok-tag.tag c.requires.stands c.in_ok-tag.ensures.name c.behind_tag-behind.ensures (c.is_mark.ensures.mark.0 c.if-is_mark.true))))),
 )
 
 pub specs::tagged-returns-in-Some-clause-element : goal.specs::tagged-returns-in-Some-clause-element
