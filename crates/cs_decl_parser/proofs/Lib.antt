@@ -14,5 +14,6 @@ pub mod ListSites
 pub mod ObjectSites
 pub mod StuckWords
 pub mod BlockSpecSites
+pub mod SpecSites
 pub mod ExternalSites
 pub mod FileSites

@@ -169,6 +169,11 @@ IsStatic at so_far found = (found.word ≡ words.Static) × (found.height ≡ 1)
 abbrev pub name_in : Option RawName → Option (List ℕ)
 name_in tag = option_map (λ (n : RawName). n.name) tag
 
+-- the number behind `struct` or `enum`, at a number, and its tag, if it has one
+abbrev pub number_behind : ℕ → Option (List ℕ) → ℕ
+number_behind at None = at + 1
+number_behind at (Some tag) = at + 2
+
 -- the token is `struct` or `enum`
 abbrev pub IsTagKeyword : TokenKind → Type 0
 IsTagKeyword next = (is_struct : Bool) × (next ≡ tag_keyword is_struct)

@@ -6,7 +6,7 @@ ghost use Rattle.cs_expr_parser.specs.Positions.{kind_or_end};
 ghost use Rattle.cs_expr_parser.specs.Words.{names_some};
 ghost use Rattle.cs_decl_parser.specs.Bounds.{IsBounded, IsNextBounded, IsWordBounded, IsWordOf};
 ghost use Rattle.cs_decl_parser.specs.DeclarationAnswers.{constant_row};
-ghost use Rattle.cs_decl_parser.specs.SpecWords.{begins_words, name_in, enum_of, IsTagKeyword, HasNoTag, IsTagged, IsOpened, IsSpecOf, IsStatic, PlainAnswer, ElementAnswer, SpecAnswer, SpecsAnswer};
+ghost use Rattle.cs_decl_parser.specs.SpecWords.{begins_words, name_in, number_behind, enum_of, IsTagKeyword, HasNoTag, IsTagged, IsOpened, IsSpecOf, IsStatic, PlainAnswer, ElementAnswer, SpecAnswer, SpecsAnswer};
 
 use crate::constants::{ConstantList, constants};
 use crate::members::members;
@@ -174,13 +174,24 @@ fn tagged(alloc: Global, source: &Source, at: usize, room: u32) -> Result<NextWo
     ensures element { ElementAnswer source.now.names.now room source.now.tokens.now source.now.end at result }
 {
     let tag = any_name_at(source, at + 1)?;
-    let behind = if tag.is_some() { at + 2 } else { at + 1 };
+    let behind = behind_tag(at, &tag);
     if is_mark(source, behind, Mark::OpenBrace) {
         return with_body(alloc, source, at, tag, behind, room);
     }
     match tag {
         Some(tag) => Ok(without_body(source, at, tag)),
         None => Err(refuse(source, behind, Scope::File)),
+    }
+}
+
+/// The number behind `struct` or `enum`, at a number, and its tag, if it has one.
+fn behind_tag(at: usize, tag: &Option<RawName>) -> usize
+    requires few { at < 2 ^ 32 }
+    ensures { result ≡ number_behind at (name_in tag.now) }
+{
+    match tag {
+        Some(_) => at + 2,
+        None => at + 1,
     }
 }
 
