@@ -1,6 +1,14 @@
 -- Forms of statements: how high the least one of a form is, and how many tokens stand there.
-use Rattle.std.specs.Prelude.{ℕ, ◌+◌, ◌≤◌, List, length}
+use Rattle.std.specs.Prelude.{◌≡◌, ℕ, ◌+◌, ◌≤◌, Bool, true, false, if◌then◌else◌, List, Option, Some, None, length}
 use Rattle.cs_ast.specs.declared.token.Token.{Token}
+use Rattle.cs_ast.specs.declared.token.TokenKind.{TokenKind}
+use Rattle.cs_ast.specs.declared.token.TokenKind.TheVariants as token
+use Rattle.cs_ast.specs.declared.token.Keyword.{Keyword}
+use Rattle.cs_ast.specs.declared.token.Keyword.TheVariants as keyword
+use Rattle.cs_ast.specs.declared.token.Mark.{Mark}
+use Rattle.cs_ast.specs.declared.token.Mark.TheVariants as mark
+use Rattle.cs_ast.specs.RawStatements.{Sentence, Continue, Break}
+use Rattle.cs_grammar.specs.TypeWords.{Names, is_among}
 use Rattle.cs_decl_parser.specs.declared.form.Form.{Form}
 use Rattle.cs_decl_parser.specs.declared.form.Form.TheVariants as form
 
@@ -30,3 +38,53 @@ told_by other = 1
 -- the tokens that tell the form are there
 abbrev pub IsFormAt : List Token → ℕ → Form → Type 0
 IsFormAt tokens at form = (at ≤ length tokens) → at + told_by form ≤ length tokens
+
+-- the form of the statements that begin with a word
+abbrev pub keyword_form : Keyword → Form
+keyword_form keyword.If = form.If
+keyword_form keyword.While = form.While
+keyword_form keyword.Do = form.Do
+keyword_form keyword.For = form.For
+keyword_form keyword.Switch = form.Switch
+keyword_form keyword.Goto = form.Goto
+keyword_form keyword.Continue = form.Continue
+keyword_form keyword.Break = form.Break
+keyword_form keyword.Return = form.Return
+keyword_form other = form.Run
+
+abbrev pub word_form : Option Keyword → Form
+word_form None = form.Run
+word_form (Some k) = keyword_form k
+
+-- the form of the statements that begin with a mark
+abbrev pub mark_form : Mark → Form
+mark_form mark.OpenBrace = form.Block
+mark_form mark.Semicolon = form.Empty
+mark_form other = form.Run
+
+-- the token is a colon
+abbrev pub is_colon : TokenKind → Bool
+is_colon (token.Mark mark.Colon) = true
+is_colon other = false
+
+-- the form of the statements that begin with a name, which may be that of a typedef
+abbrev pub name_form : Bool → Bool → Form
+name_form colon typedef = if colon then form.Label else (if typedef then form.Unlabelled else form.Run)
+
+-- the form of the statements that begin with a token, by the one behind it
+abbrev pub form_of : Names → TokenKind → TokenKind → Form
+form_of names (token.Name name) second = name_form (is_colon second) (is_among names name)
+form_of names (token.Mark m) second = mark_form m
+form_of names (token.Keyword k) second = keyword_form k
+form_of names other second = form.Run
+
+-- the tokens are a name with a colon behind it
+abbrev pub is_labelled : TokenKind → TokenKind → Bool
+is_labelled (token.Name name) second = is_colon second
+is_labelled other second = false
+
+-- the word stands for this statement
+abbrev pub IsJump : TokenKind → Sentence → Type 0
+IsJump (token.Keyword keyword.Continue) statement = statement ≡ Continue
+IsJump (token.Keyword keyword.Break) statement = statement ≡ Break
+IsJump other statement = ⊥

@@ -2,3 +2,10 @@ pub mod Reasons
 pub mod Bounds
 pub mod Forms
 pub mod Nodes
+pub mod Answers
+pub mod DeclarationAnswers
+pub mod SpecWords
+pub mod Blocks
+pub mod FileAnswers
+pub mod Files
+pub mod FileStops

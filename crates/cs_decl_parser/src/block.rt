@@ -1,12 +1,20 @@
 //! Blocks and what stands in them (C11 6.8.2).
-ghost use Rattle.std.specs.Prelude.{◌≤◌, ◌<◌, ◌^◌, length, IfOk};
+ghost use Rattle.std.specs.Prelude.{◌≡◌, ◌≤◌, ◌<◌, ◌^◌, length, IfOk, IsTrue};
+ghost use Rattle.cs_ast.specs.declared.token.TokenKind.TheVariants as token;
+ghost use Rattle.cs_ast.specs.declared.token.Mark.TheVariants as mark;
+ghost use Rattle.cs_ast.specs.RawStatementView.{item as item_of, statement_of};
+ghost use Rattle.cs_grammar.specs.FirstTokens.{begins_type as starts_type};
+ghost use Rattle.cs_grammar.specs.FileClasses.{BlockItems, Sentences};
+ghost use Rattle.cs_expr_parser.specs.Positions.{kind_or_end};
+ghost use Rattle.cs_decl_parser.specs.Answers.{Answers, ExactAnswers};
+ghost use Rattle.cs_decl_parser.specs.Blocks.{Locals, local_of, ItemsAnswers};
 ghost use Rattle.cs_decl_parser.specs.Bounds.{IsBounded, IsRowBounded};
 
+use crate::block_specs::block_specs;
 use crate::form::is_label;
 use crate::nodes::node;
 use crate::objects::objects;
 use crate::source::{Scope, Source, begins_type, is_mark, place_at, refuse_deep};
-use crate::specs::specs;
 use crate::statement::statement;
 use crate::stop::{Stop, Taken};
 use cs_ast::Mark;
@@ -20,7 +28,9 @@ pub fn block(alloc: Global, source: &Source, from: usize, room: u32) -> Result<T
     requires within { from < length source.now.tokens.now }
     requires few { length source.now.tokens.now < 2 ^ 32 }
     requires some { 1 ≤ room }
+    requires stands { kind_or_end source.now.tokens.now from ≡ token.Mark mark.OpenBrace }
     ensures bounds { IsBounded room source.now.tokens.now from result }
+    ensures parsed { Answers (Sentences source.now.names.now) statement_of room source.now.tokens.now source.now.end from result }
 {
     let items = items(alloc, source, from + 1, room - 1)?;
     let kind = RawStmtKind::Block(items.tree);
@@ -40,10 +50,11 @@ pub fn items(
     requires within { from ≤ length source.now.tokens.now }
     requires few { length source.now.tokens.now < 2 ^ 32 }
     ensures bounds { IsRowBounded room source.now.tokens.now from result }
+    ensures parsed { ItemsAnswers source.now.names.now room source.now.tokens.now source.now.end from result }
     ensures closing { IfOk result (λ taken. taken.next < length source.now.tokens.now) }
 {
     let mut list = Vec::new(alloc);
-    let mut height = 0;
+    let mut height: u32 = 0;
     let mut next = from;
     'items: while !is_mark(source, next, Mark::CloseBrace) {
         let taken = item(alloc, source, next, room)?;
@@ -64,6 +75,7 @@ pub fn item(alloc: Global, source: &Source, from: usize, room: u32) -> Result<Ta
     requires within { from ≤ length source.now.tokens.now }
     requires few { length source.now.tokens.now < 2 ^ 32 }
     ensures bounds { IsBounded room source.now.tokens.now from result }
+    ensures parsed { Answers (BlockItems source.now.names.now) item_of room source.now.tokens.now source.now.end from result }
 {
     if begins_type(source, from) && !is_label(source, from) {
         let declared = declaration(alloc, source, from, room)?;
@@ -97,13 +109,15 @@ pub fn declaration(
 ) -> Result<Taken<DeclaredObjects>, Stop>
     requires within { from ≤ length source.now.tokens.now }
     requires few { length source.now.tokens.now < 2 ^ 32 }
+    requires typed { IsTrue (starts_type source.now.names.now (kind_or_end source.now.tokens.now from)) }
     ensures bounds { IsBounded room source.now.tokens.now from result }
+    ensures parsed { ExactAnswers (Locals source.now.names.now) local_of room source.now.tokens.now source.now.end from result }
 {
     if room < 2 {
         return Err(refuse_deep(from));
     }
     let scope = Scope::Block;
-    let specs = specs(alloc, source, scope, from, room - 1)?;
+    let specs = block_specs(alloc, source, from, room - 1)?;
     let objects = objects(alloc, source, scope, specs.next, room - 1)?;
     Ok(Taken {
         tree: DeclaredObjects {

@@ -1,13 +1,18 @@
 //! Statements that choose (C11 6.8.4).
-ghost use Rattle.std.specs.Prelude.{◌≤◌, ◌<◌, ◌^◌, length};
+ghost use Rattle.std.specs.Prelude.{◌≡◌, ℕ, ◌≤◌, ◌<◌, ◌^◌, length};
+ghost use Rattle.cs_ast.specs.declared.token.TokenKind.TheVariants as token;
+ghost use Rattle.cs_ast.specs.declared.token.Keyword.TheVariants as keyword;
+ghost use Rattle.cs_ast.specs.RawStatementView.{statement_of, switch_item as switch_item_of};
+ghost use Rattle.cs_grammar.specs.FileClasses.{Sentences, SwitchParts, SwitchRows};
+ghost use Rattle.cs_expr_parser.specs.Positions.{kind_or_end};
+ghost use Rattle.cs_decl_parser.specs.Answers.{Answers, ExactAnswers};
+ghost use Rattle.cs_decl_parser.specs.Blocks.{switch_items_of};
 ghost use Rattle.cs_decl_parser.specs.Bounds.{IsBounded};
 
 use crate::block::item;
 use crate::expression::{closed, parenthesised};
 use crate::nodes::{if_else_node, if_node, node};
-use crate::source::{
-    Scope, Source, is_keyword, is_mark, keyword_at, place_at, refuse, refuse_deep,
-};
+use crate::source::{Scope, Source, is_keyword, is_mark, place_at, refuse, refuse_deep};
 use crate::statement::statement;
 use crate::stop::{Stop, Taken};
 use cs_ast::raw::statement::{RawStmt, RawStmtKind, RawSwitchItem};
@@ -26,7 +31,9 @@ pub fn if_statement(
     requires within { from < length source.now.tokens.now }
     requires few { length source.now.tokens.now < 2 ^ 32 }
     requires enough { 2 ≤ room }
+    requires stands { kind_or_end source.now.tokens.now from ≡ token.Keyword keyword.If }
     ensures bounds { IsBounded room source.now.tokens.now from result }
+    ensures parsed { Answers (Sentences source.now.names.now) statement_of room source.now.tokens.now source.now.end from result }
 {
     let place = place_at(source, from);
     let test = parenthesised(alloc, source, from + 1, room - 1)?;
@@ -51,7 +58,9 @@ pub fn switch_statement(
     requires within { from < length source.now.tokens.now }
     requires few { length source.now.tokens.now < 2 ^ 32 }
     requires enough { 2 ≤ room }
+    requires stands { kind_or_end source.now.tokens.now from ≡ token.Keyword keyword.Switch }
     ensures bounds { IsBounded room source.now.tokens.now from result }
+    ensures parsed { Answers (Sentences source.now.names.now) statement_of room source.now.tokens.now source.now.end from result }
 {
     let value = parenthesised(alloc, source, from + 1, room - 1)?;
     if !is_mark(source, value.next, Mark::OpenBrace) {
@@ -74,9 +83,10 @@ fn switch_items(
     requires within { from ≤ length source.now.tokens.now }
     requires few { length source.now.tokens.now < 2 ^ 32 }
     ensures bounds { IsBounded room source.now.tokens.now from result }
+    ensures parsed { ExactAnswers (SwitchRows source.now.names.now) switch_items_of room source.now.tokens.now source.now.end from result }
 {
     let mut list = Vec::new(alloc);
-    let mut height = 0;
+    let mut height: u32 = 0;
     let mut next = from;
     'items: while !is_mark(source, next, Mark::CloseBrace) {
         let taken = switch_item(alloc, source, next, room)?;
@@ -102,19 +112,20 @@ fn switch_item(
     requires within { from ≤ length source.now.tokens.now }
     requires few { length source.now.tokens.now < 2 ^ 32 }
     ensures bounds { IsBounded room source.now.tokens.now from result }
+    ensures parsed { Answers (SwitchParts source.now.names.now) switch_item_of room source.now.tokens.now source.now.end from result }
 {
-    match keyword_at(source, from) {
-        Some(Keyword::Case) => case(alloc, source, from, room),
-        Some(Keyword::Default) => default(source, from),
-        _ => {
-            let inner = item(alloc, source, from, room)?;
-            Ok(Taken {
-                tree: RawSwitchItem::Item(inner.tree),
-                height: inner.height,
-                next: inner.next,
-            })
-        }
+    if is_keyword(source, from, Keyword::Case) {
+        return case(alloc, source, from, room);
     }
+    if is_keyword(source, from, Keyword::Default) {
+        return default(source, from);
+    }
+    let inner = item(alloc, source, from, room)?;
+    Ok(Taken {
+        tree: RawSwitchItem::Item(inner.tree),
+        height: inner.height,
+        next: inner.next,
+    })
 }
 
 /// `case value :`, from a number on.
@@ -126,7 +137,9 @@ fn case(
 ) -> Result<Taken<RawSwitchItem>, Stop>
     requires within { from < length source.now.tokens.now }
     requires few { length source.now.tokens.now < 2 ^ 32 }
+    requires stands { kind_or_end source.now.tokens.now from ≡ token.Keyword keyword.Case }
     ensures bounds { IsBounded room source.now.tokens.now from result }
+    ensures parsed { Answers (SwitchParts source.now.names.now) switch_item_of room source.now.tokens.now source.now.end from result }
 {
     if room == 0 {
         return Err(refuse_deep(from));
@@ -143,7 +156,9 @@ fn case(
 fn default(source: &Source, from: usize) -> Result<Taken<RawSwitchItem>, Stop>
     requires within { from < length source.now.tokens.now }
     requires few { length source.now.tokens.now < 2 ^ 32 }
+    requires stands { kind_or_end source.now.tokens.now from ≡ token.Keyword keyword.Default }
     ensures bounds { IsBounded 0 source.now.tokens.now from result }
+    ensures parsed { (room : ℕ) → Answers (SwitchParts source.now.names.now) switch_item_of room source.now.tokens.now source.now.end from result }
 {
     if !is_mark(source, from + 1, Mark::Colon) {
         return Err(refuse(source, from + 1, Scope::Block));

@@ -1,16 +1,24 @@
 //! The constants of an enumeration (C11 6.7.2.2).
-ghost use Rattle.std.specs.Prelude.{◌≤◌, ◌<◌, ◌^◌, length, IsTrue};
+ghost use Rattle.std.specs.Prelude.{◌≡◌, ◌≤◌, ◌<◌, ◌^◌, ◌+◌, length, IsTrue, None, if◌then◌else◌};
+ghost use Rattle.std.specs.Option.{option_map};
+ghost use Rattle.cs_ast.specs.RawView.{written};
+ghost use Rattle.cs_ast.specs.RawDeclarationView.{constant as constant_of};
+ghost use Rattle.cs_grammar.specs.DeclarationClasses.{Constants};
+ghost use Rattle.cs_expr_parser.specs.Positions.{kind_or_end};
+ghost use Rattle.cs_decl_parser.specs.Answers.{UnclosedAnswers};
+ghost use Rattle.cs_decl_parser.specs.DeclarationAnswers.{ConstantsAnswer, goes_on as list_goes_on, IsConstantOf};
 ghost use Rattle.cs_decl_parser.specs.Bounds.{IsBounded, IsUnclosedBounded};
 
 use crate::expression::expression;
 use crate::names::free_name_at;
-use crate::source::{Scope, Source, is_mark, reason_at, refuse, refuse_deep};
+use crate::source::{Scope, Source, is_mark, reason_at, refuse};
 use crate::stop::{Stop, Taken, Unclosed};
 use cs_ast::Mark;
 use cs_ast::raw::declaration::RawEnumerator;
-use cs_ast::raw::name::RawName;
 use cs_ast::raw::expression::RawExpr;
+use cs_ast::raw::name::RawName;
 use cs_expr_parser::ExprLevel;
+use cs_grammar::Reason;
 use std::alloc::Global;
 
 /// The constants of an enumeration, one at least.
@@ -32,6 +40,7 @@ pub fn constants(
     requires few { length source.now.tokens.now < 2 ^ 32 }
     requires some { 1 ≤ room }
     ensures bounds { IsBounded room source.now.tokens.now from result }
+    ensures parsed { ConstantsAnswer source.now.names.now room source.now.tokens.now source.now.end from result }
 {
     let mut list = Vec::new(alloc);
     let mut last = constant(alloc, source, from, room)?;
@@ -44,7 +53,7 @@ pub fn constants(
     }
     list.push(last.tree)?;
     let comma = is_mark(source, last.next, Mark::Comma);
-    let closing = if comma { last.next + 1 } else { last.next };
+    let closing = closing_at(last.next, comma);
     if !is_mark(source, closing, Mark::CloseBrace) {
         return Err(Stop::Refused(closing, last.otherwise));
     }
@@ -55,10 +64,19 @@ pub fn constants(
     })
 }
 
+/// The number at which a list between braces is to be closed, where its last part ends before a number.
+pub fn closing_at(at: usize, comma: bool) -> usize
+    requires few { at < 2 ^ 33 }
+    ensures { result ≡ (if comma then at + 1 else at) }
+{
+    if comma { at + 1 } else { at }
+}
+
 /// Whether a comma stands at a number, and doesn't end a list between braces.
 pub fn goes_on(source: &Source, at: usize) -> bool
     requires few { at < 2 ^ 33 }
     ensures within { IsTrue result → at < length source.now.tokens.now }
+    ensures comma { result ≡ list_goes_on (kind_or_end source.now.tokens.now at) (kind_or_end source.now.tokens.now (at + 1)) }
 {
     is_mark(source, at, Mark::Comma) && !is_mark(source, at + 1, Mark::CloseBrace)
 }
@@ -74,20 +92,16 @@ fn constant(
     requires few { length source.now.tokens.now < 2 ^ 32 }
     requires some { 1 ≤ room }
     ensures bounds { IsUnclosedBounded room source.now.tokens.now from result }
+    ensures parsed { UnclosedAnswers (Constants source.now.names.now) constant_of room source.now.tokens.now source.now.end from result }
 {
     let Some(name) = free_name_at(source, from)? else {
         return Err(refuse(source, from, Scope::File));
     };
     if !is_mark(source, from + 1, Mark::Equal) {
-        return Ok(Unclosed {
-            tree: enumerator(name, None),
-            height: 1,
-            next: from + 1,
-            otherwise: reason_at(source, from + 1, Scope::File),
-        });
+        return Ok(lone(name, from + 1, reason_at(source, from + 1, Scope::File)));
     }
     if room < 2 {
-        return Err(refuse_deep(from + 1));
+        return Ok(lone(name, from + 1, Reason::TooDeep));
     }
     let value = expression(alloc, source, from + 2, room - 1, ExprLevel::Cond)?;
     Ok(Unclosed {
@@ -98,7 +112,24 @@ fn constant(
     })
 }
 
-fn enumerator(name: RawName, value: Option<RawExpr>) -> RawEnumerator {
+/// A constant without a value, up to a token, and why that one is refused.
+fn lone(name: RawName, next: usize, otherwise: Reason) -> Unclosed<RawEnumerator>
+    ensures tree { IsConstantOf name.name None result.tree }
+    ensures height { result.height ≡ 1 }
+    ensures next { result.next ≡ next }
+    ensures otherwise { result.otherwise ≡ otherwise }
+{
+    Unclosed {
+        tree: enumerator(name, None),
+        height: 1,
+        next,
+        otherwise,
+    }
+}
+
+fn enumerator(name: RawName, value: Option<RawExpr>) -> RawEnumerator
+    ensures { IsConstantOf name.name (option_map written value) result }
+{
     RawEnumerator {
         place: name.place,
         name: name.name,

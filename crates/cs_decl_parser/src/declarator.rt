@@ -1,6 +1,13 @@
 //! Declarators: names with the pointers before them and the bounds of arrays behind them (C11 6.7.6).
-ghost use Rattle.std.specs.Prelude.{◌≤◌, ◌<◌, ◌^◌, length};
-ghost use Rattle.cs_decl_parser.specs.Bounds.{IsBounded, IsRowBounded, Refuses};
+ghost use Rattle.std.specs.Prelude.{◌≡◌, ℕ, ◌+◌, ◌≤◌, ◌<◌, ◌^◌, true, false, length, map, IfOk, IsSome, IsTrue};
+ghost use Rattle.cs_ast.specs.declared.token.TokenKind.TheVariants as token;
+ghost use Rattle.cs_ast.specs.declared.token.Mark.TheVariants as mark;
+ghost use Rattle.cs_ast.specs.RawDeclarationView.{bounds_of, declarator as declarator_of};
+ghost use Rattle.cs_grammar.specs.Composed.{Separated};
+ghost use Rattle.cs_expr_parser.specs.Positions.{kind_or_end};
+ghost use Rattle.cs_decl_parser.specs.Answers.{ExactAnswers};
+ghost use Rattle.cs_decl_parser.specs.Bounds.{IsBounded, IsRowBounded};
+ghost use Rattle.cs_decl_parser.specs.DeclarationAnswers.{has_no_room, is_full, IsNameAt, IsNameFor, IsPointed, PointedAnswers, DeclaratorAnswers, DeclaratorsFor, BoundAnswer, BoundsAnswer, RefusesBehind};
 
 use crate::expression::{closed, closed_if_any};
 use crate::names::{any_name_at, free_name_at};
@@ -9,11 +16,11 @@ use crate::stop::{Stop, Taken};
 use crate::words::stars;
 use cs_ast::Mark;
 use cs_ast::raw::declaration::RawDeclarator;
-use cs_ast::raw::name::RawName;
 use cs_ast::raw::expression::RawExpr;
+use cs_ast::raw::name::RawName;
 use cs_ast::raw::written_type::PointerWord;
 use cs_expr_parser::ExprLevel;
-use std::alloc::Global;
+use std::alloc::{AllocError, Global};
 
 /// What a declarator declares.
 #[derive(Clone, Copy, Debug, PartialEq, Eq)]
@@ -44,6 +51,8 @@ pub fn declarator(
     requires few { length source.now.tokens.now < 2 ^ 32 }
     requires some { 1 ≤ room }
     ensures bounds { IsBounded room source.now.tokens.now from result }
+    ensures some { IfOk result (λ taken. 1 ≤ taken.height) }
+    ensures parsed { DeclaratorAnswers declares source.now.names.now room source.now.tokens.now source.now.end from result }
 {
     let pointed = pointed_name(alloc, source, scope, from, declares)?;
     let taken = with_bounds(alloc, source, pointed, room, declares)?;
@@ -61,13 +70,10 @@ pub fn pointed_name(
     requires within { from ≤ length source.now.tokens.now }
     requires few { length source.now.tokens.now < 2 ^ 32 }
     ensures bounds { IsBounded 1 source.now.tokens.now from result }
+    ensures parsed { PointedAnswers declares source.now.names.now source.now.tokens.now from result }
 {
     let pointers = stars(alloc, source, from)?;
-    let name = match declares {
-        Declares::Names => free_name_at(source, pointers.next)?,
-        Declares::Members => any_name_at(source, pointers.next)?,
-    };
-    let Some(name) = name else {
+    let Some(name) = name_at(source, pointers.next, declares)? else {
         let left_out = Mark::OpenParenthesis;
         return Err(refuse_but(source, pointers.next, scope, left_out));
     };
@@ -79,6 +85,17 @@ pub fn pointed_name(
         height: 1,
         next: pointers.next + 1,
     })
+}
+
+/// The name at a number, if one stands there that may be declared.
+fn name_at(source: &Source, at: usize, declares: Declares) -> Result<Option<RawName>, AllocError>
+    ensures within { IfOk result (λ name. IsSome name → at < length source.now.tokens.now) }
+    ensures name { IfOk result (IsNameAt (IsNameFor declares source.now.names.now) (kind_or_end source.now.tokens.now at)) }
+{
+    match declares {
+        Declares::Names => free_name_at(source, at),
+        Declares::Members => any_name_at(source, at),
+    }
 }
 
 /// The declarator of a name with the bounds behind it.
@@ -93,6 +110,8 @@ pub fn with_bounds(
     requires few { length source.now.tokens.now < 2 ^ 32 }
     requires some { 1 ≤ room }
     ensures bounds { IsRowBounded room source.now.tokens.now pointed.next result }
+    ensures some { IfOk result (λ taken. 1 ≤ taken.height) }
+    ensures parsed { (from : ℕ) → IsPointed declares source.now.names.now source.now.tokens.now from pointed → DeclaratorAnswers declares source.now.names.now room source.now.tokens.now source.now.end from result }
 {
     let bounds = bounds(alloc, source, pointed.next, room - 1, declares)?;
     Ok(Taken {
@@ -108,6 +127,7 @@ pub fn with_bounds(
 }
 
 /// The bounds of arrays from a number on, each between brackets. The height is that of the highest, 0 where there is none.
+/// Where there is no room for the bound of a member, it isn't taken.
 pub fn bounds(
     alloc: Global,
     source: &Source,
@@ -118,11 +138,12 @@ pub fn bounds(
     requires within { from ≤ length source.now.tokens.now }
     requires few { length source.now.tokens.now < 2 ^ 32 }
     ensures bounds { IsRowBounded room source.now.tokens.now from result }
+    ensures parsed { BoundsAnswer declares source.now.names.now (λ bounds. bounds_of bounds.items) room source.now.tokens.now source.now.end from result }
 {
     let mut list = Vec::new(alloc);
     let mut height = 0;
     let mut next = from;
-    'bounds: while is_mark(source, next, Mark::OpenBracket) {
+    'bounds: while begins_bound(source, next, room, declares) {
         let taken = bound(alloc, source, next, room, declares)?;
         height = height.max(taken.height);
         next = taken.next;
@@ -133,6 +154,26 @@ pub fn bounds(
         height,
         next,
     })
+}
+
+/// Whether there is no room for a bound, since it may not be left out.
+fn lacks_room(declares: Declares, room: u32) -> bool
+    ensures { result ≡ has_no_room declares room }
+{
+    match declares {
+        Declares::Names => false,
+        Declares::Members => room == 0,
+    }
+}
+
+/// Whether the bracket of a bound for which there is room stands at a number.
+fn begins_bound(source: &Source, at: usize, room: u32, declares: Declares) -> bool
+    ensures bracket { IsTrue result → kind_or_end source.now.tokens.now at ≡ token.Mark mark.OpenBracket }
+    ensures room { IsTrue result → has_no_room declares room ≡ false }
+    ensures other { (result ≡ false) → kind_or_end source.now.tokens.now at ≡ token.Mark mark.OpenBracket → has_no_room declares room ≡ true }
+    ensures within { IsTrue result → at < length source.now.tokens.now }
+{
+    !lacks_room(declares, room) && is_mark(source, at, Mark::OpenBracket)
 }
 
 /// The bound of an array, between brackets, the first of which stands at a number.
@@ -146,6 +187,7 @@ fn bound(
     requires within { at < length source.now.tokens.now }
     requires few { length source.now.tokens.now < 2 ^ 32 }
     ensures bounds { IsBounded room source.now.tokens.now at result }
+    ensures parsed { BoundAnswer declares source.now.names.now room source.now.tokens.now source.now.end (at + 1) result }
 {
     let (level, closing) = (ExprLevel::Cond, Mark::CloseBracket);
     match declares {
@@ -154,9 +196,6 @@ fn bound(
             Ok(taken)
         }
         Declares::Members => {
-            if room == 0 {
-                return Err(refuse_deep(at));
-            }
             let taken = closed(alloc, source, at + 1, room, level, closing)?;
             Ok(Taken {
                 tree: Some(taken.tree),
@@ -179,6 +218,7 @@ pub fn declarators(
     requires few { length source.now.tokens.now < 2 ^ 32 }
     requires some { 1 ≤ room }
     ensures bounds { IsBounded room source.now.tokens.now from result }
+    ensures parsed { ExactAnswers (Separated (DeclaratorsFor declares source.now.names.now) (token.Mark mark.Semicolon)) (λ list. map declarator_of list.items) room source.now.tokens.now source.now.end from result }
 {
     let scope = Scope::File;
     let mut list = Vec::new(alloc);
@@ -192,7 +232,7 @@ pub fn declarators(
     }
     list.push(last.tree)?;
     if !is_mark(source, last.next, Mark::Semicolon) {
-        return Err(refuse_behind(source, last.next, declares));
+        return Err(refuse_behind(source, last.next, room, declares));
     }
     Ok(Taken {
         tree: list,
@@ -202,9 +242,13 @@ pub fn declarators(
 }
 
 /// The refusal of the token behind a declarator, at a number.
-fn refuse_behind(source: &Source, at: usize, declares: Declares) -> Stop
-    ensures { Refuses at result }
+fn refuse_behind(source: &Source, at: usize, room: u32, declares: Declares) -> Stop
+    requires some { 1 ≤ room }
+    ensures { (inner : ℕ) → room ≡ 1 + inner → RefusesBehind at (is_full declares inner (kind_or_end source.now.tokens.now at)) result }
 {
+    if lacks_room(declares, room - 1) && is_mark(source, at, Mark::OpenBracket) {
+        return refuse_deep(at);
+    }
     match declares {
         Declares::Names => refuse(source, at, Scope::File),
         Declares::Members => refuse_but(source, at, Scope::File, Mark::Colon),

@@ -1,5 +1,11 @@
 //! Expressions as parts of declarations and statements, with what closes them.
-ghost use Rattle.std.specs.Prelude.{◌≤◌, ◌<◌, ◌^◌, length, IfOk};
+ghost use Rattle.std.specs.Prelude.{◌≤◌, ◌<◌, ◌^◌, length, IfOk, IsTrue};
+ghost use Rattle.cs_ast.specs.RawView.{written};
+ghost use Rattle.cs_grammar.specs.Parsing.{Expressions};
+ghost use Rattle.cs_grammar.specs.FileClasses.{Tests};
+ghost use Rattle.cs_expr_parser.specs.Expression.{level_asked};
+ghost use Rattle.cs_decl_parser.specs.Answers.{ExactAnswers, UnclosedAnswers, closes};
+ghost use Rattle.cs_decl_parser.specs.DeclarationAnswers.{ClosedAnswer, ClosedIfAnyAnswer};
 ghost use Rattle.cs_decl_parser.specs.Bounds.{IsBounded, IsUnclosedBounded, IsPhraseOf};
 
 use crate::source::{Scope, Source, is_mark, refuse};
@@ -21,6 +27,7 @@ pub fn expression(
     requires few { length source.now.tokens.now < 2 ^ 32 }
     ensures bounds { IsUnclosedBounded room source.now.tokens.now from result }
     ensures some { IfOk result (λ taken. 1 ≤ taken.height) }
+    ensures parsed { UnclosedAnswers (Expressions source.now.names.now (level_asked level)) written room source.now.tokens.now source.now.end from result }
 {
     let (tokens, end, names) = (source.tokens, source.end, source.names);
     match parse_expression(alloc, tokens, end, from, names, room, level) {
@@ -51,8 +58,10 @@ pub fn closed(
 ) -> Result<Taken<RawExpr>, Stop>
     requires within { from ≤ length source.now.tokens.now }
     requires few { length source.now.tokens.now < 2 ^ 32 }
+    requires closing { IsTrue (closes closing) }
     ensures bounds { IsBounded room source.now.tokens.now from result }
     ensures some { IfOk result (λ taken. 1 ≤ taken.height) }
+    ensures parsed { ClosedAnswer source.now.names.now level closing room source.now.tokens.now source.now.end from result }
 {
     let inner = expression(alloc, source, from, room, level)?;
     if !is_mark(source, inner.next, closing) {
@@ -76,7 +85,9 @@ pub fn closed_if_any(
 ) -> Result<Taken<Option<RawExpr>>, Stop>
     requires within { from ≤ length source.now.tokens.now }
     requires few { length source.now.tokens.now < 2 ^ 32 }
+    requires closing { IsTrue (closes closing) }
     ensures bounds { IsBounded room source.now.tokens.now from result }
+    ensures parsed { ClosedIfAnyAnswer source.now.names.now level closing room source.now.tokens.now source.now.end from result }
 {
     if is_mark(source, from, closing) {
         return Ok(Taken {
@@ -102,7 +113,9 @@ pub fn parenthesised(
 ) -> Result<Taken<RawExpr>, Stop>
     requires within { from ≤ length source.now.tokens.now }
     requires few { length source.now.tokens.now < 2 ^ 32 }
+    requires some { 1 ≤ room }
     ensures bounds { IsBounded room source.now.tokens.now from result }
+    ensures parsed { ExactAnswers (Tests source.now.names.now) written room source.now.tokens.now source.now.end from result }
 {
     if !is_mark(source, from, Mark::OpenParenthesis) {
         return Err(refuse(source, from, Scope::Block));

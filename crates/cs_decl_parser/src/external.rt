@@ -1,6 +1,17 @@
 //! What a file has: types, typedefs, objects and functions (C11 6.9).
-ghost use Rattle.std.specs.Prelude.{◌≤◌, ◌<◌, ◌^◌, ◌+◌, ◌-◌, length};
+ghost use Rattle.std.specs.Prelude.{◌≡◌, ℕ, ◌≤◌, ◌<◌, ◌^◌, ◌+◌, ◌-◌, length};
+ghost use Rattle.cs_ast.specs.declared.token.TokenKind.TheVariants as token;
+ghost use Rattle.cs_ast.specs.declared.token.Keyword.TheVariants as keyword;
+ghost use Rattle.cs_ast.specs.declared.token.Mark.TheVariants as mark;
+ghost use Rattle.cs_ast.specs.RawDeclarationView.{head as head_of, parameters as parameters_of};
+ghost use Rattle.cs_ast.specs.RawStatementView.{external as external_view, external_of};
+ghost use Rattle.cs_grammar.specs.DeclarationClasses.{Externals};
+ghost use Rattle.cs_expr_parser.specs.Positions.{kind_or_end};
+ghost use Rattle.cs_decl_parser.specs.declared.declarator.Declares.TheVariants as declaring;
+ghost use Rattle.cs_decl_parser.specs.Answers.{ExactAnswers};
 ghost use Rattle.cs_decl_parser.specs.Bounds.{IsBounded, IsOf};
+ghost use Rattle.cs_decl_parser.specs.DeclarationAnswers.{IsPointed};
+ghost use Rattle.cs_decl_parser.specs.FileAnswers.{IsHeadOf, IsTypeTaken};
 
 use crate::block::items;
 use crate::declarator::{Declares, Pointed, declarators, pointed_name, with_bounds};
@@ -22,6 +33,7 @@ pub fn external(alloc: Global, source: &Source, from: usize) -> Result<Taken<Raw
     requires within { from < length source.now.tokens.now }
     requires few { length source.now.tokens.now < 2 ^ 32 }
     ensures bounds { IsBounded 200 source.now.tokens.now from result }
+    ensures parsed { ExactAnswers (Externals source.now.names.now) external_view 200 source.now.tokens.now source.now.end from result }
 {
     let taken = if is_keyword(source, from, Keyword::Typedef) {
         typedef(alloc, source, from)?
@@ -42,9 +54,11 @@ pub fn external(alloc: Global, source: &Source, from: usize) -> Result<Taken<Raw
 fn typedef(alloc: Global, source: &Source, from: usize) -> Result<Taken<RawExternalKind>, Stop>
     requires within { from < length source.now.tokens.now }
     requires few { length source.now.tokens.now < 2 ^ 32 }
+    requires stands { kind_or_end source.now.tokens.now from ≡ token.Keyword keyword.Typedef }
     ensures bounds { IsBounded 200 source.now.tokens.now from result }
+    ensures parsed { ExactAnswers (Externals source.now.names.now) external_of 200 source.now.tokens.now source.now.end from result }
 {
-    let specs = specs(alloc, source, Scope::File, from + 1, MOST - 1)?;
+    let specs = specs(alloc, source, from + 1, MOST - 1)?;
     let names = declarators(alloc, source, specs.next, MOST - 1, Declares::Names)?;
     Ok(Taken {
         tree: RawExternalKind::Typedef(specs.tree, names.tree),
@@ -57,10 +71,12 @@ fn typedef(alloc: Global, source: &Source, from: usize) -> Result<Taken<RawExter
 fn declared(alloc: Global, source: &Source, from: usize) -> Result<Taken<RawExternalKind>, Stop>
     requires within { from < length source.now.tokens.now }
     requires few { length source.now.tokens.now < 2 ^ 32 }
+    requires other { kind_or_end source.now.tokens.now from ≡ token.Keyword keyword.Typedef → ⊥ }
     ensures bounds { IsBounded 200 source.now.tokens.now from result }
+    ensures parsed { ExactAnswers (Externals source.now.names.now) external_of 200 source.now.tokens.now source.now.end from result }
 {
     let scope = Scope::File;
-    let specs = specs(alloc, source, scope, from, MOST - 1)?;
+    let specs = specs(alloc, source, from, MOST - 1)?;
     if is_mark(source, specs.next, Mark::Semicolon) {
         return Ok(Taken {
             tree: RawExternalKind::Type(specs.tree),
@@ -85,7 +101,9 @@ fn objects(
     requires within { pointed.next ≤ length source.now.tokens.now }
     requires few { length source.now.tokens.now < 2 ^ 32 }
     requires low { specs.height ≤ 199 }
+    requires stands { kind_or_end source.now.tokens.now pointed.next ≡ token.Mark mark.OpenParenthesis → ⊥ }
     ensures bounds { IsBounded 200 source.now.tokens.now pointed.next result }
+    ensures parsed { (from : ℕ) → IsTypeTaken source.now.names.now source.now.tokens.now from specs → IsPointed declaring.Names source.now.names.now source.now.tokens.now specs.next pointed → ExactAnswers (Externals source.now.names.now) external_of 200 source.now.tokens.now source.now.end from result }
 {
     let scope = Scope::File;
     let declarator = with_bounds(alloc, source, pointed, MOST - 1, Declares::Names)?;
@@ -108,7 +126,9 @@ fn function(
     requires within { pointed.next < length source.now.tokens.now }
     requires few { length source.now.tokens.now < 2 ^ 32 }
     requires low { specs.height ≤ 199 }
+    requires stands { kind_or_end source.now.tokens.now pointed.next ≡ token.Mark mark.OpenParenthesis }
     ensures bounds { IsBounded 200 source.now.tokens.now pointed.next result }
+    ensures parsed { (from : ℕ) → IsTypeTaken source.now.names.now source.now.tokens.now from specs → IsPointed declaring.Names source.now.names.now source.now.tokens.now specs.next pointed → ExactAnswers (Externals source.now.names.now) external_of 200 source.now.tokens.now source.now.end from result }
 {
     let parameters = parameters(alloc, source, pointed.next + 1, MOST - 2)?;
     let head = head(pointed.tree, parameters);
@@ -120,8 +140,10 @@ fn function(
             next: head.next + 1,
         });
     }
-    let begins_body = is_mark(source, head.next, Mark::OpenBrace);
-    if !begins_body || !are_named(&head.tree.parameters) {
+    if !is_mark(source, head.next, Mark::OpenBrace) {
+        return Err(refuse(source, head.next, Scope::File));
+    }
+    if !are_named(&head.tree.parameters) {
         return Err(refuse(source, head.next, Scope::File));
     }
     let body = items(alloc, source, head.next + 1, MOST - 2)?;
@@ -140,7 +162,8 @@ fn function(
 /// A function's name with its parameters.
 fn head(pointed: Pointed, parameters: Taken<RawParameters>) -> Taken<RawFunction>
     requires low { parameters.height < 2 ^ 32 - 1 }
-    ensures { IsOf (parameters.height + 1) parameters.next result }
+    ensures size { IsOf (parameters.height + 1) parameters.next result }
+    ensures tree { IsHeadOf pointed (parameters_of parameters.tree) (head_of result.tree) }
 {
     Taken {
         tree: RawFunction {

@@ -1,5 +1,11 @@
 //! The parser of files.
-ghost use Rattle.std.specs.Prelude.{◌<◌, ◌^◌, length};
+ghost use Rattle.std.specs.Prelude.{◌≡◌, ◌<◌, ◌^◌, length, map, IfOk, OnOk};
+ghost use Rattle.std.specs.Result.{IfErr};
+ghost use Rattle.cs_ast.specs.RawDeclarationView.{declarator as declarator_of};
+ghost use Rattle.cs_ast.specs.RawStatementView.{external as external_view};
+ghost use Rattle.cs_grammar.specs.FilePhrases.{names_behind, with_names};
+ghost use Rattle.cs_decl_parser.specs.Files.{parts_of, spelling_here, IsTheFile, IsRefusalOf, IsFileRefusal};
+ghost use Rattle.cs_decl_parser.specs.FileStops.{FileStops, FileAnswer};
 
 use crate::external::external;
 use crate::source::Source;
@@ -17,6 +23,8 @@ use std::alloc::{AllocError, Global};
 /// up to it. The end of input counts as a token.
 pub fn parse(alloc: Global, tokens: &[Token], end: Place) -> Result<Tree, SyntaxRefusal>
     requires few { length tokens.now < 2 ^ 32 }
+    ensures taken { IfOk result (λ tree. IsTheFile tokens.now (parts_of tree.externals.items)) }
+    ensures refused { IfErr result (IsFileRefusal tokens.now end) }
 {
     match externals(alloc, tokens, end) {
         Ok(externals) => Ok(Tree { externals }),
@@ -27,6 +35,7 @@ pub fn parse(alloc: Global, tokens: &[Token], end: Place) -> Result<Tree, Syntax
 /// The parts of the file. The names that a typedef declares are typedef names behind it.
 fn externals(alloc: Global, tokens: &[Token], end: Place) -> Result<Vec<RawExternal>, Stop>
     requires few { length tokens.now < 2 ^ 32 }
+    ensures parsed { FileAnswer tokens.now end result }
 {
     let mut list = Vec::new(alloc);
     let mut names = TypedefNames::new(alloc);
@@ -46,14 +55,18 @@ fn externals(alloc: Global, tokens: &[Token], end: Place) -> Result<Vec<RawExter
 }
 
 /// Adds the names that a part of a file makes typedef names.
-fn declare(names: &mut TypedefNames, external: &RawExternal) -> Result<(), AllocError> {
+fn declare(names: &mut TypedefNames, external: &RawExternal) -> Result<(), AllocError>
+    ensures { OnOk result (names.new ≡ names_behind names.old (external_view external.now)) }
+{
     match &external.kind {
         RawExternalKind::Typedef(_, declarators) => add_names(names, declarators),
         _ => Ok(()),
     }
 }
 
-fn add_names(names: &mut TypedefNames, declarators: &[RawDeclarator]) -> Result<(), AllocError> {
+fn add_names(names: &mut TypedefNames, declarators: &[RawDeclarator]) -> Result<(), AllocError>
+    ensures { OnOk result (names.new ≡ with_names names.old (map declarator_of declarators.now)) }
+{
     for declarator in declarators {
         names.add(declarator.name.copy()?)?;
     }
@@ -61,7 +74,9 @@ fn add_names(names: &mut TypedefNames, declarators: &[RawDeclarator]) -> Result<
 }
 
 /// The refusal for which the parser stopped.
-fn refusal(alloc: Global, tokens: &[Token], end: Place, stop: Stop) -> SyntaxRefusal {
+fn refusal(alloc: Global, tokens: &[Token], end: Place, stop: Stop) -> SyntaxRefusal
+    ensures { FileStops tokens.now end stop → IsFileRefusal tokens.now end result }
+{
     match stop {
         Stop::Refused(at, reason) => match tokens.get(at) {
             Some(token) => refusal_of(alloc, token, reason),
@@ -72,7 +87,9 @@ fn refusal(alloc: Global, tokens: &[Token], end: Place, stop: Stop) -> SyntaxRef
     }
 }
 
-fn refusal_of(alloc: Global, token: &Token, reason: Reason) -> SyntaxRefusal {
+fn refusal_of(alloc: Global, token: &Token, reason: Reason) -> SyntaxRefusal
+    ensures { IsRefusalOf token.now reason result }
+{
     match reason {
         Reason::Syntax => SyntaxRefusal::Syntax(token.place),
         Reason::TooDeep => SyntaxRefusal::TooDeep(token.place),
@@ -84,7 +101,9 @@ fn refusal_of(alloc: Global, token: &Token, reason: Reason) -> SyntaxRefusal {
 }
 
 /// The spelling of a word or mark that is left out somewhere in a file.
-fn left_out_here(kind: &TokenKind) -> &'static [u8] {
+fn left_out_here(kind: &TokenKind) -> &'static [u8]
+    ensures { result.now ≡ spelling_here kind.now }
+{
     match kind {
         TokenKind::Mark(Mark::OpenParenthesis) => b"(",
         TokenKind::Mark(Mark::OpenBracket) => b"[",

@@ -1,6 +1,7 @@
 //! The forms of statements, told by their first tokens (C11 6.8).
 ghost use Rattle.std.specs.Prelude.{◌≡◌, ◌<◌, ◌^◌, ◌+◌, length, IsTrue};
-ghost use Rattle.cs_decl_parser.specs.Forms.{least, IsFormAt};
+ghost use Rattle.cs_expr_parser.specs.Positions.{kind_or_end, keyword_of};
+ghost use Rattle.cs_decl_parser.specs.Forms.{least, form_of, word_form, is_labelled, IsFormAt};
 
 use crate::source::{Source, begins_type, is_mark, keyword_at, mark_at, name_at};
 use cs_ast::{Keyword, Mark};
@@ -31,6 +32,7 @@ pub enum Form {
 pub fn form_at(source: &Source, at: usize) -> Form
     requires few { at < 2 ^ 33 }
     ensures within { IsFormAt source.now.tokens.now at result }
+    ensures form { result ≡ form_of source.now.names.now (kind_or_end source.now.tokens.now at) (kind_or_end source.now.tokens.now (at + 1)) }
 {
     if is_label(source, at) {
         return Form::Label;
@@ -49,12 +51,14 @@ pub fn form_at(source: &Source, at: usize) -> Form
 pub fn is_label(source: &Source, at: usize) -> bool
     requires few { at < 2 ^ 33 }
     ensures within { IsTrue result → at + 1 < length source.now.tokens.now }
+    ensures labelled { result ≡ is_labelled (kind_or_end source.now.tokens.now at) (kind_or_end source.now.tokens.now (at + 1)) }
 {
     name_at(source, at).is_some() && is_mark(source, at + 1, Mark::Colon)
 }
 
 fn form_of_word(source: &Source, at: usize) -> Form
     ensures within { IsFormAt source.now.tokens.now at result }
+    ensures form { result ≡ word_form (keyword_of (kind_or_end source.now.tokens.now at)) }
 {
     match keyword_at(source, at) {
         Some(Keyword::If) => Form::If,

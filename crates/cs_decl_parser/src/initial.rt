@@ -1,10 +1,17 @@
 //! What objects hold at first (C11 6.7.9).
-ghost use Rattle.std.specs.Prelude.{◌≤◌, ◌<◌, ◌^◌, length};
+ghost use Rattle.std.specs.Prelude.{◌≡◌, ◌≤◌, ◌<◌, ◌^◌, length, true, IsTrue};
+ghost use Rattle.cs_ast.specs.declared.token.TokenKind.TheVariants as token;
+ghost use Rattle.cs_ast.specs.declared.token.Mark.TheVariants as mark;
+ghost use Rattle.cs_ast.specs.RawDeclarationView.{initial as initial_of};
+ghost use Rattle.cs_grammar.specs.DeclarationClasses.{Values};
+ghost use Rattle.cs_expr_parser.specs.Positions.{kind_or_end};
+ghost use Rattle.cs_decl_parser.specs.Answers.{UnclosedAnswers};
+ghost use Rattle.cs_decl_parser.specs.DeclarationAnswers.{is_designator};
 ghost use Rattle.cs_decl_parser.specs.Bounds.{IsUnclosedBounded};
 
-use crate::constants::goes_on;
+use crate::constants::{closing_at, goes_on};
 use crate::expression::expression;
-use crate::source::{Scope, Source, is_mark, mark_at, reason_at, refuse_deep};
+use crate::source::{Scope, Source, is_mark, reason_at, refuse_deep};
 use crate::stop::{Stop, Unclosed};
 use cs_ast::Mark;
 use cs_ast::raw::declaration::RawInitial;
@@ -23,21 +30,30 @@ pub fn initial(
 ) -> Result<Unclosed<RawInitial>, Stop>
     requires within { from ≤ length source.now.tokens.now }
     requires few { length source.now.tokens.now < 2 ^ 32 }
+    requires some { 1 ≤ room }
     ensures bounds { IsUnclosedBounded room source.now.tokens.now from result }
+    ensures parsed { UnclosedAnswers (Values source.now.names.now) initial_of room source.now.tokens.now source.now.end from result }
 {
-    match mark_at(source, from) {
-        Some(Mark::OpenBrace) => items(alloc, source, scope, from, room),
-        Some(Mark::Dot | Mark::OpenBracket) => Err(Stop::Refused(from, Reason::LeftOut)),
-        _ => {
-            let value = expression(alloc, source, from, room, ExprLevel::Assign)?;
-            Ok(Unclosed {
-                tree: RawInitial::Value(value.tree),
-                height: value.height,
-                next: value.next,
-                otherwise: value.otherwise,
-            })
-        }
+    if is_mark(source, from, Mark::OpenBrace) {
+        return items(alloc, source, scope, from, room);
     }
+    if begins_designator(source, from) {
+        return Err(Stop::Refused(from, Reason::LeftOut));
+    }
+    let value = expression(alloc, source, from, room, ExprLevel::Assign)?;
+    Ok(Unclosed {
+        tree: RawInitial::Value(value.tree),
+        height: value.height,
+        next: value.next,
+        otherwise: value.otherwise,
+    })
+}
+
+/// Whether a designator would begin with the token at a number.
+fn begins_designator(source: &Source, at: usize) -> bool
+    ensures { IsTrue result → is_designator (kind_or_end source.now.tokens.now at) ≡ true }
+{
+    is_mark(source, at, Mark::Dot) || is_mark(source, at, Mark::OpenBracket)
 }
 
 /// Items between braces, one at least, the first of which stands at a number.
@@ -51,7 +67,9 @@ fn items(
 ) -> Result<Unclosed<RawInitial>, Stop>
     requires within { from < length source.now.tokens.now }
     requires few { length source.now.tokens.now < 2 ^ 32 }
+    requires stands { kind_or_end source.now.tokens.now from ≡ token.Mark mark.OpenBrace }
     ensures bounds { IsUnclosedBounded room source.now.tokens.now from result }
+    ensures parsed { UnclosedAnswers (Values source.now.names.now) initial_of room source.now.tokens.now source.now.end from result }
 {
     if room < 2 {
         return Err(refuse_deep(from));
@@ -67,7 +85,7 @@ fn items(
     }
     list.push(last.tree)?;
     let comma = is_mark(source, last.next, Mark::Comma);
-    let closing = if comma { last.next + 1 } else { last.next };
+    let closing = closing_at(last.next, comma);
     if !is_mark(source, closing, Mark::CloseBrace) {
         return Err(Stop::Refused(closing, last.otherwise));
     }

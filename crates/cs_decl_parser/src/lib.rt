@@ -2,6 +2,7 @@
 #![tactic(auto)]
 
 mod block;
+mod block_specs;
 mod branches;
 mod constants;
 mod declarator;

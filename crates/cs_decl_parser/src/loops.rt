@@ -1,5 +1,14 @@
 //! Statements that repeat (C11 6.8.5).
-ghost use Rattle.std.specs.Prelude.{◌≤◌, ◌<◌, ◌^◌, length};
+ghost use Rattle.std.specs.Prelude.{◌≡◌, ◌≤◌, ◌<◌, ◌^◌, length};
+ghost use Rattle.cs_ast.specs.declared.token.TokenKind.TheVariants as token;
+ghost use Rattle.cs_ast.specs.declared.token.Keyword.TheVariants as keyword;
+ghost use Rattle.std.specs.Option.{option_map};
+ghost use Rattle.cs_ast.specs.RawView.{written};
+ghost use Rattle.cs_ast.specs.RawStatementView.{first_of, statement_of};
+ghost use Rattle.cs_grammar.specs.FileClasses.{Firsts, Sentences};
+ghost use Rattle.cs_expr_parser.specs.Positions.{kind_or_end};
+ghost use Rattle.cs_decl_parser.specs.Answers.{Answers, ExactAnswers};
+ghost use Rattle.cs_decl_parser.specs.Blocks.{Controls, control_of, first_if_any};
 ghost use Rattle.cs_decl_parser.specs.Bounds.{IsBounded};
 
 use crate::block::declaration;
@@ -25,7 +34,9 @@ pub fn while_statement(
     requires within { from < length source.now.tokens.now }
     requires few { length source.now.tokens.now < 2 ^ 32 }
     requires enough { 2 ≤ room }
+    requires stands { kind_or_end source.now.tokens.now from ≡ token.Keyword keyword.While }
     ensures bounds { IsBounded room source.now.tokens.now from result }
+    ensures parsed { Answers (Sentences source.now.names.now) statement_of room source.now.tokens.now source.now.end from result }
 {
     let place = place_at(source, from);
     let test = parenthesised(alloc, source, from + 1, room - 1)?;
@@ -45,7 +56,9 @@ pub fn do_statement(
     requires within { from < length source.now.tokens.now }
     requires few { length source.now.tokens.now < 2 ^ 32 }
     requires enough { 2 ≤ room }
+    requires stands { kind_or_end source.now.tokens.now from ≡ token.Keyword keyword.Do }
     ensures bounds { IsBounded room source.now.tokens.now from result }
+    ensures parsed { Answers (Sentences source.now.names.now) statement_of room source.now.tokens.now source.now.end from result }
 {
     let place = place_at(source, from);
     let body = statement(alloc, source, from + 1, room - 1)?;
@@ -80,7 +93,9 @@ pub fn for_statement(
     requires within { from < length source.now.tokens.now }
     requires few { length source.now.tokens.now < 2 ^ 32 }
     requires enough { 2 ≤ room }
+    requires stands { kind_or_end source.now.tokens.now from ≡ token.Keyword keyword.For }
     ensures bounds { IsBounded room source.now.tokens.now from result }
+    ensures parsed { Answers (Sentences source.now.names.now) statement_of room source.now.tokens.now source.now.end from result }
 {
     let place = place_at(source, from);
     let control = control(alloc, source, from + 1, room - 1)?;
@@ -94,6 +109,7 @@ fn control(alloc: Global, source: &Source, from: usize, room: u32) -> Result<Tak
     requires within { from ≤ length source.now.tokens.now }
     requires few { length source.now.tokens.now < 2 ^ 32 }
     ensures bounds { IsBounded room source.now.tokens.now from result }
+    ensures parsed { ExactAnswers (Controls source.now.names.now) control_of room source.now.tokens.now source.now.end from result }
 {
     if !is_mark(source, from, Mark::OpenParenthesis) {
         return Err(refuse(source, from, Scope::Block));
@@ -130,6 +146,7 @@ fn first_part(
     requires within { from ≤ length source.now.tokens.now }
     requires few { length source.now.tokens.now < 2 ^ 32 }
     ensures bounds { IsBounded room source.now.tokens.now from result }
+    ensures parsed { ExactAnswers (Firsts source.now.names.now) first_of room source.now.tokens.now source.now.end from result }
 {
     if begins_type(source, from) {
         let declared = declaration(alloc, source, from, room)?;
@@ -149,7 +166,9 @@ fn first_part(
 }
 
 /// The first part of a `for` that declares nothing.
-fn run_if_any(value: Option<RawExpr>) -> RawFirst {
+fn run_if_any(value: Option<RawExpr>) -> RawFirst
+    ensures { first_of result ≡ first_if_any (option_map written value) }
+{
     match value {
         Some(value) => RawFirst::Run(value),
         None => RawFirst::Empty,

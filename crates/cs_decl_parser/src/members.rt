@@ -1,5 +1,9 @@
 //! The members of a structure (C11 6.7.2.1).
 ghost use Rattle.std.specs.Prelude.{◌≤◌, ◌<◌, ◌^◌, length};
+ghost use Rattle.cs_ast.specs.RawDeclarationView.{members_list};
+ghost use Rattle.cs_grammar.specs.DeclarationClasses.{MemberGroups, MemberRows};
+ghost use Rattle.cs_decl_parser.specs.Answers.{ExactAnswers};
+ghost use Rattle.cs_decl_parser.specs.SpecWords.{group};
 ghost use Rattle.cs_decl_parser.specs.Bounds.{IsBounded};
 
 use crate::declarator::{Declares, declarators};
@@ -21,6 +25,7 @@ pub fn members(
     requires within { from ≤ length source.now.tokens.now }
     requires few { length source.now.tokens.now < 2 ^ 32 }
     ensures bounds { IsBounded room source.now.tokens.now from result }
+    ensures parsed { ExactAnswers (MemberRows source.now.names.now) (λ list. members_list list.items) room source.now.tokens.now source.now.end from result }
 {
     let mut list = Vec::new(alloc);
     let mut height = 0;
@@ -44,6 +49,7 @@ fn member(alloc: Global, source: &Source, from: usize, room: u32) -> Result<Take
     requires within { from ≤ length source.now.tokens.now }
     requires few { length source.now.tokens.now < 2 ^ 32 }
     ensures bounds { IsBounded room source.now.tokens.now from result }
+    ensures parsed { ExactAnswers (MemberGroups source.now.names.now) group room source.now.tokens.now source.now.end from result }
 {
     let scope = Scope::File;
     if !begins_specs(source, from, scope) {
@@ -52,7 +58,7 @@ fn member(alloc: Global, source: &Source, from: usize, room: u32) -> Result<Take
     if room < 2 {
         return Err(refuse_deep(from));
     }
-    let specs = specs(alloc, source, scope, from, room - 1)?;
+    let specs = specs(alloc, source, from, room - 1)?;
     let members = declarators(alloc, source, specs.next, room - 1, Declares::Members)?;
     Ok(Taken {
         tree: RawMember {

@@ -1,5 +1,8 @@
 //! The names that tags, declarators and constants have.
 ghost use Rattle.std.specs.Prelude.{◌<◌, length, IfOk, IsSome};
+ghost use Rattle.cs_grammar.specs.FilePhrases.{IsFree};
+ghost use Rattle.cs_expr_parser.specs.Positions.{kind_or_end};
+ghost use Rattle.cs_decl_parser.specs.DeclarationAnswers.{IsNameAt};
 
 use crate::source::{Source, begins_type, name_at, place_at};
 use cs_ast::raw::name::RawName;
@@ -8,6 +11,7 @@ use std::alloc::AllocError;
 /// The name at a number, which may be that of a typedef, if one stands there.
 pub fn any_name_at(source: &Source, at: usize) -> Result<Option<RawName>, AllocError>
     ensures within { IfOk result (λ name. IsSome name → at < length source.now.tokens.now) }
+    ensures name { IfOk result (IsNameAt (λ name. Unit {0}) (kind_or_end source.now.tokens.now at)) }
 {
     let Some(name) = name_at(source, at) else {
         return Ok(None);
@@ -22,6 +26,7 @@ pub fn any_name_at(source: &Source, at: usize) -> Result<Option<RawName>, AllocE
 /// The name at a number, if one stands there that is no typedef's.
 pub fn free_name_at(source: &Source, at: usize) -> Result<Option<RawName>, AllocError>
     ensures within { IfOk result (λ name. IsSome name → at < length source.now.tokens.now) }
+    ensures name { IfOk result (IsNameAt (IsFree source.now.names.now) (kind_or_end source.now.tokens.now at)) }
 {
     if begins_type(source, at) {
         return Ok(None);

@@ -9,8 +9,8 @@ ghost use Rattle.cs_decl_parser.specs.Nodes.{IsNode};
 use crate::loops::ForParts;
 use crate::stop::Taken;
 use cs_ast::Place;
-use cs_ast::raw::name::RawName;
 use cs_ast::raw::expression::RawExpr;
+use cs_ast::raw::name::RawName;
 use cs_ast::raw::statement::{RawStmt, RawStmtKind};
 use std::alloc::{AllocError, Global};
 

@@ -1,13 +1,22 @@
 //! Declared objects, each with what it holds at first (C11 6.7).
-ghost use Rattle.std.specs.Prelude.{◌≤◌, ◌<◌, ◌^◌, length};
+ghost use Rattle.std.specs.Prelude.{◌≡◌, ℕ, ◌≤◌, ◌<◌, ◌^◌, length, map};
+ghost use Rattle.cs_ast.specs.declared.token.TokenKind.TheVariants as token;
+ghost use Rattle.cs_ast.specs.declared.token.Mark.TheVariants as mark;
+ghost use Rattle.cs_ast.specs.RawDeclarationView.{declared};
+ghost use Rattle.cs_grammar.specs.Composed.{Separated};
+ghost use Rattle.cs_grammar.specs.DeclarationClasses.{Objects};
+ghost use Rattle.cs_decl_parser.specs.declared.declarator.Declares.TheVariants as declaring;
+ghost use Rattle.cs_decl_parser.specs.Answers.{IsUnclosed, ExactAnswers, UnclosedAnswers};
+ghost use Rattle.cs_decl_parser.specs.DeclarationAnswers.{IsDeclaratorTaken, IsAlone};
 ghost use Rattle.cs_decl_parser.specs.Bounds.{IsBounded, IsUnclosedBounded, IsUnclosedRowBounded};
 
 use crate::declarator::{Declares, declarator};
 use crate::initial::initial;
-use crate::source::{Scope, Source, is_mark, place_at, reason_at, refuse_deep};
+use crate::source::{Scope, Source, is_mark, place_at, reason_at};
 use crate::stop::{Stop, Taken, Unclosed};
 use cs_ast::Mark;
 use cs_ast::raw::declaration::{RawDeclarator, RawFirstValue, RawInit};
+use cs_grammar::Reason;
 use std::alloc::Global;
 
 /// Objects with commas between them, one at least, to behind the semicolon. The height is that of the highest.
@@ -22,6 +31,7 @@ pub fn objects(
     requires few { length source.now.tokens.now < 2 ^ 32 }
     requires some { 1 ≤ room }
     ensures bounds { IsBounded room source.now.tokens.now from result }
+    ensures parsed { ExactAnswers (Separated (Objects source.now.names.now) (token.Mark mark.Semicolon)) (λ list. map declared list.items) room source.now.tokens.now source.now.end from result }
 {
     let first = object(alloc, source, scope, from, room)?;
     let all = with_others(alloc, source, scope, first, room)?;
@@ -41,6 +51,7 @@ pub fn with_others(
     requires some { 1 ≤ room }
     requires low { first.height ≤ room }
     ensures bounds { IsBounded room source.now.tokens.now first.next result }
+    ensures parsed { (from : ℕ) → IsUnclosed (Objects source.now.names.now) declared room source.now.tokens.now from first → ExactAnswers (Separated (Objects source.now.names.now) (token.Mark mark.Semicolon)) (λ list. map declared list.items) room source.now.tokens.now source.now.end from result }
 {
     let mut list = Vec::new(alloc);
     let mut height = first.height;
@@ -73,6 +84,7 @@ fn object(
     requires few { length source.now.tokens.now < 2 ^ 32 }
     requires some { 1 ≤ room }
     ensures bounds { IsUnclosedBounded room source.now.tokens.now from result }
+    ensures parsed { UnclosedAnswers (Objects source.now.names.now) declared room source.now.tokens.now source.now.end from result }
 {
     let declarator = declarator(alloc, source, scope, from, room, Declares::Names)?;
     let object = with_value(alloc, source, scope, declarator, room)?;
@@ -89,23 +101,17 @@ pub fn with_value(
 ) -> Result<Unclosed<RawInit>, Stop>
     requires within { declarator.next ≤ length source.now.tokens.now }
     requires few { length source.now.tokens.now < 2 ^ 32 }
+    requires some { 1 ≤ declarator.height }
     requires low { declarator.height ≤ room }
     ensures bounds { IsUnclosedRowBounded room source.now.tokens.now declarator.next result }
+    ensures parsed { (from : ℕ) → IsDeclaratorTaken declaring.Names source.now.names.now room source.now.tokens.now from declarator → UnclosedAnswers (Objects source.now.names.now) declared room source.now.tokens.now source.now.end from result }
 {
     let at = declarator.next;
     if !is_mark(source, at, Mark::Equal) {
-        return Ok(Unclosed {
-            tree: RawInit {
-                declarator: declarator.tree,
-                initial: None,
-            },
-            height: declarator.height,
-            next: at,
-            otherwise: reason_at(source, at, scope),
-        });
+        return Ok(alone(declarator, reason_at(source, at, scope)));
     }
     if declarator.height >= room {
-        return Err(refuse_deep(at));
+        return Ok(alone(declarator, Reason::TooDeep));
     }
     let value = initial(alloc, source, scope, at + 1, room - 1)?;
     Ok(Unclosed {
@@ -120,4 +126,22 @@ pub fn with_value(
         next: value.next,
         otherwise: value.otherwise,
     })
+}
+
+/// The object of a declarator with no value, and why the token behind it is refused.
+fn alone(declarator: Taken<RawDeclarator>, otherwise: Reason) -> Unclosed<RawInit>
+    ensures tree { IsAlone declarator.tree result.tree }
+    ensures height { result.height ≡ declarator.height }
+    ensures next { result.next ≡ declarator.next }
+    ensures otherwise { result.otherwise ≡ otherwise }
+{
+    Unclosed {
+        tree: RawInit {
+            declarator: declarator.tree,
+            initial: None,
+        },
+        height: declarator.height,
+        next: declarator.next,
+        otherwise,
+    }
 }

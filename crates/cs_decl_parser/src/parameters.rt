@@ -1,5 +1,14 @@
 //! The parameters of functions (C11 6.7.6.3).
-ghost use Rattle.std.specs.Prelude.{◌≤◌, ◌<◌, ◌^◌, ◌+◌, length, IsTrue};
+ghost use Rattle.std.specs.Prelude.{◌≤◌, ◌<◌, ◌^◌, ◌+◌, ◌≡◌, ◌↔◌, length, map, IsTrue};
+ghost use Rattle.cs_ast.specs.declared.token.TokenKind.TheVariants as token;
+ghost use Rattle.cs_ast.specs.declared.token.Keyword.TheVariants as keyword;
+ghost use Rattle.cs_ast.specs.declared.token.Mark.TheVariants as mark;
+ghost use Rattle.cs_ast.specs.RawDeclarationView.{parameter as parameter_of, parameters as parameters_of};
+ghost use Rattle.cs_grammar.specs.FilePhrases.{AreNamed};
+ghost use Rattle.cs_grammar.specs.DeclarationClasses.{ParameterClass, ParameterRows, ParameterLists};
+ghost use Rattle.cs_expr_parser.specs.Positions.{kind_or_end};
+ghost use Rattle.cs_decl_parser.specs.Answers.{Answers, ExactAnswers};
+ghost use Rattle.cs_decl_parser.specs.DeclarationAnswers.{ParameterNameAnswer, IsVoidAlone};
 ghost use Rattle.cs_decl_parser.specs.Bounds.{IsBounded, IsRowBounded};
 
 use crate::declarator::{Declares, bounds};
@@ -22,8 +31,9 @@ pub fn parameters(
 ) -> Result<Taken<RawParameters>, Stop>
     requires within { from ≤ length source.now.tokens.now }
     requires few { length source.now.tokens.now < 2 ^ 32 }
-    requires enough { 3 ≤ room }
+    requires enough { 4 ≤ room }
     ensures bounds { IsBounded room source.now.tokens.now from result }
+    ensures parsed { ExactAnswers (ParameterLists source.now.names.now) parameters_of room source.now.tokens.now source.now.end from result }
 {
     if is_mark(source, from, Mark::CloseParenthesis) {
         return Ok(Taken {
@@ -51,6 +61,7 @@ pub fn parameters(
 fn is_void_alone(source: &Source, from: usize) -> bool
     requires few { from < 2 ^ 33 }
     ensures within { IsTrue result → from + 1 < length source.now.tokens.now }
+    ensures void { IsTrue result ↔ IsVoidAlone source.now.tokens.now from }
 {
     is_keyword(source, from, Keyword::Void) && is_mark(source, from + 1, Mark::CloseParenthesis)
 }
@@ -64,8 +75,11 @@ fn parameter_list(
 ) -> Result<Taken<Vec<RawParameter>>, Stop>
     requires within { from ≤ length source.now.tokens.now }
     requires few { length source.now.tokens.now < 2 ^ 32 }
-    requires enough { 2 ≤ room }
+    requires enough { 3 ≤ room }
+    requires no_parenthesis { kind_or_end source.now.tokens.now from ≡ token.Mark mark.CloseParenthesis → ⊥ }
+    requires no_void { IsVoidAlone source.now.tokens.now from → ⊥ }
     ensures bounds { IsBounded room source.now.tokens.now from result }
+    ensures parsed { ExactAnswers (ParameterRows source.now.names.now) (λ list. map parameter_of list.items) room source.now.tokens.now source.now.end from result }
 {
     let mut list = Vec::new(alloc);
     let mut last = parameter(alloc, source, from, room)?;
@@ -95,10 +109,11 @@ fn parameter(
 ) -> Result<Taken<RawParameter>, Stop>
     requires within { from ≤ length source.now.tokens.now }
     requires few { length source.now.tokens.now < 2 ^ 32 }
-    requires enough { 2 ≤ room }
+    requires enough { 3 ≤ room }
     ensures bounds { IsBounded room source.now.tokens.now from result }
+    ensures parsed { Answers (ParameterClass source.now.names.now) parameter_of room source.now.tokens.now source.now.end from result }
 {
-    let specs = specs(alloc, source, Scope::File, from, room - 1)?;
+    let specs = specs(alloc, source, from, room - 1)?;
     let pointers = stars(alloc, source, specs.next)?;
     let name = parameter_name(source, pointers.next)?;
     let bounds = bounds(alloc, source, name.next, room - 1, Declares::Names)?;
@@ -120,6 +135,7 @@ fn parameter_name(source: &Source, at: usize) -> Result<Taken<Option<RawName>>, 
     requires within { at ≤ length source.now.tokens.now }
     requires few { length source.now.tokens.now < 2 ^ 32 }
     ensures bounds { IsRowBounded 0 source.now.tokens.now at result }
+    ensures name { ParameterNameAnswer source.now.names.now source.now.tokens.now at result }
 {
     if is_mark(source, at, Mark::OpenParenthesis) {
         return Err(refuse_but(source, at, Scope::File, Mark::OpenParenthesis));
@@ -134,7 +150,9 @@ fn parameter_name(source: &Source, at: usize) -> Result<Taken<Option<RawName>>, 
 }
 
 /// Whether every parameter has a name, so that a body may follow.
-pub fn are_named(parameters: &RawParameters) -> bool {
+pub fn are_named(parameters: &RawParameters) -> bool
+    ensures { IsTrue result ↔ AreNamed (parameters_of parameters.now) }
+{
     match parameters {
         RawParameters::Empty | RawParameters::Void => true,
         RawParameters::List(list) => list.iter().all(|parameter| parameter.name.is_some()),

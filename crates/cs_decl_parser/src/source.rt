@@ -1,5 +1,5 @@
 //! Tokens by their numbers, and why they are refused.
-ghost use Rattle.std.specs.Prelude.{◌≡◌, ◌<◌, ◌↔◌, length, drop, IsSome, IsTrue};
+ghost use Rattle.std.specs.Prelude.{◌≡◌, ◌<◌, ◌↔◌, length, drop, false, IsSome, IsTrue};
 ghost use Rattle.std.specs.Option.{option_copied};
 ghost use Rattle.cs_ast.specs.declared.token.TokenKind.TheVariants as token;
 ghost use Rattle.cs_grammar.specs.FirstTokens.{begins_type as starts_type, keyword_begins_type};
@@ -7,6 +7,7 @@ ghost use Rattle.cs_grammar.specs.Places.{StandsAt};
 ghost use Rattle.cs_expr_parser.specs.Positions.{kind_or_end, mark_of as mark_of_kind, keyword_of as keyword_of_kind, name_of as name_of_kind};
 ghost use Rattle.cs_grammar.specs.declared.refusal.Reason.TheVariants.{TooDeep};
 ghost use Rattle.cs_decl_parser.specs.declared.stop.Stop.TheVariants as stop;
+ghost use Rattle.cs_decl_parser.specs.DeclarationAnswers.{RefusesBehind};
 ghost use Rattle.cs_decl_parser.specs.Reasons.{is_left_out as left_out, plain_reason, RefusesBut};
 
 use crate::stop::Stop;
@@ -181,7 +182,8 @@ pub fn refuse(source: &Source, at: usize, scope: Scope) -> Stop
 
 /// The same, where besides a mark is left out.
 pub fn refuse_but(source: &Source, at: usize, scope: Scope, left_out: Mark) -> Stop
-    ensures { RefusesBut left_out scope at (kind_or_end source.now.tokens.now at) result }
+    ensures reason { RefusesBut left_out scope at (kind_or_end source.now.tokens.now at) result }
+    ensures plain { RefusesBehind at false result }
 {
     if is_mark(source, at, left_out) {
         return Stop::Refused(at, Reason::LeftOut);

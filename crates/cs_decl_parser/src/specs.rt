@@ -1,21 +1,24 @@
 //! What stands before declarators: words of types and bodies (C11 6.7.2).
-ghost use Rattle.std.specs.Prelude.{◌≡◌, ◌≤◌, ◌<◌, ◌^◌, ◌+◌, ◌-◌, length, IfSome};
+ghost use Rattle.std.specs.Prelude.{◌≡◌, ◌≤◌, ◌<◌, ◌^◌, ◌+◌, ◌-◌, length, false, IsTrue};
+ghost use Rattle.cs_ast.specs.RawDeclarations.{StructBody};
+ghost use Rattle.cs_ast.specs.RawDeclarationView.{members_list};
+ghost use Rattle.cs_expr_parser.specs.Positions.{kind_or_end};
 ghost use Rattle.cs_expr_parser.specs.Words.{names_some};
 ghost use Rattle.cs_decl_parser.specs.Bounds.{IsBounded, IsNextBounded, IsWordBounded, IsWordOf};
+ghost use Rattle.cs_decl_parser.specs.DeclarationAnswers.{constant_row};
+ghost use Rattle.cs_decl_parser.specs.SpecWords.{begins_words, name_in, number_behind, enum_of, IsTagKeyword, HasNoTag, IsTagged, IsOpened, IsSpecOf, IsStatic, PlainAnswer, ElementAnswer, SpecAnswer, SpecsAnswer};
 
 use crate::constants::{ConstantList, constants};
 use crate::members::members;
 use crate::names::any_name_at;
-use crate::source::{
-    Scope, Source, begins_type, is_keyword, is_mark, keyword_at, refuse, refuse_deep,
-};
+use crate::source::{Scope, Source, begins_type, is_keyword, is_mark, refuse, refuse_deep};
 use crate::stop::{Stop, Taken};
 use crate::words::type_word_at;
 use cs_ast::raw::declaration::{RawMember, RawSpecs, SpecWord};
 use cs_ast::raw::name::RawName;
 use cs_ast::raw::written_type::TypeWord;
 use cs_ast::{Keyword, Mark, Place};
-use cs_grammar::{Reason, TypeSoFar};
+use cs_grammar::TypeSoFar;
 use cs_names::Name;
 use std::alloc::Global;
 
@@ -33,16 +36,17 @@ pub struct NextWord {
 }
 
 /// Whether what stands before declarators may begin with the token at a number.
-pub fn begins_specs(source: &Source, at: usize, scope: Scope) -> bool {
+pub fn begins_specs(source: &Source, at: usize, scope: Scope) -> bool
+    ensures { result ≡ begins_words scope source.now.names.now (kind_or_end source.now.tokens.now at) }
+{
     begins_type(source, at) || scope == Scope::File && is_keyword(source, at, Keyword::Static)
 }
 
-/// What stands before declarators, from a number on: as many words as fit together.
+/// What stands before declarators outside blocks, from a number on: as many words as fit together.
 #[cycle(specs)]
 pub fn specs(
     alloc: Global,
     source: &Source,
-    scope: Scope,
     from: usize,
     room: u32,
 ) -> Result<Taken<RawSpecs>, Stop>
@@ -50,13 +54,14 @@ pub fn specs(
     requires few { length source.now.tokens.now < 2 ^ 32 }
     requires some { 1 ≤ room }
     ensures bounds { IsBounded room source.now.tokens.now from result }
+    ensures parsed { SpecsAnswer source.now.names.now room source.now.tokens.now source.now.end from result }
 {
     let mut words = Vec::new(alloc);
     let mut tag = None;
     let mut height = 0;
     let mut next = from;
     let mut so_far = TypeSoFar::Nothing;
-    'words: while let Some(found) = word_at(alloc, source, scope, next, room, so_far)? {
+    'words: while let Some(found) = word_at(alloc, source, next, room, so_far)? {
         tag = tag.or(found.tag);
         height = height.max(found.height);
         next = found.next;
@@ -64,7 +69,7 @@ pub fn specs(
         words.push(found.word)?;
     }
     if !names_type(so_far) {
-        return Err(refuse(source, next, scope));
+        return Err(refuse(source, next, Scope::File));
     }
     Ok(Taken {
         tree: RawSpecs { words, tag },
@@ -73,12 +78,23 @@ pub fn specs(
     })
 }
 
+/// Whether `struct` or `enum` stands at a number.
+pub fn begins_tagged(source: &Source, at: usize) -> bool
+    ensures tag { IsTrue result → IsTagKeyword (kind_or_end source.now.tokens.now at) }
+    ensures none { result ≡ false → HasNoTag (kind_or_end source.now.tokens.now at) }
+    ensures within { IsTrue result → at < length source.now.tokens.now }
+{
+    if is_keyword(source, at, Keyword::Struct) {
+        return true;
+    }
+    is_keyword(source, at, Keyword::Enum)
+}
+
 /// The word at a number, if one stands there that fits behind those before it.
 #[cycle(specs)]
 fn word_at(
     alloc: Global,
     source: &Source,
-    scope: Scope,
     at: usize,
     room: u32,
     so_far: TypeSoFar,
@@ -87,22 +103,23 @@ fn word_at(
     requires few { length source.now.tokens.now < 2 ^ 32 }
     requires some { 1 ≤ room }
     ensures bounds { IsWordBounded room source.now.tokens.now at result }
+    ensures word { SpecAnswer source.now.names.now room source.now.tokens.now source.now.end at so_far result }
 {
-    match keyword_at(source, at) {
-        Some(Keyword::Struct | Keyword::Enum) => {
-            if names_type(so_far) {
-                return Ok(None);
-            }
-            let found = tagged(alloc, source, scope, at, room)?;
-            Ok(Some(found))
-        }
-        Some(Keyword::Static) => Ok(static_word(scope, at, so_far)),
-        _ => plain_word(source, at, so_far),
+    if is_keyword(source, at, Keyword::Static) {
+        return Ok(Some(static_word(at, so_far)));
     }
+    if !begins_tagged(source, at) {
+        return plain_word(source, at, so_far);
+    }
+    if names_type(so_far) {
+        return Ok(None);
+    }
+    let found = tagged(alloc, source, at, room)?;
+    Ok(Some(found))
 }
 
 /// Whether words name a type.
-fn names_type(so_far: TypeSoFar) -> bool
+pub fn names_type(so_far: TypeSoFar) -> bool
     ensures { result ≡ names_some so_far }
 {
     match so_far {
@@ -112,26 +129,24 @@ fn names_type(so_far: TypeSoFar) -> bool
 }
 
 /// `static`, at a number.
-fn static_word(scope: Scope, at: usize, so_far: TypeSoFar) -> Option<NextWord>
+fn static_word(at: usize, so_far: TypeSoFar) -> NextWord
     requires few { at < 2 ^ 32 }
-    ensures { IfSome result (IsWordOf 1 1 at) }
+    ensures { IsStatic at so_far result }
 {
-    match scope {
-        Scope::File => Some(NextWord {
-            word: SpecWord::Static,
-            tag: None,
-            height: 1,
-            next: at + 1,
-            so_far,
-        }),
-        Scope::Block => None,
+    NextWord {
+        word: SpecWord::Static,
+        tag: None,
+        height: 1,
+        next: at + 1,
+        so_far,
     }
 }
 
 /// The word of one token at a number, if it is one that fits behind the words before it.
-fn plain_word(source: &Source, at: usize, so_far: TypeSoFar) -> Result<Option<NextWord>, Stop>
+pub fn plain_word(source: &Source, at: usize, so_far: TypeSoFar) -> Result<Option<NextWord>, Stop>
     requires few { length source.now.tokens.now < 2 ^ 32 }
     ensures bounds { IsWordBounded 1 source.now.tokens.now at result }
+    ensures word { PlainAnswer source.now.names.now source.now.tokens.now at so_far result }
 {
     let Some(word) = type_word_at(source, at)? else {
         return Ok(None);
@@ -150,36 +165,41 @@ fn plain_word(source: &Source, at: usize, so_far: TypeSoFar) -> Result<Option<Ne
 
 /// `struct` or `enum`, at a number, with a tag or a body behind it or both.
 #[cycle(specs)]
-fn tagged(
-    alloc: Global,
-    source: &Source,
-    scope: Scope,
-    at: usize,
-    room: u32,
-) -> Result<NextWord, Stop>
+fn tagged(alloc: Global, source: &Source, at: usize, room: u32) -> Result<NextWord, Stop>
     requires within { at < length source.now.tokens.now }
     requires few { length source.now.tokens.now < 2 ^ 32 }
     requires some { 1 ≤ room }
+    requires stands { IsTagKeyword (kind_or_end source.now.tokens.now at) }
     ensures bounds { IsNextBounded room source.now.tokens.now at result }
+    ensures element { ElementAnswer source.now.names.now room source.now.tokens.now source.now.end at result }
 {
     let tag = any_name_at(source, at + 1)?;
-    let behind = if tag.is_some() { at + 2 } else { at + 1 };
+    let behind = behind_tag(at, &tag);
     if is_mark(source, behind, Mark::OpenBrace) {
-        return match scope {
-            Scope::File => with_body(alloc, source, at, tag, behind, room),
-            Scope::Block => Err(Stop::Refused(behind, Reason::LeftOut)),
-        };
+        return with_body(alloc, source, at, tag, behind, room);
     }
     match tag {
         Some(tag) => Ok(without_body(source, at, tag)),
-        None => Err(refuse(source, behind, scope)),
+        None => Err(refuse(source, behind, Scope::File)),
+    }
+}
+
+/// The number behind `struct` or `enum`, at a number, and its tag, if it has one.
+fn behind_tag(at: usize, tag: &Option<RawName>) -> usize
+    requires few { at < 2 ^ 32 }
+    ensures { result ≡ number_behind at (name_in tag.now) }
+{
+    match tag {
+        Some(_) => at + 2,
+        None => at + 1,
     }
 }
 
 /// `struct` or `enum`, at a number, and the tag behind it.
-fn without_body(source: &Source, at: usize, tag: RawName) -> NextWord
+pub fn without_body(source: &Source, at: usize, tag: RawName) -> NextWord
     requires few { at < 2 ^ 32 }
-    ensures { IsWordOf 2 1 at result }
+    ensures bounds { IsWordOf 2 1 at result }
+    ensures word { IsTagged (kind_or_end source.now.tokens.now at) tag.name result }
 {
     let word = if is_keyword(source, at, Keyword::Struct) {
         TypeWord::Struct(tag.name)
@@ -209,7 +229,9 @@ fn with_body(
     requires within { brace < length source.now.tokens.now }
     requires few { length source.now.tokens.now < 2 ^ 32 }
     requires some { 1 ≤ room }
+    requires opened { IsOpened source.now.tokens.now at brace (name_in tag) }
     ensures bounds { IsNextBounded room source.now.tokens.now at result }
+    ensures element { ElementAnswer source.now.names.now room source.now.tokens.now source.now.end at result }
 {
     if is_keyword(source, at, Keyword::Struct) {
         let members = members(alloc, source, brace + 1, room - 1)?;
@@ -223,7 +245,9 @@ fn with_body(
 }
 
 /// A tag, if there is one, apart from its place.
-fn split(tag: Option<RawName>) -> (Option<Name>, Option<Place>) {
+fn split(tag: Option<RawName>) -> (Option<Name>, Option<Place>)
+    ensures { result.0 ≡ name_in tag }
+{
     match tag {
         Some(tag) => (Some(tag.name), Some(tag.place)),
         None => (None, None),
@@ -233,7 +257,8 @@ fn split(tag: Option<RawName>) -> (Option<Name>, Option<Place>) {
 /// The word of a structure with its body.
 fn structure(tag: Option<RawName>, members: Taken<Vec<RawMember>>) -> NextWord
     requires low { members.height < 2 ^ 32 - 1 }
-    ensures { IsWordOf 0 (members.height + 1) members.next result }
+    ensures bounds { IsWordOf 0 (members.height + 1) members.next result }
+    ensures word { IsSpecOf (StructBody (name_in tag) (members_list members.tree.items)) result }
 {
     let (name, place) = split(tag);
     NextWord {
@@ -248,7 +273,8 @@ fn structure(tag: Option<RawName>, members: Taken<Vec<RawMember>>) -> NextWord
 /// The word of an enumeration with its body.
 fn enumeration(tag: Option<RawName>, constants: Taken<ConstantList>) -> NextWord
     requires low { constants.height < 2 ^ 32 - 1 }
-    ensures { IsWordOf 0 (constants.height + 1) constants.next result }
+    ensures bounds { IsWordOf 0 (constants.height + 1) constants.next result }
+    ensures word { IsSpecOf (enum_of (name_in tag) (constant_row constants.tree)) result }
 {
     let (name, place) = split(tag);
     let ConstantList { list, comma } = constants.tree;

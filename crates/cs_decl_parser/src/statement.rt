@@ -1,6 +1,15 @@
 //! Statements (C11 6.8).
-ghost use Rattle.std.specs.Prelude.{◌≤◌, ◌<◌, ◌^◌, ◌+◌, length};
-ghost use Rattle.cs_decl_parser.specs.Bounds.{IsBounded, IsOf};
+ghost use Rattle.std.specs.Prelude.{◌≡◌, ℕ, ◌≤◌, ◌<◌, ◌^◌, ◌+◌, length, IsTrue};
+ghost use Rattle.cs_ast.specs.declared.token.TokenKind.TheVariants as token;
+ghost use Rattle.cs_ast.specs.declared.token.Keyword.TheVariants as keyword;
+ghost use Rattle.cs_ast.specs.RawStatementView.{sentence, statement_of};
+ghost use Rattle.cs_grammar.specs.FileClasses.{Sentences};
+ghost use Rattle.cs_expr_parser.specs.Positions.{kind_or_end};
+ghost use Rattle.cs_decl_parser.specs.declared.form.Form.TheVariants as form;
+ghost use Rattle.cs_decl_parser.specs.Answers.{Answers};
+ghost use Rattle.cs_decl_parser.specs.Bounds.{IsBounded};
+ghost use Rattle.cs_decl_parser.specs.Forms.{form_of, is_labelled, IsJump};
+ghost use Rattle.cs_decl_parser.specs.Nodes.{IsNode};
 
 use crate::block::block;
 use crate::branches::{if_statement, switch_statement};
@@ -27,6 +36,7 @@ pub fn statement(
     requires within { from ≤ length source.now.tokens.now }
     requires few { length source.now.tokens.now < 2 ^ 32 }
     ensures bounds { IsBounded room source.now.tokens.now from result }
+    ensures parsed { Answers (Sentences source.now.names.now) statement_of room source.now.tokens.now source.now.end from result }
 {
     let form = form_at(source, from);
     if room < form.least_height() {
@@ -53,7 +63,7 @@ pub fn statement(
 /// A statement with no part, from a number on, up to another.
 fn leaf(source: &Source, from: usize, next: usize, kind: RawStmtKind) -> Taken<RawStmt>
     requires within { from < length source.now.tokens.now }
-    ensures { IsOf 1 next result }
+    ensures { IsNode (sentence kind) 1 next result }
 {
     node(place_at(source, from), kind, 1, next)
 }
@@ -64,7 +74,9 @@ fn label(alloc: Global, source: &Source, from: usize, room: u32) -> Result<Taken
     requires within { from + 2 ≤ length source.now.tokens.now }
     requires few { length source.now.tokens.now < 2 ^ 32 }
     requires enough { 2 ≤ room }
+    requires stands { IsTrue (is_labelled (kind_or_end source.now.tokens.now from) (kind_or_end source.now.tokens.now (from + 1))) }
     ensures bounds { IsBounded room source.now.tokens.now from result }
+    ensures parsed { Answers (Sentences source.now.names.now) statement_of room source.now.tokens.now source.now.end from result }
 {
     let Some(name) = any_name_at(source, from)? else {
         return Err(refuse(source, from, Scope::Block));
@@ -78,7 +90,9 @@ fn label(alloc: Global, source: &Source, from: usize, room: u32) -> Result<Taken
 fn run(alloc: Global, source: &Source, from: usize, room: u32) -> Result<Taken<RawStmt>, Stop>
     requires within { from ≤ length source.now.tokens.now }
     requires few { length source.now.tokens.now < 2 ^ 32 }
+    requires stands { form_of source.now.names.now (kind_or_end source.now.tokens.now from) (kind_or_end source.now.tokens.now (from + 1)) ≡ form.Run }
     ensures bounds { IsBounded room source.now.tokens.now from result }
+    ensures parsed { Answers (Sentences source.now.names.now) statement_of room source.now.tokens.now source.now.end from result }
 {
     let (level, closing) = (ExprLevel::Expr, Mark::Semicolon);
     let value = closed(alloc, source, from, room.saturating_sub(1), level, closing)?;
@@ -91,7 +105,9 @@ fn run(alloc: Global, source: &Source, from: usize, room: u32) -> Result<Taken<R
 fn goto(source: &Source, from: usize) -> Result<Taken<RawStmt>, Stop>
     requires within { from < length source.now.tokens.now }
     requires few { length source.now.tokens.now < 2 ^ 32 }
+    requires stands { kind_or_end source.now.tokens.now from ≡ token.Keyword keyword.Goto }
     ensures bounds { IsBounded 1 source.now.tokens.now from result }
+    ensures parsed { (room : ℕ) → 1 ≤ room → Answers (Sentences source.now.names.now) statement_of room source.now.tokens.now source.now.end from result }
 {
     let Some(name) = any_name_at(source, from + 1)? else {
         return Err(refuse(source, from + 1, Scope::Block));
@@ -106,7 +122,9 @@ fn goto(source: &Source, from: usize) -> Result<Taken<RawStmt>, Stop>
 fn jump(source: &Source, from: usize, kind: RawStmtKind) -> Result<Taken<RawStmt>, Stop>
     requires within { from < length source.now.tokens.now }
     requires few { length source.now.tokens.now < 2 ^ 32 }
+    requires stands { IsJump (kind_or_end source.now.tokens.now from) (sentence kind) }
     ensures bounds { IsBounded 1 source.now.tokens.now from result }
+    ensures parsed { (room : ℕ) → 1 ≤ room → Answers (Sentences source.now.names.now) statement_of room source.now.tokens.now source.now.end from result }
 {
     if !is_mark(source, from + 1, Mark::Semicolon) {
         return Err(refuse(source, from + 1, Scope::Block));
@@ -124,7 +142,9 @@ fn return_statement(
     requires within { from < length source.now.tokens.now }
     requires few { length source.now.tokens.now < 2 ^ 32 }
     requires some { 1 ≤ room }
+    requires stands { kind_or_end source.now.tokens.now from ≡ token.Keyword keyword.Return }
     ensures bounds { IsBounded room source.now.tokens.now from result }
+    ensures parsed { Answers (Sentences source.now.names.now) statement_of room source.now.tokens.now source.now.end from result }
 {
     let (level, closing) = (ExprLevel::Expr, Mark::Semicolon);
     let value = closed_if_any(alloc, source, from + 1, room - 1, level, closing)?;

@@ -1,5 +1,8 @@
 //! The words of pointers, and the words of types that name no body (C11 6.7.2, 6.7.6.1).
-ghost use Rattle.std.specs.Prelude.{◌≤◌, ◌<◌, ◌^◌, length, IfOk, IsSome};
+ghost use Rattle.std.specs.Prelude.{◌≡◌, ◌≤◌, ◌<◌, ◌^◌, length, IfOk, IsSome};
+ghost use Rattle.cs_expr_parser.specs.Positions.{kind_or_end};
+ghost use Rattle.cs_decl_parser.specs.DeclarationAnswers.{IsPointerWord, ArePointers};
+ghost use Rattle.cs_decl_parser.specs.SpecWords.{IsTypeWord, word_of_keyword};
 
 use crate::source::{Source, begins_type, is_mark, keyword_at, name_at};
 use crate::stop::Taken;
@@ -17,10 +20,11 @@ pub fn stars(
     requires within { from ≤ length source.now.tokens.now }
     requires few { length source.now.tokens.now < 2 ^ 32 }
     ensures bounds { IfOk result (λ taken. (from ≤ taken.next) × (taken.next ≤ length source.now.tokens.now)) }
+    ensures pointers { IfOk result (λ taken. ArePointers source.now.tokens.now from taken.next taken.tree.items) }
 {
     let mut words = Vec::new(alloc);
     let mut next = from;
-    'stars: while let Some(word) = pointer_word_at(source, next) {
+    'stars: while let Some(word) = pointer_word_at(source, next, next > from) {
         words.push(word)?;
         next += 1;
     }
@@ -31,14 +35,16 @@ pub fn stars(
     })
 }
 
-fn pointer_word_at(source: &Source, at: usize) -> Option<PointerWord>
+/// The word of pointers at a number, if one stands there. `const` is one behind a star alone.
+fn pointer_word_at(source: &Source, at: usize, behind_star: bool) -> Option<PointerWord>
     ensures within { IsSome result → at < length source.now.tokens.now }
+    ensures word { IsPointerWord behind_star (kind_or_end source.now.tokens.now at) result }
 {
     if is_mark(source, at, Mark::Star) {
         return Some(PointerWord::Star);
     }
     match keyword_at(source, at) {
-        Some(Keyword::Const) => Some(PointerWord::Const),
+        Some(Keyword::Const) if behind_star => Some(PointerWord::Const),
         _ => None,
     }
 }
@@ -46,6 +52,7 @@ fn pointer_word_at(source: &Source, at: usize) -> Option<PointerWord>
 /// The word of a type that the one token at a number is, if it is one.
 pub fn type_word_at(source: &Source, at: usize) -> Result<Option<TypeWord>, AllocError>
     ensures within { IfOk result (λ word. IsSome word → at < length source.now.tokens.now) }
+    ensures word { IfOk result (IsTypeWord source.now.names.now (kind_or_end source.now.tokens.now at)) }
 {
     if let Some(name) = name_at(source, at) {
         if !begins_type(source, at) {
@@ -59,7 +66,10 @@ pub fn type_word_at(source: &Source, at: usize) -> Result<Option<TypeWord>, Allo
     }
 }
 
-fn type_word(keyword: Keyword) -> Option<TypeWord> {
+/// The word of a type that a keyword is alone.
+fn type_word(keyword: Keyword) -> Option<TypeWord>
+    ensures { result ≡ word_of_keyword keyword }
+{
     match keyword {
         Keyword::Const => Some(TypeWord::Const),
         Keyword::Void => Some(TypeWord::Void),

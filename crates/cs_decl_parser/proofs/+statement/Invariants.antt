@@ -1,5 +1,6 @@
 -- How much room and which part are left: the measure of the parts; and what their loops keep.
 use Rattle.std.proofs.Common.{◌≤◌, ◌<◌, ◌+◌, ◌-◌, ◌*◌, length}
+use Rattle.cs_decl_parser.proofs.BlockSites.{ItemsSoFar, SwitchSoFar}
 use Rattle.cs_decl_parser.proofs.+statement.Given as goal
 
 abbrev pub decreases-statement::statement : goal.decreases-statement::statement
@@ -39,13 +40,23 @@ abbrev pub decreases-loops::for_statement : goal.decreases-loops::for_statement
 decreases-loops::for_statement l = 10 * l.room + 1
 
 abbrev pub invariant-block::items-items : goal.invariant-block::items-items
-invariant-block::items-items l = (l.fn.from ≤ l.next) × (l.next ≤ length l.source.tokens.now) × (l.height ≤ l.room)
+invariant-block::items-items l = record {
+  onward : l.fn.from ≤ l.next;
+  inside : l.next ≤ length l.source.tokens.now;
+  low : l.height ≤ l.room;
+  so_far : ItemsSoFar l.source.names.now l.room l.source.tokens.now l.fn.from l.list.items l.height l.next;
+}
 
 abbrev pub decreases-block::items-items : goal.decreases-block::items-items
 decreases-block::items-items l = length l.source.tokens.now - l.next
 
 abbrev pub invariant-branches::switch_items-items : goal.invariant-branches::switch_items-items
-invariant-branches::switch_items-items l = (l.fn.from ≤ l.next) × (l.next ≤ length l.source.tokens.now) × (l.height ≤ l.room)
+invariant-branches::switch_items-items l = record {
+  onward : l.fn.from ≤ l.next;
+  inside : l.next ≤ length l.source.tokens.now;
+  low : l.height ≤ l.room;
+  so_far : SwitchSoFar l.source.names.now l.room l.source.tokens.now l.fn.from l.list.items l.height l.next;
+}
 
 abbrev pub decreases-branches::switch_items-items : goal.decreases-branches::switch_items-items
 decreases-branches::switch_items-items l = length l.source.tokens.now - l.next

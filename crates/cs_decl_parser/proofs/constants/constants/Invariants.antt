@@ -1,8 +1,19 @@
-use Rattle.std.proofs.Common.{◌≤◌, ◌<◌, ◌+◌, ◌-◌, ◌*◌, length}
+use Rattle.std.proofs.Common.{◌≤◌, ◌<◌, ◌-◌, map, length}
+use Rattle.cs_ast.specs.declared.token.TokenKind.TheVariants as token
+use Rattle.cs_ast.specs.declared.token.Mark.TheVariants as mark
+use Rattle.cs_ast.specs.RawDeclarationView.{constant}
+use Rattle.cs_grammar.specs.DeclarationClasses.{Constants}
+use Rattle.cs_expr_parser.specs.Parts.{is_deep}
+use Rattle.cs_decl_parser.proofs.RowSites.{TrailingRow}
 use Rattle.cs_decl_parser.proofs.constants.constants.Given as goal
 
 abbrev pub invariant-constants : goal.invariant-constants
-invariant-constants l = (l.from < l.last.next) × (l.last.next ≤ length l.source.tokens.now) × (l.height ≤ l.room)
+invariant-constants l = record {
+  onward : l.from < l.last.next;
+  inside : l.last.next ≤ length l.source.tokens.now;
+  low : l.height ≤ l.room;
+  so_far : TrailingRow (Constants l.source.names.now) (token.Mark mark.CloseBrace) l.room l.source.tokens.now l.from (map constant l.list.items) (constant l.last.tree) l.last.next (is_deep l.last.otherwise) l.height;
+}
 
 abbrev pub decreases-constants : goal.decreases-constants
 decreases-constants l = length l.source.tokens.now - l.last.next

@@ -1,8 +1,14 @@
-use Rattle.std.proofs.Common.{◌≤◌, ◌<◌, ◌+◌, ◌-◌, ◌*◌, length}
+use Rattle.std.proofs.Common.{◌≤◌, ◌-◌, length}
+use Rattle.cs_decl_parser.proofs.DeclaratorSites.{BoundsSoFar}
 use Rattle.cs_decl_parser.proofs.declarator.bounds.Given as goal
 
 abbrev pub invariant-bounds : goal.invariant-bounds
-invariant-bounds l = (l.from ≤ l.next) × (l.next ≤ length l.source.tokens.now) × (l.height ≤ l.room)
+invariant-bounds l = record {
+  onward : l.from ≤ l.next;
+  inside : l.next ≤ length l.source.tokens.now;
+  low : l.height ≤ l.room;
+  so_far : BoundsSoFar l.declares l.source.names.now l.room l.source.tokens.now l.from l.next l.list.items l.height;
+}
 
 abbrev pub decreases-bounds : goal.decreases-bounds
 decreases-bounds l = length l.source.tokens.now - l.next

@@ -1,8 +1,19 @@
-use Rattle.std.proofs.Common.{◌≤◌, ◌<◌, ◌+◌, ◌-◌, ◌*◌, length}
+use Rattle.std.proofs.Common.{◌≤◌, ◌<◌, ◌+◌, ◌-◌, ℕ, ◌≡◌, map, length}
+use Rattle.cs_ast.specs.declared.token.TokenKind.TheVariants as token
+use Rattle.cs_ast.specs.declared.token.Mark.TheVariants as mark
+use Rattle.cs_ast.specs.RawDeclarationView.{declarator}
+use Rattle.cs_expr_parser.specs.Positions.{kind_or_end}
+use Rattle.cs_decl_parser.specs.DeclarationAnswers.{DeclaratorsFor, is_full}
+use Rattle.cs_decl_parser.proofs.RowSites.{RowSoFar}
 use Rattle.cs_decl_parser.proofs.declarator.declarators.Given as goal
 
 abbrev pub invariant-declarators : goal.invariant-declarators
-invariant-declarators l = (l.from < l.last.next) × (l.last.next ≤ length l.source.tokens.now) × (l.height ≤ l.room)
+invariant-declarators l = record {
+  onward : l.from < l.last.next;
+  inside : l.last.next ≤ length l.source.tokens.now;
+  low : l.height ≤ l.room;
+  so_far : RowSoFar (DeclaratorsFor l.declares l.source.names.now) (token.Mark mark.Semicolon) l.room l.source.tokens.now l.from (map declarator l.list.items) (declarator l.last.tree) l.last.next (is_full l.declares (l.room - 1) (kind_or_end l.source.tokens.now l.last.next)) l.height;
+}
 
 abbrev pub decreases-declarators : goal.decreases-declarators
 decreases-declarators l = length l.source.tokens.now - l.last.next

@@ -1,7 +1,9 @@
--- An expression has a token at least, lies inside the tokens and is no higher than the room.
+-- An expression has a token at least, lies inside the tokens and is no higher than the room, and is what its own parser says.
 use Rattle.std.proofs.Common.{arith}
 use Rattle.cs_ast.specs.RawView.{written}
 use Rattle.cs_grammar.proofs.StatementParts.{expression_height}
+use Rattle.cs_expr_parser.specs.Expression.{level_asked}
+use Rattle.cs_decl_parser.proofs.ExpressionSites.{phrase_taken, phrase_stops}
 use Rattle.cs_decl_parser.proofs.expression.expression.Goals as goal
 
 pub returns-in-Ok-clause-bounds : goal.returns-in-Ok-clause-bounds
@@ -24,3 +26,11 @@ returns-in-Ok-clause-some c =
     let tall = t.height_is in
     let height = u.1 in
     omega arith
+
+pub returns-in-Ok-clause-parsed : goal.returns-in-Ok-clause-parsed
+returns-in-Ok-clause-parsed c =
+    phrase_taken c.args.source.now.names.now (level_asked c.args.level) c.args.room c.args.source.now.tokens.now c.args.from c.in-Ok.phrase c.unclosed.result c.unclosed.ensures c.in-Ok.ensures.taken
+
+pub returns-in-Err-clause-parsed : goal.returns-in-Err-clause-parsed
+returns-in-Err-clause-parsed c =
+    phrase_stops c.args.source.now.names.now (level_asked c.args.level) c.args.room c.args.source.now.tokens.now c.args.source.now.end c.args.from c.in-Err.refusal c.in-Err.ensures.refused

@@ -1,5 +1,11 @@
--- How much room and which part are left: the measure of the parts; and what their loops keep.
-use Rattle.std.proofs.Common.{◌≤◌, ◌<◌, ◌+◌, ◌-◌, ◌*◌, length}
+-- How much room and which part are left: the measure of the parts; and what their loop keeps.
+use Rattle.std.proofs.Common.{◌≤◌, ◌<◌, ◌+◌, ◌-◌, ◌*◌, map, length}
+use Rattle.cs_ast.specs.declared.token.TokenKind.TheVariants as token
+use Rattle.cs_ast.specs.declared.token.Mark.TheVariants as mark
+use Rattle.cs_ast.specs.RawDeclarationView.{initial}
+use Rattle.cs_grammar.specs.DeclarationClasses.{Values}
+use Rattle.cs_expr_parser.specs.Parts.{is_deep}
+use Rattle.cs_decl_parser.proofs.RowSites.{TrailingRow}
 use Rattle.cs_decl_parser.proofs.initial.+initial.Given as goal
 
 abbrev pub decreases-initial : goal.decreases-initial
@@ -9,7 +15,12 @@ abbrev pub decreases-items : goal.decreases-items
 decreases-items l = 10 * l.room + 1
 
 abbrev pub invariant-items-items : goal.invariant-items-items
-invariant-items-items l = (l.fn.from < l.last.next) × (l.last.next ≤ length l.source.tokens.now) × (l.height + 1 ≤ l.room)
+invariant-items-items l = record {
+  onward : l.fn.from + 1 < l.last.next;
+  inside : l.last.next ≤ length l.source.tokens.now;
+  low : l.height ≤ l.room - 1;
+  so_far : TrailingRow (Values l.source.names.now) (token.Mark mark.CloseBrace) (l.room - 1) l.source.tokens.now (l.fn.from + 1) (map initial l.list.items) (initial l.last.tree) l.last.next (is_deep l.last.otherwise) l.height;
+}
 
 abbrev pub decreases-items-items : goal.decreases-items-items
 decreases-items-items l = length l.source.tokens.now - l.last.next

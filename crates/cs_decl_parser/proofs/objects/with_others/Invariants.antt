@@ -1,8 +1,20 @@
-use Rattle.std.proofs.Common.{◌≤◌, ◌<◌, ◌+◌, ◌-◌, ◌*◌, length}
+use Rattle.std.proofs.Common.{◌≡◌, ℕ, ◌≤◌, ◌-◌, map, length}
+use Rattle.cs_ast.specs.declared.token.TokenKind.TheVariants as token
+use Rattle.cs_ast.specs.declared.token.Mark.TheVariants as mark
+use Rattle.cs_ast.specs.RawDeclarationView.{declared}
+use Rattle.cs_grammar.specs.DeclarationClasses.{Objects}
+use Rattle.cs_expr_parser.specs.Parts.{is_deep}
+use Rattle.cs_decl_parser.specs.Answers.{IsUnclosed}
+use Rattle.cs_decl_parser.proofs.RowSites.{RowSoFar}
 use Rattle.cs_decl_parser.proofs.objects.with_others.Given as goal
 
 abbrev pub invariant-objects : goal.invariant-objects
-invariant-objects l = (l.fn.first.next ≤ l.last.next) × (l.last.next ≤ length l.source.tokens.now) × (l.height ≤ l.room)
+invariant-objects l = record {
+  onward : l.fn.first.next ≤ l.last.next;
+  inside : l.last.next ≤ length l.source.tokens.now;
+  low : l.height ≤ l.room;
+  so_far : (from : ℕ) → IsUnclosed (Objects l.source.names.now) declared l.room l.source.tokens.now from l.fn.first → RowSoFar (Objects l.source.names.now) (token.Mark mark.Semicolon) l.room l.source.tokens.now from (map declared l.list.items) (declared l.last.tree) l.last.next (is_deep l.last.otherwise) l.height;
+}
 
 abbrev pub decreases-objects : goal.decreases-objects
 decreases-objects l = length l.source.tokens.now - l.last.next

@@ -1,0 +1,345 @@
+-- Words of a type behind which a token's word doesn't fit: for the contracts of the parts that read what stands before declarators.
+use Rattle.std.proofs.Common.{◌≡◌, ℕ, ◌+◌, ◌<◌, ◌≤◌, ◌⊎◌, inl, inr, Bool, true, false, ◌&&◌, if◌then◌else◌, IsTrue, List, [], ◌∷◌, ◌++◌, Option, Some, None, Result, Ok, Err, length, drop, refl, sym, ap, ◌∙◌, subst, arith, append_assoc, append-nil}
+use Rattle.std.specs.Option.{option_map}
+use Rattle.std.specs.List.{list_all}
+use Rattle.std.proofs.lemmas.List.Folds.{list_all-append}
+use Rattle.std.proofs.lemmas.Bool.{false≢true, both_ways, and_left, and_right, and_from}
+use Rattle.cs_grammar.specs.declared.type_words.IntegerWords.{IntegerWords}
+use Rattle.cs_ast.specs.declared.place.Place.{Place}
+use Rattle.cs_ast.specs.declared.token.Token.{Token}
+use Rattle.cs_ast.specs.declared.token.TokenKind.{TokenKind}
+use Rattle.cs_ast.specs.declared.token.TokenKind.TheVariants as token
+use Rattle.cs_ast.specs.declared.token.Keyword.{Keyword}
+use Rattle.cs_ast.specs.declared.token.Keyword.TheVariants as keyword
+use Rattle.cs_ast.specs.declared.token.Mark.TheVariants as mark
+use Rattle.cs_ast.specs.declared.raw.declaration.SpecWord.{SpecWord}
+use Rattle.cs_ast.specs.declared.raw.declaration.SpecWord.TheVariants as words
+use Rattle.cs_ast.specs.declared.raw.name.RawName.{RawName}
+use Rattle.cs_ast.specs.declared.raw.written_type.TypeWord.{TypeWord}
+use Rattle.cs_ast.specs.declared.raw.written_type.TypeWord.TheVariants as word
+use Rattle.cs_ast.specs.declared.raw.written_type.IntegerWord.{IntegerWord}
+use Rattle.cs_ast.specs.declared.raw.written_type.IntegerWord.TheVariants.{Char, Short, Int, Long, Signed, Unsigned}
+use Rattle.cs_ast.specs.RawDeclarations.{Spec, Plain}
+use Rattle.cs_grammar.specs.declared.type_words.TypeSoFar.{TypeSoFar}
+use Rattle.cs_grammar.specs.declared.type_words.TypeSoFar.TheVariants.{Nothing, Integers, Whole}
+use Rattle.cs_grammar.specs.TypeWords.{Names, is_among, is_const, is_integer_word, named_by, names_type, is_type, fit_together, word_of}
+use Rattle.cs_grammar.specs.TypesSoFar.{Describes, AreIntegers, is_whole, is_known, IsExtended}
+use Rattle.cs_grammar.specs.Text.{Kinds, type_word_text, integer_word_text}
+use Rattle.cs_grammar.specs.Parsing.{Near}
+use Rattle.cs_grammar.specs.DeclarationClasses.{IsQuiet, HasNoOpenBrace}
+use Rattle.cs_grammar.proofs.WordsOfTypes.{named_more}
+use Rattle.cs_grammar.proofs.TypeNames.{same_word}
+use Rattle.cs_expr_parser.specs.Positions.{kinds, kind_or_end, keyword_of}
+use Rattle.cs_expr_parser.specs.Parts.{Spells}
+use Rattle.cs_expr_parser.specs.Words.{first_of_word, IsStuck, IsUnusable, NoWord, names_some, has_tag, word_of_tag}
+use Rattle.cs_decl_parser.specs.declared.specs.NextWord.{NextWord}
+use Rattle.cs_grammar.specs.declared.refusal.Reason.{Reason}
+use Rattle.cs_expr_parser.specs.Parts.{is_deep}
+use Rattle.cs_expr_parser.specs.Words.{IsTagMissing}
+use Rattle.cs_expr_parser.specs.Positions.{name_of}
+use Rattle.cs_decl_parser.specs.declared.stop.Stop.{Stop}
+use Rattle.cs_decl_parser.specs.declared.stop.Stop.TheVariants as stop
+use Rattle.cs_decl_parser.specs.DeclarationAnswers.{IsNameAt, RefusesBehind}
+use Rattle.cs_decl_parser.specs.SpecWords.{PlainAnswer, BlockTagAnswer, BlockTagStops, BlockWordAnswer, IsTagKeyword, IsTagBraced, IsTypeWord, HasNoTag, IsPlainWord, NothingFits, tag_keyword, IsTagged, word_of_keyword}
+use Rattle.cs_decl_parser.proofs.Standing.{spells_one, spells_more, spells_as}
+
+-- words of a type and another word that names a type, or a name that is none, name no type
+whole_joins : (names : Names) (first : TypeWord) (others : List TypeWord) (one : TypeWord) (more : List TypeWord) → is_integer_word one ≡ false → names_type names ((first ∷ others) ++ one ∷ more) ≡ false
+whole_joins names word.Const others one more i = and_left false (fit_together ((word.Const ∷ others) ++ one ∷ more)) refl
+whole_joins names (word.Integer k) others one more i =
+    and_left (list_all is_integer_word ((word.Integer k ∷ others) ++ one ∷ more)) (fit_together ((word.Integer k ∷ others) ++ one ∷ more))
+    (list_all-append is_integer_word (word.Integer k ∷ others) (one ∷ more)
+    ∙ and_right (list_all is_integer_word (word.Integer k ∷ others)) (is_integer_word one && list_all is_integer_word more) (and_left (is_integer_word one) (list_all is_integer_word more) i))
+whole_joins names word.Void [] one more i = refl
+whole_joins names word.Void (o ∷ os) one more i = refl
+whole_joins names (word.Typedef name) [] one more i = refl
+whole_joins names (word.Typedef name) (o ∷ os) one more i = refl
+whole_joins names (word.Struct tag) [] one more i = refl
+whole_joins names (word.Struct tag) (o ∷ os) one more i = refl
+whole_joins names (word.Enum tag) [] one more i = refl
+whole_joins names (word.Enum tag) (o ∷ os) one more i = refl
+
+unknown_alone : (names : Names) (name : List ℕ) (more : List TypeWord) → is_among names name ≡ false → names_type names (word.Typedef name ∷ more) ≡ false
+unknown_alone names name [] k = k
+unknown_alone names name (m ∷ more) k = refl
+
+-- an unknown name makes no type
+unknown_name : (names : Names) (name : List ℕ) (ws more : List TypeWord) → is_among names name ≡ false → names_type names (ws ++ word.Typedef name ∷ more) ≡ false
+unknown_name names name [] more k = unknown_alone names name more k
+unknown_name names name (w ∷ ws) more k = whole_joins names w ws (word.Typedef name) more refl
+
+type_of_more : (names : Names) (ws : List TypeWord) (one : TypeWord) (more : List TypeWord) → (named_by (one ∷ more) ≡ one ∷ named_by more) → is_type names (ws ++ one ∷ more) ≡ names_type names (named_by ws ++ one ∷ named_by more)
+type_of_more names ws one more n = ap (names_type names) (named_more ws (one ∷ more) ∙ ap (λ (x : List TypeWord). named_by ws ++ x) n)
+
+-- where the words name a type, no other whole type joins them
+named_joins : (names : Names) (so_far : TypeSoFar) (ws : List TypeWord) (one : TypeWord) (more : List TypeWord) → names_some so_far ≡ true → Describes names so_far ws → is_integer_word one ≡ false → named_by (one ∷ more) ≡ one ∷ named_by more → is_type names (ws ++ one ∷ more) ≡ false
+named_joins names Nothing ws one more s d i n = absurd (false≢true s)
+named_joins names (Integers all) ws one more s (first, others, named, are) i n =
+    type_of_more names ws one more n ∙ ap (λ (x : List TypeWord). names_type names (x ++ one ∷ named_by more)) named ∙ whole_joins names first others one (named_by more) i
+named_joins names Whole ws one more s (only, named, whole) i n =
+    type_of_more names ws one more n ∙ ap (λ (x : List TypeWord). names_type names (x ++ one ∷ named_by more)) named ∙ whole_joins names only [] one (named_by more) i
+
+-- a word that can't be used makes no type with these
+unusable : (names : Names) (so_far : TypeSoFar) (ws : List TypeWord) (one : TypeWord) (more : List TypeWord) → Describes names so_far ws → IsUnusable names so_far one → is_type names (ws ++ one ∷ more) ≡ false
+unusable names so_far ws (word.Typedef name) more d u = type_of_more names ws (word.Typedef name) more refl ∙ unknown_name names name (named_by ws) (named_by more) u
+unusable names so_far ws (word.Struct tag) more d u = named_joins names so_far ws (word.Struct tag) more u d refl refl
+unusable names so_far ws (word.Enum tag) more d u = named_joins names so_far ws (word.Enum tag) more u d refl refl
+unusable names so_far ws word.Const more d u = absurd u
+unusable names so_far ws word.Void more d u = absurd u
+unusable names so_far ws (word.Integer k) more d u = absurd u
+
+-- where no word stands, the words are stuck
+pub no_word_stuck : (names : Names) (so_far : TypeSoFar) (ws : List TypeWord) (next : TokenKind) → Describes names so_far ws → NoWord names so_far next → IsStuck names ws next
+no_word_stuck names so_far ws next d n one more e = unusable names so_far ws one more d (n one e)
+
+-- a word with a tag begins with `struct` or `enum`
+no_tag : (next : TokenKind) → HasNoTag next → (one : TypeWord) → first_of_word one ≡ next → has_tag one ≡ true → ⊥
+no_tag next none (word.Struct tag) e t = none.no_struct (sym e)
+no_tag next none (word.Enum tag) e t = none.no_enum (sym e)
+no_tag next none word.Const e t = false≢true t
+no_tag next none word.Void e t = false≢true t
+no_tag next none (word.Integer k) e t = false≢true t
+no_tag next none (word.Typedef name) e t = false≢true t
+
+unknown_unusable : (names : Names) (so_far : TypeSoFar) (one : TypeWord) → is_known names one ≡ false → IsUnusable names so_far one
+unknown_unusable names so_far (word.Typedef name) k = k
+unknown_unusable names so_far word.Const k = absurd (false≢true (sym k))
+unknown_unusable names so_far word.Void k = absurd (false≢true (sym k))
+unknown_unusable names so_far (word.Integer i) k = absurd (false≢true (sym k))
+unknown_unusable names so_far (word.Struct tag) k = absurd (false≢true (sym k))
+unknown_unusable names so_far (word.Enum tag) k = absurd (false≢true (sym k))
+
+-- no word of a type is the token
+pub no_word_fits : (names : Names) (so_far : TypeSoFar) (next : TokenKind) → IsTypeWord names next None → HasNoTag next → NothingFits names so_far next
+no_word_fits names so_far next none tagless = λ before d.
+    no_word_stuck names so_far before next d (λ one e. elim (none one e) [ inl t ↦ absurd (no_tag next tagless one e t) | inr k ↦ unknown_unusable names so_far one k ])
+
+untagged_text : (w : TypeWord) (rest : Kinds) → has_tag w ≡ false → type_word_text w rest ≡ first_of_word w ∷ rest
+untagged_text word.Const rest t = refl
+untagged_text word.Void rest t = refl
+untagged_text (word.Integer k) rest t = refl
+untagged_text (word.Typedef name) rest t = refl
+untagged_text (word.Struct tag) rest t = absurd (false≢true (sym t))
+untagged_text (word.Enum tag) rest t = absurd (false≢true (sym t))
+
+-- the word that a token is is the only one that begins with it
+same_first : (next : TokenKind) (found one : TypeWord) (tagged : Bool) → HasNoTag next → ((rest : Kinds) → type_word_text found rest ≡ next ∷ rest) → first_of_word one ≡ next → has_tag one ≡ tagged → one ≡ found
+same_first next found one true none t e tag = absurd (no_tag next none one e tag)
+same_first next found one false none t e tag =
+    (same_word one found [] [] (untagged_text one [] tag ∙ ap (λ (x : TokenKind). x ∷ []) e ∙ sym (t []))).0
+
+-- the token's word doesn't fit behind the words so far
+pub word_unfit : (names : Names) (so_far : TypeSoFar) (next : TokenKind) (found : TypeWord) → IsTypeWord names next (Some found) → ((before : List TypeWord) → Describes names so_far before → IsExtended names before found None) → HasNoTag next → NothingFits names so_far next
+word_unfit names so_far next found is unfit none = λ before d one more e.
+    let s = same_first next found one (has_tag one) none is.0 e refl in
+    subst (λ (x : TypeWord). is_type names (before ++ x ∷ more) ≡ false) (sym s) (unfit before d more)
+
+untagged_quiet : (w : TypeWord) (behind : Kinds) → has_tag w ≡ false → IsQuiet (Plain w) behind
+untagged_quiet word.Const behind t = tt
+untagged_quiet word.Void behind t = tt
+untagged_quiet (word.Integer k) behind t = tt
+untagged_quiet (word.Typedef name) behind t = tt
+untagged_quiet (word.Struct tag) behind t = absurd (false≢true (sym t))
+untagged_quiet (word.Enum tag) behind t = absurd (false≢true (sym t))
+
+-- the token is a word that fits
+pub plain_taken : (names : Names) (tokens : List Token) (at : ℕ) (so_far : TypeSoFar) (one : TypeWord) (found : NextWord) → (kind_or_end tokens at ≡ token.Attribute → ⊥) → IsTypeWord names (kind_or_end tokens at) (Some one) → ((before : List TypeWord) → Describes names so_far before → Describes names found.so_far (before ++ one ∷ [])) → found.word ≡ words.Plain one → found.height ≡ 1 → found.next ≡ at + 1 → IsPlainWord names tokens at so_far found one
+plain_taken names tokens at so_far one found some is described w tall next = record {
+  word_is = w;
+  height_is = tall;
+  later = omega (arith, next);
+  spelled =
+      subst (λ (n : ℕ). Spells tokens at n (type_word_text one)) (sym next)
+      (spells_as tokens at (at + 1) (λ rest. kind_or_end tokens at ∷ rest) (type_word_text one) (spells_one tokens at (kind_or_end tokens at) refl some) (λ rest. sym (is.0 rest)));
+  quiet = λ behind near. untagged_quiet one behind is.1;
+  described = described;
+}
+
+abbrev first_kind_of : Kinds → TokenKind
+first_kind_of [] = token.Attribute
+first_kind_of (t ∷ tokens) = t
+
+first_no_end : (one : TypeWord) (next : TokenKind) → next ≡ first_of_word one → next ≡ token.Attribute → ⊥
+first_no_end word.Const next a b = let z = sym a ∙ b in cc
+first_no_end word.Void next a b = let z = sym a ∙ b in cc
+first_no_end (word.Integer Char) next a b = let z = sym a ∙ b in cc
+first_no_end (word.Integer Short) next a b = let z = sym a ∙ b in cc
+first_no_end (word.Integer Int) next a b = let z = sym a ∙ b in cc
+first_no_end (word.Integer Long) next a b = let z = sym a ∙ b in cc
+first_no_end (word.Integer Signed) next a b = let z = sym a ∙ b in cc
+first_no_end (word.Integer Unsigned) next a b = let z = sym a ∙ b in cc
+first_no_end (word.Typedef name) next a b = let z = sym a ∙ b in cc
+first_no_end (word.Struct tag) next a b = let z = sym a ∙ b in cc
+first_no_end (word.Enum tag) next a b = let z = sym a ∙ b in cc
+
+-- the end of input is no word of a type
+pub word_no_end : (names : Names) (next : TokenKind) (one : TypeWord) → IsTypeWord names next (Some one) → next ≡ token.Attribute → ⊥
+word_no_end names next one is e = first_no_end one next (sym (ap (λ (k : Kinds). first_kind_of k) (sym (untagged_text one [] is.1) ∙ is.0 []))) e
+
+-- the word of a keyword
+integer_keyword : (k : Keyword) (one : IntegerWord) → word_of k ≡ Some one → (rest : Kinds) → type_word_text (word.Integer one) rest ≡ token.Keyword k ∷ rest
+integer_keyword keyword.Char one e rest = let s : Char ≡ one = cc in ap (λ (x : IntegerWord). integer_word_text x ∷ rest) (sym s)
+integer_keyword keyword.Short one e rest = let s : Short ≡ one = cc in ap (λ (x : IntegerWord). integer_word_text x ∷ rest) (sym s)
+integer_keyword keyword.Int one e rest = let s : Int ≡ one = cc in ap (λ (x : IntegerWord). integer_word_text x ∷ rest) (sym s)
+integer_keyword keyword.Long one e rest = let s : Long ≡ one = cc in ap (λ (x : IntegerWord). integer_word_text x ∷ rest) (sym s)
+integer_keyword keyword.Signed one e rest = let s : Signed ≡ one = cc in ap (λ (x : IntegerWord). integer_word_text x ∷ rest) (sym s)
+integer_keyword keyword.Unsigned one e rest = let s : Unsigned ≡ one = cc in ap (λ (x : IntegerWord). integer_word_text x ∷ rest) (sym s)
+integer_keyword _ one e rest = absurd cc
+
+no_keyword : (k : Keyword) (one : TypeWord) → word_of_keyword k ≡ None → first_of_word one ≡ token.Keyword k → has_tag one ≡ true
+no_keyword k (word.Struct tag) n e = refl
+no_keyword k (word.Enum tag) n e = refl
+no_keyword k word.Const n e = absurd (let s : k ≡ keyword.Const = cc in let z : word_of_keyword keyword.Const ≡ None = ap word_of_keyword (sym s) ∙ n in cc)
+no_keyword k word.Void n e = absurd (let s : k ≡ keyword.Void = cc in let z : word_of_keyword keyword.Void ≡ None = ap word_of_keyword (sym s) ∙ n in cc)
+no_keyword k (word.Typedef name) n e = absurd cc
+no_keyword k (word.Integer Char) n e = absurd (let s : k ≡ keyword.Char = cc in let z : word_of_keyword keyword.Char ≡ None = ap word_of_keyword (sym s) ∙ n in cc)
+no_keyword k (word.Integer Short) n e = absurd (let s : k ≡ keyword.Short = cc in let z : word_of_keyword keyword.Short ≡ None = ap word_of_keyword (sym s) ∙ n in cc)
+no_keyword k (word.Integer Int) n e = absurd (let s : k ≡ keyword.Int = cc in let z : word_of_keyword keyword.Int ≡ None = ap word_of_keyword (sym s) ∙ n in cc)
+no_keyword k (word.Integer Long) n e = absurd (let s : k ≡ keyword.Long = cc in let z : word_of_keyword keyword.Long ≡ None = ap word_of_keyword (sym s) ∙ n in cc)
+no_keyword k (word.Integer Signed) n e = absurd (let s : k ≡ keyword.Signed = cc in let z : word_of_keyword keyword.Signed ≡ None = ap word_of_keyword (sym s) ∙ n in cc)
+no_keyword k (word.Integer Unsigned) n e = absurd (let s : k ≡ keyword.Unsigned = cc in let z : word_of_keyword keyword.Unsigned ≡ None = ap word_of_keyword (sym s) ∙ n in cc)
+
+integer_word : (names : Names) (k : Keyword) (found : Option IntegerWord) → word_of k ≡ found → word_of_keyword k ≡ option_map word.Integer found → IsTypeWord names (token.Keyword k) (option_map word.Integer found)
+integer_word names k (Some one) e w = (integer_keyword k one e, refl, refl)
+integer_word names k None e w = λ one f. inl (no_keyword k one w f)
+
+keyword_word : (names : Names) (k : Keyword) → IsTypeWord names (token.Keyword k) (word_of_keyword k)
+keyword_word names keyword.Const = (λ rest. refl, refl, refl)
+keyword_word names keyword.Void = (λ rest. refl, refl, refl)
+keyword_word names other = integer_word names other (word_of other) refl refl
+
+-- a keyword stands there
+pub keyword_type_word : (names : Names) (next : TokenKind) (k : Keyword) (found : Option TypeWord) → next ≡ token.Keyword k → found ≡ word_of_keyword k → IsTypeWord names next found
+keyword_type_word names next k found e is =
+    subst (λ (x : TokenKind). IsTypeWord names x found) (sym e) (subst (IsTypeWord names (token.Keyword k)) (sym is) (keyword_word names k))
+
+pub keyword_is : (kind : TokenKind) (k : Keyword) → keyword_of kind ≡ Some k → kind ≡ token.Keyword k
+keyword_is (token.Keyword j) k e = cc
+keyword_is _ k e = absurd cc
+
+-- words that name something are those of a type
+integers_named : (names : Names) (all : IntegerWords) (first : TypeWord) (others : List TypeWord) → AreIntegers all first others → names_type names (first ∷ others) ≡ true
+integers_named names all (word.Integer k) others a =
+    let c = a.counts in
+    let f : fit_together (word.Integer k ∷ others) ≡ true = rw (sym c.char, sym c.short, sym c.int, sym c.long, sym c.signed, sym c.unsigned) a.fitting in
+    and_from (list_all is_integer_word (word.Integer k ∷ others)) (fit_together (word.Integer k ∷ others)) a.integers f
+integers_named names all word.Const others a = absurd (let i = a.integers in cc)
+integers_named names all word.Void others a = absurd (let i = a.integers in cc)
+integers_named names all (word.Typedef name) others a = absurd (let i = a.integers in cc)
+integers_named names all (word.Struct tag) others a = absurd (let i = a.integers in cc)
+integers_named names all (word.Enum tag) others a = absurd (let i = a.integers in cc)
+
+whole_named : (names : Names) (only : TypeWord) → is_whole names only ≡ true → names_type names (only ∷ []) ≡ true
+whole_named names word.Void w = refl
+whole_named names (word.Typedef name) w = w
+whole_named names (word.Struct tag) w = refl
+whole_named names (word.Enum tag) w = refl
+whole_named names word.Const w = absurd cc
+whole_named names (word.Integer k) w = absurd cc
+
+pub some_type : (names : Names) (so_far : TypeSoFar) (words : List TypeWord) → Describes names so_far words → names_some so_far ≡ true → is_type names words ≡ true
+some_type names Nothing words d some = absurd cc
+some_type names (Integers all) words (first, others, named, are) some = ap (names_type names) named ∙ integers_named names all first others are
+some_type names Whole words (only, named, whole) some = ap (names_type names) named ∙ whole_named names only whole
+
+pub nothing_named : (names : Names) (so_far : TypeSoFar) (ws : List TypeWord) → Describes names so_far ws → names_some so_far ≡ false → named_by ws ≡ []
+nothing_named names Nothing ws d none = d
+nothing_named names (Integers all) ws d none = absurd cc
+nothing_named names Whole ws d none = absurd cc
+
+pub fresh_nothing : (so_far : TypeSoFar) → names_some so_far ≡ false → so_far ≡ Nothing
+fresh_nothing Nothing none = refl
+fresh_nothing (Integers all) none = absurd cc
+fresh_nothing Whole none = absurd cc
+
+tag_unusable : (names : Names) (so_far : TypeSoFar) (is_struct : Bool) (one : TypeWord) → names_some so_far ≡ true → first_of_word one ≡ tag_keyword is_struct → IsUnusable names so_far one
+tag_unusable names so_far is_struct (word.Struct tag) some e = some
+tag_unusable names so_far is_struct (word.Enum tag) some e = some
+tag_unusable names so_far true word.Const some e = absurd cc
+tag_unusable names so_far false word.Const some e = absurd cc
+tag_unusable names so_far true word.Void some e = absurd cc
+tag_unusable names so_far false word.Void some e = absurd cc
+tag_unusable names so_far true (word.Typedef name) some e = absurd cc
+tag_unusable names so_far false (word.Typedef name) some e = absurd cc
+tag_unusable names so_far true (word.Integer k) some e = absurd (let z = no_keyword keyword.Struct (word.Integer k) refl e in false≢true z)
+tag_unusable names so_far false (word.Integer k) some e = absurd (let z = no_keyword keyword.Enum (word.Integer k) refl e in false≢true z)
+
+-- a word with a tag doesn't fit behind words that name a type
+pub tag_unfit : (names : Names) (so_far : TypeSoFar) (next : TokenKind) (is_struct : Bool) → next ≡ tag_keyword is_struct → names_some so_far ≡ true → NothingFits names so_far next
+tag_unfit names so_far next is_struct k some = λ before d. no_word_stuck names so_far before next d (λ one e. tag_unusable names so_far is_struct one some (e ∙ k))
+
+no_brace : (t : TokenKind) (tokens : Kinds) → (t ≡ token.Mark mark.OpenBrace → ⊥) → HasNoOpenBrace (t ∷ tokens)
+no_brace (token.Mark mark.OpenBrace) tokens other = other refl
+no_brace _ tokens other = tt
+
+pub no_brace_near : (next : TokenKind) (behind : Kinds) → (next ≡ token.Mark mark.OpenBrace → ⊥) → Near next behind → HasNoOpenBrace behind
+no_brace_near next behind other near =
+    elim near [ inl none ↦ subst HasNoOpenBrace (sym none) tt | inr m ↦ subst HasNoOpenBrace (sym m.1) (no_brace next m.0 other) ]
+
+tag_quiet : (is_struct : Bool) (tag : List ℕ) (behind : Kinds) → HasNoOpenBrace behind → IsQuiet (Plain (word_of_tag is_struct tag)) behind
+tag_quiet true tag behind h = h
+tag_quiet false tag behind h = h
+
+tag_text : (is_struct : Bool) (tag : List ℕ) (rest : Kinds) → type_word_text (word_of_tag is_struct tag) rest ≡ tag_keyword is_struct ∷ token.Name tag ∷ rest
+tag_text true tag rest = refl
+tag_text false tag rest = refl
+
+pub tag_some : (is_struct : Bool) → tag_keyword is_struct ≡ token.Attribute → ⊥
+tag_some true e = cc
+tag_some false e = cc
+
+pub tag_spelled : (tokens : List Token) (at : ℕ) (is_struct : Bool) (tag : List ℕ) → kind_or_end tokens at ≡ tag_keyword is_struct → kind_or_end tokens (at + 1) ≡ token.Name tag → Spells tokens at (at + 2) (λ rest. tag_keyword is_struct ∷ token.Name tag ∷ rest)
+tag_spelled tokens at is_struct tag k n =
+    subst (λ (m : ℕ). Spells tokens at m (λ rest. tag_keyword is_struct ∷ token.Name tag ∷ rest)) (let e : at + 1 + 1 ≡ at + 2 = omega arith in e)
+    (spells_more tokens at (at + 1) (at + 1 + 1) (λ rest. tag_keyword is_struct ∷ rest) (λ rest. token.Name tag ∷ rest) (spells_one tokens at (tag_keyword is_struct) k (tag_some is_struct)) (spells_one tokens (at + 1) (token.Name tag) n (λ x. cc)))
+
+tag_whole : (names : Names) (is_struct : Bool) (tag : List ℕ) (before : List TypeWord) → named_by before ≡ [] → Describes names Whole (before ++ word_of_tag is_struct tag ∷ [])
+tag_whole names true tag before none = (word.Struct tag, named_more before (word.Struct tag ∷ []) ∙ ap (λ (x : List TypeWord). x ++ word.Struct tag ∷ []) none, refl)
+tag_whole names false tag before none = (word.Enum tag, named_more before (word.Enum tag ∷ []) ∙ ap (λ (x : List TypeWord). x ++ word.Enum tag ∷ []) none, refl)
+
+-- `struct` or `enum` with a tag was taken
+pub tag_taken : (names : Names) (tokens : List Token) (at : ℕ) (is_struct : Bool) (tag : List ℕ) (found : NextWord) → kind_or_end tokens at ≡ tag_keyword is_struct → kind_or_end tokens (at + 1) ≡ token.Name tag → (kind_or_end tokens (at + 2) ≡ token.Mark mark.OpenBrace → ⊥) → IsTagged (kind_or_end tokens at) tag found → found.height ≡ 1 → found.next ≡ at + 2 → IsPlainWord names tokens at Nothing found (word_of_tag is_struct tag)
+tag_taken names tokens at is_struct tag found k n other is tall next = record {
+  word_is = is.one is_struct k;
+  height_is = tall;
+  later = omega (arith, next);
+  spelled =
+      subst (λ (m : ℕ). Spells tokens at m (type_word_text (word_of_tag is_struct tag))) (sym next)
+      (spells_as tokens at (at + 2) (λ rest. tag_keyword is_struct ∷ token.Name tag ∷ rest) (type_word_text (word_of_tag is_struct tag)) (tag_spelled tokens at is_struct tag k n) (λ rest. sym (tag_text is_struct tag rest)));
+  quiet = λ behind near. tag_quiet is_struct tag behind (no_brace_near (kind_or_end tokens (at + 2)) behind other (subst (λ (m : ℕ). Near (kind_or_end tokens m) behind) next near));
+  described = λ before none. subst (λ (x : TypeSoFar). Describes names x (before ++ word_of_tag is_struct tag ∷ [])) (sym is.whole) (tag_whole names is_struct tag before none);
+}
+
+pub block_plain : (names : Names) (tokens : List Token) (at : ℕ) (so_far : TypeSoFar) (answer : Result (Option NextWord) Stop) → HasNoTag (kind_or_end tokens at) → PlainAnswer names tokens at so_far answer → BlockWordAnswer names tokens at so_far answer
+block_plain names tokens at so_far (Ok (Some found)) none p = p
+block_plain names tokens at so_far (Ok None) none p = p none
+block_plain names tokens at so_far (Err stop.Memory) none p = tt
+block_plain names tokens at so_far (Err (stop.Refused refused reason)) none p = absurd p
+block_plain names tokens at so_far (Err (stop.Expression r)) none p = absurd p
+
+pub block_error : (names : Names) (tokens : List Token) (at : ℕ) (so_far : TypeSoFar) (s : Stop) → names_some so_far ≡ false → BlockTagAnswer names tokens at (Err s) → BlockWordAnswer names tokens at so_far (Err s)
+block_error names tokens at so_far stop.Memory none b = tt
+block_error names tokens at so_far (stop.Refused refused reason) none b = (none, b)
+block_error names tokens at so_far (stop.Expression r) none b = (none, b)
+
+pub block_word : (names : Names) (tokens : List Token) (at : ℕ) (so_far : TypeSoFar) (found : NextWord) → names_some so_far ≡ false → BlockTagAnswer names tokens at (Ok found) → BlockWordAnswer names tokens at so_far (Ok (Some found))
+block_word names tokens at so_far found none b = subst (λ (x : TypeSoFar). (one : TypeWord) × IsPlainWord names tokens at x found one) (sym (fresh_nothing so_far none)) b
+
+tag_stands : (is_struct : Bool) (next : TokenKind) → next ≡ tag_keyword is_struct → next ≡ token.Keyword (if is_struct then keyword.Struct else keyword.Enum)
+tag_stands true next k = k
+tag_stands false next k = k
+
+unnamed : (next : TokenKind) → ((name : List ℕ) → next ≡ token.Name name → Unit {0} → ⊥) → name_of next ≡ None
+unnamed (token.Name name) none = absurd (none name refl tt)
+unnamed _ none = refl
+
+-- no tag stands behind `struct` or `enum`
+pub tag_unnamed : (names : Names) (tokens : List Token) (at : ℕ) → IsTagKeyword (kind_or_end tokens at) → IsNameAt (λ name. Unit {0}) (kind_or_end tokens (at + 1)) None → (s : Stop) → RefusesBehind (at + 1) false s → BlockTagAnswer names tokens at (Err s)
+tag_unnamed names tokens at k none stop.Memory r = absurd r
+tag_unnamed names tokens at k none (stop.Expression x) r = absurd r
+tag_unnamed names tokens at k none (stop.Refused refused reason) r =
+    (r.1, inl (record { is_struct = k.0; stands = tag_stands k.0 (kind_or_end tokens at) k.1; none = unnamed (kind_or_end tokens (at + 1)) none; refused_is = r.0 }))
+
+-- a brace stands behind the tag
+pub tag_braced : (tokens : List Token) (at : ℕ) → IsTagKeyword (kind_or_end tokens at) → (tag : List ℕ) → kind_or_end tokens (at + 1) ≡ token.Name tag → kind_or_end tokens (at + 2) ≡ token.Mark mark.OpenBrace → (reason : Reason) → is_deep reason ≡ false → BlockTagStops tokens at (stop.Refused (at + 2) reason)
+tag_braced tokens at k tag n b reason plain = (plain, inr (record { is_struct = k.0; tag = tag; spelled = tag_spelled tokens at k.0 tag k.1 n; brace = b }))

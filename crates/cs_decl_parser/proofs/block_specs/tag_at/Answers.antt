@@ -1,0 +1,26 @@
+use Rattle.std.proofs.Common.{◌≡◌, ◌+◌, Option, refl, sym, ap, ◌∙◌, subst}
+use Rattle.std.proofs.lemmas.Bool.{false≢true}
+use Rattle.cs_ast.specs.declared.raw.name.RawName.{RawName}
+use Rattle.cs_grammar.specs.declared.refusal.Reason.TheVariants.{LeftOut}
+use Rattle.cs_expr_parser.specs.Positions.{kind_or_end}
+use Rattle.cs_expr_parser.specs.Words.{word_of_tag}
+use Rattle.cs_decl_parser.specs.DeclarationAnswers.{IsNameAt}
+use Rattle.cs_decl_parser.proofs.StuckWords.{tag_taken, tag_unnamed, tag_braced}
+use Rattle.cs_decl_parser.proofs.block_specs.tag_at.Goals as goal
+
+pub returns-in_default-clause-tag : goal.returns-in_default-clause-tag
+returns-in_default-clause-tag c =
+    tag_unnamed c.args.source.now.names.now c.args.source.now.tokens.now c.args.at c.requires.stands (subst (λ (x : Option RawName). IsNameAt (λ name. Unit {0}) (kind_or_end c.args.source.now.tokens.now (c.args.at + 1)) x) c.in_default.is c.in_ok-tag.ensures.name) c.refuse_body.result c.refuse_body.ensures
+
+pub returns-then-is_mark-clause-tag : goal.returns-then-is_mark-clause-tag
+returns-then-is_mark-clause-tag c =
+    let n = subst (λ (x : Option RawName). IsNameAt (λ name. Unit {0}) (kind_or_end c.args.source.now.tokens.now (c.args.at + 1)) x) c.in-Some.is c.in_ok-tag.ensures.name in
+    tag_braced c.args.source.now.tokens.now c.args.at c.requires.stands c.in-Some.tag.name n.0 (c.is_mark.ensures.mark.0 c.if-is_mark.true) LeftOut refl
+
+pub returns-clause-tag : goal.returns-clause-tag
+returns-clause-tag c =
+    let k = c.requires.stands in
+    let n = subst (λ (x : Option RawName). IsNameAt (λ name. Unit {0}) (kind_or_end c.args.source.now.tokens.now (c.args.at + 1)) x) c.in-Some.is c.in_ok-tag.ensures.name in (
+      word_of_tag k.0 c.in-Some.tag.name,
+      tag_taken c.args.source.now.names.now c.args.source.now.tokens.now c.args.at k.0 c.in-Some.tag.name c.without_body.result k.1 n.0 (λ b. false≢true (sym c.if-is_mark.false ∙ c.is_mark.ensures.mark.1 b)) c.without_body.ensures.word c.without_body.ensures.bounds.1 c.without_body.ensures.bounds.0,
+    )

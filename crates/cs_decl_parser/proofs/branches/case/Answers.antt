@@ -1,0 +1,21 @@
+-- Each return is the refusal of the word or of the value, or both were taken.
+use Rattle.std.proofs.Common.{◌≡◌, ℕ, ◌+◌, ◌-◌, Result, Ok, Err, refl, sym, ap, ◌∙◌, subst, arith, rules}
+use Rattle.cs_ast.specs.RawStatementView.{switch_item}
+use Rattle.cs_grammar.specs.FileClasses.{SwitchParts}
+use Rattle.cs_decl_parser.specs.Answers.{Answers}
+use Rattle.cs_decl_parser.proofs.BlockSites.{case_full, case_stops, case_taken}
+use Rattle.cs_decl_parser.proofs.branches.case.Goals as goal
+
+pub returns-then-room-eq0-clause-parsed : goal.returns-then-room-eq0-clause-parsed
+returns-then-room-eq0-clause-parsed c =
+    case_full c.args.source.now.names.now c.args.room c.args.source.now.tokens.now c.args.source.now.end c.args.from c.refuse_deep.result (let w = c.requires.within in omega arith) c.if-room-eq0.true c.requires.stands c.refuse_deep.ensures
+
+pub returns-in_err-value-clause-parsed : goal.returns-in_err-value-clause-parsed
+returns-in_err-value-clause-parsed c =
+    let e : c.from_residual.result ≡ Err c.in_err-value.field-0.0 = search rules in
+    subst (Answers (SwitchParts c.args.source.now.names.now) switch_item c.args.room c.args.source.now.tokens.now c.args.source.now.end c.args.from) (sym e)
+    (case_stops c.args.source.now.names.now c.args.room c.args.source.now.tokens.now c.args.source.now.end c.args.from (let some = c.if-room-eq0.false in omega arith) c.requires.stands c.in_err-value.field-0.0 c.in_err-value.ensures.parsed)
+
+pub returns-clause-parsed : goal.returns-clause-parsed
+returns-clause-parsed c =
+    case_taken c.args.source.now.names.now c.args.room c.args.source.now.tokens.now c.args.from c.in_ok-value.value _ (let some = c.if-room-eq0.false in omega arith) c.requires.stands c.in_ok-value.ensures.parsed refl refl refl

@@ -1,0 +1,74 @@
+use Rattle.std.proofs.Common.{◌≡◌, ℕ, ◌+◌, ◌-◌, ◌≤◌, ◌<◌, max, map, Bool, Err, List, [], ◌∷◌, ◌++◌, Option, refl, sym, ap, ◌∙◌, subst, arith, rules}
+use Rattle.std.proofs.lemmas.Bool.{false≢true}
+use Rattle.std.proofs.lemmas.List.{map-append}
+use Rattle.cs_ast.specs.declared.token.TokenKind.TheVariants as token
+use Rattle.cs_ast.specs.declared.token.Mark.TheVariants as mark
+use Rattle.cs_ast.specs.declared.raw.declaration.RawEnumerator.{RawEnumerator}
+use Rattle.cs_ast.specs.RawDeclarations.{Constant}
+use Rattle.cs_ast.specs.RawDeclarationView.{constant}
+use Rattle.cs_grammar.specs.DeclarationClasses.{Constants}
+use Rattle.cs_grammar.proofs.Bodies.{constant_row, no_constant_closes}
+use Rattle.cs_expr_parser.specs.Positions.{kind_or_end}
+use Rattle.cs_expr_parser.specs.Parts.{is_deep}
+use Rattle.cs_decl_parser.specs.declared.stop.Stop.TheVariants as stop
+use Rattle.cs_decl_parser.specs.DeclarationAnswers.{ConstantsAnswer}
+use Rattle.cs_decl_parser.proofs.RowSites.{TrailingRow, trailing_first, trailing_next, trailing_first_stops, trailing_next_stops, trailing_taken, IsRowTaken, row_is_exact}
+use Rattle.cs_decl_parser.proofs.ListSites.{next_stands, list_unclosed}
+use Rattle.cs_decl_parser.proofs.constants.constants.Goals as goal
+
+pub returns-in_err-last-clause-parsed : goal.returns-in_err-last-clause-parsed
+returns-in_err-last-clause-parsed c =
+    let e : c.from_residual.result ≡ Err c.in_err-last.field-0.0 = search rules in
+    subst (ConstantsAnswer c.args.source.now.names.now c.args.room c.args.source.now.tokens.now c.args.source.now.end c.args.from) (sym e)
+    (trailing_first_stops (Constants c.args.source.now.names.now) (token.Mark mark.CloseBrace) c.args.room (constant_row c.args.source.now.names.now) c.requires.some c.args.source.now.tokens.now c.args.source.now.end c.args.from c.in_err-last.field-0.0 c.in_err-last.ensures.parsed)
+
+pub constants-init : goal.constants-init
+constants-init c =
+    let b = c.in_ok-last.ensures.bounds in
+    let t = c.in_ok-last.ensures.parsed in
+    record {
+      onward = b.0;
+      inside = b.1;
+      low = b.2;
+      so_far =
+          subst (λ (x : List RawEnumerator). TrailingRow (Constants c.args.source.now.names.now) (token.Mark mark.CloseBrace) c.args.room c.args.source.now.tokens.now c.args.from (map constant x) (constant c.in_ok-last.last.tree) c.in_ok-last.last.next (is_deep c.in_ok-last.last.otherwise) c.in_ok-last.last.height) (sym c.new-list.ensures.items)
+          (trailing_first (Constants c.args.source.now.names.now) (token.Mark mark.CloseBrace) c.args.room (constant_row c.args.source.now.names.now) c.requires.some c.args.source.now.tokens.now c.args.from c.requires.within (constant c.in_ok-last.last.tree) c.in_ok-last.last.next (is_deep c.in_ok-last.last.otherwise) c.in_ok-last.last.height t.spelled t.took t.height_is);
+    }
+
+pub returns-in_err-following-clause-parsed : goal.returns-in_err-following-clause-parsed
+returns-in_err-following-clause-parsed c =
+    let e : c.from_residual-in_err-following.result ≡ Err c.in_err-following.field-0.0 = search rules in
+    let n = (next_stands (kind_or_end c.args.source.now.tokens.now c.constants.last.next) (kind_or_end c.args.source.now.tokens.now (c.constants.last.next + 1)) (sym c.goes_on.ensures.comma ∙ c.constants-test.true)) in
+    subst (ConstantsAnswer c.args.source.now.names.now c.args.room c.args.source.now.tokens.now c.args.source.now.end c.args.from) (sym e)
+    (trailing_next_stops (Constants c.args.source.now.names.now) (token.Mark mark.CloseBrace) c.args.room (constant_row c.args.source.now.names.now) c.requires.some (no_constant_closes c.args.source.now.names.now) c.args.source.now.tokens.now c.args.source.now.end c.args.from (map constant c.constants.list.items) (constant c.constants.last.tree) c.constants.last.next (is_deep c.constants.last.otherwise) c.constants.height c.constants.invariant.so_far n.0 n.1 c.in_err-following.field-0.0 c.in_err-following.ensures.parsed)
+
+pub constants-preserved : goal.constants-preserved
+constants-preserved c =
+    let i = c.constants.invariant in
+    let b = c.in_ok-following.ensures.bounds in
+    let h : c.max-height.result ≡ max c.constants.height c.in_ok-following.following.height = c.max-height.ensures in
+    let t = c.in_ok-following.ensures.parsed in
+    let n = (next_stands (kind_or_end c.args.source.now.tokens.now c.constants.last.next) (kind_or_end c.args.source.now.tokens.now (c.constants.last.next + 1)) (sym c.goes_on.ensures.comma ∙ c.constants-test.true)) in
+    let all : map constant c.push.new.self.items ≡ map constant c.constants.list.items ++ constant c.constants.last.tree ∷ [] = ap (map constant) c.in_ok-push.ensures.items ∙ map-append constant c.constants.list.items (c.constants.last.tree ∷ []) in
+    let next = trailing_next (Constants c.args.source.now.names.now) (token.Mark mark.CloseBrace) c.args.room (constant_row c.args.source.now.names.now) c.requires.some (no_constant_closes c.args.source.now.names.now) c.args.source.now.tokens.now c.args.from (map constant c.constants.list.items) (constant c.constants.last.tree) c.constants.last.next (is_deep c.constants.last.otherwise) c.constants.height c.constants.invariant.so_far n.0 (constant c.in_ok-following.following.tree) c.in_ok-following.following.next (is_deep c.in_ok-following.following.otherwise) c.in_ok-following.following.height t.spelled t.took t.height_is in
+    record {
+      onward = omega arith;
+      inside = b.1;
+      low = omega arith;
+      so_far =
+          subst (λ (x : List Constant). TrailingRow (Constants c.args.source.now.names.now) (token.Mark mark.CloseBrace) c.args.room c.args.source.now.tokens.now c.args.from x (constant c.in_ok-following.following.tree) c.in_ok-following.following.next (is_deep c.in_ok-following.following.otherwise) c.max-height.result) (sym all)
+          (subst (λ (x : ℕ). TrailingRow (Constants c.args.source.now.names.now) (token.Mark mark.CloseBrace) c.args.room c.args.source.now.tokens.now c.args.from (map constant c.constants.list.items ++ constant c.constants.last.tree ∷ []) (constant c.in_ok-following.following.tree) c.in_ok-following.following.next (is_deep c.in_ok-following.following.otherwise) x) (sym h) next);
+    }
+
+pub returns-then-not-is_mark-clause-parsed : goal.returns-then-not-is_mark-clause-parsed
+returns-then-not-is_mark-clause-parsed c =
+    subst (λ (n : ℕ). ConstantsAnswer c.args.source.now.names.now c.args.room c.args.source.now.tokens.now c.args.source.now.end c.args.from (Err (stop.Refused n c.constants.last.otherwise))) (sym c.closing_at-closing.ensures)
+    (list_unclosed (Constants c.args.source.now.names.now) c.args.room (constant_row c.args.source.now.names.now) (no_constant_closes c.args.source.now.names.now) c.args.source.now.tokens.now c.args.from (map constant c.constants.list.items) (constant c.constants.last.tree) c.constants.last.next c.constants.last.otherwise c.constants.height c.constants.invariant.so_far c.is_mark-comma.result (c.is_mark-comma.ensures.mark.0, c.is_mark-comma.ensures.mark.1)
+    (sym c.goes_on.ensures.comma ∙ c.constants-test.false)
+    (λ k. false≢true (sym c.if-not-is_mark.true ∙ c.is_mark.ensures.mark.1 (ap (kind_or_end c.args.source.now.tokens.now) c.closing_at-closing.ensures ∙ k))))
+
+pub returns-clause-parsed : goal.returns-clause-parsed
+returns-clause-parsed c =
+    let r = trailing_taken (Constants c.args.source.now.names.now) (token.Mark mark.CloseBrace) c.args.room (constant_row c.args.source.now.names.now) (λ x. cc) (no_constant_closes c.args.source.now.names.now) c.args.source.now.tokens.now c.args.from (map constant c.constants.list.items) (constant c.constants.last.tree) c.constants.last.next (is_deep c.constants.last.otherwise) c.constants.height c.constants.invariant.so_far c.is_mark-comma.result c.is_mark-comma.ensures.mark.0 (sym (ap (kind_or_end c.args.source.now.tokens.now) c.closing_at-closing.ensures) ∙ c.is_mark.ensures.mark.0 c.if-not-is_mark.false) in
+    row_is_exact (Constants c.args.source.now.names.now) (token.Mark mark.CloseBrace) c.args.room _ c.args.source.now.tokens.now c.args.from _ _ c.constants.height _ r
+    (ap (λ (x : List Constant). (x, c.is_mark-comma.result)) (ap (map constant) c.in_ok-push-2.ensures.items ∙ map-append constant c.constants.list.items (c.constants.last.tree ∷ []))) refl (ap (λ (n : ℕ). n + 1) c.closing_at-closing.ensures)

@@ -1,0 +1,99 @@
+use Rattle.std.proofs.Common.{◌≡◌, ℕ, ◌+◌, ◌-◌, ◌≤◌, ◌<◌, max, map, Bool, Err, List, [], ◌∷◌, ◌++◌, Option, refl, sym, ap, ◌∙◌, subst, arith, rules}
+use Rattle.std.proofs.lemmas.Bool.{false≢true}
+use Rattle.std.proofs.lemmas.List.{map-append}
+use Rattle.cs_ast.specs.declared.token.TokenKind.TheVariants as token
+use Rattle.cs_ast.specs.declared.token.Mark.TheVariants as mark
+use Rattle.cs_ast.specs.declared.raw.declaration.RawInitial.{RawInitial}
+use Rattle.cs_ast.specs.RawDeclarations.{Initial, Initials, Listed}
+use Rattle.cs_ast.specs.RawDeclarationView.{initial}
+use Rattle.cs_ast.proofs.RawDeclarationRows.{initial-List}
+use Rattle.cs_grammar.specs.DeclarationClasses.{Values}
+use Rattle.cs_grammar.proofs.InitialValues.{value_row, no_value_closes, items_of}
+use Rattle.cs_expr_parser.specs.Positions.{kind_or_end}
+use Rattle.cs_expr_parser.specs.Parts.{is_deep}
+use Rattle.cs_decl_parser.specs.declared.stop.Stop.TheVariants as stop
+use Rattle.cs_decl_parser.specs.Answers.{UnclosedAnswers, Stops}
+use Rattle.cs_decl_parser.proofs.StatementStops.{plain_flat}
+use Rattle.cs_decl_parser.proofs.RowSites.{TrailingRow, trailing_first, trailing_next, trailing_first_stops, trailing_next_stops, trailing_taken}
+use Rattle.cs_decl_parser.proofs.ListSites.{next_stands, list_unclosed, designator_stops, single_value_stops, single_value_taken, list_full_stops, items_stop, items_taken, items_listed}
+use Rattle.cs_decl_parser.proofs.initial.+initial.Goals as goal
+
+pub initial-returns-then-begins_designator-clause-parsed : goal.initial-returns-then-begins_designator-clause-parsed
+initial-returns-then-begins_designator-clause-parsed t c =
+    designator_stops c.args.source.now.names.now c.args.room c.args.source.now.tokens.now c.args.source.now.end c.args.from _ c.requires.within refl (c.begins_designator.ensures c.if-begins_designator.true)
+
+pub initial-returns-in_err-value-clause-parsed : goal.initial-returns-in_err-value-clause-parsed
+initial-returns-in_err-value-clause-parsed t c =
+    let e : c.from_residual.result ≡ Err c.in_err-value.field-0.0 = search rules in
+    subst (UnclosedAnswers (Values c.args.source.now.names.now) initial c.args.room c.args.source.now.tokens.now c.args.source.now.end c.args.from) (sym e)
+    (single_value_stops c.args.source.now.names.now c.args.room c.requires.some c.args.source.now.tokens.now c.args.source.now.end c.args.from (λ k. false≢true (sym c.if-is_mark.false ∙ c.is_mark.ensures.mark.1 k)) c.in_err-value.field-0.0 c.in_err-value.ensures.parsed)
+
+pub initial-returns-clause-parsed : goal.initial-returns-clause-parsed
+initial-returns-clause-parsed t c = single_value_taken c.args.source.now.names.now c.args.room c.requires.some c.args.source.now.tokens.now c.args.from c.in_ok-value.value c.in_ok-value.ensures.parsed _ refl refl refl refl
+
+pub items-returns-then-room-lt2-clause-parsed : goal.items-returns-then-room-lt2-clause-parsed
+items-returns-then-room-lt2-clause-parsed t c =
+    subst (Stops (Values c.args.source.now.names.now) c.args.room c.args.source.now.tokens.now c.args.source.now.end c.args.from) (sym c.refuse_deep.ensures) (list_full_stops c.args.source.now.names.now c.args.room c.args.source.now.tokens.now c.args.from (let w = c.requires.within in omega arith) c.if-room-lt2.true c.requires.stands)
+
+pub items-returns-in_err-last-clause-parsed : goal.items-returns-in_err-last-clause-parsed
+items-returns-in_err-last-clause-parsed t c =
+    let e : c.from_residual.result ≡ Err c.in_err-last.field-0.0 = search rules in
+    subst (UnclosedAnswers (Values c.args.source.now.names.now) initial c.args.room c.args.source.now.tokens.now c.args.source.now.end c.args.from) (sym e)
+    (items_stop c.args.source.now.names.now c.args.room (c.args.room - 1) (let enough = c.if-room-lt2.false in omega arith) (let enough = c.if-room-lt2.false in omega arith) c.args.source.now.tokens.now c.args.source.now.end c.args.from c.requires.stands c.in_err-last.field-0.0
+    (trailing_first_stops (Values c.args.source.now.names.now) (token.Mark mark.CloseBrace) (c.args.room - 1) (value_row c.args.source.now.names.now) (let enough = c.if-room-lt2.false in omega arith) c.args.source.now.tokens.now c.args.source.now.end (c.args.from + 1) c.in_err-last.field-0.0 c.in_err-last.ensures.parsed))
+
+pub items-items-init : goal.items-items-init
+items-items-init t c =
+    let b = c.in_ok-last.ensures.bounds in
+    let v = c.in_ok-last.ensures.parsed in
+    let w = c.requires.within in
+    record {
+      onward = b.0;
+      inside = b.1;
+      low = b.2;
+      so_far =
+          subst (λ (x : List RawInitial). TrailingRow (Values c.args.source.now.names.now) (token.Mark mark.CloseBrace) (c.args.room - 1) c.args.source.now.tokens.now (c.args.from + 1) (map initial x) (initial c.in_ok-last.last.tree) c.in_ok-last.last.next (is_deep c.in_ok-last.last.otherwise) c.in_ok-last.last.height) (sym c.new-list.ensures.items)
+          (trailing_first (Values c.args.source.now.names.now) (token.Mark mark.CloseBrace) (c.args.room - 1) (value_row c.args.source.now.names.now) (let enough = c.if-room-lt2.false in omega arith) c.args.source.now.tokens.now (c.args.from + 1) (omega arith) (initial c.in_ok-last.last.tree) c.in_ok-last.last.next (is_deep c.in_ok-last.last.otherwise) c.in_ok-last.last.height v.spelled v.took v.height_is);
+    }
+
+pub items-returns-in_err-following-clause-parsed : goal.items-returns-in_err-following-clause-parsed
+items-returns-in_err-following-clause-parsed t c =
+    let e : c.from_residual-in_err-following.result ≡ Err c.in_err-following.field-0.0 = search rules in
+    let n = (next_stands (kind_or_end c.args.source.now.tokens.now c.items.last.next) (kind_or_end c.args.source.now.tokens.now (c.items.last.next + 1)) (sym c.goes_on.ensures.comma ∙ c.items-test.true)) in
+    subst (UnclosedAnswers (Values c.args.source.now.names.now) initial c.args.room c.args.source.now.tokens.now c.args.source.now.end c.args.from) (sym e)
+    (items_stop c.args.source.now.names.now c.args.room (c.args.room - 1) (let enough = c.if-room-lt2.false in omega arith) (let enough = c.if-room-lt2.false in omega arith) c.args.source.now.tokens.now c.args.source.now.end c.args.from c.requires.stands c.in_err-following.field-0.0
+    (trailing_next_stops (Values c.args.source.now.names.now) (token.Mark mark.CloseBrace) (c.args.room - 1) (value_row c.args.source.now.names.now) (let enough = c.if-room-lt2.false in omega arith) (no_value_closes c.args.source.now.names.now) c.args.source.now.tokens.now c.args.source.now.end (c.args.from + 1) (map initial c.items.list.items) (initial c.items.last.tree) c.items.last.next (is_deep c.items.last.otherwise) c.items.height c.items.invariant.so_far n.0 n.1 c.in_err-following.field-0.0 c.in_err-following.ensures.parsed))
+
+pub items-items-preserved : goal.items-items-preserved
+items-items-preserved t c =
+    let i = c.items.invariant in
+    let b = c.in_ok-following.ensures.bounds in
+    let h : c.max-height.result ≡ max c.items.height c.in_ok-following.following.height = c.max-height.ensures in
+    let v = c.in_ok-following.ensures.parsed in
+    let n = (next_stands (kind_or_end c.args.source.now.tokens.now c.items.last.next) (kind_or_end c.args.source.now.tokens.now (c.items.last.next + 1)) (sym c.goes_on.ensures.comma ∙ c.items-test.true)) in
+    let all : map initial c.push.new.self.items ≡ map initial c.items.list.items ++ initial c.items.last.tree ∷ [] = ap (map initial) c.in_ok-push.ensures.items ∙ map-append initial c.items.list.items (c.items.last.tree ∷ []) in
+    let next = trailing_next (Values c.args.source.now.names.now) (token.Mark mark.CloseBrace) (c.args.room - 1) (value_row c.args.source.now.names.now) (let enough = c.if-room-lt2.false in omega arith) (no_value_closes c.args.source.now.names.now) c.args.source.now.tokens.now (c.args.from + 1) (map initial c.items.list.items) (initial c.items.last.tree) c.items.last.next (is_deep c.items.last.otherwise) c.items.height c.items.invariant.so_far n.0 (initial c.in_ok-following.following.tree) c.in_ok-following.following.next (is_deep c.in_ok-following.following.otherwise) c.in_ok-following.following.height v.spelled v.took v.height_is in
+    record {
+      onward = omega arith;
+      inside = b.1;
+      low = omega arith;
+      so_far =
+          subst (λ (x : List Initial). TrailingRow (Values c.args.source.now.names.now) (token.Mark mark.CloseBrace) (c.args.room - 1) c.args.source.now.tokens.now (c.args.from + 1) x (initial c.in_ok-following.following.tree) c.in_ok-following.following.next (is_deep c.in_ok-following.following.otherwise) c.max-height.result) (sym all)
+          (subst (λ (x : ℕ). TrailingRow (Values c.args.source.now.names.now) (token.Mark mark.CloseBrace) (c.args.room - 1) c.args.source.now.tokens.now (c.args.from + 1) (map initial c.items.list.items ++ initial c.items.last.tree ∷ []) (initial c.in_ok-following.following.tree) c.in_ok-following.following.next (is_deep c.in_ok-following.following.otherwise) x) (sym h) next);
+    }
+
+pub items-returns-then-not-is_mark-clause-parsed : goal.items-returns-then-not-is_mark-clause-parsed
+items-returns-then-not-is_mark-clause-parsed t c =
+    subst (λ (n : ℕ). Stops (Values c.args.source.now.names.now) c.args.room c.args.source.now.tokens.now c.args.source.now.end c.args.from (stop.Refused n c.items.last.otherwise)) (sym c.closing_at-closing.ensures)
+    (items_stop c.args.source.now.names.now c.args.room (c.args.room - 1) (let enough = c.if-room-lt2.false in omega arith) (let enough = c.if-room-lt2.false in omega arith) c.args.source.now.tokens.now c.args.source.now.end c.args.from c.requires.stands (stop.Refused _ c.items.last.otherwise)
+    (list_unclosed (Values c.args.source.now.names.now) (c.args.room - 1) (value_row c.args.source.now.names.now) (no_value_closes c.args.source.now.names.now) c.args.source.now.tokens.now (c.args.from + 1) (map initial c.items.list.items) (initial c.items.last.tree) c.items.last.next c.items.last.otherwise c.items.height c.items.invariant.so_far c.is_mark-comma.result (c.is_mark-comma.ensures.mark.0, c.is_mark-comma.ensures.mark.1)
+    (sym c.goes_on.ensures.comma ∙ c.items-test.false)
+    (λ k. false≢true (sym c.if-not-is_mark.true ∙ c.is_mark.ensures.mark.1 (ap (kind_or_end c.args.source.now.tokens.now) c.closing_at-closing.ensures ∙ k)))))
+
+pub items-returns-clause-parsed : goal.items-returns-clause-parsed
+items-returns-clause-parsed t c =
+    let r = trailing_taken (Values c.args.source.now.names.now) (token.Mark mark.CloseBrace) (c.args.room - 1) (value_row c.args.source.now.names.now) (λ x. cc) (no_value_closes c.args.source.now.names.now) c.args.source.now.tokens.now (c.args.from + 1) (map initial c.items.list.items) (initial c.items.last.tree) c.items.last.next (is_deep c.items.last.otherwise) c.items.height c.items.invariant.so_far c.is_mark-comma.result c.is_mark-comma.ensures.mark.0 (sym (ap (kind_or_end c.args.source.now.tokens.now) c.closing_at-closing.ensures) ∙ c.is_mark.ensures.mark.0 c.if-not-is_mark.false) in
+    items_taken c.args.source.now.names.now c.args.room (c.args.room - 1) (let enough = c.if-room-lt2.false in omega arith) (let enough = c.if-room-lt2.false in omega arith) c.args.source.now.tokens.now c.args.from _ c.requires.stands _ c.items.height r _
+    (initial-List c.push-2.new.self c.is_mark-comma.result
+    ∙ ap (λ (x : Initials). Listed x c.is_mark-comma.result) (items_listed c.push-2.new.self.items ∙ ap items_of (ap (map initial) c.in_ok-push-2.ensures.items ∙ map-append initial c.items.list.items (c.items.last.tree ∷ []))))
+    refl (ap (λ (n : ℕ). n + 1) c.closing_at-closing.ensures) (ap is_deep c.reason_at.ensures ∙ plain_flat c.args.scope _)

@@ -1,0 +1,59 @@
+use Rattle.std.proofs.Common.{◌≡◌, ℕ, ◌+◌, ◌-◌, ◌≤◌, ◌<◌, max, map, Bool, Err, List, [], ◌∷◌, ◌++◌, Option, refl, sym, ap, ◌∙◌, subst, arith, rules}
+use Rattle.std.proofs.lemmas.Bool.{false≢true}
+use Rattle.std.proofs.lemmas.List.{map-append}
+use Rattle.cs_ast.specs.declared.token.TokenKind.TheVariants as token
+use Rattle.cs_ast.specs.declared.token.Mark.TheVariants as mark
+use Rattle.cs_ast.specs.declared.raw.declaration.RawInit.{RawInit}
+use Rattle.cs_ast.specs.RawDeclarations.{Declared}
+use Rattle.cs_ast.specs.RawDeclarationView.{declared}
+use Rattle.cs_grammar.specs.Composed.{Separated}
+use Rattle.cs_grammar.specs.DeclarationClasses.{Objects}
+use Rattle.cs_grammar.proofs.DeclaredObjects.{object_row}
+use Rattle.cs_expr_parser.specs.Positions.{kind_or_end}
+use Rattle.cs_expr_parser.specs.Parts.{is_deep}
+use Rattle.cs_decl_parser.specs.Answers.{ExactAnswers, IsUnclosed}
+use Rattle.cs_decl_parser.proofs.RowSites.{RowSoFar, row_first, row_next, row_next_stops, row_wrong, row_taken}
+use Rattle.cs_decl_parser.proofs.objects.with_others.Goals as goal
+
+pub objects-init : goal.objects-init
+objects-init c = record {
+  onward = omega arith;
+  inside = c.requires.within;
+  low = c.requires.low;
+  so_far = λ from first.
+      subst (λ (x : List RawInit). RowSoFar (Objects c.args.source.now.names.now) (token.Mark mark.Semicolon) c.args.room c.args.source.now.tokens.now from (map declared x) (declared c.args.first.tree) c.args.first.next (is_deep c.args.first.otherwise) c.args.first.height) (sym c.new-list.ensures.items)
+      (row_first (Objects c.args.source.now.names.now) (token.Mark mark.Semicolon) c.args.room (object_row c.args.source.now.names.now) c.requires.some c.args.source.now.tokens.now from (let o = first.spelled.onward in let w = first.spelled.within in omega arith) (declared c.args.first.tree) c.args.first.next (is_deep c.args.first.otherwise) c.args.first.height first.spelled first.took first.height_is);
+}
+
+pub returns-in_err-following-clause-parsed : goal.returns-in_err-following-clause-parsed
+returns-in_err-following-clause-parsed c = λ from first.
+    let e : c.from_residual.result ≡ Err c.in_err-following.field-0.0 = search rules in
+    subst (ExactAnswers (Separated (Objects c.args.source.now.names.now) (token.Mark mark.Semicolon)) (λ list. map declared list.items) c.args.room c.args.source.now.tokens.now c.args.source.now.end from) (sym e)
+    (row_next_stops (Objects c.args.source.now.names.now) (token.Mark mark.Semicolon) c.args.room (object_row c.args.source.now.names.now) c.requires.some c.args.source.now.tokens.now c.args.source.now.end from (map declared c.objects.list.items) (declared c.objects.last.tree) c.objects.last.next (is_deep c.objects.last.otherwise) c.objects.height (c.objects.invariant.so_far from first) (c.is_mark.ensures.mark.0 c.objects-test.true) c.in_err-following.field-0.0 c.in_err-following.ensures.parsed)
+
+pub objects-preserved : goal.objects-preserved
+objects-preserved c =
+    let i = c.objects.invariant in
+    let b = c.in_ok-following.ensures.bounds in
+    let h : c.max-height.result ≡ max c.objects.height c.in_ok-following.following.height = c.max-height.ensures in
+    let t = c.in_ok-following.ensures.parsed in
+    let all : map declared c.push.new.self.items ≡ map declared c.objects.list.items ++ declared c.objects.last.tree ∷ [] = ap (map declared) c.in_ok-push.ensures.items ∙ map-append declared c.objects.list.items (c.objects.last.tree ∷ []) in
+    record {
+      onward = omega arith;
+      inside = b.1;
+      low = omega arith;
+      so_far = λ from first.
+          subst (λ (x : List Declared). RowSoFar (Objects c.args.source.now.names.now) (token.Mark mark.Semicolon) c.args.room c.args.source.now.tokens.now from x (declared c.in_ok-following.following.tree) c.in_ok-following.following.next (is_deep c.in_ok-following.following.otherwise) c.max-height.result) (sym all)
+          (subst (λ (x : ℕ). RowSoFar (Objects c.args.source.now.names.now) (token.Mark mark.Semicolon) c.args.room c.args.source.now.tokens.now from (map declared c.objects.list.items ++ declared c.objects.last.tree ∷ []) (declared c.in_ok-following.following.tree) c.in_ok-following.following.next (is_deep c.in_ok-following.following.otherwise) x) (sym h)
+          (row_next (Objects c.args.source.now.names.now) (token.Mark mark.Semicolon) c.args.room (object_row c.args.source.now.names.now) c.requires.some c.args.source.now.tokens.now from (map declared c.objects.list.items) (declared c.objects.last.tree) c.objects.last.next (is_deep c.objects.last.otherwise) c.objects.height (c.objects.invariant.so_far from first) (c.is_mark.ensures.mark.0 c.objects-test.true) (declared c.in_ok-following.following.tree) c.in_ok-following.following.next (is_deep c.in_ok-following.following.otherwise) c.in_ok-following.following.height t.spelled t.took t.height_is));
+    }
+
+pub returns-then-not-is_mark-clause-parsed : goal.returns-then-not-is_mark-clause-parsed
+returns-then-not-is_mark-clause-parsed c = λ from first.
+    row_wrong (Objects c.args.source.now.names.now) (token.Mark mark.Semicolon) c.args.room (object_row c.args.source.now.names.now) c.args.source.now.tokens.now from (map declared c.objects.list.items) (declared c.objects.last.tree) c.objects.last.next c.objects.last.otherwise c.objects.height (c.objects.invariant.so_far from first)
+    (λ k. false≢true (sym c.objects-test.false ∙ c.is_mark.ensures.mark.1 k)) (λ k. false≢true (sym c.if-not-is_mark.true ∙ c.is_mark-2.ensures.mark.1 k))
+
+pub returns-clause-parsed : goal.returns-clause-parsed
+returns-clause-parsed c = λ from first.
+    row_taken (Objects c.args.source.now.names.now) (token.Mark mark.Semicolon) c.args.room (object_row c.args.source.now.names.now) (λ x. cc) (λ list. map declared list.items) c.args.source.now.tokens.now from (map declared c.objects.list.items) (declared c.objects.last.tree) c.objects.last.next (is_deep c.objects.last.otherwise) c.objects.height (c.objects.invariant.so_far from first)
+    (c.is_mark-2.ensures.mark.0 c.if-not-is_mark.false) _ (ap (map declared) c.in_ok-push-2.ensures.items ∙ map-append declared c.objects.list.items (c.objects.last.tree ∷ [])) refl refl

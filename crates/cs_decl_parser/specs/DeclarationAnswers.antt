@@ -1,0 +1,210 @@
+-- What the parts that read declarations answer: words of pointers, names, declarators.
+use Rattle.std.specs.Prelude.{◌≡◌, ℕ, ◌+◌, ◌==◌, ◌&&◌, not, Bool, true, false, IsTrue, List, [], ◌∷◌, map, Option, Some, None, Result, Ok, Err}
+use Rattle.cs_ast.specs.declared.place.Place.{Place}
+use Rattle.cs_ast.specs.declared.token.Token.{Token}
+use Rattle.cs_ast.specs.declared.token.TokenKind.{TokenKind}
+use Rattle.cs_ast.specs.declared.token.TokenKind.TheVariants as token
+use Rattle.cs_ast.specs.declared.token.Keyword.TheVariants as keyword
+use Rattle.cs_ast.specs.declared.token.Mark.TheVariants as mark
+use Rattle.cs_ast.specs.declared.raw.declaration.RawDeclarator.{RawDeclarator}
+use Rattle.cs_ast.specs.declared.raw.name.RawName.{RawName}
+use Rattle.cs_ast.specs.declared.raw.written_type.PointerWord.{PointerWord}
+use Rattle.cs_ast.specs.declared.raw.written_type.PointerWord.TheVariants as pointer
+use Rattle.cs_ast.specs.declared.raw.declaration.RawEnumerator.{RawEnumerator}
+use Rattle.cs_ast.specs.declared.raw.declaration.RawInitial.{RawInitial}
+use Rattle.cs_ast.specs.declared.raw.declaration.RawInit.{RawInit}
+use Rattle.cs_ast.specs.declared.raw.declaration.RawParameter.{RawParameter}
+use Rattle.cs_ast.specs.declared.raw.declaration.RawParameters.{RawParameters}
+use Rattle.cs_ast.specs.declared.raw.expression.RawExpr.{RawExpr}
+use Rattle.cs_ast.specs.RawTree.{Written}
+use Rattle.cs_ast.specs.RawView.{written}
+use Rattle.cs_ast.specs.RawDeclarations.{Declarator, Constant}
+use Rattle.cs_ast.specs.RawDeclarationView.{bounds_of, declarator, constant, initial, declared, parameter, parameters}
+use Rattle.cs_grammar.specs.declared.refusal.Reason.{Reason}
+use Rattle.cs_grammar.specs.TypeWords.{Names, is_pointer}
+use Rattle.cs_grammar.specs.Text.{Kinds, text, pointers_text}
+use Rattle.cs_grammar.specs.Phrases.{IsPhrase}
+use Rattle.cs_ast.specs.RawHeight.{height}
+use Rattle.cs_grammar.specs.FileText.{name_text}
+use Rattle.cs_grammar.specs.FilePhrases.{IsFree}
+use Rattle.cs_grammar.specs.Parsing.{Class}
+use Rattle.cs_grammar.specs.Levels.{CHOICE}
+use Rattle.cs_grammar.specs.Composed.{ClosedSome, Separated, Trailing}
+use Rattle.cs_grammar.specs.FileClasses.{Tests}
+use Rattle.cs_grammar.specs.DeclarationClasses.{Brackets, Declarators, Constants, Values, Objects, ParameterClass, ParameterRows, ParameterLists}
+use Rattle.cs_expr_parser.specs.Positions.{kind_or_end}
+use Rattle.cs_expr_parser.specs.Parts.{Spells, is_deep}
+use Rattle.cs_decl_parser.specs.declared.stop.Stop.{Stop}
+use Rattle.cs_decl_parser.specs.declared.stop.Stop.TheVariants as stop
+use Rattle.cs_decl_parser.specs.declared.stop.Taken.{Taken}
+use Rattle.cs_decl_parser.specs.declared.declarator.Declares.{Declares}
+use Rattle.cs_decl_parser.specs.declared.declarator.Declares.TheVariants as declaring
+use Rattle.cs_decl_parser.specs.declared.declarator.Pointed.{Pointed}
+use Rattle.cs_decl_parser.specs.declared.stop.Unclosed.{Unclosed}
+use Rattle.cs_decl_parser.specs.declared.constants.ConstantList.{ConstantList}
+use Rattle.cs_expr_parser.specs.declared.answer.ExprLevel.{ExprLevel}
+use Rattle.cs_expr_parser.specs.Expression.{level_asked}
+use Rattle.cs_grammar.specs.Parsing.{Expressions}
+use Rattle.cs_ast.specs.declared.token.Mark.{Mark}
+use Rattle.std.specs.Option.{option_map}
+use Rattle.cs_decl_parser.specs.Answers.{Stops, IsTaken, IsUnclosed, ExactAnswers, Answers, UnclosedAnswers}
+
+-- the word of pointers that a token is; `const` is one behind a star alone
+abbrev pub IsPointerWord : Bool → TokenKind → Option PointerWord → Type 0
+IsPointerWord behind_star kind (Some pointer.Star) = kind ≡ token.Mark mark.Star
+IsPointerWord behind_star kind (Some pointer.Const) = (kind ≡ token.Keyword keyword.Const) × (behind_star ≡ true)
+IsPointerWord behind_star kind None = (kind ≡ token.Mark mark.Star → ⊥) × (kind ≡ token.Keyword keyword.Const → behind_star ≡ true → ⊥)
+
+-- the words of pointers from a number on are these, and no more
+pub record ArePointers (tokens : List Token) (from at : ℕ) (words : List PointerWord) : Type 0 where
+  pub spelled : Spells tokens from at (pointers_text words)
+  pub pointers : IsTrue (is_pointer words)
+  pub no_star : kind_or_end tokens at ≡ token.Mark mark.Star → ⊥
+  pub no_const : kind_or_end tokens at ≡ token.Keyword keyword.Const → words ≡ []
+
+-- the name that a token is, if it passes
+abbrev pub IsNameAt : (List ℕ → Type 0) → TokenKind → Option RawName → Type 0
+IsNameAt IsName kind (Some found) = (kind ≡ token.Name found.name) × IsName found.name
+IsNameAt IsName kind None = (name : List ℕ) → kind ≡ token.Name name → IsName name → ⊥
+
+-- the names that a declarator may have, and whether a bound may lack
+abbrev pub IsNameFor : Declares → Names → List ℕ → Type 0
+IsNameFor declaring.Names names name = IsFree names name
+IsNameFor declaring.Members names name = Unit {0}
+
+abbrev pub MayLackFor : Declares → Type 0
+MayLackFor declaring.Names = Unit {0}
+MayLackFor declaring.Members = ⊥
+
+-- the declarators that are asked for, and their bounds
+abbrev pub DeclaratorsFor : Declares → Names → Class
+DeclaratorsFor declares names = Declarators (IsNameFor declares names) names (MayLackFor declares)
+
+abbrev pub BracketsFor : Declares → Names → Class
+BracketsFor declares names = Brackets names (MayLackFor declares)
+
+-- there is no room for a bound, since that of a member may not lack
+abbrev pub has_no_room : Declares → ℕ → Bool
+has_no_room declaring.Names room = false
+has_no_room declaring.Members room = room == 0
+
+-- a bracket stands there
+abbrev pub is_bracket : TokenKind → Bool
+is_bracket (token.Mark mark.OpenBracket) = true
+is_bracket other = false
+
+-- a bound stands there for which there is no room
+abbrev pub is_full : Declares → ℕ → TokenKind → Bool
+is_full declares room next = has_no_room declares room && is_bracket next
+
+-- the refusal of this token, with which a higher phrase goes on or none does
+abbrev pub RefusesBehind : ℕ → Bool → Stop → Type 0
+RefusesBehind number deep (stop.Refused at reason) = (at ≡ number) × (is_deep reason ≡ deep)
+RefusesBehind number deep other = ⊥
+
+-- a name with the pointers before it was taken
+pub record IsPointed (declares : Declares) (names : Names) (tokens : List Token) (from : ℕ) (taken : Taken Pointed) : Type 0 where
+  pub spelled : Spells tokens from taken.next (λ rest. pointers_text taken.tree.pointers.items (token.Name taken.tree.name.name ∷ rest))
+  pub pointers : IsTrue (is_pointer taken.tree.pointers.items)
+  pub named : IsNameFor declares names taken.tree.name.name
+
+-- no name stands behind the words of pointers
+pub record IsNameMissing (declares : Declares) (names : Names) (tokens : List Token) (from at : ℕ) (reason : Reason) : Type 0 where
+  pub words : List PointerWord
+  pub pointers : ArePointers tokens from at words
+  pub no_name : (name : List ℕ) → kind_or_end tokens at ≡ token.Name name → IsNameFor declares names name → ⊥
+  pub plain : is_deep reason ≡ false
+
+abbrev pub PointedAnswers : Declares → Names → List Token → ℕ → Result (Taken Pointed) Stop → Type 0
+PointedAnswers declares names tokens from (Ok taken) = IsPointed declares names tokens from taken
+PointedAnswers declares names tokens from (Err stop.Memory) = Unit {0}
+PointedAnswers declares names tokens from (Err (stop.Refused at reason)) = IsNameMissing declares names tokens from at reason
+PointedAnswers declares names tokens from (Err (stop.Expression refusal)) = ⊥
+
+-- a declarator was taken, with which a higher one goes on where there is no room for a bound
+abbrev pub IsDeclaratorTaken : Declares → Names → ℕ → List Token → ℕ → Taken RawDeclarator → Type 0
+IsDeclaratorTaken declares names room tokens from taken =
+    (inner : ℕ) → room ≡ 1 + inner → IsTaken (DeclaratorsFor declares names) declarator room tokens from (is_full declares inner (kind_or_end tokens taken.next)) taken
+
+-- the same, or a token is refused
+abbrev pub DeclaratorAnswers : Declares → Names → ℕ → List Token → Place → ℕ → Result (Taken RawDeclarator) Stop → Type 0
+DeclaratorAnswers declares names room tokens end from (Ok taken) = IsDeclaratorTaken declares names room tokens from taken
+DeclaratorAnswers declares names room tokens end from (Err stop) = Stops (DeclaratorsFor declares names) room tokens end from stop
+
+-- bounds between brackets were taken, or a token is refused
+abbrev pub BoundsAnswer : {A : Type 0} → Declares → Names → (A → List (Option Written)) → ℕ → List Token → Place → ℕ → Result (Taken A) Stop → Type 0
+BoundsAnswer declares names view room tokens end from (Ok taken) = IsTaken (BracketsFor declares names) view room tokens from (is_full declares room (kind_or_end tokens taken.next)) taken
+BoundsAnswer declares names view room tokens end from (Err stop) = Stops (BracketsFor declares names) room tokens end from stop
+
+-- expressions of a level with a token behind each that closes it
+abbrev pub ClosedExpressions : Names → ℕ → TokenKind → Class
+ClosedExpressions names level close = record {
+  Tree = Written;
+  spell = λ e after. text e (close ∷ after);
+  tall = height;
+  Is = IsPhrase names level;
+  Shut = λ e after. Unit {0};
+}
+
+-- an expression of a level with the mark that closes it
+abbrev pub ClosedAnswer : Names → ExprLevel → Mark → ℕ → List Token → Place → ℕ → Result (Taken RawExpr) Stop → Type 0
+ClosedAnswer names level closing room tokens end from result = ExactAnswers (ClosedExpressions names (level_asked level) (token.Mark closing)) written room tokens end from result
+
+-- the same, where the expression may lack
+abbrev pub ClosedIfAnyAnswer : Names → ExprLevel → Mark → ℕ → List Token → Place → ℕ → Result (Taken (Option RawExpr)) Stop → Type 0
+ClosedIfAnyAnswer names level closing room tokens end from result =
+    ExactAnswers (ClosedSome names (level_asked level) (Unit {0}) (token.Mark closing)) (option_map written) room tokens end from result
+
+-- constants, and whether a comma stands behind the last
+abbrev pub constant_row : ConstantList → List Constant × Bool
+constant_row taken = (map constant taken.list.items, taken.comma)
+
+-- enumeration constants, with the brace that closes them
+abbrev pub ConstantsAnswer : Names → ℕ → List Token → Place → ℕ → Result (Taken ConstantList) Stop → Type 0
+ConstantsAnswer names room tokens end from result = ExactAnswers (Trailing (Constants names) (token.Mark mark.CloseBrace)) constant_row room tokens end from result
+
+-- the name of a parameter, which may lack
+abbrev pub ParameterNameAnswer : Names → List Token → ℕ → Result (Taken (Option RawName)) Stop → Type 0
+ParameterNameAnswer names tokens at (Ok taken) =
+    IsNameAt (IsFree names) (kind_or_end tokens at) taken.tree
+    × (kind_or_end tokens at ≡ token.Mark mark.OpenParenthesis → ⊥)
+    × Spells tokens at taken.next (name_text (option_map (λ (n : RawName). n.name) taken.tree))
+ParameterNameAnswer names tokens at (Err stop.Memory) = Unit {0}
+ParameterNameAnswer names tokens at (Err (stop.Refused refused reason)) = (refused ≡ at) × (is_deep reason ≡ false) × (kind_or_end tokens at ≡ token.Mark mark.OpenParenthesis)
+ParameterNameAnswer names tokens at (Err (stop.Expression refusal)) = ⊥
+
+-- a bound behind its opening bracket, with the closing one
+abbrev pub BoundAnswer : Declares → Names → ℕ → List Token → Place → ℕ → Result (Taken (Option RawExpr)) Stop → Type 0
+BoundAnswer declares names room tokens end from result =
+    ExactAnswers (ClosedSome names CHOICE (MayLackFor declares) (token.Mark mark.CloseBracket)) (option_map written) room tokens end from result
+
+-- a constant of this name and this value
+abbrev pub IsConstantOf : List ℕ → Option Written → RawEnumerator → Type 0
+IsConstantOf name value made = constant made ≡ record { name = name; value = value }
+
+-- a comma, and a closing brace
+abbrev pub is_comma : TokenKind → Bool
+is_comma (token.Mark mark.Comma) = true
+is_comma other = false
+
+abbrev pub is_closing_brace : TokenKind → Bool
+is_closing_brace (token.Mark mark.CloseBrace) = true
+is_closing_brace other = false
+
+-- a comma stands there, and no closing brace behind it
+abbrev pub goes_on : TokenKind → TokenKind → Bool
+goes_on first second = is_comma first && not (is_closing_brace second)
+
+-- the object of a declarator with no value
+abbrev pub IsAlone : RawDeclarator → RawInit → Type 0
+IsAlone d made = declared made ≡ record { declarator = declarator d; initial = None }
+
+-- `void` alone stands before a closing parenthesis
+abbrev pub IsVoidAlone : List Token → ℕ → Type 0
+IsVoidAlone tokens from = (kind_or_end tokens from ≡ token.Keyword keyword.Void) × (kind_or_end tokens (from + 1) ≡ token.Mark mark.CloseParenthesis)
+
+-- a designator would begin with the token
+abbrev pub is_designator : TokenKind → Bool
+is_designator (token.Mark mark.Dot) = true
+is_designator (token.Mark mark.OpenBracket) = true
+is_designator other = false

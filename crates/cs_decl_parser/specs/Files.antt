@@ -1,0 +1,72 @@
+-- What the parser of files answers.
+use Rattle.std.specs.Prelude.{◌≡◌, ℕ, ◌<◌, ◌⊎◌, true, false, List, [], ◌∷◌, ◌++◌, map, length, codes}
+use Rattle.cs_ast.specs.declared.place.Place.{Place}
+use Rattle.cs_ast.specs.declared.token.Token.{Token}
+use Rattle.cs_ast.specs.declared.token.TokenKind.{TokenKind}
+use Rattle.cs_ast.specs.declared.token.TokenKind.TheVariants as token
+use Rattle.cs_ast.specs.declared.token.Mark.TheVariants as mark
+use Rattle.cs_ast.specs.declared.raw.external.RawExternal.{RawExternal}
+use Rattle.cs_ast.specs.RawStatements.{External}
+use Rattle.cs_ast.specs.RawStatementView.{external}
+use Rattle.cs_grammar.specs.declared.refusal.Reason.{Reason}
+use Rattle.cs_grammar.specs.declared.refusal.Reason.TheVariants.{Syntax, LeftOut, TooDeep}
+use Rattle.cs_grammar.specs.declared.refusal.SyntaxRefusal.{SyntaxRefusal}
+use Rattle.cs_grammar.specs.declared.refusal.SyntaxRefusal.TheVariants as refusal
+use Rattle.cs_grammar.specs.Spelling.{left_out_spelling}
+use Rattle.cs_grammar.specs.Text.{Kinds}
+use Rattle.cs_grammar.specs.FileText.{file_text}
+use Rattle.cs_grammar.specs.FilePhrases.{IsFile, AreLow, BeginsFile, BeginsLowFile}
+use Rattle.cs_expr_parser.specs.Positions.{kinds, kind_or_end}
+use Rattle.cs_expr_parser.specs.Parts.{Spells, is_deep}
+use Rattle.cs_expr_parser.specs.Expression.{place_or_end}
+
+-- the parts of a file, without their places
+abbrev pub parts_of : List RawExternal → List External
+parts_of externals = map external externals
+
+-- the tokens are this file, with parts of height at most 200, and no other one
+pub record IsTheFile (tokens : List Token) (file : List External) : Type 0 where
+  pub is_file : IsFile [] file
+  pub low : AreLow 200 file
+  pub spelled : kinds tokens ≡ file_text file
+  pub only : (other : List External) → IsFile [] other → file_text other ≡ file_text file → other ≡ file
+
+-- a token, or the end of input, is refused: a file that is low enough begins with the tokens before it, and none with the token
+-- too; a higher one does exactly where it is too deep; at the end of input the tokens are no file
+pub record IsFileRefusedAt (tokens : List Token) (at : ℕ) (reason : Reason) : Type 0 where
+  pub front : Kinds
+  pub spelled : Spells tokens 0 at (λ rest. front ++ rest)
+  pub begun : BeginsLowFile 200 front
+  pub furthest : at < length tokens → BeginsLowFile 200 (front ++ kind_or_end tokens at ∷ []) → ⊥
+  pub deep : at < length tokens → is_deep reason ≡ true → BeginsFile (front ++ kind_or_end tokens at ∷ [])
+  pub flat : at < length tokens → is_deep reason ≡ false → BeginsFile (front ++ kind_or_end tokens at ∷ []) → ⊥
+  pub unfinished : at ≡ length tokens → (file : List External) → IsFile [] file → file_text file ≡ front → ⊥
+
+-- the spelling of a word or mark that is left out somewhere in a file
+abbrev pub spelling_here : TokenKind → List ℕ
+spelling_here (token.Mark mark.OpenParenthesis) = codes "("
+spelling_here (token.Mark mark.OpenBracket) = codes "["
+spelling_here (token.Mark mark.Dot) = codes "."
+spelling_here (token.Mark mark.Colon) = codes ":"
+spelling_here other = left_out_spelling other
+
+-- a refusal of this token, for this reason, or want of memory
+abbrev pub IsRefusalOf : Token → Reason → SyntaxRefusal → Type 0
+IsRefusalOf token Syntax (refusal.Syntax place) = place ≡ token.place
+IsRefusalOf token LeftOut (refusal.LeftOut place word) = (place ≡ token.place) × (word ≡ spelling_here token.kind)
+IsRefusalOf token TooDeep (refusal.TooDeep place) = place ≡ token.place
+IsRefusalOf token reason refusal.Memory = Unit {0}
+IsRefusalOf token reason other = ⊥
+
+-- the same of the token with this number; the end of input is refused as syntax
+abbrev pub IsRefusalHere : List Token → Place → ℕ → Reason → SyntaxRefusal → Type 0
+IsRefusalHere tokens end at reason (refusal.Syntax place) = (place ≡ place_or_end tokens end at) × (at < length tokens → reason ≡ Syntax)
+IsRefusalHere tokens end at reason (refusal.LeftOut place word) =
+    (place ≡ place_or_end tokens end at) × (reason ≡ LeftOut) × ((word ≡ spelling_here (kind_or_end tokens at)) ⊎ (word ≡ left_out_spelling (kind_or_end tokens at)))
+IsRefusalHere tokens end at reason (refusal.TooDeep place) = (place ≡ place_or_end tokens end at) × (reason ≡ TooDeep)
+IsRefusalHere tokens end at reason refusal.Memory = Unit {0}
+
+-- want of memory, or the refusal of the first token with which no file that is low enough goes on
+abbrev pub IsFileRefusal : List Token → Place → SyntaxRefusal → Type 0
+IsFileRefusal tokens end refusal.Memory = Unit {0}
+IsFileRefusal tokens end other = (at : ℕ) × (reason : Reason) × IsRefusalHere tokens end at reason other × IsFileRefusedAt tokens at reason

@@ -1,0 +1,211 @@
+-- What the parts that read the words before declarators answer.
+use Rattle.std.specs.Prelude.{◌≡◌, ℕ, ◌+◌, ◌≤◌, ◌<◌, ◌⊎◌, Bool, true, false, List, [], ◌∷◌, ◌++◌, map, Option, Some, None, Result, Ok, Err}
+use Rattle.std.specs.Option.{option_map}
+use Rattle.cs_ast.specs.declared.place.Place.{Place}
+use Rattle.cs_ast.specs.declared.token.Token.{Token}
+use Rattle.cs_ast.specs.declared.token.TokenKind.{TokenKind}
+use Rattle.cs_ast.specs.declared.token.TokenKind.TheVariants as token
+use Rattle.cs_ast.specs.declared.token.Keyword.{Keyword}
+use Rattle.cs_ast.specs.declared.token.Keyword.TheVariants as keyword
+use Rattle.cs_ast.specs.declared.token.Mark.TheVariants as mark
+use Rattle.cs_ast.specs.declared.raw.declaration.RawMember.{RawMember}
+use Rattle.cs_ast.specs.declared.raw.declaration.RawSpecs.{RawSpecs}
+use Rattle.cs_ast.specs.declared.raw.declaration.SpecWord.{SpecWord}
+use Rattle.cs_ast.specs.declared.raw.declaration.SpecWord.TheVariants as words
+use Rattle.cs_ast.specs.declared.raw.name.RawName.{RawName}
+use Rattle.cs_ast.specs.declared.raw.written_type.TypeWord.{TypeWord}
+use Rattle.cs_ast.specs.declared.raw.written_type.TypeWord.TheVariants as word
+use Rattle.cs_ast.specs.RawDeclarations.{Declarator, Constant, EnumBody, Spec, Plain, Static, Specs, NoSpec, MoreSpecs}
+use Rattle.cs_ast.specs.RawDeclarationView.{spec, specs, declarator, members_list}
+use Rattle.cs_ast.specs.RawFileHeight.{spec_height}
+use Rattle.cs_grammar.specs.declared.refusal.Reason.{Reason}
+use Rattle.cs_grammar.specs.declared.refusal.Reason.TheVariants.{TooDeep}
+use Rattle.cs_grammar.specs.declared.refusal.SyntaxRefusal.TheVariants as refusal
+use Rattle.cs_grammar.specs.declared.type_words.TypeSoFar.{TypeSoFar}
+use Rattle.cs_grammar.specs.declared.type_words.TypeSoFar.TheVariants.{Nothing, Integers, Whole}
+use Rattle.cs_grammar.specs.TypeWords.{Names, word_of}
+use Rattle.cs_grammar.specs.TypesSoFar.{Describes, is_known}
+use Rattle.cs_grammar.specs.FirstTokens.{begins_type}
+use Rattle.cs_grammar.specs.Text.{Kinds, type_word_text}
+use Rattle.cs_grammar.specs.FileText.{name_text, spec_text}
+use Rattle.cs_grammar.specs.FilePhrases.{HasBody, words_of}
+use Rattle.cs_grammar.specs.Parsing.{Class, Near, Refused}
+use Rattle.cs_grammar.specs.DeclarationClasses.{IsQuiet, SpecElements, FileSpecs, BlockSpecs, MemberGroups, MemberRows}
+use Rattle.cs_expr_parser.specs.Positions.{kind_or_end}
+use Rattle.cs_expr_parser.specs.Parts.{Spells, is_deep}
+use Rattle.cs_expr_parser.specs.Expression.{IsRefusalFor}
+use Rattle.cs_expr_parser.specs.Words.{first_of_word, has_tag, IsStuck, names_some, word_of_tag, IsTagMissing}
+use Rattle.cs_decl_parser.specs.declared.source.Scope.{Scope}
+use Rattle.cs_decl_parser.specs.declared.source.Scope.TheVariants.{File, Block}
+use Rattle.cs_decl_parser.specs.declared.stop.Stop.{Stop}
+use Rattle.cs_decl_parser.specs.declared.stop.Stop.TheVariants as stop
+use Rattle.cs_decl_parser.specs.declared.stop.Taken.{Taken}
+use Rattle.cs_decl_parser.specs.declared.specs.NextWord.{NextWord}
+use Rattle.cs_decl_parser.specs.Answers.{Stops, IsExactly, ExactAnswers, BraceAnswers}
+
+-- the token begins what stands before declarators in this scope
+abbrev pub begins_words : Scope → Names → TokenKind → Bool
+begins_words File names (token.Keyword keyword.Static) = true
+begins_words scope names next = begins_type names next
+
+-- `struct` or `enum`
+abbrev pub tag_keyword : Bool → TokenKind
+tag_keyword true = token.Keyword keyword.Struct
+tag_keyword false = token.Keyword keyword.Enum
+
+-- the word of a type that a keyword is alone
+abbrev pub word_of_keyword : Keyword → Option TypeWord
+word_of_keyword keyword.Const = Some word.Const
+word_of_keyword keyword.Void = Some word.Void
+word_of_keyword other = option_map word.Integer (word_of other)
+
+-- the word of a type that a token is alone
+abbrev pub IsTypeWord : Names → TokenKind → Option TypeWord → Type 0
+IsTypeWord names next (Some found) = ((rest : Kinds) → type_word_text found rest ≡ next ∷ rest) × (has_tag found ≡ false) × (is_known names found ≡ true)
+IsTypeWord names next None = (one : TypeWord) → first_of_word one ≡ next → (has_tag one ≡ true) ⊎ (is_known names one ≡ false)
+
+-- the keyword of a word with a tag doesn't stand there
+pub record HasNoTag (next : TokenKind) : Type 0 where
+  pub no_struct : next ≡ token.Keyword keyword.Struct → ⊥
+  pub no_enum : next ≡ token.Keyword keyword.Enum → ⊥
+
+-- a word of a type was taken, which fits behind those before it
+pub record IsPlainWord (names : Names) (tokens : List Token) (at : ℕ) (so_far : TypeSoFar) (found : NextWord) (one : TypeWord) : Type 0 where
+  pub word_is : found.word ≡ words.Plain one
+  pub height_is : found.height ≡ 1
+  pub later : at < found.next
+  pub spelled : Spells tokens at found.next (type_word_text one)
+  pub quiet : (behind : Kinds) → Near (kind_or_end tokens found.next) behind → IsQuiet (Plain one) behind
+  pub described : (before : List TypeWord) → Describes names so_far before → Describes names found.so_far (before ++ one ∷ [])
+
+-- no word of a type that begins with the token fits behind those before it
+abbrev pub NothingFits : Names → TypeSoFar → TokenKind → Type 0
+NothingFits names so_far next = (before : List TypeWord) → Describes names so_far before → IsStuck names before next
+
+-- the word of one token at a number; not asked where `struct` or `enum` stands
+abbrev pub PlainAnswer : Names → List Token → ℕ → TypeSoFar → Result (Option NextWord) Stop → Type 0
+PlainAnswer names tokens at so_far (Ok (Some found)) = (one : TypeWord) × IsPlainWord names tokens at so_far found one
+PlainAnswer names tokens at so_far (Ok None) = HasNoTag (kind_or_end tokens at) → NothingFits names so_far (kind_or_end tokens at)
+PlainAnswer names tokens at so_far (Err stop.Memory) = Unit {0}
+PlainAnswer names tokens at so_far (Err other) = ⊥
+
+-- an opening brace is refused behind `struct` or `enum` and a tag
+pub record IsTagBraced (tokens : List Token) (at refused : ℕ) : Type 0 where
+  pub is_struct : Bool
+  pub tag : List ℕ
+  pub spelled : Spells tokens at refused (λ rest. tag_keyword is_struct ∷ token.Name tag ∷ rest)
+  pub brace : kind_or_end tokens refused ≡ token.Mark mark.OpenBrace
+
+-- inside a block `struct` or `enum` is refused: no tag stands behind it, or a brace behind the tag
+abbrev pub BlockTagStops : List Token → ℕ → Stop → Type 0
+BlockTagStops tokens at stop.Memory = Unit {0}
+BlockTagStops tokens at (stop.Refused refused reason) = (is_deep reason ≡ false) × (IsTagMissing tokens at refused ⊎ IsTagBraced tokens at refused)
+BlockTagStops tokens at (stop.Expression refusal) = ⊥
+
+abbrev pub BlockTagAnswer : Names → List Token → ℕ → Result NextWord Stop → Type 0
+BlockTagAnswer names tokens at (Ok found) = (one : TypeWord) × IsPlainWord names tokens at Nothing found one
+BlockTagAnswer names tokens at (Err stop) = BlockTagStops tokens at stop
+
+-- the word at a number inside a block
+abbrev pub BlockWordAnswer : Names → List Token → ℕ → TypeSoFar → Result (Option NextWord) Stop → Type 0
+BlockWordAnswer names tokens at so_far (Ok (Some found)) = (one : TypeWord) × IsPlainWord names tokens at so_far found one
+BlockWordAnswer names tokens at so_far (Ok None) = NothingFits names so_far (kind_or_end tokens at)
+BlockWordAnswer names tokens at so_far (Err stop.Memory) = Unit {0}
+BlockWordAnswer names tokens at so_far (Err other) = (names_some so_far ≡ false) × BlockTagStops tokens at other
+
+-- it is told by its tokens
+abbrev pub IsToldByTokens : Names → Spec → Type 0
+IsToldByTokens names s = (t : Spec) (x y : Kinds) → HasBody names t → IsQuiet t x → IsQuiet s y → spec_text t x ≡ spec_text s y → (t ≡ s) × (x ≡ y)
+
+-- a word before declarators was taken, or a type with a body, which fits behind the words before it
+pub record IsSpecTaken (names : Names) (room : ℕ) (tokens : List Token) (at : ℕ) (so_far : TypeSoFar) (found : NextWord) : Type 0 where
+  pub height_is : found.height ≡ spec_height (spec found.word)
+  pub low : found.height ≤ room
+  pub spelled : Spells tokens at found.next (spec_text (spec found.word))
+  pub later : at < found.next
+  pub body : HasBody names (spec found.word)
+  pub told : IsToldByTokens names (spec found.word)
+  pub quiet : (behind : Kinds) → Near (kind_or_end tokens found.next) behind → IsQuiet (spec found.word) behind
+  pub described : (before : List TypeWord) → Describes names so_far before → Describes names found.so_far (before ++ words_of (MoreSpecs (spec found.word) NoSpec))
+
+-- a type with `struct` or `enum` is refused behind its first token
+pub record IsElementRefused (names : Names) (room : ℕ) (tokens : List Token) (at refused : ℕ) (reason : Reason) : Type 0 where
+  pub is_struct : Bool
+  pub front : Kinds
+  pub spelled : Spells tokens at refused (λ rest. tag_keyword is_struct ∷ (front ++ rest))
+  pub refused_is : Refused (SpecElements names) room (tag_keyword is_struct ∷ front) (kind_or_end tokens refused) (is_deep reason)
+
+-- a brace is refused behind `enum` and a tag, since there is no room for a constant
+pub record IsEnumFull (room : ℕ) (tokens : List Token) (at refused : ℕ) (reason : Reason) : Type 0 where
+  pub tag : List ℕ
+  pub spelled : Spells tokens at refused (λ rest. tag_keyword false ∷ token.Name tag ∷ rest)
+  pub brace : kind_or_end tokens refused ≡ token.Mark mark.OpenBrace
+  pub little : room < 2
+  pub deep : is_deep reason ≡ true
+
+abbrev pub ElementStops : Names → ℕ → List Token → Place → ℕ → Stop → Type 0
+ElementStops names room tokens end at stop.Memory = Unit {0}
+ElementStops names room tokens end at (stop.Refused refused reason) = IsElementRefused names room tokens at refused reason ⊎ IsEnumFull room tokens at refused reason
+ElementStops names room tokens end at (stop.Expression refusal.Memory) = Unit {0}
+ElementStops names room tokens end at (stop.Expression other) = (refused : ℕ) × (reason : Reason) × IsRefusalFor tokens end refused reason other × IsElementRefused names room tokens at refused reason
+
+-- a type with `struct` or `enum`, where the words before it name nothing
+abbrev pub ElementAnswer : Names → ℕ → List Token → Place → ℕ → Result NextWord Stop → Type 0
+ElementAnswer names room tokens end at (Ok found) = IsSpecTaken names room tokens at Nothing found
+ElementAnswer names room tokens end at (Err stop) = ElementStops names room tokens end at stop
+
+-- the word at a number outside blocks
+abbrev pub SpecAnswer : Names → ℕ → List Token → Place → ℕ → TypeSoFar → Result (Option NextWord) Stop → Type 0
+SpecAnswer names room tokens end at so_far (Ok (Some found)) = IsSpecTaken names room tokens at so_far found
+SpecAnswer names room tokens end at so_far (Ok None) = NothingFits names so_far (kind_or_end tokens at) × (kind_or_end tokens at ≡ token.Keyword keyword.Static → ⊥)
+SpecAnswer names room tokens end at so_far (Err stop.Memory) = Unit {0}
+SpecAnswer names room tokens end at so_far (Err other) = (names_some so_far ≡ false) × ElementStops names room tokens end at other
+
+-- `static`, where it stands at a number
+abbrev pub IsStatic : ℕ → TypeSoFar → NextWord → Type 0
+IsStatic at so_far found = (found.word ≡ words.Static) × (found.height ≡ 1) × (found.next ≡ at + 1) × (found.so_far ≡ so_far)
+
+-- a name apart from its place
+abbrev pub name_in : Option RawName → Option (List ℕ)
+name_in tag = option_map (λ (n : RawName). n.name) tag
+
+-- the number behind `struct` or `enum`, at a number, and its tag, if it has one
+abbrev pub number_behind : ℕ → Option (List ℕ) → ℕ
+number_behind at None = at + 1
+number_behind at (Some tag) = at + 2
+
+-- the token is `struct` or `enum`
+abbrev pub IsTagKeyword : TokenKind → Type 0
+IsTagKeyword next = (is_struct : Bool) × (next ≡ tag_keyword is_struct)
+
+-- the word of a tag behind `struct` or `enum`, which names a whole type
+pub record IsTagged (first : TokenKind) (tag : List ℕ) (found : NextWord) : Type 0 where
+  pub one : (is_struct : Bool) → first ≡ tag_keyword is_struct → found.word ≡ words.Plain (word_of_tag is_struct tag)
+  pub whole : found.so_far ≡ Whole
+
+-- `struct` or `enum`, a tag if there is one, and an opening brace stand at a number
+pub record IsOpened (tokens : List Token) (at brace : ℕ) (tag : Option (List ℕ)) : Type 0 where
+  pub is_struct : Bool
+  pub stands : kind_or_end tokens at ≡ tag_keyword is_struct
+  pub spelled : Spells tokens at brace (λ rest. tag_keyword is_struct ∷ name_text tag rest)
+  pub opening : kind_or_end tokens brace ≡ token.Mark mark.OpenBrace
+
+-- an enumeration with a body
+abbrev pub enum_of : Option (List ℕ) → List Constant × Bool → Spec
+enum_of tag row = EnumBody tag row.0 row.1
+
+-- the word is this one, which names a whole type
+pub record IsSpecOf (s : Spec) (found : NextWord) : Type 0 where
+  pub word_is : spec found.word ≡ s
+  pub whole : found.so_far ≡ Whole
+
+-- what stands before declarators, outside blocks and inside
+abbrev pub SpecsAnswer : Names → ℕ → List Token → Place → ℕ → Result (Taken RawSpecs) Stop → Type 0
+SpecsAnswer names room tokens end from result = BraceAnswers (FileSpecs names) specs room tokens end from result
+
+abbrev pub BlockSpecsAnswer : Names → ℕ → List Token → Place → ℕ → Result (Taken RawSpecs) Stop → Type 0
+BlockSpecsAnswer names room tokens end from result = BraceAnswers (BlockSpecs names) specs room tokens end from result
+
+-- members of one type
+abbrev pub group : RawMember → Specs × List Declarator
+group member = (specs member.specs, map declarator member.declarators.items)

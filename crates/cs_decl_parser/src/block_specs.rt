@@ -1,0 +1,89 @@
+//! What stands before declarators inside blocks: words of types, and no body (C11 6.7.2).
+ghost use Rattle.std.specs.Prelude.{◌≡◌, ◌≤◌, ◌<◌, ◌^◌, length, false};
+ghost use Rattle.cs_expr_parser.specs.Positions.{kind_or_end};
+ghost use Rattle.cs_decl_parser.specs.Bounds.{IsBounded, IsNextBounded, IsWordBounded};
+ghost use Rattle.cs_decl_parser.specs.DeclarationAnswers.{RefusesBehind};
+ghost use Rattle.cs_decl_parser.specs.SpecWords.{IsTagKeyword, BlockTagAnswer, BlockWordAnswer, BlockSpecsAnswer};
+
+use crate::names::any_name_at;
+use crate::source::{Scope, Source, is_mark, refuse, refuse_but};
+use crate::specs::{NextWord, begins_tagged, names_type, plain_word, without_body};
+use crate::stop::{Stop, Taken};
+use cs_ast::Mark;
+use cs_ast::raw::declaration::RawSpecs;
+use cs_grammar::{Reason, TypeSoFar};
+use std::alloc::Global;
+
+/// What stands before declarators inside a block, from a number on: as many words as fit together.
+pub fn block_specs(
+    alloc: Global,
+    source: &Source,
+    from: usize,
+    room: u32,
+) -> Result<Taken<RawSpecs>, Stop>
+    requires within { from ≤ length source.now.tokens.now }
+    requires few { length source.now.tokens.now < 2 ^ 32 }
+    requires some { 1 ≤ room }
+    ensures bounds { IsBounded room source.now.tokens.now from result }
+    ensures parsed { BlockSpecsAnswer source.now.names.now room source.now.tokens.now source.now.end from result }
+{
+    let mut words = Vec::new(alloc);
+    let mut tag = None;
+    let mut next = from;
+    let mut so_far = TypeSoFar::Nothing;
+    'words: while let Some(found) = block_word_at(source, next, so_far)? {
+        tag = tag.or(found.tag);
+        next = found.next;
+        so_far = found.so_far;
+        words.push(found.word)?;
+    }
+    if !names_type(so_far) {
+        return Err(refuse(source, next, Scope::Block));
+    }
+    Ok(Taken {
+        tree: RawSpecs { words, tag },
+        height: 1,
+        next,
+    })
+}
+
+/// The word at a number, if one stands there that fits behind those before it.
+fn block_word_at(source: &Source, at: usize, so_far: TypeSoFar) -> Result<Option<NextWord>, Stop>
+    requires within { at ≤ length source.now.tokens.now }
+    requires few { length source.now.tokens.now < 2 ^ 32 }
+    ensures bounds { IsWordBounded 1 source.now.tokens.now at result }
+    ensures word { BlockWordAnswer source.now.names.now source.now.tokens.now at so_far result }
+{
+    if !begins_tagged(source, at) {
+        return plain_word(source, at, so_far);
+    }
+    if names_type(so_far) {
+        return Ok(None);
+    }
+    let found = tag_at(source, at)?;
+    Ok(Some(found))
+}
+
+/// `struct` or `enum`, at a number, with a tag behind it.
+fn tag_at(source: &Source, at: usize) -> Result<NextWord, Stop>
+    requires within { at < length source.now.tokens.now }
+    requires few { length source.now.tokens.now < 2 ^ 32 }
+    requires stands { IsTagKeyword (kind_or_end source.now.tokens.now at) }
+    ensures bounds { IsNextBounded 1 source.now.tokens.now at result }
+    ensures tag { BlockTagAnswer source.now.names.now source.now.tokens.now at result }
+{
+    let Some(tag) = any_name_at(source, at + 1)? else {
+        return Err(refuse_body(source, at + 1));
+    };
+    if is_mark(source, at + 2, Mark::OpenBrace) {
+        return Err(Stop::Refused(at + 2, Reason::LeftOut));
+    }
+    Ok(without_body(source, at, tag))
+}
+
+/// The refusal of what stands at a number, where bodies are left out.
+fn refuse_body(source: &Source, at: usize) -> Stop
+    ensures { RefusesBehind at false result }
+{
+    refuse_but(source, at, Scope::Block, Mark::OpenBrace)
+}
