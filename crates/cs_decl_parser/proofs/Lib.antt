@@ -12,3 +12,4 @@ pub mod ObjectSites
 pub mod StuckWords
 pub mod BlockSpecSites
 pub mod SpecSites
+pub mod MemberSites
