@@ -12,3 +12,5 @@ pub mod ObjectSites
 pub mod StuckWords
 pub mod BlockSpecSites
 pub mod SpecSites
+pub mod ParameterSites
+pub mod ParameterRowSites

@@ -4,5 +4,6 @@ pub mod Forms
 pub mod Nodes
 pub mod Answers
 pub mod DeclarationAnswers
+pub mod ParameterAnswers
 pub mod SpecWords
 pub mod Blocks
