@@ -18,3 +18,5 @@ pub mod SpecSites
 pub mod ExternalSites
 pub mod FileSites
 pub mod MemberSites
+pub mod ParameterSites
+pub mod ParameterRowSites
