@@ -1,13 +1,11 @@
 -- Members of structures: what each return gives. For the contracts of `member` and `members`.
-use Rattle.std.proofs.Common.{◌≡◌, ℕ, ◌+◌, ◌<◌, ◌≤◌, max, inl, inr, Bool, true, false, map, List, [], ◌∷◌, ◌++◌, length, drop, refl, sym, ap, ◌∙◌, subst, arith}
+use Rattle.std.proofs.Common.{◌≡◌, ℕ, ◌+◌, ◌<◌, ◌≤◌, max, inl, inr, true, false, map, List, [], ◌∷◌, ◌++◌, length, refl, sym, ap, ◌∙◌, subst, arith}
 use Rattle.std.proofs.lemmas.Bool.{false≢true}
 use Rattle.cs_ast.specs.declared.place.Place.{Place}
 use Rattle.cs_ast.specs.declared.token.Token.{Token}
 use Rattle.cs_ast.specs.declared.token.TokenKind.{TokenKind}
 use Rattle.cs_ast.specs.declared.token.TokenKind.TheVariants as token
 use Rattle.cs_ast.specs.declared.token.Keyword.TheVariants as keyword
-use Rattle.cs_ast.specs.declared.token.Mark.TheVariants as mark
-use Rattle.cs_ast.specs.declared.raw.declaration.RawDeclarator.{RawDeclarator}
 use Rattle.cs_ast.specs.declared.raw.declaration.RawMember.{RawMember}
 use Rattle.cs_ast.specs.declared.raw.declaration.RawSpecs.{RawSpecs}
 use Rattle.cs_ast.specs.declared.raw.written_type.TypeWord.{TypeWord}
@@ -22,10 +20,10 @@ use Rattle.cs_grammar.specs.TypeWords.{Names, named_by, names_type, is_type, is_
 use Rattle.cs_grammar.specs.Text.{Kinds}
 use Rattle.cs_grammar.specs.FileText.{with_commas, declarator_text, specs_text, members_text}
 use Rattle.cs_grammar.specs.FilePhrases.{words_of, AreSpecs}
-use Rattle.cs_grammar.specs.Parsing.{Class, Near, Took, Refused, Exactly}
+use Rattle.cs_grammar.specs.Parsing.{Near, Refused, Exactly}
 use Rattle.cs_grammar.specs.Composed.{Separated}
 use Rattle.cs_grammar.specs.DeclarationClasses.{FileSpecs, MemberDeclarators, MemberGroups, MemberRows}
-use Rattle.cs_grammar.proofs.FileTexts.{specs_append, members_append}
+use Rattle.cs_grammar.proofs.FileTexts.{members_append}
 use Rattle.cs_grammar.proofs.Holes.{splits, exact_took}
 use Rattle.cs_grammar.proofs.Tails.{first_or, none_refused, near_other, tail_as}
 use Rattle.cs_grammar.proofs.Sequences.{took_exact}
@@ -37,7 +35,7 @@ use Rattle.cs_grammar.proofs.SpecRows.{first_of, spec_first}
 use Rattle.cs_grammar.proofs.FileRules.{specs_has}
 use Rattle.cs_grammar.proofs.Bodies.{member_pair, member_starts, member_list_law, file_specs_law, MemberGroup, more_members, member_listing, joined_members, members_more_text, member_growing, members_end}
 use Rattle.cs_grammar.proofs.SmallRooms.{begins_file_spec, group_full}
-use Rattle.cs_expr_parser.specs.Positions.{kinds, kind_or_end}
+use Rattle.cs_expr_parser.specs.Positions.{kind_or_end}
 use Rattle.cs_expr_parser.specs.Parts.{Spells, IsRefused, is_deep}
 use Rattle.cs_decl_parser.specs.declared.source.Scope.TheVariants.{File}
 use Rattle.cs_decl_parser.specs.declared.stop.Stop.{Stop}

@@ -1,24 +1,22 @@
-use Rattle.std.proofs.Common.{◌≡◌, ℕ, ◌+◌, ◌-◌, ◌∷◌, Bool, ◌≤◌, ◌<◌, max, map, Err, Ok, List, [], Option, Some, false, refl, sym, ap, ◌∙◌, subst, arith, rules}
+use Rattle.std.proofs.Common.{◌≡◌, ℕ, ◌+◌, ◌-◌, ◌∷◌, Bool, max, map, Err, Ok, List, Option, false, refl, sym, ap, ◌∙◌, subst, arith, rules}
 use Rattle.std.proofs.lemmas.Bool.{false≢true}
+use Rattle.cs_ast.specs.declared.raw.declaration.RawMember.{RawMember}
 use Rattle.cs_ast.specs.declared.raw.declaration.SpecWord.{SpecWord}
 use Rattle.cs_grammar.specs.declared.type_words.TypeSoFar.TheVariants.{Nothing}
 use Rattle.cs_expr_parser.specs.Positions.{kind_or_end}
 use Rattle.cs_decl_parser.specs.declared.specs.NextWord.{NextWord}
 use Rattle.cs_ast.specs.declared.token.TokenKind.TheVariants as token
 use Rattle.cs_ast.specs.declared.token.Mark.TheVariants as mark
-use Rattle.cs_ast.specs.RawDeclarationView.{members_list}
+use Rattle.cs_ast.specs.RawDeclarationView.{declarator, members_list}
 use Rattle.cs_grammar.specs.FileText.{name_text}
+use Rattle.cs_grammar.specs.DeclarationClasses.{MemberGroups, MemberRows}
 use Rattle.cs_expr_parser.specs.Parts.{Spells}
+use Rattle.cs_decl_parser.specs.Answers.{ExactAnswers}
 use Rattle.cs_decl_parser.specs.DeclarationAnswers.{constant_row}
-use Rattle.cs_decl_parser.specs.SpecWords.{ElementAnswer, ElementStops, tag_keyword, name_in, SpecsAnswer, SpecAnswer}
+use Rattle.cs_decl_parser.specs.SpecWords.{ElementAnswer, ElementStops, tag_keyword, name_in, group, SpecsAnswer, SpecAnswer}
 use Rattle.cs_decl_parser.proofs.RowSites.{max_is}
 use Rattle.cs_decl_parser.proofs.SpecSites.{enum_little, same_struct, opened_at, opened_later, tagged_found, untagged_stops, with_struct, struct_stops, struct_found, enum_stops, enum_found, SpecsSoFar, specs_none, spec_more, specs_stop, specs_taken, spec_stops, plain_answer, static_found, tag_none, element_error, element_found}
 use Rattle.cs_decl_parser.proofs.MemberSites.{member_absent, member_full, member_specs_stop, member_list_stops, member_taken, MembersSoFar, members_none, member_more, member_stops, members_taken}
-use Rattle.cs_ast.specs.declared.raw.declaration.RawMember.{RawMember}
-use Rattle.cs_ast.specs.RawDeclarationView.{declarator}
-use Rattle.cs_grammar.specs.DeclarationClasses.{MemberGroups, MemberRows}
-use Rattle.cs_decl_parser.specs.Answers.{ExactAnswers}
-use Rattle.cs_decl_parser.specs.SpecWords.{group}
 use Rattle.cs_decl_parser.proofs.+specs.Goals as goal
 
 pub specs::specs-words-init : goal.specs::specs-words-init
