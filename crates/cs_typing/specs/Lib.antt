@@ -1,0 +1,12 @@
+pub mod Plain
+pub mod Known
+pub mod Rules
+pub mod Sizes
+pub mod Bodies
+pub mod Parameters
+pub mod Initializers
+pub mod Objects
+pub mod Statements
+pub mod Functions
+pub mod Files
+pub mod WellFormed

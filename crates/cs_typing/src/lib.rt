@@ -1,0 +1,7 @@
+//! Scratch.
+#![tactic(auto)]
+
+/// One.
+pub fn one() -> u32 {
+    1
+}
