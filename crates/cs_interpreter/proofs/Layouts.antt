@@ -4,7 +4,7 @@ use Rattle.std.specs.Prelude.{slice_get, IfSome}
 use Rattle.std.specs.Option.{option_map, option_and_then}
 use Rattle.cs_types.specs.declared.data_model.DataModel.{DataModel}
 use Rattle.cs_types.specs.declared.structs.StructType.{StructType}
-use Rattle.cs_types.specs.declared.structs.Member.{Member}
+use Rattle.cs_types.specs.Members.{Member}
 use Rattle.cs_types.specs.Shape.{Shape, array, struct}
 use Rattle.cs_types.specs.Layout.{Layout, layout_of, struct_layout, member_layouts, layout_with, padded, side_by_side, repeated, members_of, complete_count, IsSmall, HasSmallSizes, IsLaidOut}
 
