@@ -1,0 +1,17 @@
+pub mod Verdicts
+pub mod Integers
+pub mod Objects
+pub mod Scalars
+pub mod Constants
+pub mod Conversions
+pub mod Ways
+pub mod Pairs
+pub mod Operators
+pub mod Places
+pub mod Stores
+pub mod Scopes
+pub mod TypeNames
+pub mod Calls
+pub mod Typing
+pub mod Doors
+pub mod Rows

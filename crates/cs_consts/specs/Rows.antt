@@ -1,0 +1,18 @@
+-- What loops over arguments and bounds have made so far, before what is left.
+use Rattle.std.specs.Prelude.{ℤ, List, [], ◌∷◌, ◌++◌}
+use Rattle.cs_ast.specs.declared.typed.expression.Expr.{Expr}
+use Rattle.cs_ast.specs.TypedTree.{Typed, TypedList, NoMore, Further}
+use Rattle.cs_ast.specs.TypedView.{typed}
+use Rattle.cs_consts.specs.Verdicts.{Verdict, Fine}
+
+-- numbers before the rest
+abbrev pub numbers_before : List ℤ → List ℤ → Verdict (List ℤ)
+numbers_before made rest = Fine (made ++ rest)
+
+-- expressions of the program before the rest
+abbrev pub put_before : List Expr → TypedList → TypedList
+put_before [] rest = rest
+put_before (e ∷ es) rest = Further (typed e) (put_before es rest)
+
+abbrev pub expressions_before : List Expr → TypedList → Verdict TypedList
+expressions_before made rest = Fine (put_before made rest)
