@@ -5,3 +5,6 @@ pub mod ProductionRows
 pub mod DeclaredNames
 pub mod ScalarCounts
 pub mod RowsSoFar
+pub mod SingleParts
+pub mod ArgumentConversions
+pub mod ArraySizes

@@ -67,6 +67,11 @@ admitted at target count f =
 abbrev pub lesser : TypeCode → TypeCode → TypeCode
 lesser code other = if nat_le (number_of code) (number_of other) then code else other
 
+-- the lesser of a code and one that may be there
+abbrev pub least : TypeCode → Option TypeCode → TypeCode
+least code (Some other) = lesser code other
+least code None = code
+
 -- an argument before others: of two codes at the call the lesser is told
 abbrev pub before_others : Place → Verdict Typed → Verdict TypedList → Verdict TypedList
 before_others at (Fine e) (Fine others) = Fine (Further e others)

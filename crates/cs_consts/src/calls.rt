@@ -3,7 +3,7 @@ ghost use Rattle.std.specs.Prelude.{◌≡◌, IfOk, option_copied, length, map,
 ghost use Rattle.cs_types.specs.Shape.{shape_of};
 ghost use Rattle.cs_ast.specs.TypedView.{typed, typed_list};
 ghost use Rattle.cs_consts.specs.Verdicts.{Tells, Answers};
-ghost use Rattle.cs_consts.specs.Calls.{function_in, called, allocates, is_pointer_target, admitted, block_of, allocated, freed, call_of, lesser, converted_list, shape_in};
+ghost use Rattle.cs_consts.specs.Calls.{function_in, called, allocates, is_pointer_target, admitted, block_of, allocated, freed, call_of, lesser, least, converted_list, shape_in};
 
 use crate::context::Scope;
 use crate::conversions::converted;
@@ -89,7 +89,9 @@ fn lesser(code: TypeCode, other: TypeCode) -> TypeCode
 }
 
 // The lesser of a code and one that may be there.
-fn least(code: TypeCode, other: Option<TypeCode>) -> TypeCode {
+fn least(code: TypeCode, other: Option<TypeCode>) -> TypeCode
+    ensures { result ≡ least code other }
+{
     match other {
         Some(other) => lesser(code, other),
         None => code,
