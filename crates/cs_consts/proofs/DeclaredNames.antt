@@ -1,5 +1,5 @@
 -- The place of a name's last declaration: for the look-up among declarations, and for adding one.
-use Rattle.std.proofs.Common.{◌≡◌, ℕ, ◌<◌, suc, zero, Bool, true, false, cond, List, [], ◌∷◌, ◌++◌, length, slice_get, get_or, Option, Some, None, refl, sym, ap, ◌∙◌, subst, arith}
+use Rattle.std.proofs.Common.{◌≡◌, ℕ, suc, zero, Bool, true, false, cond, List, [], ◌∷◌, ◌++◌, length, slice_get, get_or, ◌≤◌, Option, Some, None, refl, sym, ap, ◌∙◌, subst, arith}
 use Rattle.std.specs.Prelude.{nat_eq, MatchOption}
 use Rattle.std.proofs.lemmas.Option.{slice_get_within, get_or_from_slice_get}
 use Rattle.std.specs.Option.{option_map, option_or}
@@ -41,10 +41,10 @@ pub still_indexed : {S : Type 0} (old new : IndexMap (List ℕ) ℕ S) (ds more 
 still_indexed old new ds more d name place indexed same is added entered = record {
   each = λ other. subst (λ (l : List Declaration). place_at new other ≡ newest_place other l) (sym added)
       (entered other
-        ∙ ap (λ n. cond (pointwise nat_eq n other) (Some place) (place_at old other)) same
-        ∙ ap (λ i. cond (pointwise nat_eq d.name other) (Some i) (place_at old other)) is
-        ∙ ap (λ p. cond (pointwise nat_eq d.name other) (Some (length ds)) p) (indexed.each other)
-        ∙ sym (newest_place-push other ds d));
+      ∙ ap (λ n. cond (pointwise nat_eq n other) (Some place) (place_at old other)) same
+      ∙ ap (λ i. cond (pointwise nat_eq d.name other) (Some i) (place_at old other)) is
+      ∙ ap (λ p. cond (pointwise nat_eq d.name other) (Some (length ds)) p) (indexed.each other)
+      ∙ sym (newest_place-push other ds d));
 }
 
 -- what the table's place for a name says of it
@@ -54,9 +54,8 @@ newest_none places ds name h e = subst (λ p. MatchOption p (newest name ds ≡ 
 pub newest_some : {S : Type 0} (places : IndexMap (List ℕ) ℕ S) (ds : List Declaration) (name : List ℕ) (i : ℕ) → Indexed places ds → place_at places name ≡ Some i → Found ds (newest name ds) i
 newest_some places ds name i h e = subst (λ p. MatchOption p (newest name ds ≡ None) (Found ds (newest name ds))) (sym (h.each name) ∙ e) (newest_found name ds)
 
-pub found_within : (ds : List Declaration) (m : Option Meaning) (i : ℕ) → Found ds m i → i < length ds
-found_within ds m i h = slice_get_within ds i h.declaration h.at
+pub found_past : (ds : List Declaration) (m : Option Meaning) (i : ℕ) → Found ds m i → length ds ≤ i → ⊥
+found_past ds m i h past = omega (arith, slice_get_within ds i h.declaration h.at)
 
-pub found_says : (ds : List Declaration) (m : Option Meaning) (i : ℕ) (d : Declaration) → Found ds m i → d ≡ get_or ds i d → Some d.meaning ≡ m
-found_says ds m i d h read =
-    ap (λ (x : Declaration). Some x.meaning) (read ∙ get_or_from_slice_get ds i h.declaration d h.at) ∙ sym h.says
+pub found_is : (ds : List Declaration) (m : Option Meaning) (i : ℕ) (d : Declaration) → Found ds m i → d ≡ get_or ds i d → Some d.meaning ≡ m
+found_is ds m i d h read = ap (λ (x : Declaration). Some x.meaning) (read ∙ get_or_from_slice_get ds i h.declaration d h.at) ∙ sym h.says

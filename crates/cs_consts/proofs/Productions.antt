@@ -103,9 +103,9 @@ choice_other_stops c p ls ms ns at test one other e t o behind last r f g k l m 
 pub choice_taken : (c : Context) (p : Purpose) (ls ms ns : Literals) (at : Place) (test one other : RawExpr) (e t o q : Typed) (behind last : Purpose) (result : Result Expr TypeRefusal) → operand_in c p (formed c p ls None test.place test.kind) ≡ Fine e → tested at e ≡ Fine t → behind ≡ purpose_if true p (Fine t) → last ≡ purpose_if false p (Fine t) → ms ≡ literals_behind ls test.kind → ns ≡ literals_behind ms one.kind → value_in c behind (formed c behind ms None one.place one.kind) ≡ Fine o → value_in c last (formed c last ns None other.place other.kind) ≡ Fine q → Tells (chosen_values c at t o q) result → Tells (choice_formed c p ls at test one other) result
 choice_taken c p ls ms ns at test one other e t o q behind last result f g k l m n h i j =
     tells_as result (choice_is c p ls at test one other _ t (test_is at _ e t f g)
-      ∙ ap (λ x. lift3 (chosen_values c at) (Fine t) x (value_in c (purpose_if false p (Fine t)) (formed c (purpose_if false p (Fine t)) (literals_behind (literals_behind ls test.kind) one.kind) None other.place other.kind))) (branch c one behind _ ms _ k m ∙ h)
-      ∙ ap (lift3 (chosen_values c at) (Fine t) (Fine o)) (branch c other last _ ns _ l (n ∙ ap (λ x. literals_behind x one.kind) m) ∙ i)
-      ∙ lift3-fine (chosen_values c at) t o q) j
+    ∙ ap (λ x. lift3 (chosen_values c at) (Fine t) x (value_in c (purpose_if false p (Fine t)) (formed c (purpose_if false p (Fine t)) (literals_behind (literals_behind ls test.kind) one.kind) None other.place other.kind))) (branch c one behind _ ms _ k m ∙ h)
+    ∙ ap (lift3 (chosen_values c at) (Fine t) (Fine o)) (branch c other last _ ns _ l (n ∙ ap (λ x. literals_behind x one.kind) m) ∙ i)
+    ∙ lift3-fine (chosen_values c at) t o q) j
 
 -- an operator that stores
 store_is : (c : Context) (p : Purpose) (ls : Literals) (at : Place) (op : AssignOp) (object value : RawExpr) (left : Verdict Typed) (o : Typed) → left ≡ Fine o → lift2 (stored c op at) left (operand_in c p (formed c p (literals_behind ls object.kind) (right_target op left) value.place value.kind)) ≡ lift2 (stored c op at) (Fine o) (operand_in c p (formed c p (literals_behind ls object.kind) (right_target op (Fine o)) value.place value.kind))

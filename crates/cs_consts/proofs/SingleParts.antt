@@ -1,5 +1,6 @@
 -- What the rules of productions with one part come to: steps, operators before an operand, members, sizes and sequences.
-use Rattle.std.proofs.Common.{◌≡◌, ℤ, List, refl, sym, ap, subst, ◌∙◌, Result}
+use Rattle.std.proofs.Common.{◌≡◌, ℤ, List, refl, sym, ap, subst, ◌∙◌, Result, Ok, Err}
+use Rattle.std.specs.Prelude.{OnOk}
 use Rattle.cs_types.specs.Shape.{Shape}
 use Rattle.cs_ast.specs.declared.place.Place.{Place}
 use Rattle.cs_ast.specs.declared.typed.expression.Expr.{Expr}
@@ -57,3 +58,8 @@ size_numbers_stop c at base numbers ty whole r f g h = refused_as r (ap (λ x. l
 
 pub size_taken : (c : Context) (at : Place) (base : Verdict Shape) (numbers : Verdict (List ℤ)) (ty whole : Shape) (ns : List ℤ) (result : Result Expr TypeRefusal) → base ≡ Fine ty → complete_at c.table.list at ty ≡ Fine whole → numbers ≡ Fine ns → Tells (measured_arrays c at whole ns) result → Tells (lift2 (measured_arrays c at) (lift (complete_at c.table.list at) base) numbers) result
 size_taken c at base numbers ty whole ns result f g h k = tells_as result (lift2_is (measured_arrays c at) _ numbers whole ns (lift_is (complete_at c.table.list at) base ty f ∙ g) h) k
+
+-- what holds whatever a call gives holds where it gives something
+pub on_ok : {A E P : Type 0} (result : Result A E) → P → OnOk result P
+on_ok (Ok value) p = p
+on_ok (Err error) p = tt

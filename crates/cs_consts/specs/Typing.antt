@@ -296,7 +296,7 @@ unfoldable pub measured_arrays : Context → Place → Shape → List ℤ → Ve
 measured_arrays c at base ns = lift (measured c.model c.table.list at) (arrayed c.model c.table.list at base ns)
 
 -- a written type between parentheses, without its arrays
-unfoldable pub base_in : Context → Place → WrittenType → Verdict Shape
+abbrev pub base_in : Context → Place → WrittenType → Verdict Shape
 base_in c at ty = type_named c.scope.declarations c.scope.tags at ty
 
 abbrev mutual

@@ -69,7 +69,8 @@ fn find<'a>(
     ensures { option_copied result ≡ newest name.now list.now }
 {
     let place = place_of(places, name)?;
-    Some(&list[place].meaning)
+    let declaration = list.get(place)?;
+    Some(&declaration.meaning)
 }
 
 // The table's place for a name.

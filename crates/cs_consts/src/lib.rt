@@ -19,6 +19,8 @@ mod refusal;
 mod scalars;
 mod scope;
 mod stores;
+#[cfg(test)]
+mod tests;
 mod type_names;
 mod typing;
 mod ways;

@@ -10,9 +10,9 @@ use crate::nodes::{address, arrow, index, member, pointer_to, through as through
 use crate::objects::{is_complete, is_object, is_void, members};
 use crate::refusal::{TypeCode, TypeRefusal};
 use cs_ast::Place;
+use cs_ast::raw::name::RawName;
 use cs_ast::typed::expression::Expr;
 use cs_ast::typed::operator::Order;
-use cs_ast::raw::name::RawName;
 use cs_names::Name;
 use cs_types::{CType, Member, StructTable};
 use std::alloc::Global;
@@ -104,6 +104,7 @@ fn member_named<'a>(name: &Name, members: &'a [Member]) -> Option<&'a Member>
 }
 
 // The member of a struct, by the struct's number.
+#[tactic(auto, unfolding(crate::specs::Places::member_found))]
 fn member_of<'a>(
     table: &'a StructTable,
     place: Place,

@@ -1,5 +1,5 @@
 //! How many scalars an object has, if they are so few that one store writes them.
-ghost use Rattle.std.specs.Prelude.{◌≡◌};
+ghost use Rattle.std.specs.Prelude.{◌≡◌, ◌+◌};
 ghost use Rattle.cs_types.specs.Shape.{shape_of};
 ghost use Rattle.cs_consts.specs.Scalars.{few, scalars_with, struct_scalars, has_few_scalars, innermost, scalars_alone, scalars_times};
 
@@ -52,7 +52,8 @@ fn struct_scalars(table: &StructTable, depth: usize, number: u32) -> Option<u64>
     };
     let mut all = 0;
     for member in members.as_slice() {
-        all = few(all + scalars(table, depth - 1, &member.ty)?)?;
+        let own = scalars(table, depth - 1, &member.ty)?;
+        all = few_more(all, own)?;
     }
     Some(all)
 }
@@ -75,6 +76,13 @@ fn scalars_times(inner: Option<u64>, ty: &CType) -> Option<u64>
         CType::Array(element, count) => few(scalars_times(inner, element)?.saturating_mul(*count)),
         _ => inner,
     }
+}
+
+// So many more scalars, if they are few.
+fn few_more(before: u64, more: u64) -> Option<u64>
+    ensures { result ≡ few (before + more) }
+{
+    few(before.saturating_add(more))
 }
 
 // So many scalars, if they are few.

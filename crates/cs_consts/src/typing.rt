@@ -564,7 +564,7 @@ fn cast(
 }
 
 // The type of a cast with so many bounds.
-#[tactic(auto, unfolding(crate::specs::Typing::cast_type, crate::specs::Typing::base_in), using(crate::proofs::Lifting::lifts))]
+#[tactic(auto, unfolding(crate::specs::Typing::cast_type), using(crate::proofs::Lifting::lifts))]
 fn cast_type(
     alloc: Global,
     context: &Context,

@@ -12,7 +12,7 @@ abbrev pub invariant-loop-left : goal.invariant-loop-left
 invariant-loop-left l = record {
   behind : List Expr;
   split : l.initial.left.items ≡ l.left.items ++ behind;
-  so_far : converted_list l.model l.place (map (λ (ty : CType). shape_of ty) (drop (vec_len l.left) l.types)) (typed_list behind) ≡ outcome l.place l.refused (typed_list (reverse l.list.items))
+  so_far : converted_list l.model l.place (map (λ (ty : CType). shape_of ty) (drop (vec_len l.left) l.types)) (typed_list behind) ≡ outcome l.place l.refused (typed_list (reverse l.list.items));
 }
 
 abbrev pub decreases-loop-left : goal.decreases-loop-left

@@ -1,10 +1,17 @@
-use Rattle.std.proofs.Common.{◌≡◌, Some, sym, ◌∙◌}
-use Rattle.cs_consts.specs.Scopes.{newest, place_at}
-use Rattle.cs_consts.proofs.DeclaredNames.{Found, newest_none, newest_some, found_within, found_says}
+use Rattle.std.proofs.Common.{◌≡◌, None, rules, sym, ap, ◌∙◌}
+use Rattle.std.specs.Prelude.{option_copied}
+use Rattle.cs_consts.proofs.DeclaredNames.{newest_none, newest_some, found_past, found_is}
 use Rattle.cs_consts.proofs.declarations.find.Goals as goal
 
-pub index-requires : goal.index-requires
-index-requires c = found_within c.args.list.now (newest c.args.name.now c.args.list.now) c.in_some-place.place (newest_some c.args.places.now c.args.list.now c.args.name.now c.in_some-place.place c.requires (sym c.place_of.ensures ∙ c.in_some-place.was))
+pub returns-in_err-place : goal.returns-in_err-place
+returns-in_err-place c =
+    let e : c.from_residual.result ≡ None = search rules in
+    ap option_copied e ∙ sym (newest_none c.args.places.now c.args.list.now c.args.name.now c.requires (sym c.place_of.ensures ∙ c.in_err-place.was))
+
+pub returns-in_err-declaration : goal.returns-in_err-declaration
+returns-in_err-declaration c =
+    absurd (found_past c.args.list.now _ c.in_ok-place.place (newest_some c.args.places.now c.args.list.now c.args.name.now c.in_ok-place.place c.requires (sym c.place_of.ensures ∙ c.in_ok-place.was)) c.in_err-declaration.ensures.lookup.3)
 
 pub returns : goal.returns
-returns c = found_says c.args.list.now (newest c.args.name.now c.args.list.now) c.in_some-place.place c.index.result (newest_some c.args.places.now c.args.list.now c.args.name.now c.in_some-place.place c.requires (sym c.place_of.ensures ∙ c.in_some-place.was)) c.index.is
+returns c =
+    found_is c.args.list.now _ c.in_ok-place.place c.in_ok-declaration.declaration.now (newest_some c.args.places.now c.args.list.now c.args.name.now c.in_ok-place.place c.requires (sym c.place_of.ensures ∙ c.in_ok-place.was)) c.in_ok-declaration.ensures.lookup.1
