@@ -8,3 +8,4 @@ pub mod RowsSoFar
 pub mod SingleParts
 pub mod ArgumentConversions
 pub mod ArraySizes
+pub mod Admitting

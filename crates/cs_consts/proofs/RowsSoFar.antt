@@ -1,5 +1,5 @@
 -- What the loops over arguments and bounds have made so far, before what is left: for the cycle of typing.
-use Rattle.std.proofs.Common.{◌≡◌, ℤ, List, [], ◌∷◌, ◌++◌, append_assoc, refl, sym, ap, subst, ◌∙◌, Some, None}
+use Rattle.std.proofs.Common.{◌≡◌, ℕ, ◌+◌, ◌<◌, suc, length, get_or, drop, drop-cons, add-one, ℤ, List, [], ◌∷◌, ◌++◌, append_assoc, refl, sym, ap, subst, ◌∙◌, Some, None}
 use Rattle.std.proofs.lemmas.List.{append-nil}
 use Rattle.cs_types.specs.Shape.{Shape}
 use Rattle.cs_ast.specs.declared.raw.expression.RawExpr.{RawExpr}
@@ -77,3 +77,16 @@ module _ (c : Context) where
   pub numbers_end : (made : List ℤ) (whole : Verdict (List ℤ)) (bounds : List RawExpr) (ls : Literals) → bounds ≡ [] → lift (numbers_before made) (numbers_listed c ls bounds) ≡ whole → whole ≡ Fine made
   numbers_end made whole bounds ls none so_far =
       sym so_far ∙ ap (λ l. lift (numbers_before made) (numbers_listed c ls l)) none ∙ lift-fine (numbers_before made) [] ∙ ap Fine (append-nil made)
+
+-- nothing made so far
+pub none_before : (v : Verdict TypedList) → lift (expressions_before []) v ≡ v
+none_before (Fine rest) = lift-fine (expressions_before []) rest
+none_before (Fault code place) = lift-fault (expressions_before []) code place
+
+pub no_numbers_before : (v : Verdict (List ℤ)) → lift (numbers_before []) v ≡ v
+no_numbers_before (Fine rest) = lift-fine (numbers_before []) rest
+no_numbers_before (Fault code place) = lift-fault (numbers_before []) code place
+
+-- what stands at a place of a list, before what is behind it
+pub at_place : {A : Type 0} (i : ℕ) (xs : List A) (x : A) → i < length xs → x ≡ get_or xs i x → drop i xs ≡ x ∷ drop (i + 1) xs
+at_place i xs x within read = drop-cons xs i x within ∙ ap (λ y. y ∷ drop (suc i) xs) (sym read) ∙ ap (λ j. x ∷ drop j xs) (sym (add-one i))

@@ -144,9 +144,10 @@ fn formed(
         RawExprKind::SizeOfType(ty, bounds) => {
             size_of_type(alloc, context, literals, place, ty, bounds)
         }
-        RawExprKind::Cast(ty, bounds, operand) => cast(
-            alloc, context, purpose, literals, place, ty, bounds, operand,
-        ),
+        RawExprKind::Cast(ty, bounds, operand) => {
+            let count = bounds.len();
+            cast(alloc, context, purpose, literals, place, ty, count, operand)
+        }
         RawExprKind::Infix(operator, left, right) => infix(
             alloc, context, purpose, literals, place, *operator, left, right,
         ),
@@ -471,9 +472,10 @@ fn arguments_of(
     ensures texts { OnOk result (literals.new.items ≡ literals_behind_list literals.old.items arguments.now) }
     ensures count { IfOk result (λ list. vec_len list ≡ length arguments.now) }
 {
+    let types = function.parameters.as_slice();
     let mut list = Vec::new(alloc);
     for i in 0..arguments.len() {
-        let ty = &function.parameters[i];
+        let ty = &types[i];
         let value = operand_in(alloc, context, purpose, literals, Some(ty), &arguments[i])?;
         list.push(value)?;
     }
@@ -543,7 +545,7 @@ fn number_at(kind: &ExprKind) -> i128
     }
 }
 
-// A cast.
+// A cast to a type with so many bounds.
 #[cycle(typing)]
 fn cast(
     alloc: Global,
@@ -552,13 +554,13 @@ fn cast(
     literals: &mut Vec<Bytes>,
     place: Place,
     ty: &WrittenType,
-    bounds: &[RawExpr],
+    bounds: usize,
     operand: &RawExpr,
 ) -> Result<Expr, TypeRefusal>
-    ensures told { Tells (cast_formed context.now purpose literals.old.items place ty.now (length bounds.now) operand.now) result }
+    ensures told { Tells (cast_formed context.now purpose literals.old.items place ty.now bounds operand.now) result }
     ensures texts { OnOk result (literals.new.items ≡ literals_behind literals.old.items operand.now.kind) }
 {
-    let target = cast_type(alloc, context, place, ty, bounds.len())?;
+    let target = cast_type(alloc, context, place, ty, bounds)?;
     let value = judged(alloc, context, purpose, literals, Some(&target), operand)?;
     cast_to(alloc, context, place, &target, value)
 }

@@ -1,5 +1,5 @@
 -- The cycle of typing: each return is its production's equation at these parts.
-use Rattle.std.proofs.Common.{◌≡◌, length, map, Option, Some, None, Ok, Err, rules, arith, refl, sym, ap, subst, ◌∙◌}
+use Rattle.std.proofs.Common.{◌≡◌, ◌+◌, ◌∷◌, drop, length, map, Option, Some, None, Ok, Err, rules, arith, refl, sym, ap, subst, ◌∙◌}
 use Rattle.std.specs.Prelude.{option_copied}
 use Rattle.cs_types.specs.declared.ctype.CType.{CType}
 use Rattle.cs_types.specs.Shape.{shape_of}
@@ -8,15 +8,18 @@ use Rattle.cs_ast.specs.declared.raw.expression.RawExpr.{RawExpr}
 use Rattle.cs_ast.specs.declared.typed.operator.Gives.TheVariants.{Old, New}
 use Rattle.cs_consts.specs.declared.purpose.Purpose.TheVariants.{Run}
 use Rattle.cs_ast.specs.TypedView.{typed, typed_list}
-use Rattle.cs_consts.specs.Verdicts.{Fine, lift, lift2, IsRefused, Tells}
+use Rattle.cs_consts.specs.Verdicts.{Fine, lift, lift2, IsRefused, Tells, Answers}
 use Rattle.cs_consts.specs.Stores.{updatable, step_operator}
 use Rattle.cs_consts.specs.Places.{selected}
 use Rattle.cs_consts.specs.TypeNames.{complete_at}
-use Rattle.cs_consts.specs.Calls.{shape_in}
-use Rattle.cs_consts.specs.Typing.{literals_behind, formed, done, value_in, operand_in, infix_formed, choice_formed, store_formed, cast_formed, call_formed, stepped_object, measured_arrays, measured_type, base_in, numbers_listed, indexed_values, arrow_on, prefixed}
+use Rattle.cs_consts.specs.Calls.{shape_in, parameters_of}
+use Rattle.cs_consts.specs.Rows.{expressions_before}
+use Rattle.cs_consts.specs.Typing.{literals_behind, literals_behind_list, arguments_listed, formed, done, value_in, operand_in, infix_formed, choice_formed, store_formed, cast_formed, call_formed, stepped_object, measured_arrays, measured_type, base_in, numbers_listed, indexed_values, arrow_on, prefixed}
 use Rattle.cs_consts.proofs.Lifting.{lift-refused, lift2-refused-first}
 use Rattle.cs_consts.proofs.Productions.{tells_as, done_stops, done_is, value_stops, value_is, operand_stops, operand_is, infix_left_stops, infix_right_stops, infix_taken, choice_test_stops, choice_tested_stops, choice_one_stops, choice_other_stops, choice_taken, store_object_stops, store_left_stops, store_value_stops, store_taken, cast_type_stops, cast_operand_stops, cast_taken, call_other_stops, call_other, call_admitted_stops, call_arguments_stop, call_taken}
+use Rattle.cs_consts.proofs.Admitting.{admitted_counts}
 use Rattle.cs_consts.proofs.ProductionRows.{formed-Call, formed-SizeOfType, formed-Cast}
+use Rattle.cs_consts.proofs.RowsSoFar.{none_before, at_place, arguments_turn, arguments_stop}
 use Rattle.cs_consts.proofs.SingleParts.{part_taken, parts_taken, second_stops, step_object_stops, step_updatable_stops, step_taken, size_base_stops, size_complete_stops, size_numbers_stop, size_taken}
 use Rattle.cs_consts.proofs.typing.+typing.Goals as goal
 
@@ -107,16 +110,16 @@ store-returns-clause-told t c =
 pub cast-returns-in_err-target-clause-told : goal.cast-returns-in_err-target-clause-told
 cast-returns-in_err-target-clause-told t c =
     let e : c.from_residual.result ≡ Err c.in_err-target.field-0.0 = search rules in
-    subst (Tells (cast_formed c.args.context.now c.args.purpose c.args.literals.now.items c.args.place c.args.ty.now (length c.args.bounds.now) c.args.operand.now)) (sym e) (cast_type_stops c.args.context.now c.args.purpose c.args.literals.now.items c.args.place c.args.ty.now (length c.args.bounds.now) c.args.operand.now c.in_err-target.field-0.0 c.in_err-target.ensures)
+    subst (Tells (cast_formed c.args.context.now c.args.purpose c.args.literals.now.items c.args.place c.args.ty.now c.args.bounds c.args.operand.now)) (sym e) (cast_type_stops c.args.context.now c.args.purpose c.args.literals.now.items c.args.place c.args.ty.now c.args.bounds c.args.operand.now c.in_err-target.field-0.0 c.in_err-target.ensures)
 
 pub cast-returns-in_err-value-clause-told : goal.cast-returns-in_err-value-clause-told
 cast-returns-in_err-value-clause-told t c =
     let e : c.from_residual-in_err-value.result ≡ Err c.in_err-value.field-0.0 = search rules in
-    subst (Tells (cast_formed c.args.context.now c.args.purpose c.args.literals.now.items c.args.place c.args.ty.now (length c.args.bounds.now) c.args.operand.now)) (sym e) (cast_operand_stops c.args.context.now c.args.purpose c.args.literals.now.items c.args.place c.args.ty.now (length c.args.bounds.now) c.args.operand.now (shape_of c.in_ok-target.target) c.in_err-value.field-0.0 c.in_ok-target.ensures c.in_err-value.ensures.told)
+    subst (Tells (cast_formed c.args.context.now c.args.purpose c.args.literals.now.items c.args.place c.args.ty.now c.args.bounds c.args.operand.now)) (sym e) (cast_operand_stops c.args.context.now c.args.purpose c.args.literals.now.items c.args.place c.args.ty.now c.args.bounds c.args.operand.now (shape_of c.in_ok-target.target) c.in_err-value.field-0.0 c.in_ok-target.ensures c.in_err-value.ensures.told)
 
 pub cast-returns-clause-told : goal.cast-returns-clause-told
 cast-returns-clause-told t c =
-    cast_taken c.args.context.now c.args.purpose c.args.literals.now.items c.args.place c.args.ty.now (length c.args.bounds.now) c.args.operand.now (shape_of c.in_ok-target.target) (typed c.in_ok-value.value) c.cast_to.result c.in_ok-target.ensures c.in_ok-value.ensures.told c.cast_to.ensures
+    cast_taken c.args.context.now c.args.purpose c.args.literals.now.items c.args.place c.args.ty.now c.args.bounds c.args.operand.now (shape_of c.in_ok-target.target) (typed c.in_ok-value.value) c.cast_to.result c.in_ok-target.ensures c.in_ok-value.ensures.told c.cast_to.ensures
 
 pub step-returns-in_err-object-clause-told : goal.step-returns-in_err-object-clause-told
 step-returns-in_err-object-clause-told t c =
@@ -149,7 +152,7 @@ size_of_type-returns-in_err-numbers-clause-told t c =
 
 pub size_of_type-returns-clause-told : goal.size_of_type-returns-clause-told
 size_of_type-returns-clause-told t c =
-    size_taken c.args.context.now c.args.place (base_in c.args.context.now c.args.place c.args.ty.now) (numbers_listed c.args.context.now c.args.literals.now.items c.args.bounds.now) (shape_of c.in_ok-base.base) (shape_of c.in_ok-base-2.base) c.in_ok-numbers.numbers.items c.measured_arrays.result c.in_ok-base.ensures c.in_ok-base-2.ensures c.in_ok-numbers.ensures.told c.measured_arrays.ensures
+    size_taken c.args.context.now c.args.place (base_in c.args.context.now c.args.place c.args.ty.now) (numbers_listed c.args.context.now c.args.literals.now.items c.args.bounds.now) (shape_of c.in_ok-base.base) (shape_of c.in_ok-base-2.base) c.in_ok-numbers.numbers.items c.measured_arrays.result c.in_ok-base.ensures c.in_ok-base-2.ensures c.in_ok-numbers.ensures.told (subst (λ ns. Tells (measured_arrays c.args.context.now c.args.place (shape_of c.in_ok-base-2.base) ns) c.measured_arrays.result) c.deref.ensures.value c.measured_arrays.ensures)
 
 pub call-returns-in_err-operand_in-clause-told : goal.call-returns-in_err-operand_in-clause-told
 call-returns-in_err-operand_in-clause-told t c =
@@ -204,7 +207,8 @@ formed-returns-in-Call-clause-told t c =
 
 pub formed-returns-in-Cast-clause-told : goal.formed-returns-in-Cast-clause-told
 formed-returns-in-Cast-clause-told t c =
-    subst (λ k. Tells (formed c.args.context.now c.args.purpose c.args.literals.now.items (shape_in c.args.target) c.args.tree.now.place k) c.cast.result) (sym c.in-Cast.is) (tells_as c.cast.result (formed-Cast c.args.context.now c.args.purpose c.args.literals.now.items (shape_in c.args.target) c.args.tree.now.place c.in-Cast.ty c.in-Cast.bounds c.in-Cast.operand) (subst (λ x. Tells (cast_formed c.args.context.now c.args.purpose c.args.literals.now.items c.args.tree.now.place c.in-Cast.ty (length c.in-Cast.bounds.items) x) c.cast.result) c.deref-in-Cast-2.ensures (subst (λ x. Tells (cast_formed c.args.context.now c.args.purpose c.args.literals.now.items c.args.tree.now.place c.in-Cast.ty (length x) c.deref-in-Cast-2.result.now) c.cast.result) c.deref-in-Cast.ensures.value c.cast.ensures.told)))
+    let count : c.len-count.result ≡ length c.in-Cast.bounds.items = omega (arith, c.len-count.ensures, c.in-Cast.bounds.ok.0) in
+    subst (λ k. Tells (formed c.args.context.now c.args.purpose c.args.literals.now.items (shape_in c.args.target) c.args.tree.now.place k) c.cast.result) (sym c.in-Cast.is) (tells_as c.cast.result (formed-Cast c.args.context.now c.args.purpose c.args.literals.now.items (shape_in c.args.target) c.args.tree.now.place c.in-Cast.ty c.in-Cast.bounds c.in-Cast.operand) (subst (λ x. Tells (cast_formed c.args.context.now c.args.purpose c.args.literals.now.items c.args.tree.now.place c.in-Cast.ty (length c.in-Cast.bounds.items) x) c.cast.result) c.deref-in-Cast.ensures (subst (λ x. Tells (cast_formed c.args.context.now c.args.purpose c.args.literals.now.items c.args.tree.now.place c.in-Cast.ty x c.deref-in-Cast.result.now) c.cast.result) count c.cast.ensures.told)))
 
 pub formed-returns-in-SizeOfType-clause-told : goal.formed-returns-in-SizeOfType-clause-told
 formed-returns-in-SizeOfType-clause-told t c =
@@ -259,3 +263,24 @@ formed-returns-in_err-number-in-Index-clause-told t c =
 pub formed-returns-in_ok-number-in-Index-clause-told : goal.formed-returns-in_ok-number-in-Index-clause-told
 formed-returns-in_ok-number-in-Index-clause-told t c =
     subst (λ k. Tells (formed c.args.context.now c.args.purpose c.args.literals.now.items (shape_in c.args.target) c.args.tree.now.place k) c.indexed.result) (sym c.in-Index.is) (parts_taken (indexed_values c.args.context.now c.args.tree.now.place) (operand_in c.args.context.now c.args.purpose (formed c.args.context.now c.args.purpose c.args.literals.now.items None c.in-Index.array.value.place c.in-Index.array.value.kind)) (operand_in c.args.context.now c.args.purpose (formed c.args.context.now c.args.purpose (literals_behind c.args.literals.now.items c.in-Index.array.value.kind) None c.in-Index.number.value.place c.in-Index.number.value.kind)) (typed c.in_ok-array-in-Index.array) (typed c.in_ok-number-in-Index.number) c.indexed.result (subst (λ x. operand_in c.args.context.now c.args.purpose (formed c.args.context.now c.args.purpose c.args.literals.now.items None x.place x.kind) ≡ Fine (typed c.in_ok-array-in-Index.array)) c.deref-in-Index.ensures c.in_ok-array-in-Index.ensures.told) (subst (λ l. operand_in c.args.context.now c.args.purpose (formed c.args.context.now c.args.purpose l None c.in-Index.number.value.place c.in-Index.number.value.kind) ≡ Fine (typed c.in_ok-number-in-Index.number)) (c.in_ok-array-in-Index.ensures.texts ∙ ap (λ (x : RawExpr). literals_behind c.args.literals.now.items x.kind) c.deref-in-Index.ensures) (subst (λ x. operand_in c.args.context.now c.args.purpose (formed c.args.context.now c.args.purpose c.operand_in.new.literals.items None x.place x.kind) ≡ Fine (typed c.in_ok-number-in-Index.number)) c.deref-in-Index-2.ensures c.in_ok-number-in-Index.ensures.told)) c.indexed.ensures)
+
+pub arguments_of-loop-i-init : goal.arguments_of-loop-i-init
+arguments_of-loop-i-init t c =
+    record { made = c.new-list.ensures.len; told = ap (λ l. lift (expressions_before l) (arguments_listed c.args.context.now c.args.purpose c.args.literals.now.items (parameters_of (Some c.args.function.now)) c.args.arguments.now)) c.new-list.ensures.items ∙ none_before (arguments_listed c.args.context.now c.args.purpose c.args.literals.now.items (parameters_of (Some c.args.function.now)) c.args.arguments.now); texts = refl }
+
+pub arguments_of-returns-in_err-value-clause-told : goal.arguments_of-returns-in_err-value-clause-told
+arguments_of-returns-in_err-value-clause-told t c =
+    let e : c.from_residual.result ≡ Err c.in_err-value.field-0.0 = search rules in
+    subst (Answers (λ list. typed_list list.items) (arguments_listed c.args.context.now c.args.purpose c.args.literals.now.items (parameters_of (Some c.args.function.now)) c.args.arguments.now)) (sym e) (arguments_stop c.args.context.now c.args.purpose c.loop-i.list.items (arguments_listed c.args.context.now c.args.purpose c.args.literals.now.items (parameters_of (Some c.args.function.now)) c.args.arguments.now) (shape_of c.index-types-i.result) (map (λ (ty : CType). shape_of ty) (drop c.loop-i.i c.args.function.now.parameters.items)) (map (λ (ty : CType). shape_of ty) (drop (c.loop-i.i + 1) c.args.function.now.parameters.items)) c.index-arguments-i.result (drop c.loop-i.i c.args.arguments.now) (drop (c.loop-i.i + 1) c.args.arguments.now) c.loop-i.literals.items c.in_err-value.field-0.0 (ap (map (λ (ty : CType). shape_of ty)) (subst (λ l. drop c.loop-i.i l ≡ c.index-types-i.result ∷ drop (c.loop-i.i + 1) l) c.as_slice-types.ensures.value (at_place c.loop-i.i c.as_slice-types.result.now c.index-types-i.result (omega (arith, ap length c.as_slice-types.ensures.value, c.requires, c.args.function.now.parameters.ok.0)) c.index-types-i.is))) (at_place c.loop-i.i c.args.arguments.now c.index-arguments-i.result c.loop-i-test.true c.index-arguments-i.is) c.in_err-value.ensures.told c.loop-i.invariant.told)
+
+pub arguments_of-loop-i-preserved : goal.arguments_of-loop-i-preserved
+arguments_of-loop-i-preserved t c =
+    record {
+      made = omega (arith, c.in_ok-push.ensures.len, c.loop-i.invariant.made);
+      told = ap (λ l. lift (expressions_before l) (arguments_listed c.args.context.now c.args.purpose c.operand_in.new.literals.items (map (λ (ty : CType). shape_of ty) (drop (c.loop-i.i + 1) c.args.function.now.parameters.items)) (drop (c.loop-i.i + 1) c.args.arguments.now))) c.in_ok-push.ensures.items ∙ arguments_turn c.args.context.now c.args.purpose c.loop-i.list.items c.in_ok-value.value (arguments_listed c.args.context.now c.args.purpose c.args.literals.now.items (parameters_of (Some c.args.function.now)) c.args.arguments.now) (shape_of c.index-types-i.result) (map (λ (ty : CType). shape_of ty) (drop c.loop-i.i c.args.function.now.parameters.items)) (map (λ (ty : CType). shape_of ty) (drop (c.loop-i.i + 1) c.args.function.now.parameters.items)) c.index-arguments-i.result (drop c.loop-i.i c.args.arguments.now) (drop (c.loop-i.i + 1) c.args.arguments.now) c.loop-i.literals.items c.operand_in.new.literals.items (ap (map (λ (ty : CType). shape_of ty)) (subst (λ l. drop c.loop-i.i l ≡ c.index-types-i.result ∷ drop (c.loop-i.i + 1) l) c.as_slice-types.ensures.value (at_place c.loop-i.i c.as_slice-types.result.now c.index-types-i.result (omega (arith, ap length c.as_slice-types.ensures.value, c.requires, c.args.function.now.parameters.ok.0)) c.index-types-i.is))) (at_place c.loop-i.i c.args.arguments.now c.index-arguments-i.result c.loop-i-test.true c.index-arguments-i.is) c.in_ok-value.ensures.told c.in_ok-value.ensures.texts c.loop-i.invariant.told;
+      texts = ap (λ l. literals_behind_list l (drop (c.loop-i.i + 1) c.args.arguments.now)) c.in_ok-value.ensures.texts ∙ ap (literals_behind_list c.loop-i.literals.items) (sym (at_place c.loop-i.i c.args.arguments.now c.index-arguments-i.result c.loop-i-test.true c.index-arguments-i.is)) ∙ c.loop-i.invariant.texts
+    }
+
+pub call-call_with-requires : goal.call-call_with-requires
+call-call_with-requires t c =
+    omega (arith, c.in_ok-values.ensures.count, c.in-Some.called.now.parameters.ok.0, admitted_counts c.args.place (shape_in c.args.target) (length c.args.arguments.now) c.in-Some.called.now c.in-Some.called.now c.in_ok-admitted.ensures)
