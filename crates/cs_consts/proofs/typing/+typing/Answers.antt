@@ -278,7 +278,7 @@ arguments_of-loop-i-preserved t c =
     record {
       made = omega (arith, c.in_ok-push.ensures.len, c.loop-i.invariant.made);
       told = ap (λ l. lift (expressions_before l) (arguments_listed c.args.context.now c.args.purpose c.operand_in.new.literals.items (map (λ (ty : CType). shape_of ty) (drop (c.loop-i.i + 1) c.args.function.now.parameters.items)) (drop (c.loop-i.i + 1) c.args.arguments.now))) c.in_ok-push.ensures.items ∙ arguments_turn c.args.context.now c.args.purpose c.loop-i.list.items c.in_ok-value.value (arguments_listed c.args.context.now c.args.purpose c.args.literals.now.items (parameters_of (Some c.args.function.now)) c.args.arguments.now) (shape_of c.index-types-i.result) (map (λ (ty : CType). shape_of ty) (drop c.loop-i.i c.args.function.now.parameters.items)) (map (λ (ty : CType). shape_of ty) (drop (c.loop-i.i + 1) c.args.function.now.parameters.items)) c.index-arguments-i.result (drop c.loop-i.i c.args.arguments.now) (drop (c.loop-i.i + 1) c.args.arguments.now) c.loop-i.literals.items c.operand_in.new.literals.items (ap (map (λ (ty : CType). shape_of ty)) (subst (λ l. drop c.loop-i.i l ≡ c.index-types-i.result ∷ drop (c.loop-i.i + 1) l) c.as_slice-types.ensures.value (at_place c.loop-i.i c.as_slice-types.result.now c.index-types-i.result (omega (arith, ap length c.as_slice-types.ensures.value, c.requires, c.args.function.now.parameters.ok.0)) c.index-types-i.is))) (at_place c.loop-i.i c.args.arguments.now c.index-arguments-i.result c.loop-i-test.true c.index-arguments-i.is) c.in_ok-value.ensures.told c.in_ok-value.ensures.texts c.loop-i.invariant.told;
-      texts = ap (λ l. literals_behind_list l (drop (c.loop-i.i + 1) c.args.arguments.now)) c.in_ok-value.ensures.texts ∙ ap (literals_behind_list c.loop-i.literals.items) (sym (at_place c.loop-i.i c.args.arguments.now c.index-arguments-i.result c.loop-i-test.true c.index-arguments-i.is)) ∙ c.loop-i.invariant.texts
+      texts = ap (λ l. literals_behind_list l (drop (c.loop-i.i + 1) c.args.arguments.now)) c.in_ok-value.ensures.texts ∙ ap (literals_behind_list c.loop-i.literals.items) (sym (at_place c.loop-i.i c.args.arguments.now c.index-arguments-i.result c.loop-i-test.true c.index-arguments-i.is)) ∙ c.loop-i.invariant.texts;
     }
 
 pub call-call_with-requires : goal.call-call_with-requires
