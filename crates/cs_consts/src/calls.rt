@@ -7,12 +7,12 @@ ghost use Rattle.cs_consts.specs.Calls.{function_in, called, allocates, is_point
 
 use crate::context::Scope;
 use crate::conversions::converted;
-use crate::nodes::free;
+use crate::nodes::{allocate, call, free};
 use crate::refusal::{TypeCode, TypeRefusal};
 use crate::scope::{Callee, Function, Meaning};
 use cs_ast::Place;
 use cs_ast::raw::expression::{RawExpr, RawExprKind};
-use cs_ast::typed::expression::{Expr, ExprKind};
+use cs_ast::typed::expression::Expr;
 use cs_ast::typed::operator::Allocator;
 use cs_types::{CType, DataModel, IntType};
 use std::alloc::{AllocError, Global};
@@ -154,11 +154,7 @@ fn allocated(
     };
     let element = block_of(alloc, element)?;
     let ty = ty.copy(alloc)?;
-    Ok(Expr {
-        place,
-        ty,
-        kind: ExprKind::Allocate(allocator, arguments, element),
-    })
+    Ok(allocate(place, ty, allocator, arguments, element))
 }
 
 // A call of `free`.
@@ -189,11 +185,7 @@ pub fn call_of(
     match function.callee {
         Callee::Numbered(number) => {
             let ty = function.result.copy(alloc)?;
-            Ok(Expr {
-                place,
-                ty,
-                kind: ExprKind::Call(number, arguments),
-            })
+            Ok(call(place, ty, number, arguments))
         }
         Callee::Malloc => allocated(alloc, place, Allocator::Malloc, arguments, target),
         Callee::Calloc => allocated(alloc, place, Allocator::Calloc, arguments, target),

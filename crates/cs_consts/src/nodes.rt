@@ -2,12 +2,12 @@
 ghost use Rattle.std.specs.Prelude.{◌≡◌, IfOk};
 ghost use Rattle.cs_types.specs.Shape.{shape_of, integer, pointer, void};
 ghost use Rattle.cs_types.specs.declared.int_type.IntType.TheVariants.{Int as PlainInt};
-ghost use Rattle.cs_ast.specs.TypedTree.{Of, Number as NumberForm, Null as NullForm, Through as ThroughForm, Index as IndexForm, Member as MemberForm, Arrow as ArrowForm, Load as LoadForm, Address as AddressForm, Decay as DecayForm, Convert as ConvertForm, Unary as UnaryForm, Not as NotForm, Binary as BinaryForm, Compare as CompareForm, Sum as SumForm, Difference as DifferenceForm, And as AndForm, Or as OrForm, Choice as ChoiceForm, Comma as CommaForm, Assign as AssignForm, Update as UpdateForm, Move as MoveForm, Free as FreeForm};
-ghost use Rattle.cs_ast.specs.TypedView.{typed};
+ghost use Rattle.cs_ast.specs.TypedTree.{Of, Number as NumberForm, Null as NullForm, Through as ThroughForm, Index as IndexForm, Member as MemberForm, Arrow as ArrowForm, Load as LoadForm, Address as AddressForm, Decay as DecayForm, Convert as ConvertForm, Unary as UnaryForm, Not as NotForm, Binary as BinaryForm, Compare as CompareForm, Sum as SumForm, Difference as DifferenceForm, And as AndForm, Or as OrForm, Choice as ChoiceForm, Comma as CommaForm, Assign as AssignForm, Update as UpdateForm, Move as MoveForm, Free as FreeForm, Call as CallForm, Allocate as AllocateForm};
+ghost use Rattle.cs_ast.specs.TypedView.{typed, typed_list};
 
 use cs_ast::Place;
 use cs_ast::typed::expression::{Expr, ExprKind};
-use cs_ast::typed::operator::{BinOp, CmpOp, Direction, Gives, Order, UnOp};
+use cs_ast::typed::operator::{Allocator, BinOp, CmpOp, Direction, Gives, Order, UnOp};
 use cs_types::{CType, IntType};
 use std::alloc::{AllocError, Global};
 
@@ -406,4 +406,32 @@ pub fn free(alloc: Global, place: Place, block: Expr) -> Result<Expr, AllocError
         ty: CType::Void,
         kind: ExprKind::Free(block),
     })
+}
+
+/// A call of a function of the program.
+pub fn call(place: Place, ty: CType, function: u32, arguments: Vec<Expr>) -> Expr
+    ensures { typed result ≡ Of place (shape_of ty) (CallForm function (typed_list arguments.items)) }
+{
+    Expr {
+        place,
+        ty,
+        kind: ExprKind::Call(function, arguments),
+    }
+}
+
+/// A block of memory for elements of a type, as a pointer.
+pub fn allocate(
+    place: Place,
+    ty: CType,
+    allocator: Allocator,
+    arguments: Vec<Expr>,
+    element: CType,
+) -> Expr
+    ensures { typed result ≡ Of place (shape_of ty) (AllocateForm allocator (typed_list arguments.items) (shape_of element)) }
+{
+    Expr {
+        place,
+        ty,
+        kind: ExprKind::Allocate(allocator, arguments, element),
+    }
 }

@@ -3,10 +3,9 @@ ghost use Rattle.std.specs.Prelude.{◌≡◌, IfOk};
 ghost use Rattle.cs_types.specs.Shape.{Shape, shape_of, pointer};
 ghost use Rattle.cs_ast.specs.declared.place.Place.{Place as AnyPlace};
 ghost use Rattle.cs_ast.specs.TypedView.{typed};
-ghost use Rattle.cs_consts.specs.Verdicts.{Tells, Answers};
+ghost use Rattle.cs_consts.specs.Verdicts.{Tells, Answers, Fine, lift};
 ghost use Rattle.cs_consts.specs.Conversions.{pointers_met};
-ghost use Rattle.cs_ast.specs.TypedTree.{And as AndForm, Or as OrForm, Compare as CompareForm};
-ghost use Rattle.cs_consts.specs.Verdicts.{Fine};
+ghost use Rattle.cs_ast.specs.TypedTree.{Of, And as AndForm, Or as OrForm, Compare as CompareForm, Choice as ChoiceForm};
 ghost use Rattle.cs_consts.specs.Integers.{in_type};
 ghost use Rattle.cs_consts.specs.Operators.{int_at, met, equated, ordered, moved, added, apart, subtracted, tested, denied, both_tested, combined, chosen, chosen_pair, followed};
 ghost use Rattle.cs_consts.specs.Ways.{by_meeting};
@@ -382,18 +381,48 @@ pub fn chosen(
 ) -> Result<Expr, TypeRefusal>
     ensures { Tells (chosen model place (typed test) (typed one) (typed other) (shape_of one.ty) (shape_of other.ty)) result }
 {
-    let pair = match (&one.ty, &other.ty) {
-        (CType::Void, CType::Void) => Pair {
-            left: one,
-            right: other,
-        },
-        (CType::Struct(left), CType::Struct(right)) if *left == *right => Pair {
-            left: one,
-            right: other,
-        },
-        _ => met(alloc, model, place, one, other)?,
-    };
+    match (&one.ty, &other.ty) {
+        (CType::Void, CType::Void) => {
+            let made = chosen_alike(alloc, place, test, one, other)?;
+            Ok(made)
+        }
+        (CType::Struct(left), CType::Struct(right)) if *left == *right => {
+            let made = chosen_alike(alloc, place, test, one, other)?;
+            Ok(made)
+        }
+        _ => chosen_met(alloc, model, place, test, one, other),
+    }
+}
+
+// A choice between two values that are brought to one type.
+#[tactic(auto, using(crate::proofs::Lifting::lifts))]
+fn chosen_met(
+    alloc: Global,
+    model: DataModel,
+    place: Place,
+    test: Expr,
+    one: Expr,
+    other: Expr,
+) -> Result<Expr, TypeRefusal>
+    ensures { Tells (lift (chosen_pair place (typed test)) (met model place (typed one) (typed other) (shape_of one.ty) (shape_of other.ty))) result }
+{
+    let pair = met(alloc, model, place, one, other)?;
     let made = chosen_pair(alloc, place, test, pair)?;
+    Ok(made)
+}
+
+// A choice between two values of the same type.
+fn chosen_alike(
+    alloc: Global,
+    place: Place,
+    test: Expr,
+    one: Expr,
+    other: Expr,
+) -> Result<Expr, AllocError>
+    ensures { IfOk result (λ made. typed made ≡ Of place (shape_of one.ty) (ChoiceForm (typed test) (typed one) (typed other))) }
+{
+    let ty = one.ty.copy(alloc)?;
+    let made = choice(alloc, place, ty, test, one, other)?;
     Ok(made)
 }
 

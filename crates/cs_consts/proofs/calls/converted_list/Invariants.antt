@@ -8,12 +8,12 @@ use Rattle.cs_consts.specs.Calls.{converted_list}
 use Rattle.cs_consts.specs.Rows.{outcome}
 use Rattle.cs_consts.proofs.calls.converted_list.Given as goal
 
-abbrev pub invariant-loop-left : goal.invariant-loop-left
-invariant-loop-left l = record {
+abbrev pub invariant-loop-value : goal.invariant-loop-value
+invariant-loop-value l = record {
   behind : List Expr;
   split : l.initial.left.items ≡ l.left.items ++ behind;
   so_far : converted_list l.model l.place (map (λ (ty : CType). shape_of ty) (drop (vec_len l.left) l.types)) (typed_list behind) ≡ outcome l.place l.refused (typed_list (reverse l.list.items));
 }
 
-abbrev pub decreases-loop-left : goal.decreases-loop-left
-decreases-loop-left l = vec_len l.left
+abbrev pub decreases-loop-value : goal.decreases-loop-value
+decreases-loop-value l = vec_len l.left
