@@ -1,5 +1,6 @@
 -- How arguments come to their parameters, from the last to the first: for the loop that converts them.
 use Rattle.std.proofs.Common.{◌≡◌, ◌≢◌, ℕ, suc, ◌+◌, ◌<◌, List, [], ◌∷◌, ◌++◌, length, map, drop, get_or, reverse, drop-cons, add-one, append_assoc, Option, Some, None, refl, sym, ap, subst, ◌∙◌}
+use Rattle.std.specs.Prelude.{◌==◌, Bool, true, false}
 use Rattle.std.proofs.lemmas.List.{reverse-append}
 use Rattle.cs_types.specs.declared.ctype.CType.{CType}
 use Rattle.cs_ast.specs.declared.typed.expression.Expr.{Expr}
@@ -67,3 +68,7 @@ freed-two at (a ∷ b ∷ rest) e some = refl
 
 pub freed-many : (at : Place) (all rest : List Expr) (e : Expr) → all ≡ rest ++ e ∷ [] → length rest ≢ 0 → freed at (typed_list all) ≡ Fault code_of.ArgumentCount at
 freed-many at all rest e is some = ap (λ xs. freed at (typed_list xs)) is ∙ freed-two at rest e some
+
+-- a test for none that fails
+pub not_none : (n : ℕ) (b : Bool) → b ≡ (n == 0) → b ≡ false → n ≢ 0
+not_none n b e f z = let wrong : false ≡ true = sym f ∙ e ∙ ap (λ k. k == 0) z in absurd cc

@@ -1,5 +1,5 @@
 -- Operators on values (C11 6.5.3.3, 6.5.6, 6.5.8, 6.5.9, 6.5.13 to 6.5.15).
-use Rattle.std.specs.Prelude.{ℕ, Bool, ◌&&◌, ◌==◌, if◌then◌else◌, List}
+use Rattle.std.specs.Prelude.{ℕ, Bool, true, false, ◌&&◌, ◌==◌, if◌then◌else◌, List}
 use Rattle.cs_types.specs.declared.data_model.DataModel.{DataModel}
 use Rattle.cs_types.specs.declared.int_type.IntType.TheVariants.{Int}
 use Rattle.cs_types.specs.declared.structs.StructType.{StructType}
@@ -121,11 +121,16 @@ combined model table infix_op.Remainder at left right = joined model bin.Rem at 
 abbrev pub chosen_pair : Place → Typed → Pair → Verdict Typed
 chosen_pair at test pair = Fine (Of at (type_of pair.left) (Choice test pair.left pair.right))
 
+-- two types whose values a choice takes as they are: both `void`, or the same struct
+abbrev pub alike : Shape → Shape → Bool
+alike void void = true
+alike (struct n) (struct m) = n == m
+alike t s = false
+
 -- `?:` of two values (C11 6.5.15)
 unfoldable pub chosen : DataModel → Place → Typed → Typed → Typed → Shape → Shape → Verdict Typed
-chosen model at test one other void void = Fine (Of at void (Choice test one other))
-chosen model at test one other (struct n) (struct m) = if n == m then Fine (Of at (struct n) (Choice test one other)) else Fault code.OperandTypes at
-chosen model at test one other t s = lift (chosen_pair at test) (met model at one other t s)
+chosen model at test one other t s =
+    if alike t s then Fine (Of at t (Choice test one other)) else lift (chosen_pair at test) (met model at one other t s)
 
 -- `,` of two values (C11 6.5.17)
 abbrev pub followed : Place → Typed → Typed → Verdict Typed

@@ -7,7 +7,7 @@ ghost use Rattle.cs_consts.specs.Verdicts.{Tells, Answers, Fine, lift};
 ghost use Rattle.cs_consts.specs.Conversions.{pointers_met};
 ghost use Rattle.cs_ast.specs.TypedTree.{Of, And as AndForm, Or as OrForm, Compare as CompareForm, Choice as ChoiceForm};
 ghost use Rattle.cs_consts.specs.Integers.{in_type};
-ghost use Rattle.cs_consts.specs.Operators.{int_at, met, equated, ordered, moved, added, apart, subtracted, tested, denied, both_tested, combined, chosen, chosen_pair, followed};
+ghost use Rattle.cs_consts.specs.Operators.{int_at, met, equated, ordered, moved, added, apart, subtracted, tested, denied, both_tested, combined, alike, chosen, chosen_pair, followed};
 ghost use Rattle.cs_consts.specs.Ways.{by_meeting};
 ghost use Rattle.cs_consts.specs.Pairs.{pair_of};
 
@@ -381,16 +381,22 @@ pub fn chosen(
 ) -> Result<Expr, TypeRefusal>
     ensures { Tells (chosen model place (typed test) (typed one) (typed other) (shape_of one.ty) (shape_of other.ty)) result }
 {
-    match (&one.ty, &other.ty) {
-        (CType::Void, CType::Void) => {
-            let made = chosen_alike(alloc, place, test, one, other)?;
-            Ok(made)
-        }
-        (CType::Struct(left), CType::Struct(right)) if *left == *right => {
-            let made = chosen_alike(alloc, place, test, one, other)?;
-            Ok(made)
-        }
-        _ => chosen_met(alloc, model, place, test, one, other),
+    if alike(&one.ty, &other.ty) {
+        let made = chosen_alike(alloc, place, test, one, other)?;
+        Ok(made)
+    } else {
+        chosen_met(alloc, model, place, test, one, other)
+    }
+}
+
+// Whether a choice takes values of these types as they are: both `void`, or the same struct.
+fn alike(one: &CType, other: &CType) -> bool
+    ensures { result ≡ alike (shape_of one.now) (shape_of other.now) }
+{
+    match (one, other) {
+        (CType::Void, CType::Void) => true,
+        (CType::Struct(left), CType::Struct(right)) => *left == *right,
+        _ => false,
     }
 }
 
