@@ -33,6 +33,7 @@ pub fn external(alloc: Global, source: &Source, from: usize) -> Result<Taken<Raw
     requires within { from < length source.now.tokens.now }
     requires few { length source.now.tokens.now < 2 ^ 32 }
     ensures bounds { IsBounded 200 source.now.tokens.now from result }
+    ensures parsed { ExactAnswers (Externals source.now.names.now) external_view 200 source.now.tokens.now source.now.end from result }
 {
     let taken = if is_keyword(source, from, Keyword::Typedef) {
         typedef(alloc, source, from)?
@@ -55,6 +56,7 @@ fn typedef(alloc: Global, source: &Source, from: usize) -> Result<Taken<RawExter
     requires few { length source.now.tokens.now < 2 ^ 32 }
     requires stands { kind_or_end source.now.tokens.now from ≡ token.Keyword keyword.Typedef }
     ensures bounds { IsBounded 200 source.now.tokens.now from result }
+    ensures parsed { ExactAnswers (Externals source.now.names.now) external_of 200 source.now.tokens.now source.now.end from result }
 {
     let specs = specs(alloc, source, from + 1, MOST - 1)?;
     let names = declarators(alloc, source, specs.next, MOST - 1, Declares::Names)?;
@@ -71,6 +73,7 @@ fn declared(alloc: Global, source: &Source, from: usize) -> Result<Taken<RawExte
     requires few { length source.now.tokens.now < 2 ^ 32 }
     requires other { kind_or_end source.now.tokens.now from ≡ token.Keyword keyword.Typedef → ⊥ }
     ensures bounds { IsBounded 200 source.now.tokens.now from result }
+    ensures parsed { ExactAnswers (Externals source.now.names.now) external_of 200 source.now.tokens.now source.now.end from result }
 {
     let scope = Scope::File;
     let specs = specs(alloc, source, from, MOST - 1)?;
@@ -100,6 +103,7 @@ fn objects(
     requires low { specs.height ≤ 199 }
     requires stands { kind_or_end source.now.tokens.now pointed.next ≡ token.Mark mark.OpenParenthesis → ⊥ }
     ensures bounds { IsBounded 200 source.now.tokens.now pointed.next result }
+    ensures parsed { (from : ℕ) → IsTypeTaken source.now.names.now source.now.tokens.now from specs → IsPointed declaring.Names source.now.names.now source.now.tokens.now specs.next pointed → ExactAnswers (Externals source.now.names.now) external_of 200 source.now.tokens.now source.now.end from result }
 {
     let scope = Scope::File;
     let declarator = with_bounds(alloc, source, pointed, MOST - 1, Declares::Names)?;
@@ -124,6 +128,7 @@ fn function(
     requires low { specs.height ≤ 199 }
     requires stands { kind_or_end source.now.tokens.now pointed.next ≡ token.Mark mark.OpenParenthesis }
     ensures bounds { IsBounded 200 source.now.tokens.now pointed.next result }
+    ensures parsed { (from : ℕ) → IsTypeTaken source.now.names.now source.now.tokens.now from specs → IsPointed declaring.Names source.now.names.now source.now.tokens.now specs.next pointed → ExactAnswers (Externals source.now.names.now) external_of 200 source.now.tokens.now source.now.end from result }
 {
     let parameters = parameters(alloc, source, pointed.next + 1, MOST - 2)?;
     let head = head(pointed.tree, parameters);

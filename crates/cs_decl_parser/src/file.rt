@@ -23,6 +23,8 @@ use std::alloc::{AllocError, Global};
 /// up to it. The end of input counts as a token.
 pub fn parse(alloc: Global, tokens: &[Token], end: Place) -> Result<Tree, SyntaxRefusal>
     requires few { length tokens.now < 2 ^ 32 }
+    ensures taken { IfOk result (λ tree. IsTheFile tokens.now (parts_of tree.externals.items)) }
+    ensures refused { IfErr result (IsFileRefusal tokens.now end) }
 {
     match externals(alloc, tokens, end) {
         Ok(externals) => Ok(Tree { externals }),
@@ -33,6 +35,7 @@ pub fn parse(alloc: Global, tokens: &[Token], end: Place) -> Result<Tree, Syntax
 /// The parts of the file. The names that a typedef declares are typedef names behind it.
 fn externals(alloc: Global, tokens: &[Token], end: Place) -> Result<Vec<RawExternal>, Stop>
     requires few { length tokens.now < 2 ^ 32 }
+    ensures parsed { FileAnswer tokens.now end result }
 {
     let mut list = Vec::new(alloc);
     let mut names = TypedefNames::new(alloc);

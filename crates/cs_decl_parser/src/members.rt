@@ -25,6 +25,7 @@ pub fn members(
     requires within { from ≤ length source.now.tokens.now }
     requires few { length source.now.tokens.now < 2 ^ 32 }
     ensures bounds { IsBounded room source.now.tokens.now from result }
+    ensures parsed { ExactAnswers (MemberRows source.now.names.now) (λ list. members_list list.items) room source.now.tokens.now source.now.end from result }
 {
     let mut list = Vec::new(alloc);
     let mut height = 0;
@@ -48,6 +49,7 @@ fn member(alloc: Global, source: &Source, from: usize, room: u32) -> Result<Take
     requires within { from ≤ length source.now.tokens.now }
     requires few { length source.now.tokens.now < 2 ^ 32 }
     ensures bounds { IsBounded room source.now.tokens.now from result }
+    ensures parsed { ExactAnswers (MemberGroups source.now.names.now) group room source.now.tokens.now source.now.end from result }
 {
     let scope = Scope::File;
     if !begins_specs(source, from, scope) {

@@ -33,6 +33,7 @@ pub fn parameters(
     requires few { length source.now.tokens.now < 2 ^ 32 }
     requires enough { 4 ≤ room }
     ensures bounds { IsBounded room source.now.tokens.now from result }
+    ensures parsed { ExactAnswers (ParameterLists source.now.names.now) parameters_of room source.now.tokens.now source.now.end from result }
 {
     if is_mark(source, from, Mark::CloseParenthesis) {
         return Ok(Taken {
@@ -78,6 +79,7 @@ fn parameter_list(
     requires no_parenthesis { kind_or_end source.now.tokens.now from ≡ token.Mark mark.CloseParenthesis → ⊥ }
     requires no_void { IsVoidAlone source.now.tokens.now from → ⊥ }
     ensures bounds { IsBounded room source.now.tokens.now from result }
+    ensures parsed { ExactAnswers (ParameterRows source.now.names.now) (λ list. map parameter_of list.items) room source.now.tokens.now source.now.end from result }
 {
     let mut list = Vec::new(alloc);
     let mut last = parameter(alloc, source, from, room)?;
@@ -109,6 +111,7 @@ fn parameter(
     requires few { length source.now.tokens.now < 2 ^ 32 }
     requires enough { 3 ≤ room }
     ensures bounds { IsBounded room source.now.tokens.now from result }
+    ensures parsed { Answers (ParameterClass source.now.names.now) parameter_of room source.now.tokens.now source.now.end from result }
 {
     let specs = specs(alloc, source, from, room - 1)?;
     let pointers = stars(alloc, source, specs.next)?;
@@ -132,6 +135,7 @@ fn parameter_name(source: &Source, at: usize) -> Result<Taken<Option<RawName>>, 
     requires within { at ≤ length source.now.tokens.now }
     requires few { length source.now.tokens.now < 2 ^ 32 }
     ensures bounds { IsRowBounded 0 source.now.tokens.now at result }
+    ensures name { ParameterNameAnswer source.now.names.now source.now.tokens.now at result }
 {
     if is_mark(source, at, Mark::OpenParenthesis) {
         return Err(refuse_but(source, at, Scope::File, Mark::OpenParenthesis));
@@ -146,7 +150,9 @@ fn parameter_name(source: &Source, at: usize) -> Result<Taken<Option<RawName>>, 
 }
 
 /// Whether every parameter has a name, so that a body may follow.
-pub fn are_named(parameters: &RawParameters) -> bool {
+pub fn are_named(parameters: &RawParameters) -> bool
+    ensures { IsTrue result ↔ AreNamed (parameters_of parameters.now) }
+{
     match parameters {
         RawParameters::Empty | RawParameters::Void => true,
         RawParameters::List(list) => list.iter().all(|parameter| parameter.name.is_some()),

@@ -54,6 +54,7 @@ pub fn specs(
     requires few { length source.now.tokens.now < 2 ^ 32 }
     requires some { 1 ≤ room }
     ensures bounds { IsBounded room source.now.tokens.now from result }
+    ensures parsed { SpecsAnswer source.now.names.now room source.now.tokens.now source.now.end from result }
 {
     let mut words = Vec::new(alloc);
     let mut tag = None;
@@ -102,6 +103,7 @@ fn word_at(
     requires few { length source.now.tokens.now < 2 ^ 32 }
     requires some { 1 ≤ room }
     ensures bounds { IsWordBounded room source.now.tokens.now at result }
+    ensures word { SpecAnswer source.now.names.now room source.now.tokens.now source.now.end at so_far result }
 {
     if is_keyword(source, at, Keyword::Static) {
         return Ok(Some(static_word(at, so_far)));
@@ -169,6 +171,7 @@ fn tagged(alloc: Global, source: &Source, at: usize, room: u32) -> Result<NextWo
     requires some { 1 ≤ room }
     requires stands { IsTagKeyword (kind_or_end source.now.tokens.now at) }
     ensures bounds { IsNextBounded room source.now.tokens.now at result }
+    ensures element { ElementAnswer source.now.names.now room source.now.tokens.now source.now.end at result }
 {
     let tag = any_name_at(source, at + 1)?;
     let behind = behind_tag(at, &tag);
@@ -228,6 +231,7 @@ fn with_body(
     requires some { 1 ≤ room }
     requires opened { IsOpened source.now.tokens.now at brace (name_in tag) }
     ensures bounds { IsNextBounded room source.now.tokens.now at result }
+    ensures element { ElementAnswer source.now.names.now room source.now.tokens.now source.now.end at result }
 {
     if is_keyword(source, at, Keyword::Struct) {
         let members = members(alloc, source, brace + 1, room - 1)?;

@@ -1,4 +1,3 @@
--- The brace of a body stands behind its tag, where `with_body` is called.
 use Rattle.std.proofs.Common.{◌≡◌, ℕ, ◌+◌, ◌-◌, ◌∷◌, Bool, ◌≤◌, ◌<◌, max, Err, Ok, List, [], Option, Some, false, refl, sym, ap, ◌∙◌, subst, arith, rules}
 use Rattle.std.proofs.lemmas.Bool.{false≢true}
 use Rattle.cs_ast.specs.declared.raw.declaration.SpecWord.{SpecWord}
@@ -16,8 +15,109 @@ use Rattle.cs_decl_parser.proofs.RowSites.{max_is}
 use Rattle.cs_decl_parser.proofs.SpecSites.{enum_little, same_struct, opened_at, opened_later, tagged_found, untagged_stops, with_struct, struct_stops, struct_found, enum_stops, enum_found, SpecsSoFar, specs_none, spec_more, specs_stop, specs_taken, spec_stops, plain_answer, static_found, tag_none, element_error, element_found}
 use Rattle.cs_decl_parser.proofs.+specs.Goals as goal
 
+pub specs::specs-words-init : goal.specs::specs-words-init
+specs::specs-words-init t c = record {
+  onward = omega arith;
+  inside = c.requires.within;
+  low = omega arith;
+  typed = λ some. absurd (false≢true some);
+  so_far = subst (λ (x : List SpecWord). SpecsSoFar c.args.source.now.names.now c.args.source.now.tokens.now c.args.from c.args.from Nothing x 0) (sym c.new-words.ensures.items) (specs_none c.args.source.now.names.now c.args.source.now.tokens.now c.args.from c.requires.within);
+}
+
+pub specs::specs-words-preserved : goal.specs::specs-words-preserved
+specs::specs-words-preserved t c =
+    let i = c.words.invariant in
+    let w = subst (λ (x : Option NextWord). SpecAnswer c.args.source.now.names.now c.args.room c.args.source.now.tokens.now c.args.source.now.end c.words.next c.words.so_far (Ok x)) c.in-Some.is c.in_ok-found.ensures.word in
+    let later = w.later in
+    let within = w.spelled.within in
+    let fits = w.low in
+    let h : c.max-height.result ≡ max c.words.height c.in-Some.found.height = c.max-height.ensures ∙ max_is c.words.height c.in-Some.found.height in
+    record {
+      onward = omega arith;
+      inside = within;
+      low = omega arith;
+      typed = λ some. omega arith;
+      so_far =
+          subst (λ (x : ℕ). SpecsSoFar c.args.source.now.names.now c.args.source.now.tokens.now c.args.from c.in-Some.found.next c.in-Some.found.so_far c.push.new.self.items x) (sym h)
+          (spec_more c.args.source.now.names.now c.args.room c.args.source.now.tokens.now c.args.from c.words.next c.words.so_far c.words.words.items c.push.new.self.items c.words.height c.in-Some.found i.so_far w c.in_ok-push.ensures.items);
+    }
+
+pub specs::specs-returns-in_err-found-clause-parsed : goal.specs::specs-returns-in_err-found-clause-parsed
+specs::specs-returns-in_err-found-clause-parsed t c =
+    let e : c.from_residual.result ≡ Err c.in_err-found.field-0.0 = search rules in
+    subst (SpecsAnswer c.args.source.now.names.now c.args.room c.args.source.now.tokens.now c.args.source.now.end c.args.from) (sym e)
+    (spec_stops c.args.source.now.names.now c.args.room c.requires.some c.args.source.now.tokens.now c.args.source.now.end c.args.from c.words.next c.words.so_far c.words.words.items c.words.height c.words.invariant.low c.words.invariant.so_far c.in_err-found.field-0.0 c.in_err-found.ensures.word)
+
+pub specs::specs-returns-then-not-names_type-clause-parsed : goal.specs::specs-returns-then-not-names_type-clause-parsed
+specs::specs-returns-then-not-names_type-clause-parsed t c =
+    let n = (subst (λ (x : Option NextWord). SpecAnswer c.args.source.now.names.now c.args.room c.args.source.now.tokens.now c.args.source.now.end c.words.next c.words.so_far (Ok x)) c.in_default.is c.in_ok-found.ensures.word) in
+    specs_stop c.args.source.now.names.now c.args.room c.requires.some c.args.source.now.tokens.now c.args.source.now.end c.args.from c.words.next c.words.so_far c.words.words.items c.words.height c.refuse.result c.words.invariant.low c.words.invariant.so_far (sym c.names_type.ensures ∙ c.if-not-names_type.true) n.0 n.1 c.refuse.ensures
+
+pub specs::specs-returns-clause-parsed : goal.specs::specs-returns-clause-parsed
+specs::specs-returns-clause-parsed t c =
+    let n = (subst (λ (x : Option NextWord). SpecAnswer c.args.source.now.names.now c.args.room c.args.source.now.tokens.now c.args.source.now.end c.words.next c.words.so_far (Ok x)) c.in_default.is c.in_ok-found.ensures.word) in
+    specs_taken c.args.source.now.names.now c.args.room c.args.source.now.tokens.now c.args.from c.words.next c.words.so_far c.words.height _ c.words.invariant.low c.words.invariant.so_far (sym c.names_type.ensures ∙ c.if-not-names_type.false) n.0 n.1 refl refl
+
+pub specs::word_at-returns-then-is_keyword-clause-word : goal.specs::word_at-returns-then-is_keyword-clause-word
+specs::word_at-returns-then-is_keyword-clause-word t c =
+    static_found c.args.source.now.names.now c.args.room c.requires.some c.args.source.now.tokens.now c.args.at c.args.so_far c.static_word.result (c.is_keyword.ensures.keyword.0 c.if-is_keyword.true) c.static_word.ensures
+
+pub specs::word_at-returns-then-not-begins_tagged-clause-word : goal.specs::word_at-returns-then-not-begins_tagged-clause-word
+specs::word_at-returns-then-not-begins_tagged-clause-word t c =
+    plain_answer c.args.source.now.names.now c.args.room c.requires.some c.args.source.now.tokens.now c.args.source.now.end c.args.at c.args.so_far c.plain_word.result (c.begins_tagged.ensures.none c.if-not-begins_tagged.true) (λ k. false≢true (sym c.if-is_keyword.false ∙ c.is_keyword.ensures.keyword.1 k)) c.plain_word.ensures.word
+
+pub specs::word_at-returns-then-names_type-clause-word : goal.specs::word_at-returns-then-names_type-clause-word
+specs::word_at-returns-then-names_type-clause-word t c =
+    let k = c.begins_tagged.ensures.tag c.if-not-begins_tagged.false in
+    tag_none c.args.source.now.names.now c.args.so_far (kind_or_end c.args.source.now.tokens.now c.args.at) k.0 k.1 (sym c.names_type.ensures ∙ c.if-names_type.true)
+
+pub specs::word_at-returns-in_err-found-clause-word : goal.specs::word_at-returns-in_err-found-clause-word
+specs::word_at-returns-in_err-found-clause-word t c =
+    let e : c.from_residual.result ≡ Err c.in_err-found.field-0.0 = search rules in
+    subst (SpecAnswer c.args.source.now.names.now c.args.room c.args.source.now.tokens.now c.args.source.now.end c.args.at c.args.so_far) (sym e)
+    (element_error c.args.source.now.names.now c.args.room c.args.source.now.tokens.now c.args.source.now.end c.args.at c.args.so_far c.in_err-found.field-0.0 (sym c.names_type.ensures ∙ c.if-names_type.false) c.in_err-found.ensures.element)
+
+pub specs::word_at-returns-clause-word : goal.specs::word_at-returns-clause-word
+specs::word_at-returns-clause-word t c =
+    element_found c.args.source.now.names.now c.args.room c.args.source.now.tokens.now c.args.at c.args.so_far c.in_ok-found.found (sym c.names_type.ensures ∙ c.if-names_type.false) c.in_ok-found.ensures.element
+
+pub specs::with_body-returns-in_err-members-clause-element : goal.specs::with_body-returns-in_err-members-clause-element
+specs::with_body-returns-in_err-members-clause-element t c =
+    let e : c.from_residual.result ≡ Err c.in_err-members.field-0.0 = search rules in
+    subst (ElementAnswer c.args.source.now.names.now c.args.room c.args.source.now.tokens.now c.args.source.now.end c.args.at) (sym e) (struct_stops c.args.source.now.names.now c.args.room (c.args.room - 1) (let some = c.requires.some in omega arith) (name_in c.args.tag) c.args.source.now.tokens.now c.args.source.now.end c.args.at (c.args.brace + 1) (subst (λ (b : Bool). Spells c.args.source.now.tokens.now c.args.at (c.args.brace + 1) (λ rest. tag_keyword b ∷ name_text (name_in c.args.tag) (token.Mark mark.OpenBrace ∷ rest))) c.if-is_keyword.true (with_struct c.args.source.now.tokens.now c.args.at c.args.brace (name_in c.args.tag) c.is_keyword.result c.requires.opened (c.is_keyword.ensures.keyword.0, c.is_keyword.ensures.keyword.1))) c.in_err-members.field-0.0 c.in_err-members.ensures.parsed)
+
+pub specs::with_body-returns-then-is_keyword-clause-element : goal.specs::with_body-returns-then-is_keyword-clause-element
+specs::with_body-returns-then-is_keyword-clause-element t c =
+    let b = c.structure.ensures.bounds in
+    struct_found c.args.source.now.names.now c.args.room (c.args.room - 1) (let some = c.requires.some in omega arith) (name_in c.args.tag) c.args.source.now.tokens.now c.args.at (c.args.brace + 1) (let o = c.requires.onward in omega arith) (subst (λ (b : Bool). Spells c.args.source.now.tokens.now c.args.at (c.args.brace + 1) (λ rest. tag_keyword b ∷ name_text (name_in c.args.tag) (token.Mark mark.OpenBrace ∷ rest))) c.if-is_keyword.true (with_struct c.args.source.now.tokens.now c.args.at c.args.brace (name_in c.args.tag) c.is_keyword.result c.requires.opened (c.is_keyword.ensures.keyword.0, c.is_keyword.ensures.keyword.1))) (λ list. members_list list.items) c.in_ok-members.members c.in_ok-members.ensures.parsed c.structure.result c.structure.ensures.word b.1 (let n = b.0 in omega arith)
+
+pub specs::with_body-returns-in_err-constants-clause-element : goal.specs::with_body-returns-in_err-constants-clause-element
+specs::with_body-returns-in_err-constants-clause-element t c =
+    let e : c.from_residual-in_err-constants.result ≡ Err c.in_err-constants.field-0.0 = search rules in
+    subst (ElementAnswer c.args.source.now.names.now c.args.room c.args.source.now.tokens.now c.args.source.now.end c.args.at) (sym e) (enum_stops c.args.source.now.names.now c.args.room (c.args.room - 1) (let some = c.requires.some in omega arith) (let enough = c.if-room-lt2.false in omega arith) (name_in c.args.tag) c.args.source.now.tokens.now c.args.source.now.end c.args.at (c.args.brace + 1) (subst (λ (b : Bool). Spells c.args.source.now.tokens.now c.args.at (c.args.brace + 1) (λ rest. tag_keyword b ∷ name_text (name_in c.args.tag) (token.Mark mark.OpenBrace ∷ rest))) c.if-is_keyword.false (with_struct c.args.source.now.tokens.now c.args.at c.args.brace (name_in c.args.tag) c.is_keyword.result c.requires.opened (c.is_keyword.ensures.keyword.0, c.is_keyword.ensures.keyword.1))) c.in_err-constants.field-0.0 c.in_err-constants.ensures.parsed)
+
+pub specs::with_body-returns-clause-element : goal.specs::with_body-returns-clause-element
+specs::with_body-returns-clause-element t c =
+    let b = c.enumeration.ensures.bounds in
+    enum_found c.args.source.now.names.now c.args.room (c.args.room - 1) (let some = c.requires.some in omega arith) (name_in c.args.tag) c.args.source.now.tokens.now c.args.at (c.args.brace + 1) (let o = c.requires.onward in omega arith) (subst (λ (b : Bool). Spells c.args.source.now.tokens.now c.args.at (c.args.brace + 1) (λ rest. tag_keyword b ∷ name_text (name_in c.args.tag) (token.Mark mark.OpenBrace ∷ rest))) c.if-is_keyword.false (with_struct c.args.source.now.tokens.now c.args.at c.args.brace (name_in c.args.tag) c.is_keyword.result c.requires.opened (c.is_keyword.ensures.keyword.0, c.is_keyword.ensures.keyword.1))) constant_row c.in_ok-constants.constants c.in_ok-constants.ensures.parsed c.enumeration.result c.enumeration.ensures.word b.1 (let n = b.0 in omega arith)
+
+pub specs::with_body-returns-then-room-lt2-clause-element : goal.specs::with_body-returns-then-room-lt2-clause-element
+specs::with_body-returns-then-room-lt2-clause-element t c =
+    let o = c.requires.opened in
+    let f : o.is_struct ≡ false = same_struct o.is_struct false (kind_or_end c.args.source.now.tokens.now c.args.at) o.stands ((λ e. absurd (false≢true e)), (λ k. sym c.if-is_keyword.false ∙ c.is_keyword.ensures.keyword.1 k)) in
+    subst (ElementStops c.args.source.now.names.now c.args.room c.args.source.now.tokens.now c.args.source.now.end c.args.at) (sym c.refuse_deep.ensures)
+    (enum_little c.args.source.now.names.now c.args.room c.requires.some c.if-room-lt2.true (name_in c.args.tag) c.args.source.now.tokens.now c.args.source.now.end c.args.at c.args.brace (subst (λ (b : Bool). Spells c.args.source.now.tokens.now c.args.at c.args.brace (λ rest. tag_keyword b ∷ name_text (name_in c.args.tag) rest)) f o.spelled) o.opening)
+
 pub specs::tagged-with_body-requires : goal.specs::tagged-with_body-requires
 specs::tagged-with_body-requires t c = (
   omega arith,
   (opened_later c.args.source.now.tokens.now c.args.at c.behind_tag-behind.result c.in_ok-tag.tag c.behind_tag-behind.ensures, (c.is_mark.ensures.within c.if-is_mark.true, (c.requires.few, (c.requires.some, opened_at c.args.source.now.tokens.now c.args.at c.behind_tag-behind.result c.in_ok-tag.tag c.requires.stands c.in_ok-tag.ensures.name c.behind_tag-behind.ensures (c.is_mark.ensures.mark.0 c.if-is_mark.true))))),
 )
+
+pub specs::tagged-returns-in-Some-clause-element : goal.specs::tagged-returns-in-Some-clause-element
+specs::tagged-returns-in-Some-clause-element t c =
+    tagged_found c.args.source.now.names.now c.args.room c.requires.some c.args.source.now.tokens.now c.args.at c.behind_tag-behind.result c.in_ok-tag.tag c.in-Some.tag c.in-Some.is c.requires.stands c.in_ok-tag.ensures.name c.behind_tag-behind.ensures (λ b. false≢true (sym c.if-is_mark.false ∙ c.is_mark.ensures.mark.1 b)) c.without_body.result c.without_body.ensures.word c.without_body.ensures.bounds.1 c.without_body.ensures.bounds.0
+
+pub specs::tagged-returns-in-None-clause-element : goal.specs::tagged-returns-in-None-clause-element
+specs::tagged-returns-in-None-clause-element t c =
+    untagged_stops c.args.source.now.names.now c.args.room c.requires.some c.args.source.now.tokens.now c.args.source.now.end c.args.at c.behind_tag-behind.result c.in_ok-tag.tag c.in-None.is c.requires.stands c.in_ok-tag.ensures.name c.behind_tag-behind.ensures (λ b. false≢true (sym c.if-is_mark.false ∙ c.is_mark.ensures.mark.1 b)) c.refuse.result c.refuse.ensures

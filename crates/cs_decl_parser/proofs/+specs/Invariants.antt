@@ -2,6 +2,7 @@
 use Rattle.std.proofs.Common.{◌≤◌, ◌<◌, ◌+◌, ◌-◌, ◌*◌, length}
 use Rattle.std.specs.Prelude.{IsTrue}
 use Rattle.cs_expr_parser.specs.Words.{names_some}
+use Rattle.cs_decl_parser.proofs.SpecSites.{SpecsSoFar}
 use Rattle.cs_decl_parser.proofs.+specs.Given as goal
 
 abbrev pub decreases-specs::specs : goal.decreases-specs::specs
@@ -23,7 +24,13 @@ abbrev pub decreases-members::member : goal.decreases-members::member
 decreases-members::member l = 10 * l.room + 5
 
 abbrev pub invariant-specs::specs-words : goal.invariant-specs::specs-words
-invariant-specs::specs-words l = (l.fn.from ≤ l.next) × (l.next ≤ length l.source.tokens.now) × (l.height ≤ l.room) × (IsTrue (names_some l.so_far) → l.fn.from < l.next)
+invariant-specs::specs-words l = record {
+  onward : l.fn.from ≤ l.next;
+  inside : l.next ≤ length l.source.tokens.now;
+  low : l.height ≤ l.room;
+  typed : IsTrue (names_some l.so_far) → l.fn.from < l.next;
+  so_far : SpecsSoFar l.source.names.now l.source.tokens.now l.fn.from l.next l.so_far l.words.items l.height;
+}
 
 abbrev pub decreases-specs::specs-words : goal.decreases-specs::specs-words
 decreases-specs::specs-words l = length l.source.tokens.now - l.next

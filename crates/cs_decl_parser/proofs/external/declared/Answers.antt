@@ -1,0 +1,32 @@
+-- Each return is the refusal of the type or of the name, or a type alone, or what stands behind the name.
+use Rattle.std.proofs.Common.{◌≡◌, ℕ, ◌+◌, ◌-◌, Result, Ok, Err, map, refl, sym, ap, ◌∙◌, subst, arith, rules}
+use Rattle.std.proofs.lemmas.Bool.{false≢true}
+use Rattle.cs_ast.specs.RawStatementView.{external, external_of}
+use Rattle.cs_grammar.specs.DeclarationClasses.{Externals}
+use Rattle.cs_decl_parser.specs.Answers.{ExactAnswers}
+use Rattle.cs_decl_parser.proofs.ExternalSites.{declared_type_stops, external_alone_taken, external_name_stops}
+use Rattle.cs_decl_parser.proofs.external.declared.Goals as goal
+
+pub returns-in_err-specs-clause-parsed : goal.returns-in_err-specs-clause-parsed
+returns-in_err-specs-clause-parsed c =
+    let e : c.from_residual.result ≡ Err c.in_err-specs.field-0.0 = search rules in
+    subst (ExactAnswers (Externals c.args.source.now.names.now) external_of 200 c.args.source.now.tokens.now c.args.source.now.end c.args.from) (sym e)
+    (declared_type_stops c.args.source.now.names.now c.args.source.now.tokens.now c.args.source.now.end c.args.from c.requires.other c.in_err-specs.field-0.0 c.in_err-specs.ensures.parsed)
+
+pub returns-then-is_mark-clause-parsed : goal.returns-then-is_mark-clause-parsed
+returns-then-is_mark-clause-parsed c =
+    external_alone_taken c.args.source.now.names.now c.args.source.now.tokens.now c.args.from c.in_ok-specs.specs _ (record { taken = c.in_ok-specs.ensures.parsed; no_typedef = c.requires.other }) (c.is_mark.ensures.mark.0 c.if-is_mark.true) refl refl refl
+
+pub returns-in_err-pointed-clause-parsed : goal.returns-in_err-pointed-clause-parsed
+returns-in_err-pointed-clause-parsed c =
+    let e : c.from_residual-in_err-pointed.result ≡ Err c.in_err-pointed.field-0.0 = search rules in
+    subst (ExactAnswers (Externals c.args.source.now.names.now) external_of 200 c.args.source.now.tokens.now c.args.source.now.end c.args.from) (sym e)
+    (external_name_stops c.args.source.now.names.now c.args.source.now.tokens.now c.args.source.now.end c.args.from c.in_ok-specs.specs (record { taken = c.in_ok-specs.ensures.parsed; no_typedef = c.requires.other }) (λ k. false≢true (sym c.if-is_mark.false ∙ c.is_mark.ensures.mark.1 k)) c.in_err-pointed.field-0.0 c.in_err-pointed.ensures.parsed)
+
+pub returns-then-is_mark-2-clause-parsed : goal.returns-then-is_mark-2-clause-parsed
+returns-then-is_mark-2-clause-parsed c =
+    c.function.ensures.parsed c.args.from (record { taken = c.in_ok-specs.ensures.parsed; no_typedef = c.requires.other }) c.in_ok-pointed.ensures.parsed
+
+pub returns-clause-parsed : goal.returns-clause-parsed
+returns-clause-parsed c =
+    c.objects.ensures.parsed c.args.from (record { taken = c.in_ok-specs.ensures.parsed; no_typedef = c.requires.other }) c.in_ok-pointed.ensures.parsed

@@ -1,0 +1,34 @@
+-- Each return is the refusal of a declarator, of a value or of an object behind a comma, or all were taken.
+use Rattle.std.proofs.Common.{◌≡◌, ℕ, ◌+◌, ◌-◌, Result, Ok, Err, map, refl, sym, ap, ◌∙◌, subst, arith, rules}
+use Rattle.cs_ast.specs.RawStatementView.{external, external_of}
+use Rattle.cs_grammar.specs.DeclarationClasses.{Externals}
+use Rattle.cs_decl_parser.specs.Answers.{ExactAnswers}
+use Rattle.cs_decl_parser.proofs.ExternalSites.{external_declarator_stops, external_value_stops, external_object_stops, external_objects_taken}
+use Rattle.cs_decl_parser.proofs.external.objects.Goals as goal
+
+pub returns-in_err-declarator-clause-parsed : goal.returns-in_err-declarator-clause-parsed
+returns-in_err-declarator-clause-parsed c =
+    λ from t p.
+    let e : c.from_residual.result ≡ Err c.in_err-declarator.field-0.0 = search rules in
+    subst (ExactAnswers (Externals c.args.source.now.names.now) external_of 200 c.args.source.now.tokens.now c.args.source.now.end from) (sym e)
+    (external_declarator_stops c.args.source.now.names.now c.args.source.now.tokens.now c.args.source.now.end from c.args.specs c.args.pointed t p c.requires.stands c.in_err-declarator.field-0.0 (c.in_err-declarator.ensures.parsed c.args.specs.next p))
+
+pub returns-in_err-first-clause-parsed : goal.returns-in_err-first-clause-parsed
+returns-in_err-first-clause-parsed c =
+    λ from t p.
+    let e : c.from_residual-in_err-first.result ≡ Err c.in_err-first.field-0.0 = search rules in
+    subst (ExactAnswers (Externals c.args.source.now.names.now) external_of 200 c.args.source.now.tokens.now c.args.source.now.end from) (sym e)
+    (external_value_stops c.args.source.now.names.now c.args.source.now.tokens.now c.args.source.now.end from c.args.specs c.args.pointed t p c.requires.stands c.in_err-first.field-0.0 (c.in_err-first.ensures.parsed c.args.specs.next (c.in_ok-declarator.ensures.parsed c.args.specs.next p)))
+
+pub returns-in_err-objects-clause-parsed : goal.returns-in_err-objects-clause-parsed
+returns-in_err-objects-clause-parsed c =
+    λ from t p.
+    let e : c.from_residual-in_err-objects.result ≡ Err c.in_err-objects.field-0.0 = search rules in
+    subst (ExactAnswers (Externals c.args.source.now.names.now) external_of 200 c.args.source.now.tokens.now c.args.source.now.end from) (sym e)
+    (external_object_stops c.args.source.now.names.now c.args.source.now.tokens.now c.args.source.now.end from c.args.specs c.args.pointed t p c.requires.stands c.in_err-objects.field-0.0 (c.in_err-objects.ensures.parsed c.args.specs.next (c.in_ok-first.ensures.parsed c.args.specs.next (c.in_ok-declarator.ensures.parsed c.args.specs.next p))))
+
+pub returns-clause-parsed : goal.returns-clause-parsed
+returns-clause-parsed c =
+    λ from t p.
+    let h = c.max.ensures in
+    external_objects_taken c.args.source.now.names.now c.args.source.now.tokens.now from c.args.specs c.in_ok-objects.objects _ t (c.in_ok-objects.ensures.parsed c.args.specs.next (c.in_ok-first.ensures.parsed c.args.specs.next (c.in_ok-declarator.ensures.parsed c.args.specs.next p))) refl (omega arith) refl
