@@ -9,3 +9,4 @@ pub mod Blocks
 pub mod FileAnswers
 pub mod Files
 pub mod FileStops
+pub mod FilePlaces
