@@ -17,3 +17,4 @@ pub mod BlockSpecSites
 pub mod SpecSites
 pub mod ExternalSites
 pub mod FileSites
+pub mod Placing

@@ -162,7 +162,7 @@ pub record IsParameterPlaced (p : RawParameter) (tokens : List Token) : Type 0 w
   pub specs_are : HasSpecPlaces p.specs tokens
   pub name_is : IsNamePlaced p.name (past (λ rest. specs_text (specs p.specs) (pointers_text p.pointers.items rest)) tokens)
   pub bounds_are : AreBracketsPlaced p.bounds.items
-                     (past (λ rest. specs_text (specs p.specs) (pointers_text p.pointers.items (name_text (option_map (λ (n : RawName). n.name) p.name) rest))) tokens)
+      (past (λ rest. specs_text (specs p.specs) (pointers_text p.pointers.items (name_text (option_map (λ (n : RawName). n.name) p.name) rest))) tokens)
 
 abbrev pub AreParametersPlaced : RawParameters → List Token → Type 0
 AreParametersPlaced parameter_lists.Empty tokens = Unit {0}
