@@ -1,6 +1,7 @@
 -- The places of declarations, over tokens by their numbers: for the clauses on places of the parts that read them.
-use Rattle.std.proofs.Common.{◌≡◌, ℕ, suc, ◌+◌, ◌<◌, ◌≤◌, Bool, true, false, List, [], ◌∷◌, ◌++◌, Option, Some, None, Result, Ok, Err, length, drop, map, refl, sym, ap, ◌∙◌, subst, arith, append_assoc}
+use Rattle.std.proofs.Common.{◌≡◌, ℕ, suc, ◌+◌, ◌<◌, ◌≤◌, Bool, true, false, List, [], ◌∷◌, ◌++◌, Vec, Global, Option, Some, None, Result, Ok, Err, length, drop, map, refl, sym, ap, ◌∙◌, subst, arith, append_assoc}
 use Rattle.std.proofs.lemmas.List.{drop-drop, length-append}
+use mathlib.Core.Former.{Count}
 use Rattle.cs_ast.specs.declared.place.Place.{Place}
 use Rattle.cs_ast.specs.declared.token.Token.{Token}
 use Rattle.std.specs.Option.{option_map}
@@ -8,17 +9,21 @@ use Rattle.cs_ast.specs.declared.token.TokenKind.TheVariants as token
 use Rattle.cs_ast.specs.declared.token.Mark.TheVariants as mark
 use Rattle.cs_ast.specs.declared.raw.expression.RawExpr.{RawExpr}
 use Rattle.cs_ast.specs.declared.raw.declaration.RawDeclarator.{RawDeclarator}
+use Rattle.cs_ast.specs.declared.raw.declaration.RawEnumerator.{RawEnumerator}
+use Rattle.cs_ast.specs.declared.raw.declaration.RawInitial as first_value
+use Rattle.cs_ast.specs.declared.raw.declaration.RawInitial.{RawInitial}
+use Rattle.cs_ast.specs.declared.raw.declaration.RawInit.{RawInit}
 use Rattle.cs_ast.specs.declared.raw.written_type.PointerWord.{PointerWord}
 use Rattle.cs_ast.specs.RawView.{written}
-use Rattle.cs_ast.specs.RawDeclarationView.{declarator}
+use Rattle.cs_ast.specs.RawDeclarationView.{declarator, constant, initial, declared}
 use Rattle.cs_grammar.specs.Text.{Kinds, pointers_text}
-use Rattle.cs_grammar.specs.FileText.{some_text, brackets_text, declarator_text}
+use Rattle.cs_grammar.specs.FileText.{some_text, brackets_text, declarator_text, constant_text, initial_text, declared_text}
 use Rattle.cs_grammar.proofs.Texts.{pointers_append}
-use Rattle.cs_grammar.proofs.FileTexts.{brackets_append, declarator_append}
+use Rattle.cs_grammar.proofs.FileTexts.{brackets_append, declarator_append, constant_append, initial_append, declared_append}
 use Rattle.cs_expr_parser.specs.Positions.{kind_or_end}
 use Rattle.cs_grammar.specs.Places.{StandsAt}
 use Rattle.cs_expr_parser.specs.Parts.{Spells}
-use Rattle.cs_decl_parser.specs.FilePlaces.{past, AreInRow, AreSideBySide, IsSomePlaced, AreBracketsPlaced}
+use Rattle.cs_decl_parser.specs.FilePlaces.{past, AreInRow, AreSideBySide, IsSomePlaced, AreBracketsPlaced, IsInitialPlaced, AreInitialsPlaced}
 use Rattle.cs_decl_parser.proofs.Standing.{refused_number, spells_as, spells_one, spells_more}
 
 -- a text is the same whatever stands behind it
@@ -152,3 +157,36 @@ bounds_behind pointers name tokens from next bounds sp has = subst (AreBracketsP
 
 pub declarator_framed : (d : RawDeclarator) → IsFramed (declarator_text (declarator d))
 declarator_framed d = declarator_append (declarator d)
+
+pub constant_framed : (e : RawEnumerator) → IsFramed (constant_text (constant e))
+constant_framed e = constant_append (constant e)
+
+pub initial_framed : (i : RawInitial) → IsFramed (initial_text (initial i))
+initial_framed i = initial_append (initial i)
+
+pub declared_framed : (d : RawInit) → IsFramed (declared_text (declared d))
+declared_framed d = declared_append (declared d)
+
+initials_in : (n : _) (row : first_value.Row_of-RawInitial n) (list : List Token) → AreInRow IsInitialPlaced (λ i. initial_text (initial i)) (first_value.items-the_row-RawInitial n row) list → AreInitialsPlaced row list
+initials_in n first_value.end_of-RawInitial list a = tt
+initials_in n (first_value.more_of-RawInitial first others) list a = (a.0, initials_in _ others (drop 1 (past (initial_text (initial first)) list)) a.1)
+
+-- the row of the items between braces
+abbrev items_of : RawInitial → (n : Count) × first_value.Row_of-RawInitial n
+items_of (first_value.TheVariants.List' shape row comma) = (_, row)
+items_of _ = (_, first_value.end_of-RawInitial)
+
+-- items between braces
+pub list_placed : (list : Vec RawInitial Global) (comma : Bool) (tokens : List Token) (from : ℕ) → AreInRow IsInitialPlaced (λ i. initial_text (initial i)) list.items (drop (from + 1) tokens) → IsInitialPlaced (first_value.TheVariants.List list comma) (drop from tokens)
+list_placed list comma tokens from a =
+    let row = items_of (first_value.TheVariants.List list comma) in
+    initials_in row.0 row.1 (drop 1 (drop from tokens))
+    (subst (λ (x : List RawInitial). AreInRow IsInitialPlaced (λ i. initial_text (initial i)) x (drop 1 (drop from tokens))) (sym (first_value.items_hidden-the_row-RawInitial-0 list))
+    (one_before (AreInRow IsInitialPlaced (λ i. initial_text (initial i)) list.items) tokens from a))
+
+-- what an object holds at first, behind its declarator
+pub value_behind : (d : RawDeclarator) (tokens : List Token) (from next : ℕ) → Spells tokens from next (declarator_text (declarator d)) → (at : Place) (value : RawInitial) → StandsAt at (drop next tokens) → IsInitialPlaced value (drop (next + 1) tokens) → StandsAt at (past (declarator_text (declarator d)) (drop from tokens)) × IsInitialPlaced value (drop 1 (past (declarator_text (declarator d)) (drop from tokens)))
+value_behind d tokens from next sp at value stands has = (
+  behind_text (StandsAt at) (declarator_text (declarator d)) (declarator_framed d) tokens from next sp stands,
+  behind_text_and_one (IsInitialPlaced value) (declarator_text (declarator d)) (declarator_framed d) tokens from next sp has,
+)
