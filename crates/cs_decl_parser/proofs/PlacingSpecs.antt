@@ -1,12 +1,12 @@
 -- The places of words before declarators and of members: for the clauses on places of the parts that read them.
-use Rattle.std.proofs.Common.{◌≡◌, ℕ, zero, suc, inl, inr, ◌+◌, ◌<◌, ◌≤◌, Bool, true, false, List, [], ◌∷◌, ◌++◌, Vec, Global, Option, Some, None, Result, Ok, Err, length, drop, map, slice_get, refl, sym, ap, ◌∙◌, subst, arith}
+use Rattle.std.proofs.Common.{◌≡◌, ℕ, zero, suc, inl, inr, ◌+◌, ◌<◌, ◌≤◌, Bool, true, false, List, [], ◌∷◌, ◌++◌, Vec, Global, Option, Some, None, length, drop, map, slice_get, refl, sym, ap, ◌∙◌, subst, arith}
 use mathlib.Core.Former.{Count}
 use Rattle.std.specs.Option.{option_map, option_and_then, option_or}
 use Rattle.std.proofs.Math.Seq.{drop-cons}
 use Rattle.std.proofs.Math.ListN.{drop_of_length-le}
 use Rattle.std.proofs.lemmas.Bool.{false≢true, cases_lt}
 use Rattle.std.proofs.lemmas.Option.{slice_get_within, get_or_from_slice_get, slice_get-get_or}
-use Rattle.std.proofs.lemmas.List.{drop-drop, length-append}
+use Rattle.std.proofs.lemmas.List.{drop-drop}
 use Rattle.cs_ast.specs.declared.place.Place.{Place}
 use Rattle.cs_ast.specs.declared.token.Token.{Token}
 use Rattle.cs_ast.specs.declared.token.TokenKind.TheVariants as token
@@ -18,6 +18,8 @@ use Rattle.cs_ast.specs.declared.raw.declaration.SpecWord as words
 use Rattle.cs_ast.specs.declared.raw.declaration.SpecWord.{SpecWord}
 use Rattle.cs_ast.specs.declared.raw.declaration.RawEnumerator.{RawEnumerator}
 use Rattle.cs_ast.specs.declared.raw.declaration.RawMember.{RawMember}
+use Rattle.cs_ast.specs.declared.raw.declaration.RawSpecs.{RawSpecs}
+use Rattle.cs_ast.specs.declared.raw.declaration.RawDeclarator.{RawDeclarator}
 use Rattle.cs_ast.specs.RawDeclarations.{Spec, Static, Plain, StructBody, EnumBody, Specs, NoSpec, MoreSpecs, Members, Constant}
 use Rattle.cs_ast.specs.RawDeclarationView.{spec, specs_list, specs_row, specs, declarator, constant}
 use Rattle.cs_ast.proofs.RawDeclarationRows.{specs-row}
@@ -29,14 +31,14 @@ use Rattle.cs_grammar.specs.FileText.{name_text, spec_text, specs_text, declarat
 use Rattle.cs_grammar.specs.FilePhrases.{words_of}
 use Rattle.cs_grammar.specs.Places.{StandsAt}
 use Rattle.cs_grammar.proofs.FileTexts.{name_append, spec_append, specs_append, declarator_append, with_commas_append}
-use Rattle.cs_grammar.proofs.SpecRows.{joined_specs, joined_text}
+use Rattle.cs_grammar.proofs.SpecRows.{joined_specs}
 use Rattle.cs_grammar.proofs.FileBeginnings.{specs_of, plain_text}
 use Rattle.cs_expr_parser.specs.Parts.{Spells}
 use Rattle.cs_expr_parser.specs.Words.{has_tag, names_some, word_of_tag}
 use Rattle.cs_decl_parser.specs.declared.specs.NextWord.{NextWord}
 use Rattle.cs_decl_parser.specs.SpecWords.{name_in, tag_keyword}
-use Rattle.cs_decl_parser.specs.FilePlaces.{past, before_tag, tag_place, in_body, AreSideBySide, AreInRow, IsNamePlaced, IsSpecPlaced, AreSpecsPlaced, AreMembersPlaced, HasSpecPlaces, IsConstantPlaced, AreDeclaratorsPlaced}
-use Rattle.cs_decl_parser.specs.SpecPlaces.{place_in, settles, IsWordPlaced, IsFresh, IsWordThere, group_text, IsGroupPlaced, AreGroupsPlaced}
+use Rattle.cs_decl_parser.specs.FilePlaces.{past, before_tag, tag_place, in_body, AreSideBySide, AreInRow, IsNamePlaced, IsSpecPlaced, AreSpecsPlaced, AreMembersPlaced, IsConstantPlaced, AreDeclaratorsPlaced}
+use Rattle.cs_decl_parser.specs.SpecPlaces.{place_in, settles, IsWordPlaced, IsWordThere, group_text, AreGroupsPlaced}
 use Rattle.cs_decl_parser.proofs.Placing.{IsFramed, one_behind, past_text, past_both, behind_text, SidePlaced, side_begun, side_goes_on}
 use Rattle.cs_decl_parser.proofs.Standing.{refused_number, spells_as}
 use Rattle.cs_decl_parser.proofs.StuckWords.{nothing_named}
@@ -269,6 +271,10 @@ pub group_framed : (m : RawMember) → IsFramed (group_text m)
 group_framed m x y =
     specs_append (specs m.specs) (with_commas declarator_text (map declarator m.declarators.items) (token.Mark mark.Semicolon ∷ x)) y
     ∙ ap (specs_text (specs m.specs)) (declarators_framed m (token.Mark mark.Semicolon ∷ x) y)
+
+-- the declarators behind what stands before them
+pub declarators_behind : (s : RawSpecs) (list : List RawDeclarator) (tokens : List Token) (from next : ℕ) → Spells tokens from next (specs_text (specs s)) → AreDeclaratorsPlaced list (drop next tokens) → AreDeclaratorsPlaced list (past (specs_text (specs s)) (drop from tokens))
+declarators_behind s list tokens from next sp has = behind_text (AreDeclaratorsPlaced list) (specs_text (specs s)) (specs_append (specs s)) tokens from next sp has
 
 -- behind members of one type
 past_group : (m : RawMember) (list : List Token) → past (group_text m) list ≡ drop 1 (past (with_commas declarator_text (map declarator m.declarators.items)) (past (specs_text (specs m.specs)) list))
