@@ -10,3 +10,5 @@ pub mod Blocks
 pub mod FileAnswers
 pub mod Files
 pub mod FileStops
+pub mod FilePlaces
+pub mod SpecPlaces

@@ -1,13 +1,17 @@
 //! The constants of an enumeration (C11 6.7.2.2).
-ghost use Rattle.std.specs.Prelude.{◌≡◌, ◌≤◌, ◌<◌, ◌^◌, ◌+◌, length, IsTrue, None, if◌then◌else◌};
+ghost use Rattle.std.specs.Prelude.{◌≡◌, ◌≤◌, ◌<◌, ◌^◌, ◌+◌, List, length, drop, IfOk, IsTrue, None, if◌then◌else◌};
 ghost use Rattle.std.specs.Option.{option_map};
+ghost use Rattle.cs_ast.specs.declared.token.Token.{Token};
 ghost use Rattle.cs_ast.specs.RawView.{written};
 ghost use Rattle.cs_ast.specs.RawDeclarationView.{constant as constant_of};
 ghost use Rattle.cs_grammar.specs.DeclarationClasses.{Constants};
+ghost use Rattle.cs_grammar.specs.FileText.{constant_text};
+ghost use Rattle.cs_grammar.specs.Places.{StandsAt};
 ghost use Rattle.cs_expr_parser.specs.Positions.{kind_or_end};
 ghost use Rattle.cs_decl_parser.specs.Answers.{UnclosedAnswers};
 ghost use Rattle.cs_decl_parser.specs.DeclarationAnswers.{ConstantsAnswer, goes_on as list_goes_on, IsConstantOf};
 ghost use Rattle.cs_decl_parser.specs.Bounds.{IsBounded, IsUnclosedBounded};
+ghost use Rattle.cs_decl_parser.specs.FilePlaces.{AreInRow, IsSomePlaced, IsConstantPlaced};
 
 use crate::expression::expression;
 use crate::names::free_name_at;
@@ -41,6 +45,7 @@ pub fn constants(
     requires some { 1 ≤ room }
     ensures bounds { IsBounded room source.now.tokens.now from result }
     ensures parsed { ConstantsAnswer source.now.names.now room source.now.tokens.now source.now.end from result }
+    ensures placed { IfOk result (λ taken. AreInRow IsConstantPlaced (λ e. constant_text (constant_of e)) taken.tree.list.items (drop from source.now.tokens.now)) }
 {
     let mut list = Vec::new(alloc);
     let mut last = constant(alloc, source, from, room)?;
@@ -93,6 +98,7 @@ fn constant(
     requires some { 1 ≤ room }
     ensures bounds { IsUnclosedBounded room source.now.tokens.now from result }
     ensures parsed { UnclosedAnswers (Constants source.now.names.now) constant_of room source.now.tokens.now source.now.end from result }
+    ensures placed { IfOk result (λ taken. IsConstantPlaced taken.tree (drop from source.now.tokens.now)) }
 {
     let Some(name) = free_name_at(source, from)? else {
         return Err(refuse(source, from, Scope::File));
@@ -118,6 +124,7 @@ fn lone(name: RawName, next: usize, otherwise: Reason) -> Unclosed<RawEnumerator
     ensures height { result.height ≡ 1 }
     ensures next { result.next ≡ next }
     ensures otherwise { result.otherwise ≡ otherwise }
+    ensures placed { (tokens : List Token) → StandsAt name.place tokens → IsConstantPlaced result.tree tokens }
 {
     Unclosed {
         tree: enumerator(name, None),
@@ -128,7 +135,8 @@ fn lone(name: RawName, next: usize, otherwise: Reason) -> Unclosed<RawEnumerator
 }
 
 fn enumerator(name: RawName, value: Option<RawExpr>) -> RawEnumerator
-    ensures { IsConstantOf name.name (option_map written value) result }
+    ensures tree { IsConstantOf name.name (option_map written value) result }
+    ensures placed { (tokens : List Token) → StandsAt name.place tokens → IsSomePlaced value (drop 2 tokens) → IsConstantPlaced result tokens }
 {
     RawEnumerator {
         place: name.place,

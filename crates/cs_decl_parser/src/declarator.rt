@@ -1,13 +1,16 @@
 //! Declarators: names with the pointers before them and the bounds of arrays behind them (C11 6.7.6).
-ghost use Rattle.std.specs.Prelude.{◌≡◌, ℕ, ◌+◌, ◌≤◌, ◌<◌, ◌^◌, true, false, length, map, IfOk, IsSome, IsTrue};
+ghost use Rattle.std.specs.Prelude.{◌≡◌, ℕ, ◌+◌, ◌≤◌, ◌<◌, ◌^◌, true, false, length, drop, map, IfOk, IsSome, IsTrue};
 ghost use Rattle.cs_ast.specs.declared.token.TokenKind.TheVariants as token;
 ghost use Rattle.cs_ast.specs.declared.token.Mark.TheVariants as mark;
 ghost use Rattle.cs_ast.specs.RawDeclarationView.{bounds_of, declarator as declarator_of};
 ghost use Rattle.cs_grammar.specs.Composed.{Separated};
+ghost use Rattle.cs_grammar.specs.Places.{StandsAt};
+ghost use Rattle.cs_grammar.specs.Text.{pointers_text};
 ghost use Rattle.cs_expr_parser.specs.Positions.{kind_or_end};
 ghost use Rattle.cs_decl_parser.specs.Answers.{ExactAnswers};
 ghost use Rattle.cs_decl_parser.specs.Bounds.{IsBounded, IsRowBounded};
 ghost use Rattle.cs_decl_parser.specs.DeclarationAnswers.{has_no_room, is_full, IsNameAt, IsNameFor, IsPointed, PointedAnswers, DeclaratorAnswers, DeclaratorsFor, BoundAnswer, BoundsAnswer, RefusesBehind};
+ghost use Rattle.cs_decl_parser.specs.FilePlaces.{past, IsSomePlaced, IsNamePlaced, AreBracketsPlaced, IsDeclaratorPlaced, AreDeclaratorsPlaced};
 
 use crate::expression::{closed, closed_if_any};
 use crate::names::{any_name_at, free_name_at};
@@ -53,6 +56,7 @@ pub fn declarator(
     ensures bounds { IsBounded room source.now.tokens.now from result }
     ensures some { IfOk result (λ taken. 1 ≤ taken.height) }
     ensures parsed { DeclaratorAnswers declares source.now.names.now room source.now.tokens.now source.now.end from result }
+    ensures placed { IfOk result (λ taken. IsDeclaratorPlaced taken.tree (drop from source.now.tokens.now)) }
 {
     let pointed = pointed_name(alloc, source, scope, from, declares)?;
     let taken = with_bounds(alloc, source, pointed, room, declares)?;
@@ -71,6 +75,7 @@ pub fn pointed_name(
     requires few { length source.now.tokens.now < 2 ^ 32 }
     ensures bounds { IsBounded 1 source.now.tokens.now from result }
     ensures parsed { PointedAnswers declares source.now.names.now source.now.tokens.now from result }
+    ensures placed { IfOk result (λ taken. StandsAt taken.tree.name.place (past (pointers_text taken.tree.pointers.items) (drop from source.now.tokens.now))) }
 {
     let pointers = stars(alloc, source, from)?;
     let Some(name) = name_at(source, pointers.next, declares)? else {
@@ -91,6 +96,7 @@ pub fn pointed_name(
 fn name_at(source: &Source, at: usize, declares: Declares) -> Result<Option<RawName>, AllocError>
     ensures within { IfOk result (λ name. IsSome name → at < length source.now.tokens.now) }
     ensures name { IfOk result (IsNameAt (IsNameFor declares source.now.names.now) (kind_or_end source.now.tokens.now at)) }
+    ensures placed { IfOk result (λ name. IsNamePlaced name (drop at source.now.tokens.now)) }
 {
     match declares {
         Declares::Names => free_name_at(source, at),
@@ -112,6 +118,7 @@ pub fn with_bounds(
     ensures bounds { IsRowBounded room source.now.tokens.now pointed.next result }
     ensures some { IfOk result (λ taken. 1 ≤ taken.height) }
     ensures parsed { (from : ℕ) → IsPointed declares source.now.names.now source.now.tokens.now from pointed → DeclaratorAnswers declares source.now.names.now room source.now.tokens.now source.now.end from result }
+    ensures placed { (from : ℕ) → IsPointed declares source.now.names.now source.now.tokens.now from pointed → StandsAt pointed.tree.name.place (past (pointers_text pointed.tree.pointers.items) (drop from source.now.tokens.now)) → IfOk result (λ taken. IsDeclaratorPlaced taken.tree (drop from source.now.tokens.now)) }
 {
     let bounds = bounds(alloc, source, pointed.next, room - 1, declares)?;
     Ok(Taken {
@@ -139,6 +146,7 @@ pub fn bounds(
     requires few { length source.now.tokens.now < 2 ^ 32 }
     ensures bounds { IsRowBounded room source.now.tokens.now from result }
     ensures parsed { BoundsAnswer declares source.now.names.now (λ bounds. bounds_of bounds.items) room source.now.tokens.now source.now.end from result }
+    ensures placed { IfOk result (λ taken. AreBracketsPlaced taken.tree.items (drop from source.now.tokens.now)) }
 {
     let mut list = Vec::new(alloc);
     let mut height = 0;
@@ -188,6 +196,7 @@ fn bound(
     requires few { length source.now.tokens.now < 2 ^ 32 }
     ensures bounds { IsBounded room source.now.tokens.now at result }
     ensures parsed { BoundAnswer declares source.now.names.now room source.now.tokens.now source.now.end (at + 1) result }
+    ensures placed { IfOk result (λ taken. IsSomePlaced taken.tree (drop (at + 1) source.now.tokens.now)) }
 {
     let (level, closing) = (ExprLevel::Cond, Mark::CloseBracket);
     match declares {
@@ -219,6 +228,7 @@ pub fn declarators(
     requires some { 1 ≤ room }
     ensures bounds { IsBounded room source.now.tokens.now from result }
     ensures parsed { ExactAnswers (Separated (DeclaratorsFor declares source.now.names.now) (token.Mark mark.Semicolon)) (λ list. map declarator_of list.items) room source.now.tokens.now source.now.end from result }
+    ensures placed { IfOk result (λ taken. AreDeclaratorsPlaced taken.tree.items (drop from source.now.tokens.now)) }
 {
     let scope = Scope::File;
     let mut list = Vec::new(alloc);

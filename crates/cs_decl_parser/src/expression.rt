@@ -1,11 +1,13 @@
 //! Expressions as parts of declarations and statements, with what closes them.
-ghost use Rattle.std.specs.Prelude.{◌≤◌, ◌<◌, ◌^◌, length, IfOk, IsTrue};
+ghost use Rattle.std.specs.Prelude.{◌≤◌, ◌<◌, ◌+◌, ◌^◌, length, drop, IfOk, IsTrue};
 ghost use Rattle.cs_ast.specs.RawView.{written};
 ghost use Rattle.cs_grammar.specs.Parsing.{Expressions};
+ghost use Rattle.cs_grammar.specs.Places.{HasPlaces};
 ghost use Rattle.cs_grammar.specs.FileClasses.{Tests};
 ghost use Rattle.cs_expr_parser.specs.Expression.{level_asked};
 ghost use Rattle.cs_decl_parser.specs.Answers.{ExactAnswers, UnclosedAnswers, closes};
 ghost use Rattle.cs_decl_parser.specs.DeclarationAnswers.{ClosedAnswer, ClosedIfAnyAnswer};
+ghost use Rattle.cs_decl_parser.specs.FilePlaces.{IsSomePlaced};
 ghost use Rattle.cs_decl_parser.specs.Bounds.{IsBounded, IsUnclosedBounded, IsPhraseOf};
 
 use crate::source::{Scope, Source, is_mark, refuse};
@@ -28,6 +30,7 @@ pub fn expression(
     ensures bounds { IsUnclosedBounded room source.now.tokens.now from result }
     ensures some { IfOk result (λ taken. 1 ≤ taken.height) }
     ensures parsed { UnclosedAnswers (Expressions source.now.names.now (level_asked level)) written room source.now.tokens.now source.now.end from result }
+    ensures placed { IfOk result (λ taken. HasPlaces taken.tree (drop from source.now.tokens.now)) }
 {
     let (tokens, end, names) = (source.tokens, source.end, source.names);
     match parse_expression(alloc, tokens, end, from, names, room, level) {
@@ -62,6 +65,7 @@ pub fn closed(
     ensures bounds { IsBounded room source.now.tokens.now from result }
     ensures some { IfOk result (λ taken. 1 ≤ taken.height) }
     ensures parsed { ClosedAnswer source.now.names.now level closing room source.now.tokens.now source.now.end from result }
+    ensures placed { IfOk result (λ taken. HasPlaces taken.tree (drop from source.now.tokens.now)) }
 {
     let inner = expression(alloc, source, from, room, level)?;
     if !is_mark(source, inner.next, closing) {
@@ -88,6 +92,7 @@ pub fn closed_if_any(
     requires closing { IsTrue (closes closing) }
     ensures bounds { IsBounded room source.now.tokens.now from result }
     ensures parsed { ClosedIfAnyAnswer source.now.names.now level closing room source.now.tokens.now source.now.end from result }
+    ensures placed { IfOk result (λ taken. IsSomePlaced taken.tree (drop from source.now.tokens.now)) }
 {
     if is_mark(source, from, closing) {
         return Ok(Taken {

@@ -1,5 +1,5 @@
 //! What objects hold at first (C11 6.7.9).
-ghost use Rattle.std.specs.Prelude.{◌≡◌, ◌≤◌, ◌<◌, ◌^◌, length, true, IsTrue};
+ghost use Rattle.std.specs.Prelude.{◌≡◌, ◌≤◌, ◌<◌, ◌^◌, length, drop, true, IfOk, IsTrue};
 ghost use Rattle.cs_ast.specs.declared.token.TokenKind.TheVariants as token;
 ghost use Rattle.cs_ast.specs.declared.token.Mark.TheVariants as mark;
 ghost use Rattle.cs_ast.specs.RawDeclarationView.{initial as initial_of};
@@ -8,6 +8,7 @@ ghost use Rattle.cs_expr_parser.specs.Positions.{kind_or_end};
 ghost use Rattle.cs_decl_parser.specs.Answers.{UnclosedAnswers};
 ghost use Rattle.cs_decl_parser.specs.DeclarationAnswers.{is_designator};
 ghost use Rattle.cs_decl_parser.specs.Bounds.{IsUnclosedBounded};
+ghost use Rattle.cs_decl_parser.specs.FilePlaces.{IsInitialPlaced};
 
 use crate::constants::{closing_at, goes_on};
 use crate::expression::expression;
@@ -33,6 +34,7 @@ pub fn initial(
     requires some { 1 ≤ room }
     ensures bounds { IsUnclosedBounded room source.now.tokens.now from result }
     ensures parsed { UnclosedAnswers (Values source.now.names.now) initial_of room source.now.tokens.now source.now.end from result }
+    ensures placed { IfOk result (λ taken. IsInitialPlaced taken.tree (drop from source.now.tokens.now)) }
 {
     if is_mark(source, from, Mark::OpenBrace) {
         return items(alloc, source, scope, from, room);
@@ -70,6 +72,7 @@ fn items(
     requires stands { kind_or_end source.now.tokens.now from ≡ token.Mark mark.OpenBrace }
     ensures bounds { IsUnclosedBounded room source.now.tokens.now from result }
     ensures parsed { UnclosedAnswers (Values source.now.names.now) initial_of room source.now.tokens.now source.now.end from result }
+    ensures placed { IfOk result (λ taken. IsInitialPlaced taken.tree (drop from source.now.tokens.now)) }
 {
     if room < 2 {
         return Err(refuse_deep(from));

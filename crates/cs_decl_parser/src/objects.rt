@@ -1,5 +1,6 @@
 //! Declared objects, each with what it holds at first (C11 6.7).
-ghost use Rattle.std.specs.Prelude.{◌≡◌, ℕ, ◌≤◌, ◌<◌, ◌^◌, length, map};
+ghost use Rattle.std.specs.Prelude.{◌≡◌, ℕ, ◌≤◌, ◌<◌, ◌^◌, List, length, drop, map, IfOk};
+ghost use Rattle.cs_ast.specs.declared.token.Token.{Token};
 ghost use Rattle.cs_ast.specs.declared.token.TokenKind.TheVariants as token;
 ghost use Rattle.cs_ast.specs.declared.token.Mark.TheVariants as mark;
 ghost use Rattle.cs_ast.specs.RawDeclarationView.{declared};
@@ -9,6 +10,7 @@ ghost use Rattle.cs_decl_parser.specs.declared.declarator.Declares.TheVariants a
 ghost use Rattle.cs_decl_parser.specs.Answers.{IsUnclosed, ExactAnswers, UnclosedAnswers};
 ghost use Rattle.cs_decl_parser.specs.DeclarationAnswers.{IsDeclaratorTaken, IsAlone};
 ghost use Rattle.cs_decl_parser.specs.Bounds.{IsBounded, IsUnclosedBounded, IsUnclosedRowBounded};
+ghost use Rattle.cs_decl_parser.specs.FilePlaces.{IsDeclaratorPlaced, IsDeclaredPlaced, AreObjectsPlaced};
 
 use crate::declarator::{Declares, declarator};
 use crate::initial::initial;
@@ -32,6 +34,7 @@ pub fn objects(
     requires some { 1 ≤ room }
     ensures bounds { IsBounded room source.now.tokens.now from result }
     ensures parsed { ExactAnswers (Separated (Objects source.now.names.now) (token.Mark mark.Semicolon)) (λ list. map declared list.items) room source.now.tokens.now source.now.end from result }
+    ensures placed { IfOk result (λ taken. AreObjectsPlaced taken.tree.items (drop from source.now.tokens.now)) }
 {
     let first = object(alloc, source, scope, from, room)?;
     let all = with_others(alloc, source, scope, first, room)?;
@@ -52,6 +55,7 @@ pub fn with_others(
     requires low { first.height ≤ room }
     ensures bounds { IsBounded room source.now.tokens.now first.next result }
     ensures parsed { (from : ℕ) → IsUnclosed (Objects source.now.names.now) declared room source.now.tokens.now from first → ExactAnswers (Separated (Objects source.now.names.now) (token.Mark mark.Semicolon)) (λ list. map declared list.items) room source.now.tokens.now source.now.end from result }
+    ensures placed { (from : ℕ) → IsUnclosed (Objects source.now.names.now) declared room source.now.tokens.now from first → IsDeclaredPlaced first.tree (drop from source.now.tokens.now) → IfOk result (λ taken. AreObjectsPlaced taken.tree.items (drop from source.now.tokens.now)) }
 {
     let mut list = Vec::new(alloc);
     let mut height = first.height;
@@ -85,6 +89,7 @@ fn object(
     requires some { 1 ≤ room }
     ensures bounds { IsUnclosedBounded room source.now.tokens.now from result }
     ensures parsed { UnclosedAnswers (Objects source.now.names.now) declared room source.now.tokens.now source.now.end from result }
+    ensures placed { IfOk result (λ taken. IsDeclaredPlaced taken.tree (drop from source.now.tokens.now)) }
 {
     let declarator = declarator(alloc, source, scope, from, room, Declares::Names)?;
     let object = with_value(alloc, source, scope, declarator, room)?;
@@ -105,6 +110,7 @@ pub fn with_value(
     requires low { declarator.height ≤ room }
     ensures bounds { IsUnclosedRowBounded room source.now.tokens.now declarator.next result }
     ensures parsed { (from : ℕ) → IsDeclaratorTaken declaring.Names source.now.names.now room source.now.tokens.now from declarator → UnclosedAnswers (Objects source.now.names.now) declared room source.now.tokens.now source.now.end from result }
+    ensures placed { (from : ℕ) → IsDeclaratorTaken declaring.Names source.now.names.now room source.now.tokens.now from declarator → IsDeclaratorPlaced declarator.tree (drop from source.now.tokens.now) → IfOk result (λ taken. IsDeclaredPlaced taken.tree (drop from source.now.tokens.now)) }
 {
     let at = declarator.next;
     if !is_mark(source, at, Mark::Equal) {
@@ -134,6 +140,7 @@ fn alone(declarator: Taken<RawDeclarator>, otherwise: Reason) -> Unclosed<RawIni
     ensures height { result.height ≡ declarator.height }
     ensures next { result.next ≡ declarator.next }
     ensures otherwise { result.otherwise ≡ otherwise }
+    ensures placed { (tokens : List Token) → IsDeclaratorPlaced declarator.tree tokens → IsDeclaredPlaced result.tree tokens }
 {
     Unclosed {
         tree: RawInit {

@@ -1,4 +1,4 @@
-use Rattle.std.proofs.Common.{◌≡◌, ℕ, ◌+◌, ◌-◌, ◌≤◌, ◌<◌, max, map, Bool, Err, List, [], ◌∷◌, ◌++◌, Option, refl, sym, ap, ◌∙◌, subst, arith, rules}
+use Rattle.std.proofs.Common.{drop, ◌≡◌, ℕ, ◌+◌, ◌-◌, ◌≤◌, ◌<◌, max, map, Bool, Err, List, [], ◌∷◌, ◌++◌, Option, refl, sym, ap, ◌∙◌, subst, arith, rules}
 use Rattle.std.proofs.lemmas.Bool.{false≢true}
 use Rattle.cs_ast.specs.declared.raw.name.RawName.{RawName}
 use Rattle.cs_ast.specs.RawDeclarationView.{constant}
@@ -9,6 +9,9 @@ use Rattle.cs_decl_parser.specs.declared.source.Scope.TheVariants.{File}
 use Rattle.cs_decl_parser.specs.Answers.{UnclosedAnswers}
 use Rattle.cs_decl_parser.specs.DeclarationAnswers.{IsNameAt}
 use Rattle.cs_decl_parser.proofs.ListSites.{constant_stops, lone_taken, lone_full, value_stops, value_taken}
+use Rattle.std.proofs.lemmas.List.{drop-drop}
+use Rattle.cs_grammar.specs.Places.{HasPlaces}
+use Rattle.cs_decl_parser.specs.FilePlaces.{IsNamePlaced}
 use Rattle.cs_decl_parser.proofs.constants.constant.Goals as goal
 
 pub returns-in_default-clause-parsed : goal.returns-in_default-clause-parsed
@@ -35,4 +38,19 @@ returns-in_err-value-clause-parsed c =
 pub returns-clause-parsed : goal.returns-clause-parsed
 returns-clause-parsed c =
     let n = subst (λ (x : Option RawName). IsNameAt (IsFree c.args.source.now.names.now) (kind_or_end c.args.source.now.tokens.now c.args.from) x) c.in-Some.is c.in_ok-name.ensures.name in
-    value_taken c.args.source.now.names.now c.args.room (c.args.room - 1) (let enough = c.if-room-lt2.false in omega arith) (let enough = c.if-room-lt2.false in omega arith) c.args.source.now.tokens.now c.args.from c.in-Some.name.name n.0 n.1 (c.is_mark.ensures.mark.0 c.if-not-is_mark.false) c.in_ok-value.value c.in_ok-value.ensures.parsed _ c.enumerator.ensures refl refl refl
+    value_taken c.args.source.now.names.now c.args.room (c.args.room - 1) (let enough = c.if-room-lt2.false in omega arith) (let enough = c.if-room-lt2.false in omega arith) c.args.source.now.tokens.now c.args.from c.in-Some.name.name n.0 n.1 (c.is_mark.ensures.mark.0 c.if-not-is_mark.false) c.in_ok-value.value c.in_ok-value.ensures.parsed _ c.enumerator.ensures.tree refl refl refl
+
+pub returns-then-not-is_mark-clause-placed : goal.returns-then-not-is_mark-clause-placed
+returns-then-not-is_mark-clause-placed c =
+    let n = subst (λ (x : Option RawName). IsNamePlaced x (drop c.args.from c.args.source.now.tokens.now)) c.in-Some.is c.in_ok-name.ensures.placed in
+    c.lone.ensures.placed (drop c.args.from c.args.source.now.tokens.now) n
+
+pub returns-then-room-lt2-clause-placed : goal.returns-then-room-lt2-clause-placed
+returns-then-room-lt2-clause-placed c =
+    let n = subst (λ (x : Option RawName). IsNamePlaced x (drop c.args.from c.args.source.now.tokens.now)) c.in-Some.is c.in_ok-name.ensures.placed in
+    c.lone-then-room-lt2.ensures.placed (drop c.args.from c.args.source.now.tokens.now) n
+
+pub returns-clause-placed : goal.returns-clause-placed
+returns-clause-placed c =
+    let n = subst (λ (x : Option RawName). IsNamePlaced x (drop c.args.from c.args.source.now.tokens.now)) c.in-Some.is c.in_ok-name.ensures.placed in
+    c.enumerator.ensures.placed (drop c.args.from c.args.source.now.tokens.now) n (subst (HasPlaces c.in_ok-value.value.tree) (sym (drop-drop 2 c.args.from c.args.source.now.tokens.now)) c.in_ok-value.ensures.placed)

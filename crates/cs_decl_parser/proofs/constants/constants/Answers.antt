@@ -14,6 +14,9 @@ use Rattle.cs_decl_parser.specs.declared.stop.Stop.TheVariants as stop
 use Rattle.cs_decl_parser.specs.DeclarationAnswers.{ConstantsAnswer}
 use Rattle.cs_decl_parser.proofs.RowSites.{TrailingRow, trailing_first, trailing_next, trailing_first_stops, trailing_next_stops, trailing_taken, IsRowTaken, row_is_exact}
 use Rattle.cs_decl_parser.proofs.ListSites.{next_stands, list_unclosed}
+use Rattle.cs_grammar.specs.FileText.{constant_text}
+use Rattle.cs_decl_parser.specs.FilePlaces.{IsConstantPlaced}
+use Rattle.cs_decl_parser.proofs.Placing.{RowPlaced, row_begun, row_goes_on, row_placed, constant_framed}
 use Rattle.cs_decl_parser.proofs.constants.constants.Goals as goal
 
 pub returns-in_err-last-clause-parsed : goal.returns-in_err-last-clause-parsed
@@ -30,6 +33,9 @@ constants-init c =
       onward = b.0;
       inside = b.1;
       low = b.2;
+      placed =
+          subst (λ (x : List RawEnumerator). RowPlaced IsConstantPlaced (λ e. constant_text (constant e)) c.args.source.now.tokens.now c.args.from x c.in_ok-last.last.tree c.in_ok-last.last.next) (sym c.new-list.ensures.items)
+          (row_begun IsConstantPlaced (λ e. constant_text (constant e)) c.args.source.now.tokens.now c.args.from c.in_ok-last.last.tree c.in_ok-last.last.next t.spelled c.in_ok-last.ensures.placed);
       so_far =
           subst (λ (x : List RawEnumerator). TrailingRow (Constants c.args.source.now.names.now) (token.Mark mark.CloseBrace) c.args.room c.args.source.now.tokens.now c.args.from (map constant x) (constant c.in_ok-last.last.tree) c.in_ok-last.last.next (is_deep c.in_ok-last.last.otherwise) c.in_ok-last.last.height) (sym c.new-list.ensures.items)
           (trailing_first (Constants c.args.source.now.names.now) (token.Mark mark.CloseBrace) c.args.room (constant_row c.args.source.now.names.now) c.requires.some c.args.source.now.tokens.now c.args.from c.requires.within (constant c.in_ok-last.last.tree) c.in_ok-last.last.next (is_deep c.in_ok-last.last.otherwise) c.in_ok-last.last.height t.spelled t.took t.height_is);
@@ -55,6 +61,7 @@ constants-preserved c =
       onward = omega arith;
       inside = b.1;
       low = omega arith;
+      placed = row_goes_on IsConstantPlaced (λ e. constant_text (constant e)) constant_framed c.args.source.now.tokens.now c.args.from c.constants.list.items c.push.new.self.items c.constants.last.tree c.constants.last.next c.in_ok-following.following.tree c.in_ok-following.following.next i.placed c.in_ok-push.ensures.items t.spelled c.in_ok-following.ensures.placed;
       so_far =
           subst (λ (x : List Constant). TrailingRow (Constants c.args.source.now.names.now) (token.Mark mark.CloseBrace) c.args.room c.args.source.now.tokens.now c.args.from x (constant c.in_ok-following.following.tree) c.in_ok-following.following.next (is_deep c.in_ok-following.following.otherwise) c.max-height.result) (sym all)
           (subst (λ (x : ℕ). TrailingRow (Constants c.args.source.now.names.now) (token.Mark mark.CloseBrace) c.args.room c.args.source.now.tokens.now c.args.from (map constant c.constants.list.items ++ constant c.constants.last.tree ∷ []) (constant c.in_ok-following.following.tree) c.in_ok-following.following.next (is_deep c.in_ok-following.following.otherwise) x) (sym h) next);
@@ -72,3 +79,7 @@ returns-clause-parsed c =
     let r = trailing_taken (Constants c.args.source.now.names.now) (token.Mark mark.CloseBrace) c.args.room (constant_row c.args.source.now.names.now) (λ x. cc) (no_constant_closes c.args.source.now.names.now) c.args.source.now.tokens.now c.args.from (map constant c.constants.list.items) (constant c.constants.last.tree) c.constants.last.next (is_deep c.constants.last.otherwise) c.constants.height c.constants.invariant.so_far c.is_mark-comma.result c.is_mark-comma.ensures.mark.0 (sym (ap (kind_or_end c.args.source.now.tokens.now) c.closing_at-closing.ensures) ∙ c.is_mark.ensures.mark.0 c.if-not-is_mark.false) in
     row_is_exact (Constants c.args.source.now.names.now) (token.Mark mark.CloseBrace) c.args.room _ c.args.source.now.tokens.now c.args.from _ _ c.constants.height _ r
     (ap (λ (x : List Constant). (x, c.is_mark-comma.result)) (ap (map constant) c.in_ok-push-2.ensures.items ∙ map-append constant c.constants.list.items (c.constants.last.tree ∷ []))) refl (ap (λ (n : ℕ). n + 1) c.closing_at-closing.ensures)
+
+pub returns-clause-placed : goal.returns-clause-placed
+returns-clause-placed c =
+    row_placed IsConstantPlaced (λ e. constant_text (constant e)) c.args.source.now.tokens.now c.args.from c.constants.list.items _ c.constants.last.tree c.constants.last.next c.constants.invariant.placed c.in_ok-push-2.ensures.items

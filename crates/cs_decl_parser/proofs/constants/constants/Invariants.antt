@@ -5,6 +5,9 @@ use Rattle.cs_ast.specs.RawDeclarationView.{constant}
 use Rattle.cs_grammar.specs.DeclarationClasses.{Constants}
 use Rattle.cs_expr_parser.specs.Parts.{is_deep}
 use Rattle.cs_decl_parser.proofs.RowSites.{TrailingRow}
+use Rattle.cs_grammar.specs.FileText.{constant_text}
+use Rattle.cs_decl_parser.specs.FilePlaces.{IsConstantPlaced}
+use Rattle.cs_decl_parser.proofs.Placing.{RowPlaced}
 use Rattle.cs_decl_parser.proofs.constants.constants.Given as goal
 
 abbrev pub invariant-constants : goal.invariant-constants
@@ -12,6 +15,7 @@ invariant-constants l = record {
   onward : l.from < l.last.next;
   inside : l.last.next ≤ length l.source.tokens.now;
   low : l.height ≤ l.room;
+  placed : RowPlaced IsConstantPlaced (λ e. constant_text (constant e)) l.source.tokens.now l.from l.list.items l.last.tree l.last.next;
   so_far : TrailingRow (Constants l.source.names.now) (token.Mark mark.CloseBrace) l.room l.source.tokens.now l.from (map constant l.list.items) (constant l.last.tree) l.last.next (is_deep l.last.otherwise) l.height;
 }
 

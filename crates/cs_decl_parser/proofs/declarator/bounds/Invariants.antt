@@ -1,5 +1,6 @@
 use Rattle.std.proofs.Common.{◌≤◌, ◌-◌, length}
 use Rattle.cs_decl_parser.proofs.DeclaratorSites.{BoundsSoFar}
+use Rattle.cs_decl_parser.proofs.Placing.{SidePlaced, HasBracket, bracket_text}
 use Rattle.cs_decl_parser.proofs.declarator.bounds.Given as goal
 
 abbrev pub invariant-bounds : goal.invariant-bounds
@@ -7,6 +8,7 @@ invariant-bounds l = record {
   onward : l.from ≤ l.next;
   inside : l.next ≤ length l.source.tokens.now;
   low : l.height ≤ l.room;
+  placed : SidePlaced HasBracket bracket_text l.source.tokens.now l.from l.list.items l.next;
   so_far : BoundsSoFar l.declares l.source.names.now l.room l.source.tokens.now l.from l.next l.list.items l.height;
 }
 

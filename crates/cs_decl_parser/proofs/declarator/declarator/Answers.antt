@@ -17,3 +17,6 @@ returns-in_err-taken-clause-parsed c =
 
 pub returns-clause-parsed : goal.returns-clause-parsed
 returns-clause-parsed c = c.in_ok-taken.ensures.parsed c.args.from c.in_ok-pointed.ensures.parsed
+
+pub returns-clause-placed : goal.returns-clause-placed
+returns-clause-placed c = c.in_ok-taken.ensures.placed c.args.from c.in_ok-pointed.ensures.parsed c.in_ok-pointed.ensures.placed

@@ -13,6 +13,9 @@ use Rattle.cs_decl_parser.specs.Answers.{ExactAnswers}
 use Rattle.cs_decl_parser.specs.DeclarationAnswers.{DeclaratorsFor, is_full}
 use Rattle.cs_decl_parser.proofs.RowSites.{RowSoFar, row_first, row_next, row_first_stops, row_next_stops, row_taken}
 use Rattle.cs_decl_parser.proofs.DeclaratorSites.{refuses_at, declarators_row, declarators_low, declarators_wrong}
+use Rattle.cs_grammar.specs.FileText.{declarator_text}
+use Rattle.cs_decl_parser.specs.FilePlaces.{IsDeclaratorPlaced}
+use Rattle.cs_decl_parser.proofs.Placing.{RowPlaced, row_begun, row_goes_on, row_placed, declarator_framed}
 use Rattle.cs_decl_parser.proofs.declarator.declarators.Goals as goal
 
 pub returns-in_err-last-clause-parsed : goal.returns-in_err-last-clause-parsed
@@ -30,6 +33,9 @@ declarators-init c =
       onward = b.0;
       inside = b.1;
       low = b.2;
+      placed =
+          subst (λ (x : List RawDeclarator). RowPlaced IsDeclaratorPlaced (λ d. declarator_text (declarator d)) c.args.source.now.tokens.now c.args.from x c.in_ok-last.last.tree c.in_ok-last.last.next) (sym c.new-list.ensures.items)
+          (row_begun IsDeclaratorPlaced (λ d. declarator_text (declarator d)) c.args.source.now.tokens.now c.args.from c.in_ok-last.last.tree c.in_ok-last.last.next t.spelled c.in_ok-last.ensures.placed);
       so_far =
           subst (λ (x : List RawDeclarator). RowSoFar (DeclaratorsFor c.args.declares c.args.source.now.names.now) (token.Mark mark.Semicolon) c.args.room c.args.source.now.tokens.now c.args.from (map declarator x) (declarator c.in_ok-last.last.tree) c.in_ok-last.last.next (is_full c.args.declares (c.args.room - 1) (kind_or_end c.args.source.now.tokens.now c.in_ok-last.last.next)) c.in_ok-last.last.height) (sym c.new-list.ensures.items)
           (row_first (DeclaratorsFor c.args.declares c.args.source.now.names.now) (token.Mark mark.Semicolon) c.args.room (declarators_row c.args.declares c.args.source.now.names.now) (declarators_low c.args.declares c.args.source.now.names.now c.args.room some) c.args.source.now.tokens.now c.args.from c.requires.within (declarator c.in_ok-last.last.tree) c.in_ok-last.last.next (is_full c.args.declares (c.args.room - 1) (kind_or_end c.args.source.now.tokens.now c.in_ok-last.last.next)) c.in_ok-last.last.height t.spelled t.took t.height_is);
@@ -55,6 +61,7 @@ declarators-preserved c =
       onward = omega arith;
       inside = b.1;
       low = omega arith;
+      placed = row_goes_on IsDeclaratorPlaced (λ d. declarator_text (declarator d)) declarator_framed c.args.source.now.tokens.now c.args.from c.declarators.list.items c.push.new.self.items c.declarators.last.tree c.declarators.last.next c.in_ok-following.following.tree c.in_ok-following.following.next i.placed c.in_ok-push.ensures.items t.spelled c.in_ok-following.ensures.placed;
       so_far =
           subst (λ (x : List Declarator). RowSoFar (DeclaratorsFor c.args.declares c.args.source.now.names.now) (token.Mark mark.Semicolon) c.args.room c.args.source.now.tokens.now c.args.from x (declarator c.in_ok-following.following.tree) c.in_ok-following.following.next (is_full c.args.declares (c.args.room - 1) (kind_or_end c.args.source.now.tokens.now c.in_ok-following.following.next)) c.max-height.result) (sym all)
           (subst (λ (x : ℕ). RowSoFar (DeclaratorsFor c.args.declares c.args.source.now.names.now) (token.Mark mark.Semicolon) c.args.room c.args.source.now.tokens.now c.args.from (map declarator c.declarators.list.items ++ declarator c.declarators.last.tree ∷ []) (declarator c.in_ok-following.following.tree) c.in_ok-following.following.next (is_full c.args.declares (c.args.room - 1) (kind_or_end c.args.source.now.tokens.now c.in_ok-following.following.next)) x) (sym h) next);
@@ -78,3 +85,7 @@ returns-then-not-is_mark-clause-bounds c =
     let i = c.declarators.invariant in
     let r = refuses_at c.declarators.last.next _ c.refuse_behind.result (c.refuse_behind.ensures (c.args.room - 1) (omega arith)) in
     subst (StopsInside c.args.source.now.tokens.now c.args.from) (sym r.1) (omega arith, i.inside)
+
+pub returns-clause-placed : goal.returns-clause-placed
+returns-clause-placed c =
+    row_placed IsDeclaratorPlaced (λ d. declarator_text (declarator d)) c.args.source.now.tokens.now c.args.from c.declarators.list.items _ c.declarators.last.tree c.declarators.last.next c.declarators.invariant.placed c.in_ok-push-2.ensures.items

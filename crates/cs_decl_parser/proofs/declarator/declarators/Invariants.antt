@@ -5,6 +5,9 @@ use Rattle.cs_ast.specs.RawDeclarationView.{declarator}
 use Rattle.cs_expr_parser.specs.Positions.{kind_or_end}
 use Rattle.cs_decl_parser.specs.DeclarationAnswers.{DeclaratorsFor, is_full}
 use Rattle.cs_decl_parser.proofs.RowSites.{RowSoFar}
+use Rattle.cs_grammar.specs.FileText.{declarator_text}
+use Rattle.cs_decl_parser.specs.FilePlaces.{IsDeclaratorPlaced}
+use Rattle.cs_decl_parser.proofs.Placing.{RowPlaced}
 use Rattle.cs_decl_parser.proofs.declarator.declarators.Given as goal
 
 abbrev pub invariant-declarators : goal.invariant-declarators
@@ -12,6 +15,7 @@ invariant-declarators l = record {
   onward : l.from < l.last.next;
   inside : l.last.next ≤ length l.source.tokens.now;
   low : l.height ≤ l.room;
+  placed : RowPlaced IsDeclaratorPlaced (λ d. declarator_text (declarator d)) l.source.tokens.now l.from l.list.items l.last.tree l.last.next;
   so_far : RowSoFar (DeclaratorsFor l.declares l.source.names.now) (token.Mark mark.Semicolon) l.room l.source.tokens.now l.from (map declarator l.list.items) (declarator l.last.tree) l.last.next (is_full l.declares (l.room - 1) (kind_or_end l.source.tokens.now l.last.next)) l.height;
 }
 

@@ -1,6 +1,8 @@
 -- An expression has a token at least, lies inside the tokens and is no higher than the room, and is what its own parser says.
-use Rattle.std.proofs.Common.{arith}
+use Rattle.std.proofs.Common.{drop, sym, subst, arith}
+use Rattle.cs_ast.specs.declared.raw.expression.RawExpr.{RawExpr}
 use Rattle.cs_ast.specs.RawView.{written}
+use Rattle.cs_grammar.specs.Places.{HasPlaces}
 use Rattle.cs_grammar.proofs.StatementParts.{expression_height}
 use Rattle.cs_expr_parser.specs.Expression.{level_asked}
 use Rattle.cs_decl_parser.proofs.ExpressionSites.{phrase_taken, phrase_stops}
@@ -34,3 +36,8 @@ returns-in-Ok-clause-parsed c =
 pub returns-in-Err-clause-parsed : goal.returns-in-Err-clause-parsed
 returns-in-Err-clause-parsed c =
     phrase_stops c.args.source.now.names.now (level_asked c.args.level) c.args.room c.args.source.now.tokens.now c.args.source.now.end c.args.from c.in-Err.refusal c.in-Err.ensures.refused
+
+pub returns-in-Ok-clause-placed : goal.returns-in-Ok-clause-placed
+returns-in-Ok-clause-placed c =
+    let u = c.unclosed.ensures in
+    subst (λ (e : RawExpr). HasPlaces e (drop c.args.from c.args.source.now.tokens.now)) (sym u.0) c.in-Ok.ensures.taken.placed

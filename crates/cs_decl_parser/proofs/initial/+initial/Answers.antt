@@ -16,6 +16,9 @@ use Rattle.cs_decl_parser.specs.Answers.{UnclosedAnswers, Stops}
 use Rattle.cs_decl_parser.proofs.StatementStops.{plain_flat}
 use Rattle.cs_decl_parser.proofs.RowSites.{TrailingRow, trailing_first, trailing_next, trailing_first_stops, trailing_next_stops, trailing_taken}
 use Rattle.cs_decl_parser.proofs.ListSites.{next_stands, list_unclosed, designator_stops, single_value_stops, single_value_taken, list_full_stops, items_stop, items_taken, items_listed}
+use Rattle.cs_grammar.specs.FileText.{initial_text}
+use Rattle.cs_decl_parser.specs.FilePlaces.{IsInitialPlaced}
+use Rattle.cs_decl_parser.proofs.Placing.{RowPlaced, row_begun, row_goes_on, row_placed, initial_framed, list_placed}
 use Rattle.cs_decl_parser.proofs.initial.+initial.Goals as goal
 
 pub initial-returns-then-begins_designator-clause-parsed : goal.initial-returns-then-begins_designator-clause-parsed
@@ -51,6 +54,9 @@ items-items-init t c =
       onward = b.0;
       inside = b.1;
       low = b.2;
+      placed =
+          subst (λ (x : List RawInitial). RowPlaced IsInitialPlaced (λ i. initial_text (initial i)) c.args.source.now.tokens.now (c.args.from + 1) x c.in_ok-last.last.tree c.in_ok-last.last.next) (sym c.new-list.ensures.items)
+          (row_begun IsInitialPlaced (λ i. initial_text (initial i)) c.args.source.now.tokens.now (c.args.from + 1) c.in_ok-last.last.tree c.in_ok-last.last.next v.spelled c.in_ok-last.ensures.placed);
       so_far =
           subst (λ (x : List RawInitial). TrailingRow (Values c.args.source.now.names.now) (token.Mark mark.CloseBrace) (c.args.room - 1) c.args.source.now.tokens.now (c.args.from + 1) (map initial x) (initial c.in_ok-last.last.tree) c.in_ok-last.last.next (is_deep c.in_ok-last.last.otherwise) c.in_ok-last.last.height) (sym c.new-list.ensures.items)
           (trailing_first (Values c.args.source.now.names.now) (token.Mark mark.CloseBrace) (c.args.room - 1) (value_row c.args.source.now.names.now) (let enough = c.if-room-lt2.false in omega arith) c.args.source.now.tokens.now (c.args.from + 1) (omega arith) (initial c.in_ok-last.last.tree) c.in_ok-last.last.next (is_deep c.in_ok-last.last.otherwise) c.in_ok-last.last.height v.spelled v.took v.height_is);
@@ -77,6 +83,7 @@ items-items-preserved t c =
       onward = omega arith;
       inside = b.1;
       low = omega arith;
+      placed = row_goes_on IsInitialPlaced (λ i. initial_text (initial i)) initial_framed c.args.source.now.tokens.now (c.args.from + 1) c.items.list.items c.push.new.self.items c.items.last.tree c.items.last.next c.in_ok-following.following.tree c.in_ok-following.following.next i.placed c.in_ok-push.ensures.items v.spelled c.in_ok-following.ensures.placed;
       so_far =
           subst (λ (x : List Initial). TrailingRow (Values c.args.source.now.names.now) (token.Mark mark.CloseBrace) (c.args.room - 1) c.args.source.now.tokens.now (c.args.from + 1) x (initial c.in_ok-following.following.tree) c.in_ok-following.following.next (is_deep c.in_ok-following.following.otherwise) c.max-height.result) (sym all)
           (subst (λ (x : ℕ). TrailingRow (Values c.args.source.now.names.now) (token.Mark mark.CloseBrace) (c.args.room - 1) c.args.source.now.tokens.now (c.args.from + 1) (map initial c.items.list.items ++ initial c.items.last.tree ∷ []) (initial c.in_ok-following.following.tree) c.in_ok-following.following.next (is_deep c.in_ok-following.following.otherwise) x) (sym h) next);
@@ -97,3 +104,11 @@ items-returns-clause-parsed t c =
     (initial-List c.push-2.new.self c.is_mark-comma.result
     ∙ ap (λ (x : Initials). Listed x c.is_mark-comma.result) (items_listed c.push-2.new.self.items ∙ ap items_of (ap (map initial) c.in_ok-push-2.ensures.items ∙ map-append initial c.items.list.items (c.items.last.tree ∷ []))))
     refl (ap (λ (n : ℕ). n + 1) c.closing_at-closing.ensures) (ap is_deep c.reason_at.ensures ∙ plain_flat c.args.scope _)
+
+pub initial-returns-clause-placed : goal.initial-returns-clause-placed
+initial-returns-clause-placed t c = c.in_ok-value.ensures.placed
+
+pub items-returns-clause-placed : goal.items-returns-clause-placed
+items-returns-clause-placed t c =
+    list_placed c.push-2.new.self c.is_mark-comma.result c.args.source.now.tokens.now c.args.from
+    (row_placed IsInitialPlaced (λ i. initial_text (initial i)) c.args.source.now.tokens.now (c.args.from + 1) c.items.list.items c.push-2.new.self.items c.items.last.tree c.items.last.next c.items.invariant.placed c.in_ok-push-2.ensures.items)

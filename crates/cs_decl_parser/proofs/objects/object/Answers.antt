@@ -18,3 +18,6 @@ returns-in_err-object-clause-parsed c =
 
 pub returns-clause-parsed : goal.returns-clause-parsed
 returns-clause-parsed c = c.in_ok-object.ensures.parsed c.args.from c.in_ok-declarator.ensures.parsed
+
+pub returns-clause-placed : goal.returns-clause-placed
+returns-clause-placed c = c.in_ok-object.ensures.placed c.args.from c.in_ok-declarator.ensures.parsed c.in_ok-declarator.ensures.placed

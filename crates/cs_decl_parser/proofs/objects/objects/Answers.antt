@@ -22,3 +22,6 @@ returns-in_err-all-clause-parsed c =
 
 pub returns-clause-parsed : goal.returns-clause-parsed
 returns-clause-parsed c = c.in_ok-all.ensures.parsed c.args.from c.in_ok-first.ensures.parsed
+
+pub returns-clause-placed : goal.returns-clause-placed
+returns-clause-placed c = c.in_ok-all.ensures.placed c.args.from c.in_ok-first.ensures.parsed c.in_ok-first.ensures.placed

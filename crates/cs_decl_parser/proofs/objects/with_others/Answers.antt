@@ -13,6 +13,9 @@ use Rattle.cs_expr_parser.specs.Positions.{kind_or_end}
 use Rattle.cs_expr_parser.specs.Parts.{is_deep}
 use Rattle.cs_decl_parser.specs.Answers.{ExactAnswers, IsUnclosed}
 use Rattle.cs_decl_parser.proofs.RowSites.{RowSoFar, row_first, row_next, row_next_stops, row_wrong, row_taken}
+use Rattle.cs_grammar.specs.FileText.{declared_text}
+use Rattle.cs_decl_parser.specs.FilePlaces.{IsDeclaredPlaced}
+use Rattle.cs_decl_parser.proofs.Placing.{RowPlaced, row_begun, row_goes_on, row_placed, declared_framed}
 use Rattle.cs_decl_parser.proofs.objects.with_others.Goals as goal
 
 pub objects-init : goal.objects-init
@@ -20,6 +23,9 @@ objects-init c = record {
   onward = omega arith;
   inside = c.requires.within;
   low = c.requires.low;
+  placed = λ from first has.
+      subst (λ (x : List RawInit). RowPlaced IsDeclaredPlaced (λ d. declared_text (declared d)) c.args.source.now.tokens.now from x c.args.first.tree c.args.first.next) (sym c.new-list.ensures.items)
+      (row_begun IsDeclaredPlaced (λ d. declared_text (declared d)) c.args.source.now.tokens.now from c.args.first.tree c.args.first.next first.spelled has);
   so_far = λ from first.
       subst (λ (x : List RawInit). RowSoFar (Objects c.args.source.now.names.now) (token.Mark mark.Semicolon) c.args.room c.args.source.now.tokens.now from (map declared x) (declared c.args.first.tree) c.args.first.next (is_deep c.args.first.otherwise) c.args.first.height) (sym c.new-list.ensures.items)
       (row_first (Objects c.args.source.now.names.now) (token.Mark mark.Semicolon) c.args.room (object_row c.args.source.now.names.now) c.requires.some c.args.source.now.tokens.now from (let o = first.spelled.onward in let w = first.spelled.within in omega arith) (declared c.args.first.tree) c.args.first.next (is_deep c.args.first.otherwise) c.args.first.height first.spelled first.took first.height_is);
@@ -42,6 +48,8 @@ objects-preserved c =
       onward = omega arith;
       inside = b.1;
       low = omega arith;
+      placed = λ from first has.
+          row_goes_on IsDeclaredPlaced (λ d. declared_text (declared d)) declared_framed c.args.source.now.tokens.now from c.objects.list.items c.push.new.self.items c.objects.last.tree c.objects.last.next c.in_ok-following.following.tree c.in_ok-following.following.next (i.placed from first has) c.in_ok-push.ensures.items t.spelled c.in_ok-following.ensures.placed;
       so_far = λ from first.
           subst (λ (x : List Declared). RowSoFar (Objects c.args.source.now.names.now) (token.Mark mark.Semicolon) c.args.room c.args.source.now.tokens.now from x (declared c.in_ok-following.following.tree) c.in_ok-following.following.next (is_deep c.in_ok-following.following.otherwise) c.max-height.result) (sym all)
           (subst (λ (x : ℕ). RowSoFar (Objects c.args.source.now.names.now) (token.Mark mark.Semicolon) c.args.room c.args.source.now.tokens.now from (map declared c.objects.list.items ++ declared c.objects.last.tree ∷ []) (declared c.in_ok-following.following.tree) c.in_ok-following.following.next (is_deep c.in_ok-following.following.otherwise) x) (sym h)
@@ -57,3 +65,7 @@ pub returns-clause-parsed : goal.returns-clause-parsed
 returns-clause-parsed c = λ from first.
     row_taken (Objects c.args.source.now.names.now) (token.Mark mark.Semicolon) c.args.room (object_row c.args.source.now.names.now) (λ x. cc) (λ list. map declared list.items) c.args.source.now.tokens.now from (map declared c.objects.list.items) (declared c.objects.last.tree) c.objects.last.next (is_deep c.objects.last.otherwise) c.objects.height (c.objects.invariant.so_far from first)
     (c.is_mark-2.ensures.mark.0 c.if-not-is_mark.false) _ (ap (map declared) c.in_ok-push-2.ensures.items ∙ map-append declared c.objects.list.items (c.objects.last.tree ∷ [])) refl refl
+
+pub returns-clause-placed : goal.returns-clause-placed
+returns-clause-placed c = λ from first has.
+    row_placed IsDeclaredPlaced (λ d. declared_text (declared d)) c.args.source.now.tokens.now from c.objects.list.items _ c.objects.last.tree c.objects.last.next (c.objects.invariant.placed from first has) c.in_ok-push-2.ensures.items

@@ -1,4 +1,4 @@
-use Rattle.std.proofs.Common.{◌≡◌, ℕ, ◌+◌, ◌-◌, ◌≤◌, ◌<◌, max, map, Bool, Err, List, [], ◌∷◌, ◌++◌, Option, refl, sym, ap, ◌∙◌, subst, arith, rules}
+use Rattle.std.proofs.Common.{drop, ◌≡◌, ℕ, ◌+◌, ◌-◌, ◌≤◌, ◌<◌, max, map, Bool, Err, List, [], ◌∷◌, ◌++◌, Option, refl, sym, ap, ◌∙◌, subst, arith, rules}
 use Rattle.std.proofs.lemmas.Bool.{false≢true}
 use Rattle.cs_ast.specs.RawView.{written}
 use Rattle.cs_ast.specs.RawDeclarationView.{declarator, initial, declared}
@@ -6,6 +6,7 @@ use Rattle.cs_ast.specs.RawFileHeight.{declarator_height, initial_height}
 use Rattle.cs_grammar.specs.DeclarationClasses.{Objects}
 use Rattle.cs_decl_parser.specs.Answers.{UnclosedAnswers}
 use Rattle.cs_decl_parser.proofs.ObjectSites.{alone_taken, alone_full, object_value_stops, object_value_taken}
+use Rattle.cs_decl_parser.proofs.Placing.{value_behind}
 use Rattle.cs_decl_parser.proofs.objects.with_value.Goals as goal
 
 pub returns-then-not-is_mark-clause-parsed : goal.returns-then-not-is_mark-clause-parsed
@@ -28,3 +29,14 @@ returns-clause-parsed c = λ from d.
     let v = c.in_ok-value.ensures.parsed.height_is in
     let m = c.max.ensures in
     object_value_taken c.args.source.now.names.now c.args.room (c.args.room - 1) (let a = c.requires.some in let b = c.requires.low in omega arith) c.args.source.now.tokens.now from c.args.declarator d (c.is_mark.ensures.mark.0 c.if-not-is_mark.false) (let a = c.if-declarator-room.false in omega arith) c.in_ok-value.value c.in_ok-value.ensures.parsed _ refl (c.max.result + 1) refl (omega arith) refl refl
+
+pub returns-then-not-is_mark-clause-placed : goal.returns-then-not-is_mark-clause-placed
+returns-then-not-is_mark-clause-placed c = λ from d p. c.alone.ensures.placed (drop from c.args.source.now.tokens.now) p
+
+pub returns-then-declarator-room-clause-placed : goal.returns-then-declarator-room-clause-placed
+returns-then-declarator-room-clause-placed c = λ from d p. c.alone-then-declarator-room.ensures.placed (drop from c.args.source.now.tokens.now) p
+
+pub returns-clause-placed : goal.returns-clause-placed
+returns-clause-placed c = λ from d p.
+    let spelled = (d (c.args.room - 1) (let a = c.requires.some in let b = c.requires.low in omega arith)).spelled in
+    (p, value_behind c.args.declarator.tree c.args.source.now.tokens.now from c.args.declarator.next spelled c.place_at.result c.in_ok-value.value.tree c.place_at.ensures c.in_ok-value.ensures.placed)

@@ -2,6 +2,7 @@ use Rattle.std.proofs.Common.{◌≡◌, ◌-◌, Err, refl, sym, subst, arith, 
 use Rattle.cs_ast.specs.RawDeclarationView.{bounds_of}
 use Rattle.cs_decl_parser.specs.ParameterAnswers.{ParameterAnswer}
 use Rattle.cs_decl_parser.proofs.ParameterSites.{tail_stops, tail_stands, behind_specs_stops, stopped, parameter_stands, parameter_taken, pointers_no_const, name_stops, specs_stop}
+use Rattle.cs_decl_parser.proofs.PlacingParameters.{parameter_placed}
 use Rattle.cs_decl_parser.proofs.parameters.parameter.Goals as goal
 
 pub returns-in_err-specs-clause-parsed : goal.returns-in_err-specs-clause-parsed
@@ -52,3 +53,8 @@ returns-clause-parsed c =
       spelled = n.2;
     }) (bounds_of c.in_ok-bounds.bounds.tree.items) b.spelled b.took))
     _ refl (omega arith) refl
+
+pub returns-clause-placed : goal.returns-clause-placed
+returns-clause-placed c =
+    let n = c.in_ok-name.ensures.name in
+    parameter_placed _ c.args.source.now.tokens.now c.args.from c.in_ok-specs.specs.next c.in_ok-pointers.pointers.next c.in_ok-name.name.next c.place_at.ensures c.in_ok-specs.ensures.placed c.in_ok-specs.ensures.parsed.spelled c.in_ok-pointers.ensures.pointers.spelled n.2 c.in_ok-name.ensures.placed c.in_ok-bounds.ensures.placed

@@ -14,6 +14,10 @@ use Rattle.cs_decl_parser.specs.Answers.{ExactAnswers, Stops}
 use Rattle.cs_decl_parser.proofs.StatementStops.{plain_flat}
 use Rattle.cs_decl_parser.proofs.RowSites.{row_first, row_next, row_taken}
 use Rattle.cs_decl_parser.proofs.ParameterRowSites.{ParametersSoFar, first_stops, next_stops, unended_stops, rows_taken}
+use Rattle.cs_grammar.specs.FileText.{parameter_text}
+use Rattle.cs_decl_parser.specs.FilePlaces.{IsParameterPlaced}
+use Rattle.cs_decl_parser.proofs.Placing.{RowPlaced, row_begun, row_goes_on, row_placed}
+use Rattle.cs_decl_parser.proofs.PlacingParameters.{parameter_framed}
 use Rattle.cs_decl_parser.proofs.parameters.parameter_list.Goals as goal
 
 pub returns-in_err-last-clause-parsed : goal.returns-in_err-last-clause-parsed
@@ -32,6 +36,9 @@ parameters-init c =
       onward = b.0;
       inside = b.1;
       low = b.2;
+      placed =
+          subst (λ (x : List RawParameter). RowPlaced IsParameterPlaced (λ p. parameter_text (parameter p)) c.args.source.now.tokens.now c.args.from x c.in_ok-last.last.tree c.in_ok-last.last.next) (sym c.new-list.ensures.items)
+          (row_begun IsParameterPlaced (λ p. parameter_text (parameter p)) c.args.source.now.tokens.now c.args.from c.in_ok-last.last.tree c.in_ok-last.last.next t.spelled c.in_ok-last.ensures.placed);
       so_far =
           subst (λ (x : List RawParameter). ParametersSoFar c.args.source.now.names.now c.args.room c.args.source.now.tokens.now c.args.from (map parameter x) (parameter c.in_ok-last.last.tree) c.in_ok-last.last.next c.in_ok-last.last.height) (sym c.new-list.ensures.items)
           (row_first (ParameterClass c.args.source.now.names.now) close_parenthesis c.args.room (parameter_row c.args.source.now.names.now) (omega arith) c.args.source.now.tokens.now c.args.from c.requires.within (parameter c.in_ok-last.last.tree) c.in_ok-last.last.next false c.in_ok-last.last.height t.spelled t.took t.height_is);
@@ -58,6 +65,7 @@ parameters-preserved c =
       onward = omega arith;
       inside = b.1;
       low = omega arith;
+      placed = row_goes_on IsParameterPlaced (λ p. parameter_text (parameter p)) parameter_framed c.args.source.now.tokens.now c.args.from c.parameters.list.items c.push.new.self.items c.parameters.last.tree c.parameters.last.next c.in_ok-following.following.tree c.in_ok-following.following.next i.placed c.in_ok-push.ensures.items t.spelled c.in_ok-following.ensures.placed;
       so_far =
           subst (λ (x : List Parameter). ParametersSoFar c.args.source.now.names.now c.args.room c.args.source.now.tokens.now c.args.from x (parameter c.in_ok-following.following.tree) c.in_ok-following.following.next c.max-height.result) (sym all)
           (subst (λ (x : ℕ). ParametersSoFar c.args.source.now.names.now c.args.room c.args.source.now.tokens.now c.args.from (map parameter c.parameters.list.items ++ parameter c.parameters.last.tree ∷ []) (parameter c.in_ok-following.following.tree) c.in_ok-following.following.next x) (sym h) next);
@@ -76,3 +84,7 @@ returns-clause-parsed c =
     rows_taken (λ list. map parameter list.items) c.args.source.now.names.now c.args.room c.args.source.now.tokens.now c.args.from _ c.requires.no_void
     (row_taken (ParameterClass c.args.source.now.names.now) close_parenthesis c.args.room (parameter_row c.args.source.now.names.now) (λ x. cc) (λ list. map parameter list.items) c.args.source.now.tokens.now c.args.from (map parameter c.parameters.list.items) (parameter c.parameters.last.tree) c.parameters.last.next false c.parameters.height c.parameters.invariant.so_far
     (c.is_mark-2.ensures.mark.0 c.if-not-is_mark.false) _ (ap (map parameter) c.in_ok-push-2.ensures.items ∙ map-append parameter c.parameters.list.items (c.parameters.last.tree ∷ [])) refl refl)
+
+pub returns-clause-placed : goal.returns-clause-placed
+returns-clause-placed c =
+    row_placed IsParameterPlaced (λ p. parameter_text (parameter p)) c.args.source.now.tokens.now c.args.from c.parameters.list.items _ c.parameters.last.tree c.parameters.last.next c.parameters.invariant.placed c.in_ok-push-2.ensures.items
