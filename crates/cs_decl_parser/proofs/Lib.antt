@@ -18,3 +18,4 @@ pub mod SpecSites
 pub mod ExternalSites
 pub mod FileSites
 pub mod Placing
+pub mod PlacingStatements

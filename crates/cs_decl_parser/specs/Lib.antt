@@ -10,3 +10,4 @@ pub mod FileAnswers
 pub mod Files
 pub mod FileStops
 pub mod FilePlaces
+pub mod StatementPlaces
