@@ -11,3 +11,4 @@ pub mod Files
 pub mod FileStops
 pub mod FilePlaces
 pub mod StatementPlaces
+pub mod SpecPlaces

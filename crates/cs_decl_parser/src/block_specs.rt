@@ -1,9 +1,11 @@
 //! What stands before declarators inside blocks: words of types, and no body (C11 6.7.2).
-ghost use Rattle.std.specs.Prelude.{◌≡◌, ◌≤◌, ◌<◌, ◌^◌, length, false};
+ghost use Rattle.std.specs.Prelude.{◌≡◌, ◌≤◌, ◌<◌, ◌^◌, length, drop, false, IfOk};
 ghost use Rattle.cs_expr_parser.specs.Positions.{kind_or_end};
+ghost use Rattle.cs_decl_parser.specs.FilePlaces.{HasSpecPlaces};
 ghost use Rattle.cs_decl_parser.specs.Bounds.{IsBounded, IsNextBounded, IsWordBounded};
 ghost use Rattle.cs_decl_parser.specs.DeclarationAnswers.{RefusesBehind};
 ghost use Rattle.cs_decl_parser.specs.SpecWords.{IsTagKeyword, BlockTagAnswer, BlockWordAnswer, BlockSpecsAnswer};
+ghost use Rattle.cs_decl_parser.specs.SpecPlaces.{IsWordPlaced, IsWordThere};
 
 use crate::names::any_name_at;
 use crate::source::{Scope, Source, is_mark, refuse, refuse_but};
@@ -26,6 +28,7 @@ pub fn block_specs(
     requires some { 1 ≤ room }
     ensures bounds { IsBounded room source.now.tokens.now from result }
     ensures parsed { BlockSpecsAnswer source.now.names.now room source.now.tokens.now source.now.end from result }
+    ensures placed { IfOk result (λ taken. HasSpecPlaces taken.tree (drop from source.now.tokens.now)) }
 {
     let mut words = Vec::new(alloc);
     let mut tag = None;
@@ -53,6 +56,7 @@ fn block_word_at(source: &Source, at: usize, so_far: TypeSoFar) -> Result<Option
     requires few { length source.now.tokens.now < 2 ^ 32 }
     ensures bounds { IsWordBounded 1 source.now.tokens.now at result }
     ensures word { BlockWordAnswer source.now.names.now source.now.tokens.now at so_far result }
+    ensures placed { IfOk result (IsWordThere source.now.tokens.now at so_far) }
 {
     if !begins_tagged(source, at) {
         return plain_word(source, at, so_far);
@@ -71,6 +75,7 @@ fn tag_at(source: &Source, at: usize) -> Result<NextWord, Stop>
     requires stands { IsTagKeyword (kind_or_end source.now.tokens.now at) }
     ensures bounds { IsNextBounded 1 source.now.tokens.now at result }
     ensures tag { BlockTagAnswer source.now.names.now source.now.tokens.now at result }
+    ensures placed { IfOk result (IsWordPlaced source.now.tokens.now at) }
 {
     let Some(tag) = any_name_at(source, at + 1)? else {
         return Err(refuse_body(source, at + 1));

@@ -1,10 +1,11 @@
 //! The members of a structure (C11 6.7.2.1).
-ghost use Rattle.std.specs.Prelude.{◌≤◌, ◌<◌, ◌^◌, length};
+ghost use Rattle.std.specs.Prelude.{◌≤◌, ◌<◌, ◌^◌, length, drop, IfOk};
 ghost use Rattle.cs_ast.specs.RawDeclarationView.{members_list};
 ghost use Rattle.cs_grammar.specs.DeclarationClasses.{MemberGroups, MemberRows};
 ghost use Rattle.cs_decl_parser.specs.Answers.{ExactAnswers};
 ghost use Rattle.cs_decl_parser.specs.SpecWords.{group};
 ghost use Rattle.cs_decl_parser.specs.Bounds.{IsBounded};
+ghost use Rattle.cs_decl_parser.specs.SpecPlaces.{IsGroupPlaced, AreGroupsPlaced};
 
 use crate::declarator::{Declares, declarators};
 use crate::source::{Scope, Source, is_mark, refuse, refuse_deep};
@@ -26,6 +27,7 @@ pub fn members(
     requires few { length source.now.tokens.now < 2 ^ 32 }
     ensures bounds { IsBounded room source.now.tokens.now from result }
     ensures parsed { ExactAnswers (MemberRows source.now.names.now) (λ list. members_list list.items) room source.now.tokens.now source.now.end from result }
+    ensures placed { IfOk result (λ taken. AreGroupsPlaced taken.tree.items (drop from source.now.tokens.now)) }
 {
     let mut list = Vec::new(alloc);
     let mut height = 0;
@@ -50,6 +52,7 @@ fn member(alloc: Global, source: &Source, from: usize, room: u32) -> Result<Take
     requires few { length source.now.tokens.now < 2 ^ 32 }
     ensures bounds { IsBounded room source.now.tokens.now from result }
     ensures parsed { ExactAnswers (MemberGroups source.now.names.now) group room source.now.tokens.now source.now.end from result }
+    ensures placed { IfOk result (λ taken. IsGroupPlaced taken.tree (drop from source.now.tokens.now)) }
 {
     let scope = Scope::File;
     if !begins_specs(source, from, scope) {

@@ -1,12 +1,16 @@
 //! What stands before declarators: words of types and bodies (C11 6.7.2).
-ghost use Rattle.std.specs.Prelude.{◌≡◌, ◌≤◌, ◌<◌, ◌^◌, ◌+◌, ◌-◌, length, false, IsTrue};
+ghost use Rattle.std.specs.Prelude.{◌≡◌, ◌≤◌, ◌<◌, ◌^◌, ◌+◌, ◌-◌, List, length, drop, false, Some, None, IfOk, IsTrue};
+ghost use Rattle.cs_ast.specs.declared.token.Token.{Token};
 ghost use Rattle.cs_ast.specs.RawDeclarations.{StructBody};
-ghost use Rattle.cs_ast.specs.RawDeclarationView.{members_list};
+ghost use Rattle.cs_ast.specs.RawDeclarationView.{constant as constant_of, members_list};
+ghost use Rattle.cs_grammar.specs.FileText.{constant_text};
 ghost use Rattle.cs_expr_parser.specs.Positions.{kind_or_end};
 ghost use Rattle.cs_expr_parser.specs.Words.{names_some};
 ghost use Rattle.cs_decl_parser.specs.Bounds.{IsBounded, IsNextBounded, IsWordBounded, IsWordOf};
 ghost use Rattle.cs_decl_parser.specs.DeclarationAnswers.{constant_row};
 ghost use Rattle.cs_decl_parser.specs.SpecWords.{begins_words, name_in, number_behind, enum_of, IsTagKeyword, HasNoTag, IsTagged, IsOpened, IsSpecOf, IsStatic, PlainAnswer, ElementAnswer, SpecAnswer, SpecsAnswer};
+ghost use Rattle.cs_decl_parser.specs.FilePlaces.{in_body, AreInRow, IsNamePlaced, IsSpecPlaced, IsConstantPlaced, HasSpecPlaces};
+ghost use Rattle.cs_decl_parser.specs.SpecPlaces.{place_in, IsWordPlaced, IsWordThere, AreGroupsPlaced};
 
 use crate::constants::{ConstantList, constants};
 use crate::members::members;
@@ -55,6 +59,7 @@ pub fn specs(
     requires some { 1 ≤ room }
     ensures bounds { IsBounded room source.now.tokens.now from result }
     ensures parsed { SpecsAnswer source.now.names.now room source.now.tokens.now source.now.end from result }
+    ensures placed { IfOk result (λ taken. HasSpecPlaces taken.tree (drop from source.now.tokens.now)) }
 {
     let mut words = Vec::new(alloc);
     let mut tag = None;
@@ -104,6 +109,7 @@ fn word_at(
     requires some { 1 ≤ room }
     ensures bounds { IsWordBounded room source.now.tokens.now at result }
     ensures word { SpecAnswer source.now.names.now room source.now.tokens.now source.now.end at so_far result }
+    ensures placed { IfOk result (IsWordThere source.now.tokens.now at so_far) }
 {
     if is_keyword(source, at, Keyword::Static) {
         return Ok(Some(static_word(at, so_far)));
@@ -131,7 +137,8 @@ pub fn names_type(so_far: TypeSoFar) -> bool
 /// `static`, at a number.
 fn static_word(at: usize, so_far: TypeSoFar) -> NextWord
     requires few { at < 2 ^ 32 }
-    ensures { IsStatic at so_far result }
+    ensures word { IsStatic at so_far result }
+    ensures tag { result.tag ≡ None }
 {
     NextWord {
         word: SpecWord::Static,
@@ -147,6 +154,7 @@ pub fn plain_word(source: &Source, at: usize, so_far: TypeSoFar) -> Result<Optio
     requires few { length source.now.tokens.now < 2 ^ 32 }
     ensures bounds { IsWordBounded 1 source.now.tokens.now at result }
     ensures word { PlainAnswer source.now.names.now source.now.tokens.now at so_far result }
+    ensures placed { IfOk result (IsWordThere source.now.tokens.now at so_far) }
 {
     let Some(word) = type_word_at(source, at)? else {
         return Ok(None);
@@ -172,6 +180,7 @@ fn tagged(alloc: Global, source: &Source, at: usize, room: u32) -> Result<NextWo
     requires stands { IsTagKeyword (kind_or_end source.now.tokens.now at) }
     ensures bounds { IsNextBounded room source.now.tokens.now at result }
     ensures element { ElementAnswer source.now.names.now room source.now.tokens.now source.now.end at result }
+    ensures placed { IfOk result (IsWordPlaced source.now.tokens.now at) }
 {
     let tag = any_name_at(source, at + 1)?;
     let behind = behind_tag(at, &tag);
@@ -200,6 +209,7 @@ pub fn without_body(source: &Source, at: usize, tag: RawName) -> NextWord
     requires few { at < 2 ^ 32 }
     ensures bounds { IsWordOf 2 1 at result }
     ensures word { IsTagged (kind_or_end source.now.tokens.now at) tag.name result }
+    ensures tag { result.tag ≡ Some tag.place }
 {
     let word = if is_keyword(source, at, Keyword::Struct) {
         TypeWord::Struct(tag.name)
@@ -232,6 +242,7 @@ fn with_body(
     requires opened { IsOpened source.now.tokens.now at brace (name_in tag) }
     ensures bounds { IsNextBounded room source.now.tokens.now at result }
     ensures element { ElementAnswer source.now.names.now room source.now.tokens.now source.now.end at result }
+    ensures placed { IsNamePlaced tag (drop (at + 1) source.now.tokens.now) → IfOk result (IsWordPlaced source.now.tokens.now at) }
 {
     if is_keyword(source, at, Keyword::Struct) {
         let members = members(alloc, source, brace + 1, room - 1)?;
@@ -246,7 +257,8 @@ fn with_body(
 
 /// A tag, if there is one, apart from its place.
 fn split(tag: Option<RawName>) -> (Option<Name>, Option<Place>)
-    ensures { result.0 ≡ name_in tag }
+    ensures name { result.0 ≡ name_in tag }
+    ensures place { result.1 ≡ place_in tag }
 {
     match tag {
         Some(tag) => (Some(tag.name), Some(tag.place)),
@@ -259,6 +271,8 @@ fn structure(tag: Option<RawName>, members: Taken<Vec<RawMember>>) -> NextWord
     requires low { members.height < 2 ^ 32 - 1 }
     ensures bounds { IsWordOf 0 (members.height + 1) members.next result }
     ensures word { IsSpecOf (StructBody (name_in tag) (members_list members.tree.items)) result }
+    ensures tag { result.tag ≡ place_in tag }
+    ensures placed { (tokens : List Token) → AreGroupsPlaced members.tree.items (in_body (name_in tag) tokens) → IsSpecPlaced result.word tokens }
 {
     let (name, place) = split(tag);
     NextWord {
@@ -275,6 +289,8 @@ fn enumeration(tag: Option<RawName>, constants: Taken<ConstantList>) -> NextWord
     requires low { constants.height < 2 ^ 32 - 1 }
     ensures bounds { IsWordOf 0 (constants.height + 1) constants.next result }
     ensures word { IsSpecOf (enum_of (name_in tag) (constant_row constants.tree)) result }
+    ensures tag { result.tag ≡ place_in tag }
+    ensures placed { (tokens : List Token) → AreInRow IsConstantPlaced (λ e. constant_text (constant_of e)) constants.tree.list.items (in_body (name_in tag) tokens) → IsSpecPlaced result.word tokens }
 {
     let (name, place) = split(tag);
     let ConstantList { list, comma } = constants.tree;

@@ -1,4 +1,4 @@
-use Rattle.std.proofs.Common.{◌≡◌, ℕ, ◌+◌, ◌-◌, ◌∷◌, Bool, ◌≤◌, ◌<◌, max, Err, Ok, List, [], Option, Some, false, refl, sym, ap, ◌∙◌, subst, arith, rules}
+use Rattle.std.proofs.Common.{drop, None, ◌≡◌, ℕ, ◌+◌, ◌-◌, ◌∷◌, Bool, ◌≤◌, ◌<◌, max, Err, Ok, List, [], Option, Some, false, refl, sym, ap, ◌∙◌, subst, arith, rules}
 use Rattle.std.proofs.lemmas.Bool.{false≢true}
 use Rattle.cs_ast.specs.declared.raw.declaration.SpecWord.{SpecWord}
 use Rattle.cs_grammar.specs.declared.type_words.TypeSoFar.TheVariants.{Nothing}
@@ -13,6 +13,12 @@ use Rattle.cs_decl_parser.specs.DeclarationAnswers.{constant_row}
 use Rattle.cs_decl_parser.specs.SpecWords.{ElementAnswer, ElementStops, tag_keyword, name_in, SpecsAnswer, SpecAnswer}
 use Rattle.cs_decl_parser.proofs.RowSites.{max_is}
 use Rattle.cs_decl_parser.proofs.SpecSites.{enum_little, same_struct, opened_at, opened_later, tagged_found, untagged_stops, with_struct, struct_stops, struct_found, enum_stops, enum_found, SpecsSoFar, specs_none, spec_more, specs_stop, specs_taken, spec_stops, plain_answer, static_found, tag_none, element_error, element_found}
+use Rattle.cs_ast.specs.declared.raw.name.RawName.{RawName}
+use Rattle.cs_ast.specs.RawDeclarationView.{constant}
+use Rattle.cs_grammar.specs.FileText.{constant_text}
+use Rattle.cs_decl_parser.specs.FilePlaces.{AreInRow, IsNamePlaced, IsConstantPlaced}
+use Rattle.cs_decl_parser.specs.SpecPlaces.{IsWordThere, AreGroupsPlaced}
+use Rattle.cs_decl_parser.proofs.PlacingSpecs.{SpecsPlaced, specs_begun, specs_go_on, static_there, tagged_placed, body_begins, struct_placed, enum_placed}
 use Rattle.cs_decl_parser.proofs.+specs.Goals as goal
 
 pub specs::specs-words-init : goal.specs::specs-words-init
@@ -21,6 +27,7 @@ specs::specs-words-init t c = record {
   inside = c.requires.within;
   low = omega arith;
   typed = λ some. absurd (false≢true some);
+  placed = subst (λ (x : List SpecWord). SpecsPlaced c.args.source.now.tokens.now c.args.from c.args.from x None) (sym c.new-words.ensures.items) (specs_begun c.args.source.now.tokens.now c.args.from);
   so_far = subst (λ (x : List SpecWord). SpecsSoFar c.args.source.now.names.now c.args.source.now.tokens.now c.args.from c.args.from Nothing x 0) (sym c.new-words.ensures.items) (specs_none c.args.source.now.names.now c.args.source.now.tokens.now c.args.from c.requires.within);
 }
 
@@ -37,6 +44,7 @@ specs::specs-words-preserved t c =
       inside = within;
       low = omega arith;
       typed = λ some. omega arith;
+      placed = specs_go_on c.args.source.now.names.now c.words.so_far c.args.source.now.tokens.now c.args.from c.words.next c.words.words.items c.push.new.self.items c.in-Some.found c.words.tag c.or-tag.result i.placed i.so_far.spelled i.so_far.described w.spelled (subst (IsWordThere c.args.source.now.tokens.now c.words.next c.words.so_far) c.in-Some.is c.in_ok-found.ensures.placed) c.or-tag.ensures c.in_ok-push.ensures.items;
       so_far =
           subst (λ (x : ℕ). SpecsSoFar c.args.source.now.names.now c.args.source.now.tokens.now c.args.from c.in-Some.found.next c.in-Some.found.so_far c.push.new.self.items x) (sym h)
           (spec_more c.args.source.now.names.now c.args.room c.args.source.now.tokens.now c.args.from c.words.next c.words.so_far c.words.words.items c.push.new.self.items c.words.height c.in-Some.found i.so_far w c.in_ok-push.ensures.items);
@@ -58,9 +66,18 @@ specs::specs-returns-clause-parsed t c =
     let n = (subst (λ (x : Option NextWord). SpecAnswer c.args.source.now.names.now c.args.room c.args.source.now.tokens.now c.args.source.now.end c.words.next c.words.so_far (Ok x)) c.in_default.is c.in_ok-found.ensures.word) in
     specs_taken c.args.source.now.names.now c.args.room c.args.source.now.tokens.now c.args.from c.words.next c.words.so_far c.words.height _ c.words.invariant.low c.words.invariant.so_far (sym c.names_type.ensures ∙ c.if-not-names_type.false) n.0 n.1 refl refl
 
+pub specs::specs-returns-clause-placed : goal.specs::specs-returns-clause-placed
+specs::specs-returns-clause-placed t c =
+    let p = c.words.invariant.placed in
+    record { tag = p.tag_is; inside = p.inside.row }
+
+pub specs::word_at-returns-then-is_keyword-clause-placed : goal.specs::word_at-returns-then-is_keyword-clause-placed
+specs::word_at-returns-then-is_keyword-clause-placed t c =
+    static_there c.args.source.now.tokens.now c.args.at c.args.so_far c.static_word.result c.static_word.ensures.word.0 c.static_word.ensures.tag
+
 pub specs::word_at-returns-then-is_keyword-clause-word : goal.specs::word_at-returns-then-is_keyword-clause-word
 specs::word_at-returns-then-is_keyword-clause-word t c =
-    static_found c.args.source.now.names.now c.args.room c.requires.some c.args.source.now.tokens.now c.args.at c.args.so_far c.static_word.result (c.is_keyword.ensures.keyword.0 c.if-is_keyword.true) c.static_word.ensures
+    static_found c.args.source.now.names.now c.args.room c.requires.some c.args.source.now.tokens.now c.args.at c.args.so_far c.static_word.result (c.is_keyword.ensures.keyword.0 c.if-is_keyword.true) c.static_word.ensures.word
 
 pub specs::word_at-returns-then-not-begins_tagged-clause-word : goal.specs::word_at-returns-then-not-begins_tagged-clause-word
 specs::word_at-returns-then-not-begins_tagged-clause-word t c =
@@ -80,6 +97,22 @@ specs::word_at-returns-in_err-found-clause-word t c =
 pub specs::word_at-returns-clause-word : goal.specs::word_at-returns-clause-word
 specs::word_at-returns-clause-word t c =
     element_found c.args.source.now.names.now c.args.room c.args.source.now.tokens.now c.args.at c.args.so_far c.in_ok-found.found (sym c.names_type.ensures ∙ c.if-names_type.false) c.in_ok-found.ensures.element
+
+pub specs::word_at-returns-clause-placed : goal.specs::word_at-returns-clause-placed
+specs::word_at-returns-clause-placed t c = (c.in_ok-found.ensures.placed, λ settled. sym c.names_type.ensures ∙ c.if-names_type.false)
+
+pub specs::with_body-returns-then-is_keyword-clause-placed : goal.specs::with_body-returns-then-is_keyword-clause-placed
+specs::with_body-returns-then-is_keyword-clause-placed t c = λ named.
+    let o = c.requires.opened in
+    struct_placed c.args.source.now.tokens.now c.args.at c.args.tag (members_list c.in_ok-members.members.tree.items) c.structure.result c.structure.ensures.word.word_is c.structure.ensures.tag named
+    (c.structure.ensures.placed (drop c.args.at c.args.source.now.tokens.now) (subst (AreGroupsPlaced c.in_ok-members.members.tree.items) (sym (body_begins c.args.source.now.tokens.now c.args.at c.args.brace o.is_struct (name_in c.args.tag) o.spelled)) c.in_ok-members.ensures.placed))
+
+pub specs::with_body-returns-clause-placed : goal.specs::with_body-returns-clause-placed
+specs::with_body-returns-clause-placed t c = λ named.
+    let o = c.requires.opened in
+    let row = constant_row c.in_ok-constants.constants.tree in
+    enum_placed c.args.source.now.tokens.now c.args.at c.args.tag row.0 row.1 c.enumeration.result c.enumeration.ensures.word.word_is c.enumeration.ensures.tag named
+    (c.enumeration.ensures.placed (drop c.args.at c.args.source.now.tokens.now) (subst (AreInRow IsConstantPlaced (λ e. constant_text (constant e)) c.in_ok-constants.constants.tree.list.items) (sym (body_begins c.args.source.now.tokens.now c.args.at c.args.brace o.is_struct (name_in c.args.tag) o.spelled)) c.in_ok-constants.ensures.placed))
 
 pub specs::with_body-returns-in_err-members-clause-element : goal.specs::with_body-returns-in_err-members-clause-element
 specs::with_body-returns-in_err-members-clause-element t c =
@@ -113,6 +146,15 @@ specs::tagged-with_body-requires t c = (
   omega arith,
   (opened_later c.args.source.now.tokens.now c.args.at c.behind_tag-behind.result c.in_ok-tag.tag c.behind_tag-behind.ensures, (c.is_mark.ensures.within c.if-is_mark.true, (c.requires.few, (c.requires.some, opened_at c.args.source.now.tokens.now c.args.at c.behind_tag-behind.result c.in_ok-tag.tag c.requires.stands c.in_ok-tag.ensures.name c.behind_tag-behind.ensures (c.is_mark.ensures.mark.0 c.if-is_mark.true))))),
 )
+
+pub specs::tagged-returns-then-is_mark-clause-placed : goal.specs::tagged-returns-then-is_mark-clause-placed
+specs::tagged-returns-then-is_mark-clause-placed t c = c.with_body.ensures.placed c.in_ok-tag.ensures.placed
+
+pub specs::tagged-returns-in-Some-clause-placed : goal.specs::tagged-returns-in-Some-clause-placed
+specs::tagged-returns-in-Some-clause-placed t c =
+    let k = c.requires.stands in
+    tagged_placed c.args.source.now.tokens.now c.args.at k.0 c.in-Some.tag.name c.in-Some.tag.place c.without_body.result (c.without_body.ensures.word.one k.0 k.1) c.without_body.ensures.tag
+    (subst (λ (x : Option RawName). IsNamePlaced x (drop (c.args.at + 1) c.args.source.now.tokens.now)) c.in-Some.is c.in_ok-tag.ensures.placed)
 
 pub specs::tagged-returns-in-Some-clause-element : goal.specs::tagged-returns-in-Some-clause-element
 specs::tagged-returns-in-Some-clause-element t c =

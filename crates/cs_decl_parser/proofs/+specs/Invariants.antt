@@ -3,6 +3,7 @@ use Rattle.std.proofs.Common.{◌≤◌, ◌<◌, ◌+◌, ◌-◌, ◌*◌, len
 use Rattle.std.specs.Prelude.{IsTrue}
 use Rattle.cs_expr_parser.specs.Words.{names_some}
 use Rattle.cs_decl_parser.proofs.SpecSites.{SpecsSoFar}
+use Rattle.cs_decl_parser.proofs.PlacingSpecs.{SpecsPlaced}
 use Rattle.cs_decl_parser.proofs.+specs.Given as goal
 
 abbrev pub decreases-specs::specs : goal.decreases-specs::specs
@@ -29,6 +30,7 @@ invariant-specs::specs-words l = record {
   inside : l.next ≤ length l.source.tokens.now;
   low : l.height ≤ l.room;
   typed : IsTrue (names_some l.so_far) → l.fn.from < l.next;
+  placed : SpecsPlaced l.source.tokens.now l.fn.from l.next l.words.items l.tag;
   so_far : SpecsSoFar l.source.names.now l.source.tokens.now l.fn.from l.next l.so_far l.words.items l.height;
 }
 

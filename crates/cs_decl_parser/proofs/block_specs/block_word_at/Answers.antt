@@ -22,3 +22,6 @@ returns-in_err-found-clause-word c =
 pub returns-clause-word : goal.returns-clause-word
 returns-clause-word c =
     block_word c.args.source.now.names.now c.args.source.now.tokens.now c.args.at c.args.so_far c.in_ok-found.found (sym c.names_type.ensures ∙ c.if-names_type.false) c.in_ok-found.ensures.tag
+
+pub returns-clause-placed : goal.returns-clause-placed
+returns-clause-placed c = (c.in_ok-found.ensures.placed, λ settled. sym c.names_type.ensures ∙ c.if-names_type.false)

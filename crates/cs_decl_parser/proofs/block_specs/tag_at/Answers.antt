@@ -1,4 +1,4 @@
-use Rattle.std.proofs.Common.{◌≡◌, ◌+◌, Option, refl, sym, ap, ◌∙◌, subst}
+use Rattle.std.proofs.Common.{◌≡◌, ◌+◌, drop, Option, refl, sym, ap, ◌∙◌, subst}
 use Rattle.std.proofs.lemmas.Bool.{false≢true}
 use Rattle.cs_ast.specs.declared.raw.name.RawName.{RawName}
 use Rattle.cs_grammar.specs.declared.refusal.Reason.TheVariants.{LeftOut}
@@ -6,6 +6,8 @@ use Rattle.cs_expr_parser.specs.Positions.{kind_or_end}
 use Rattle.cs_expr_parser.specs.Words.{word_of_tag}
 use Rattle.cs_decl_parser.specs.DeclarationAnswers.{IsNameAt}
 use Rattle.cs_decl_parser.proofs.StuckWords.{tag_taken, tag_unnamed, tag_braced}
+use Rattle.cs_decl_parser.specs.FilePlaces.{IsNamePlaced}
+use Rattle.cs_decl_parser.proofs.PlacingSpecs.{tagged_placed}
 use Rattle.cs_decl_parser.proofs.block_specs.tag_at.Goals as goal
 
 pub returns-in_default-clause-tag : goal.returns-in_default-clause-tag
@@ -24,3 +26,9 @@ returns-clause-tag c =
       word_of_tag k.0 c.in-Some.tag.name,
       tag_taken c.args.source.now.names.now c.args.source.now.tokens.now c.args.at k.0 c.in-Some.tag.name c.without_body.result k.1 n.0 (λ b. false≢true (sym c.if-is_mark.false ∙ c.is_mark.ensures.mark.1 b)) c.without_body.ensures.word c.without_body.ensures.bounds.1 c.without_body.ensures.bounds.0,
     )
+
+pub returns-clause-placed : goal.returns-clause-placed
+returns-clause-placed c =
+    let k = c.requires.stands in
+    tagged_placed c.args.source.now.tokens.now c.args.at k.0 c.in-Some.tag.name c.in-Some.tag.place c.without_body.result (c.without_body.ensures.word.one k.0 k.1) c.without_body.ensures.tag
+    (subst (λ (x : Option RawName). IsNamePlaced x (drop (c.args.at + 1) c.args.source.now.tokens.now)) c.in-Some.is c.in_ok-tag.ensures.placed)
