@@ -188,40 +188,36 @@ abbrev pub past_test : Option RawExpr → List Token → List Token
 past_test test tokens = drop 1 (past (some_text (option_map written test)) tokens)
 
 abbrev mutual
-  -- a statement is at its first token
-  pub IsStatementPlaced : Place → RawStmtKind → List Token → Type 0
-  IsStatementPlaced at statement tokens = StandsAt at tokens × ArePartsPlaced statement tokens
-
   -- the parts of a statement
   pub ArePartsPlaced : RawStmtKind → List Token → Type 0
   ArePartsPlaced (kind.Block' shape row) tokens = AreItemsPlaced row (drop 1 tokens)
   ArePartsPlaced kind.Empty tokens = Unit {0}
   ArePartsPlaced (kind.Run e) tokens = HasPlaces e tokens
   ArePartsPlaced (kind.If' test p place body) tokens =
-      HasPlaces test (drop 2 tokens) × IsStatementPlaced place body (past (test_text (written test)) (drop 1 tokens))
+      HasPlaces test (drop 2 tokens) × (StandsAt place (past (test_text (written test)) (drop 1 tokens)) × ArePartsPlaced body (past (test_text (written test)) (drop 1 tokens)))
   ArePartsPlaced (kind.IfElse' test p place body q place' other) tokens =
-      HasPlaces test (drop 2 tokens) × IsStatementPlaced place body (past (test_text (written test)) (drop 1 tokens))
-      × IsStatementPlaced place' other (drop 1 (past (sentence_text (sentence body)) (past (test_text (written test)) (drop 1 tokens))))
+      HasPlaces test (drop 2 tokens) × (StandsAt place (past (test_text (written test)) (drop 1 tokens)) × ArePartsPlaced body (past (test_text (written test)) (drop 1 tokens)))
+      × (StandsAt place' (drop 1 (past (sentence_text (sentence body)) (past (test_text (written test)) (drop 1 tokens)))) × ArePartsPlaced other (drop 1 (past (sentence_text (sentence body)) (past (test_text (written test)) (drop 1 tokens)))))
   ArePartsPlaced (kind.While' test p place body) tokens =
-      HasPlaces test (drop 2 tokens) × IsStatementPlaced place body (past (test_text (written test)) (drop 1 tokens))
+      HasPlaces test (drop 2 tokens) × (StandsAt place (past (test_text (written test)) (drop 1 tokens)) × ArePartsPlaced body (past (test_text (written test)) (drop 1 tokens)))
   ArePartsPlaced (kind.Do' p place body test) tokens =
-      IsStatementPlaced place body (drop 1 tokens) × HasPlaces test (drop 2 (past (sentence_text (sentence body)) (drop 1 tokens)))
+      (StandsAt place (drop 1 tokens) × ArePartsPlaced body (drop 1 tokens)) × HasPlaces test (drop 2 (past (sentence_text (sentence body)) (drop 1 tokens)))
   ArePartsPlaced (kind.For' first test last p place body) tokens =
       IsFirstPlaced first (drop 2 tokens) × IsSomePlaced test (past_first first (drop 2 tokens))
       × IsSomePlaced last (past_test test (past_first first (drop 2 tokens)))
-      × IsStatementPlaced place body (past_test last (past_test test (past_first first (drop 2 tokens))))
+      × (StandsAt place (past_test last (past_test test (past_first first (drop 2 tokens)))) × ArePartsPlaced body (past_test last (past_test test (past_first first (drop 2 tokens)))))
   ArePartsPlaced (kind.Switch' value shape row) tokens =
       HasPlaces value (drop 2 tokens) × AreSwitchItemsPlaced row (drop 1 (past (test_text (written value)) (drop 1 tokens)))
   ArePartsPlaced (kind.Goto label) tokens = Unit {0}
   ArePartsPlaced kind.Continue tokens = Unit {0}
   ArePartsPlaced kind.Break tokens = Unit {0}
   ArePartsPlaced (kind.Return value) tokens = IsSomePlaced value (drop 1 tokens)
-  ArePartsPlaced (kind.Label' name p place body) tokens = IsStatementPlaced place body (drop 2 tokens)
+  ArePartsPlaced (kind.Label' name p place body) tokens = (StandsAt place (drop 2 tokens) × ArePartsPlaced body (drop 2 tokens))
 
   -- what stands in a block
   pub IsItemPlaced : RawItem → List Token → Type 0
   IsItemPlaced (items.TheVariants.Declare s objects) tokens = IsDeclarationPlaced s objects.items tokens
-  IsItemPlaced (items.TheVariants.Run' place body) tokens = IsStatementPlaced place body tokens
+  IsItemPlaced (items.TheVariants.Run' place body) tokens = (StandsAt place tokens × ArePartsPlaced body tokens)
 
   pub AreItemsPlaced : {n : _} → kinds.Row_of-RawItem n → List Token → Type 0
   AreItemsPlaced kinds.end_of-RawItem tokens = Unit {0}
@@ -237,6 +233,10 @@ abbrev mutual
   AreSwitchItemsPlaced kinds.end_of-RawSwitchItem tokens = Unit {0}
   AreSwitchItemsPlaced (kinds.more_of-RawSwitchItem first others) tokens =
       IsSwitchItemPlaced first tokens × AreSwitchItemsPlaced others (past (switch_item_text (switch_item first)) tokens)
+
+-- a statement is at its first token
+abbrev pub IsStatementPlaced : Place → RawStmtKind → List Token → Type 0
+IsStatementPlaced at statement tokens = StandsAt at tokens × ArePartsPlaced statement tokens
 
 -- the body of a function has both its braces
 pub record IsBodyPlaced (body : RawBody) (tokens : List Token) : Type 0 where

@@ -11,4 +11,5 @@ pub mod FileAnswers
 pub mod Files
 pub mod FileStops
 pub mod FilePlaces
+pub mod StatementPlaces
 pub mod SpecPlaces

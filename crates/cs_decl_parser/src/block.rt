@@ -1,5 +1,5 @@
 //! Blocks and what stands in them (C11 6.8.2).
-ghost use Rattle.std.specs.Prelude.{◌≡◌, ◌≤◌, ◌<◌, ◌^◌, length, IfOk, IsTrue};
+ghost use Rattle.std.specs.Prelude.{◌≡◌, ◌≤◌, ◌<◌, ◌^◌, length, drop, IfOk, IsTrue};
 ghost use Rattle.cs_ast.specs.declared.token.TokenKind.TheVariants as token;
 ghost use Rattle.cs_ast.specs.declared.token.Mark.TheVariants as mark;
 ghost use Rattle.cs_ast.specs.RawStatementView.{item as item_of, statement_of};
@@ -9,6 +9,8 @@ ghost use Rattle.cs_expr_parser.specs.Positions.{kind_or_end};
 ghost use Rattle.cs_decl_parser.specs.Answers.{Answers, ExactAnswers};
 ghost use Rattle.cs_decl_parser.specs.Blocks.{Locals, local_of, ItemsAnswers};
 ghost use Rattle.cs_decl_parser.specs.Bounds.{IsBounded, IsRowBounded};
+ghost use Rattle.cs_decl_parser.specs.FilePlaces.{IsDeclarationPlaced, IsItemPlaced};
+ghost use Rattle.cs_decl_parser.specs.StatementPlaces.{HasStatementPlaces, AreItemsBeside};
 
 use crate::block_specs::block_specs;
 use crate::form::is_label;
@@ -31,6 +33,7 @@ pub fn block(alloc: Global, source: &Source, from: usize, room: u32) -> Result<T
     requires stands { kind_or_end source.now.tokens.now from ≡ token.Mark mark.OpenBrace }
     ensures bounds { IsBounded room source.now.tokens.now from result }
     ensures parsed { Answers (Sentences source.now.names.now) statement_of room source.now.tokens.now source.now.end from result }
+    ensures placed { IfOk result (λ taken. HasStatementPlaces taken.tree (drop from source.now.tokens.now)) }
 {
     let items = items(alloc, source, from + 1, room - 1)?;
     let kind = RawStmtKind::Block(items.tree);
@@ -51,6 +54,7 @@ pub fn items(
     requires few { length source.now.tokens.now < 2 ^ 32 }
     ensures bounds { IsRowBounded room source.now.tokens.now from result }
     ensures parsed { ItemsAnswers source.now.names.now room source.now.tokens.now source.now.end from result }
+    ensures placed { IfOk result (λ taken. AreItemsBeside taken.tree.items (drop from source.now.tokens.now)) }
     ensures closing { IfOk result (λ taken. taken.next < length source.now.tokens.now) }
 {
     let mut list = Vec::new(alloc);
@@ -76,6 +80,7 @@ pub fn item(alloc: Global, source: &Source, from: usize, room: u32) -> Result<Ta
     requires few { length source.now.tokens.now < 2 ^ 32 }
     ensures bounds { IsBounded room source.now.tokens.now from result }
     ensures parsed { Answers (BlockItems source.now.names.now) item_of room source.now.tokens.now source.now.end from result }
+    ensures placed { IfOk result (λ taken. IsItemPlaced taken.tree (drop from source.now.tokens.now)) }
 {
     if begins_type(source, from) && !is_label(source, from) {
         let declared = declaration(alloc, source, from, room)?;
@@ -112,6 +117,7 @@ pub fn declaration(
     requires typed { IsTrue (starts_type source.now.names.now (kind_or_end source.now.tokens.now from)) }
     ensures bounds { IsBounded room source.now.tokens.now from result }
     ensures parsed { ExactAnswers (Locals source.now.names.now) local_of room source.now.tokens.now source.now.end from result }
+    ensures placed { IfOk result (λ taken. IsDeclarationPlaced taken.tree.specs taken.tree.objects.items (drop from source.now.tokens.now)) }
 {
     if room < 2 {
         return Err(refuse_deep(from));

@@ -1,5 +1,5 @@
 //! Statements that choose (C11 6.8.4).
-ghost use Rattle.std.specs.Prelude.{◌≡◌, ℕ, ◌≤◌, ◌<◌, ◌^◌, length};
+ghost use Rattle.std.specs.Prelude.{◌≡◌, ℕ, ◌≤◌, ◌<◌, ◌^◌, length, drop, IfOk};
 ghost use Rattle.cs_ast.specs.declared.token.TokenKind.TheVariants as token;
 ghost use Rattle.cs_ast.specs.declared.token.Keyword.TheVariants as keyword;
 ghost use Rattle.cs_ast.specs.RawStatementView.{statement_of, switch_item as switch_item_of};
@@ -8,6 +8,8 @@ ghost use Rattle.cs_expr_parser.specs.Positions.{kind_or_end};
 ghost use Rattle.cs_decl_parser.specs.Answers.{Answers, ExactAnswers};
 ghost use Rattle.cs_decl_parser.specs.Blocks.{switch_items_of};
 ghost use Rattle.cs_decl_parser.specs.Bounds.{IsBounded};
+ghost use Rattle.cs_decl_parser.specs.FilePlaces.{IsSwitchItemPlaced};
+ghost use Rattle.cs_decl_parser.specs.StatementPlaces.{HasStatementPlaces, AreSwitchItemsBeside};
 
 use crate::block::item;
 use crate::expression::{closed, parenthesised};
@@ -34,6 +36,7 @@ pub fn if_statement(
     requires stands { kind_or_end source.now.tokens.now from ≡ token.Keyword keyword.If }
     ensures bounds { IsBounded room source.now.tokens.now from result }
     ensures parsed { Answers (Sentences source.now.names.now) statement_of room source.now.tokens.now source.now.end from result }
+    ensures placed { IfOk result (λ taken. HasStatementPlaces taken.tree (drop from source.now.tokens.now)) }
 {
     let place = place_at(source, from);
     let test = parenthesised(alloc, source, from + 1, room - 1)?;
@@ -61,6 +64,7 @@ pub fn switch_statement(
     requires stands { kind_or_end source.now.tokens.now from ≡ token.Keyword keyword.Switch }
     ensures bounds { IsBounded room source.now.tokens.now from result }
     ensures parsed { Answers (Sentences source.now.names.now) statement_of room source.now.tokens.now source.now.end from result }
+    ensures placed { IfOk result (λ taken. HasStatementPlaces taken.tree (drop from source.now.tokens.now)) }
 {
     let value = parenthesised(alloc, source, from + 1, room - 1)?;
     if !is_mark(source, value.next, Mark::OpenBrace) {
@@ -84,6 +88,7 @@ fn switch_items(
     requires few { length source.now.tokens.now < 2 ^ 32 }
     ensures bounds { IsBounded room source.now.tokens.now from result }
     ensures parsed { ExactAnswers (SwitchRows source.now.names.now) switch_items_of room source.now.tokens.now source.now.end from result }
+    ensures placed { IfOk result (λ taken. AreSwitchItemsBeside taken.tree.items (drop from source.now.tokens.now)) }
 {
     let mut list = Vec::new(alloc);
     let mut height: u32 = 0;
@@ -113,6 +118,7 @@ fn switch_item(
     requires few { length source.now.tokens.now < 2 ^ 32 }
     ensures bounds { IsBounded room source.now.tokens.now from result }
     ensures parsed { Answers (SwitchParts source.now.names.now) switch_item_of room source.now.tokens.now source.now.end from result }
+    ensures placed { IfOk result (λ taken. IsSwitchItemPlaced taken.tree (drop from source.now.tokens.now)) }
 {
     if is_keyword(source, from, Keyword::Case) {
         return case(alloc, source, from, room);
@@ -140,6 +146,7 @@ fn case(
     requires stands { kind_or_end source.now.tokens.now from ≡ token.Keyword keyword.Case }
     ensures bounds { IsBounded room source.now.tokens.now from result }
     ensures parsed { Answers (SwitchParts source.now.names.now) switch_item_of room source.now.tokens.now source.now.end from result }
+    ensures placed { IfOk result (λ taken. IsSwitchItemPlaced taken.tree (drop from source.now.tokens.now)) }
 {
     if room == 0 {
         return Err(refuse_deep(from));
@@ -159,6 +166,7 @@ fn default(source: &Source, from: usize) -> Result<Taken<RawSwitchItem>, Stop>
     requires stands { kind_or_end source.now.tokens.now from ≡ token.Keyword keyword.Default }
     ensures bounds { IsBounded 0 source.now.tokens.now from result }
     ensures parsed { (room : ℕ) → Answers (SwitchParts source.now.names.now) switch_item_of room source.now.tokens.now source.now.end from result }
+    ensures placed { IfOk result (λ taken. IsSwitchItemPlaced taken.tree (drop from source.now.tokens.now)) }
 {
     if !is_mark(source, from + 1, Mark::Colon) {
         return Err(refuse(source, from + 1, Scope::Block));

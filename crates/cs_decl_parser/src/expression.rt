@@ -121,6 +121,7 @@ pub fn parenthesised(
     requires some { 1 ≤ room }
     ensures bounds { IsBounded room source.now.tokens.now from result }
     ensures parsed { ExactAnswers (Tests source.now.names.now) written room source.now.tokens.now source.now.end from result }
+    ensures placed { IfOk result (λ taken. HasPlaces taken.tree (drop (from + 1) source.now.tokens.now)) }
 {
     if !is_mark(source, from, Mark::OpenParenthesis) {
         return Err(refuse(source, from, Scope::Block));

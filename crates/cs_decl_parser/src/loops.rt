@@ -1,5 +1,6 @@
 //! Statements that repeat (C11 6.8.5).
-ghost use Rattle.std.specs.Prelude.{◌≡◌, ◌≤◌, ◌<◌, ◌^◌, length};
+ghost use Rattle.std.specs.Prelude.{◌≡◌, ◌≤◌, ◌<◌, ◌+◌, ◌^◌, List, length, drop, IfOk};
+ghost use Rattle.cs_ast.specs.declared.token.Token.{Token as Lexed};
 ghost use Rattle.cs_ast.specs.declared.token.TokenKind.TheVariants as token;
 ghost use Rattle.cs_ast.specs.declared.token.Keyword.TheVariants as keyword;
 ghost use Rattle.std.specs.Option.{option_map};
@@ -10,6 +11,8 @@ ghost use Rattle.cs_expr_parser.specs.Positions.{kind_or_end};
 ghost use Rattle.cs_decl_parser.specs.Answers.{Answers, ExactAnswers};
 ghost use Rattle.cs_decl_parser.specs.Blocks.{Controls, control_of, first_if_any};
 ghost use Rattle.cs_decl_parser.specs.Bounds.{IsBounded};
+ghost use Rattle.cs_decl_parser.specs.FilePlaces.{IsSomePlaced, IsFirstPlaced};
+ghost use Rattle.cs_decl_parser.specs.StatementPlaces.{HasStatementPlaces, AreForPartsPlaced};
 
 use crate::block::declaration;
 use crate::expression::{closed_if_any, parenthesised};
@@ -37,6 +40,7 @@ pub fn while_statement(
     requires stands { kind_or_end source.now.tokens.now from ≡ token.Keyword keyword.While }
     ensures bounds { IsBounded room source.now.tokens.now from result }
     ensures parsed { Answers (Sentences source.now.names.now) statement_of room source.now.tokens.now source.now.end from result }
+    ensures placed { IfOk result (λ taken. HasStatementPlaces taken.tree (drop from source.now.tokens.now)) }
 {
     let place = place_at(source, from);
     let test = parenthesised(alloc, source, from + 1, room - 1)?;
@@ -59,6 +63,7 @@ pub fn do_statement(
     requires stands { kind_or_end source.now.tokens.now from ≡ token.Keyword keyword.Do }
     ensures bounds { IsBounded room source.now.tokens.now from result }
     ensures parsed { Answers (Sentences source.now.names.now) statement_of room source.now.tokens.now source.now.end from result }
+    ensures placed { IfOk result (λ taken. HasStatementPlaces taken.tree (drop from source.now.tokens.now)) }
 {
     let place = place_at(source, from);
     let body = statement(alloc, source, from + 1, room - 1)?;
@@ -96,6 +101,7 @@ pub fn for_statement(
     requires stands { kind_or_end source.now.tokens.now from ≡ token.Keyword keyword.For }
     ensures bounds { IsBounded room source.now.tokens.now from result }
     ensures parsed { Answers (Sentences source.now.names.now) statement_of room source.now.tokens.now source.now.end from result }
+    ensures placed { IfOk result (λ taken. HasStatementPlaces taken.tree (drop from source.now.tokens.now)) }
 {
     let place = place_at(source, from);
     let control = control(alloc, source, from + 1, room - 1)?;
@@ -110,6 +116,7 @@ fn control(alloc: Global, source: &Source, from: usize, room: u32) -> Result<Tak
     requires few { length source.now.tokens.now < 2 ^ 32 }
     ensures bounds { IsBounded room source.now.tokens.now from result }
     ensures parsed { ExactAnswers (Controls source.now.names.now) control_of room source.now.tokens.now source.now.end from result }
+    ensures placed { IfOk result (λ taken. AreForPartsPlaced taken.tree (drop (from + 1) source.now.tokens.now)) }
 {
     if !is_mark(source, from, Mark::OpenParenthesis) {
         return Err(refuse(source, from, Scope::Block));
@@ -147,6 +154,7 @@ fn first_part(
     requires few { length source.now.tokens.now < 2 ^ 32 }
     ensures bounds { IsBounded room source.now.tokens.now from result }
     ensures parsed { ExactAnswers (Firsts source.now.names.now) first_of room source.now.tokens.now source.now.end from result }
+    ensures placed { IfOk result (λ taken. IsFirstPlaced taken.tree (drop from source.now.tokens.now)) }
 {
     if begins_type(source, from) {
         let declared = declaration(alloc, source, from, room)?;
@@ -167,7 +175,8 @@ fn first_part(
 
 /// The first part of a `for` that declares nothing.
 fn run_if_any(value: Option<RawExpr>) -> RawFirst
-    ensures { first_of result ≡ first_if_any (option_map written value) }
+    ensures tree { first_of result ≡ first_if_any (option_map written value) }
+    ensures placed { (list : List Lexed) → IsSomePlaced value list → IsFirstPlaced result list }
 {
     match value {
         Some(value) => RawFirst::Run(value),

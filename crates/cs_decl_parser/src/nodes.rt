@@ -5,6 +5,7 @@ ghost use Rattle.cs_ast.specs.RawView.{written};
 ghost use Rattle.cs_ast.specs.RawStatements.{If as IfNode, IfElse as IfElseNode, While as WhileNode, Do as DoNode, For as ForNode, Label as LabelNode};
 ghost use Rattle.cs_ast.specs.RawStatementView.{first_of, sentence, statement_of};
 ghost use Rattle.cs_decl_parser.specs.Nodes.{IsNode};
+ghost use Rattle.cs_decl_parser.specs.StatementPlaces.{IsMadeOf, IsLabelOf, IsTestedOf, IsChoiceOf, IsDoneOf, IsLoopOf};
 
 use crate::loops::ForParts;
 use crate::stop::Taken;
@@ -16,7 +17,8 @@ use std::alloc::{AllocError, Global};
 
 /// The statement of a kind at its place, of this height, up to this token.
 pub fn node(place: Place, kind: RawStmtKind, height: u32, next: usize) -> Taken<RawStmt>
-    ensures { IsNode (sentence kind) height next result }
+    ensures node { IsNode (sentence kind) height next result }
+    ensures placed { IsMadeOf place kind result.tree }
 {
     Taken {
         tree: RawStmt { place, kind },
@@ -32,7 +34,8 @@ pub fn label_node(
     body: Taken<RawStmt>,
 ) -> Result<Taken<RawStmt>, AllocError>
     requires low { body.height < 2 ^ 32 - 1 }
-    ensures { IfOk result (IsNode (LabelNode name.name (statement_of body.tree)) (body.height + 1) body.next) }
+    ensures node { IfOk result (IsNode (LabelNode name.name (statement_of body.tree)) (body.height + 1) body.next) }
+    ensures placed { IfOk result (λ made. IsLabelOf name.place body.tree made.tree) }
 {
     let (height, next) = (body.height + 1, body.next);
     let body = Box::new(alloc, body.tree)?;
@@ -48,7 +51,8 @@ pub fn if_node(
     body: Taken<RawStmt>,
 ) -> Result<Taken<RawStmt>, AllocError>
     requires low { (test.height < 2 ^ 32 - 1) × (body.height < 2 ^ 32 - 1) }
-    ensures { IfOk result (IsNode (IfNode (written test.tree) (statement_of body.tree)) (max test.height body.height + 1) body.next) }
+    ensures node { IfOk result (IsNode (IfNode (written test.tree) (statement_of body.tree)) (max test.height body.height + 1) body.next) }
+    ensures placed { IfOk result (λ made. IsTestedOf place test.tree body.tree made.tree) }
 {
     let (height, next) = (test.height.max(body.height) + 1, body.next);
     let body = Box::new(alloc, body.tree)?;
@@ -65,7 +69,8 @@ pub fn if_else_node(
     other: Taken<RawStmt>,
 ) -> Result<Taken<RawStmt>, AllocError>
     requires low { (test.height < 2 ^ 32 - 1) × (body.height < 2 ^ 32 - 1) × (other.height < 2 ^ 32 - 1) }
-    ensures { IfOk result (IsNode (IfElseNode (written test.tree) (statement_of body.tree) (statement_of other.tree)) (max (max test.height body.height) other.height + 1) other.next) }
+    ensures node { IfOk result (IsNode (IfElseNode (written test.tree) (statement_of body.tree) (statement_of other.tree)) (max (max test.height body.height) other.height + 1) other.next) }
+    ensures placed { IfOk result (λ made. IsChoiceOf place test.tree body.tree other.tree made.tree) }
 {
     let height = test.height.max(body.height).max(other.height) + 1;
     let next = other.next;
@@ -83,7 +88,8 @@ pub fn while_node(
     body: Taken<RawStmt>,
 ) -> Result<Taken<RawStmt>, AllocError>
     requires low { (test.height < 2 ^ 32 - 1) × (body.height < 2 ^ 32 - 1) }
-    ensures { IfOk result (IsNode (WhileNode (written test.tree) (statement_of body.tree)) (max test.height body.height + 1) body.next) }
+    ensures node { IfOk result (IsNode (WhileNode (written test.tree) (statement_of body.tree)) (max test.height body.height + 1) body.next) }
+    ensures placed { IfOk result (λ made. IsTestedOf place test.tree body.tree made.tree) }
 {
     let (height, next) = (test.height.max(body.height) + 1, body.next);
     let body = Box::new(alloc, body.tree)?;
@@ -100,7 +106,8 @@ pub fn do_node(
     next: usize,
 ) -> Result<Taken<RawStmt>, AllocError>
     requires low { (body.height < 2 ^ 32 - 1) × (test.height < 2 ^ 32 - 1) }
-    ensures { IfOk result (IsNode (DoNode (statement_of body.tree) (written test.tree)) (max body.height test.height + 1) next) }
+    ensures node { IfOk result (IsNode (DoNode (statement_of body.tree) (written test.tree)) (max body.height test.height + 1) next) }
+    ensures placed { IfOk result (λ made. IsDoneOf place body.tree test.tree made.tree) }
 {
     let height = body.height.max(test.height) + 1;
     let body = Box::new(alloc, body.tree)?;
@@ -116,7 +123,8 @@ pub fn for_node(
     body: Taken<RawStmt>,
 ) -> Result<Taken<RawStmt>, AllocError>
     requires low { (parts.height < 2 ^ 32 - 1) × (body.height < 2 ^ 32 - 1) }
-    ensures { IfOk result (IsNode (ForNode (first_of parts.tree.first) (option_map written parts.tree.test) (option_map written parts.tree.last) (statement_of body.tree)) (max parts.height body.height + 1) body.next) }
+    ensures node { IfOk result (IsNode (ForNode (first_of parts.tree.first) (option_map written parts.tree.test) (option_map written parts.tree.last) (statement_of body.tree)) (max parts.height body.height + 1) body.next) }
+    ensures placed { IfOk result (λ made. IsLoopOf place parts.tree body.tree made.tree) }
 {
     let (height, next) = (parts.height.max(body.height) + 1, body.next);
     let body = Box::new(alloc, body.tree)?;

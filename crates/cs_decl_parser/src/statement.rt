@@ -1,5 +1,5 @@
 //! Statements (C11 6.8).
-ghost use Rattle.std.specs.Prelude.{◌≡◌, ℕ, ◌≤◌, ◌<◌, ◌^◌, ◌+◌, length, IsTrue};
+ghost use Rattle.std.specs.Prelude.{◌≡◌, ℕ, ◌≤◌, ◌<◌, ◌^◌, ◌+◌, length, drop, IfOk, IsTrue};
 ghost use Rattle.cs_ast.specs.declared.token.TokenKind.TheVariants as token;
 ghost use Rattle.cs_ast.specs.declared.token.Keyword.TheVariants as keyword;
 ghost use Rattle.cs_ast.specs.RawStatementView.{sentence, statement_of};
@@ -9,7 +9,9 @@ ghost use Rattle.cs_decl_parser.specs.declared.form.Form.TheVariants as form;
 ghost use Rattle.cs_decl_parser.specs.Answers.{Answers};
 ghost use Rattle.cs_decl_parser.specs.Bounds.{IsBounded};
 ghost use Rattle.cs_decl_parser.specs.Forms.{form_of, is_labelled, IsJump};
+ghost use Rattle.cs_decl_parser.specs.FilePlaces.{ArePartsPlaced};
 ghost use Rattle.cs_decl_parser.specs.Nodes.{IsNode};
+ghost use Rattle.cs_decl_parser.specs.StatementPlaces.{HasStatementPlaces};
 
 use crate::block::block;
 use crate::branches::{if_statement, switch_statement};
@@ -37,6 +39,7 @@ pub fn statement(
     requires few { length source.now.tokens.now < 2 ^ 32 }
     ensures bounds { IsBounded room source.now.tokens.now from result }
     ensures parsed { Answers (Sentences source.now.names.now) statement_of room source.now.tokens.now source.now.end from result }
+    ensures placed { IfOk result (λ taken. HasStatementPlaces taken.tree (drop from source.now.tokens.now)) }
 {
     let form = form_at(source, from);
     if room < form.least_height() {
@@ -63,7 +66,8 @@ pub fn statement(
 /// A statement with no part, from a number on, up to another.
 fn leaf(source: &Source, from: usize, next: usize, kind: RawStmtKind) -> Taken<RawStmt>
     requires within { from < length source.now.tokens.now }
-    ensures { IsNode (sentence kind) 1 next result }
+    ensures node { IsNode (sentence kind) 1 next result }
+    ensures placed { ArePartsPlaced kind (drop from source.now.tokens.now) → HasStatementPlaces result.tree (drop from source.now.tokens.now) }
 {
     node(place_at(source, from), kind, 1, next)
 }
@@ -77,6 +81,7 @@ fn label(alloc: Global, source: &Source, from: usize, room: u32) -> Result<Taken
     requires stands { IsTrue (is_labelled (kind_or_end source.now.tokens.now from) (kind_or_end source.now.tokens.now (from + 1))) }
     ensures bounds { IsBounded room source.now.tokens.now from result }
     ensures parsed { Answers (Sentences source.now.names.now) statement_of room source.now.tokens.now source.now.end from result }
+    ensures placed { IfOk result (λ taken. HasStatementPlaces taken.tree (drop from source.now.tokens.now)) }
 {
     let Some(name) = any_name_at(source, from)? else {
         return Err(refuse(source, from, Scope::Block));
@@ -93,6 +98,7 @@ fn run(alloc: Global, source: &Source, from: usize, room: u32) -> Result<Taken<R
     requires stands { form_of source.now.names.now (kind_or_end source.now.tokens.now from) (kind_or_end source.now.tokens.now (from + 1)) ≡ form.Run }
     ensures bounds { IsBounded room source.now.tokens.now from result }
     ensures parsed { Answers (Sentences source.now.names.now) statement_of room source.now.tokens.now source.now.end from result }
+    ensures placed { IfOk result (λ taken. HasStatementPlaces taken.tree (drop from source.now.tokens.now)) }
 {
     let (level, closing) = (ExprLevel::Expr, Mark::Semicolon);
     let value = closed(alloc, source, from, room.saturating_sub(1), level, closing)?;
@@ -108,6 +114,7 @@ fn goto(source: &Source, from: usize) -> Result<Taken<RawStmt>, Stop>
     requires stands { kind_or_end source.now.tokens.now from ≡ token.Keyword keyword.Goto }
     ensures bounds { IsBounded 1 source.now.tokens.now from result }
     ensures parsed { (room : ℕ) → 1 ≤ room → Answers (Sentences source.now.names.now) statement_of room source.now.tokens.now source.now.end from result }
+    ensures placed { IfOk result (λ taken. HasStatementPlaces taken.tree (drop from source.now.tokens.now)) }
 {
     let Some(name) = any_name_at(source, from + 1)? else {
         return Err(refuse(source, from + 1, Scope::Block));
@@ -125,6 +132,7 @@ fn jump(source: &Source, from: usize, kind: RawStmtKind) -> Result<Taken<RawStmt
     requires stands { IsJump (kind_or_end source.now.tokens.now from) (sentence kind) }
     ensures bounds { IsBounded 1 source.now.tokens.now from result }
     ensures parsed { (room : ℕ) → 1 ≤ room → Answers (Sentences source.now.names.now) statement_of room source.now.tokens.now source.now.end from result }
+    ensures placed { IfOk result (λ taken. HasStatementPlaces taken.tree (drop from source.now.tokens.now)) }
 {
     if !is_mark(source, from + 1, Mark::Semicolon) {
         return Err(refuse(source, from + 1, Scope::Block));
@@ -145,6 +153,7 @@ fn return_statement(
     requires stands { kind_or_end source.now.tokens.now from ≡ token.Keyword keyword.Return }
     ensures bounds { IsBounded room source.now.tokens.now from result }
     ensures parsed { Answers (Sentences source.now.names.now) statement_of room source.now.tokens.now source.now.end from result }
+    ensures placed { IfOk result (λ taken. HasStatementPlaces taken.tree (drop from source.now.tokens.now)) }
 {
     let (level, closing) = (ExprLevel::Expr, Mark::Semicolon);
     let value = closed_if_any(alloc, source, from + 1, room - 1, level, closing)?;

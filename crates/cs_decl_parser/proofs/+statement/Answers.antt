@@ -1,5 +1,6 @@
-use Rattle.std.proofs.Common.{◌≡◌, ℕ, ◌+◌, ◌-◌, ◌≤◌, ◌<◌, inl, inr, Bool, true, false, List, [], Result, Ok, Err, refl, sym, ap, ◌∙◌, subst, arith, rules}
+use Rattle.std.proofs.Common.{◌≡◌, ℕ, ◌+◌, ◌-◌, ◌≤◌, ◌<◌, inl, inr, Bool, true, false, List, [], drop, Option, Result, Ok, Err, refl, sym, ap, ◌∙◌, subst, arith, rules}
 use Rattle.std.proofs.lemmas.Bool.{false≢true}
+use Rattle.cs_ast.specs.declared.raw.name.RawName.{RawName}
 use Rattle.cs_ast.specs.RawStatementView.{sentence, statement_of, item, switch_item}
 use Rattle.cs_ast.specs.declared.raw.statement.RawStmtKind.TheVariants as kind
 use Rattle.cs_ast.specs.declared.token.TokenKind.TheVariants as token
@@ -17,6 +18,8 @@ use Rattle.cs_decl_parser.proofs.StatementSites.{statement_full, unlabelled_stop
 use Rattle.cs_decl_parser.proofs.BlockSites.{block_stops, block_taken, ItemsSoFar, items_none, items_stop, items_more, items_taken, SwitchSoFar, switch_none, switch_stop, switch_more, switch_row_taken, switch_value_stops, switch_brace_missing, switch_items_stop, switch_taken, no_case, inside_stops, inside_taken}
 use Rattle.cs_decl_parser.proofs.LocalSites.{declares_stops, declares_taken, does_stops, does_taken}
 use Rattle.cs_decl_parser.proofs.ForSites.{for_control_stops, for_body_stops, for_taken}
+use Rattle.cs_decl_parser.specs.FilePlaces.{IsNamePlaced}
+use Rattle.cs_decl_parser.proofs.PlacingStatements.{label_placed, block_placed, tested_placed, choice_placed, done_placed, loop_placed, switch_placed, items_begun, items_go_on, switch_begun, switch_goes_on}
 use Rattle.cs_decl_parser.proofs.+statement.Goals as goal
 use Rattle.cs_decl_parser.proofs.+statement.Goals.{block::item-else-begins_type-via-then-begins_type+else-not-is_label, block::item-else-begins_type-via-else-begins_type}
 
@@ -34,7 +37,7 @@ loops::while_statement-returns-in_err-body-clause-parsed t c =
 
 pub loops::while_statement-returns-clause-parsed : goal.loops::while_statement-returns-clause-parsed
 loops::while_statement-returns-clause-parsed t c =
-    while_taken c.args.source.now.names.now c.args.room c.args.source.now.tokens.now c.args.from c.in_ok-test.test c.in_ok-body.body c.in_ok-made.made c.requires.enough c.requires.stands c.in_ok-test.ensures.parsed c.in_ok-body.ensures.parsed c.in_ok-made.ensures
+    while_taken c.args.source.now.names.now c.args.room c.args.source.now.tokens.now c.args.from c.in_ok-test.test c.in_ok-body.body c.in_ok-made.made c.requires.enough c.requires.stands c.in_ok-test.ensures.parsed c.in_ok-body.ensures.parsed c.in_ok-made.ensures.node
 
 pub branches::if_statement-returns-in_err-test-clause-parsed : goal.branches::if_statement-returns-in_err-test-clause-parsed
 branches::if_statement-returns-in_err-test-clause-parsed t c =
@@ -50,7 +53,7 @@ branches::if_statement-returns-in_err-body-clause-parsed t c =
 
 pub branches::if_statement-returns-then-not-is_keyword-clause-parsed : goal.branches::if_statement-returns-then-not-is_keyword-clause-parsed
 branches::if_statement-returns-then-not-is_keyword-clause-parsed t c =
-    if_taken c.args.source.now.names.now c.args.room c.args.source.now.tokens.now c.args.from c.in_ok-test.test c.in_ok-body.body c.in_ok-made.made c.requires.enough c.requires.stands c.in_ok-test.ensures.parsed c.in_ok-body.ensures.parsed (λ k. false≢true (sym c.if-not-is_keyword.true ∙ c.is_keyword.ensures.keyword.1 k)) c.in_ok-made.ensures
+    if_taken c.args.source.now.names.now c.args.room c.args.source.now.tokens.now c.args.from c.in_ok-test.test c.in_ok-body.body c.in_ok-made.made c.requires.enough c.requires.stands c.in_ok-test.ensures.parsed c.in_ok-body.ensures.parsed (λ k. false≢true (sym c.if-not-is_keyword.true ∙ c.is_keyword.ensures.keyword.1 k)) c.in_ok-made.ensures.node
 
 pub branches::if_statement-returns-in_err-other-clause-parsed : goal.branches::if_statement-returns-in_err-other-clause-parsed
 branches::if_statement-returns-in_err-other-clause-parsed t c =
@@ -60,7 +63,7 @@ branches::if_statement-returns-in_err-other-clause-parsed t c =
 
 pub branches::if_statement-returns-clause-parsed : goal.branches::if_statement-returns-clause-parsed
 branches::if_statement-returns-clause-parsed t c =
-    else_taken c.args.source.now.names.now c.args.room c.args.source.now.tokens.now c.args.from c.in_ok-test.test c.in_ok-body.body c.in_ok-other.other c.in_ok-made-2.made c.requires.enough c.requires.stands c.in_ok-test.ensures.parsed c.in_ok-body.ensures.parsed (c.is_keyword.ensures.keyword.0 c.if-not-is_keyword.false) c.in_ok-other.ensures.parsed c.in_ok-made-2.ensures
+    else_taken c.args.source.now.names.now c.args.room c.args.source.now.tokens.now c.args.from c.in_ok-test.test c.in_ok-body.body c.in_ok-other.other c.in_ok-made-2.made c.requires.enough c.requires.stands c.in_ok-test.ensures.parsed c.in_ok-body.ensures.parsed (c.is_keyword.ensures.keyword.0 c.if-not-is_keyword.false) c.in_ok-other.ensures.parsed c.in_ok-made-2.ensures.node
 
 pub loops::do_statement-returns-in_err-body-clause-parsed : goal.loops::do_statement-returns-in_err-body-clause-parsed
 loops::do_statement-returns-in_err-body-clause-parsed t c =
@@ -84,7 +87,7 @@ loops::do_statement-returns-then-not-is_mark-clause-parsed t c =
 
 pub loops::do_statement-returns-clause-parsed : goal.loops::do_statement-returns-clause-parsed
 loops::do_statement-returns-clause-parsed t c =
-    do_taken c.args.source.now.names.now c.args.room c.args.source.now.tokens.now c.args.from c.in_ok-body.body c.in_ok-made.made c.in_ok-test.test c.requires.enough c.requires.stands c.in_ok-body.ensures.parsed (c.is_keyword.ensures.keyword.0 c.if-not-is_keyword.false) c.in_ok-test.ensures.parsed (c.is_mark.ensures.mark.0 c.if-not-is_mark.false) c.in_ok-made.ensures
+    do_taken c.args.source.now.names.now c.args.room c.args.source.now.tokens.now c.args.from c.in_ok-body.body c.in_ok-made.made c.in_ok-test.test c.requires.enough c.requires.stands c.in_ok-body.ensures.parsed (c.is_keyword.ensures.keyword.0 c.if-not-is_keyword.false) c.in_ok-test.ensures.parsed (c.is_mark.ensures.mark.0 c.if-not-is_mark.false) c.in_ok-made.ensures.node
 
 pub loops::for_statement-returns-in_err-control-clause-parsed : goal.loops::for_statement-returns-in_err-control-clause-parsed
 loops::for_statement-returns-in_err-control-clause-parsed t c =
@@ -100,7 +103,7 @@ loops::for_statement-returns-in_err-body-clause-parsed t c =
 
 pub loops::for_statement-returns-clause-parsed : goal.loops::for_statement-returns-clause-parsed
 loops::for_statement-returns-clause-parsed t c =
-    for_taken c.args.source.now.names.now c.args.room c.args.source.now.tokens.now c.args.from c.in_ok-control.control c.in_ok-body.body c.in_ok-made.made c.requires.enough c.requires.stands c.in_ok-control.ensures.parsed c.in_ok-body.ensures.parsed c.in_ok-made.ensures
+    for_taken c.args.source.now.names.now c.args.room c.args.source.now.tokens.now c.args.from c.in_ok-control.control c.in_ok-body.body c.in_ok-made.made c.requires.enough c.requires.stands c.in_ok-control.ensures.parsed c.in_ok-body.ensures.parsed c.in_ok-made.ensures.node
 
 pub statement::label-returns-in_default-clause-parsed : goal.statement::label-returns-in_default-clause-parsed
 statement::label-returns-in_default-clause-parsed t c =
@@ -117,7 +120,7 @@ statement::label-returns-in_err-body-clause-parsed t c =
 pub statement::label-returns-clause-parsed : goal.statement::label-returns-clause-parsed
 statement::label-returns-clause-parsed t c =
     let name = subst (IsNameAt (λ name. Unit {0}) (kind_or_end c.args.source.now.tokens.now c.args.from)) c.in-Some.is c.in_ok-name.ensures.name in
-    label_taken c.args.source.now.names.now c.args.room c.args.source.now.tokens.now c.args.from c.in-Some.name.name c.in_ok-body.body c.in_ok-made.made c.requires.enough name.0 c.requires.stands c.in_ok-body.ensures.parsed c.in_ok-made.ensures
+    label_taken c.args.source.now.names.now c.args.room c.args.source.now.tokens.now c.args.from c.in-Some.name.name c.in_ok-body.body c.in_ok-made.made c.requires.enough name.0 c.requires.stands c.in_ok-body.ensures.parsed c.in_ok-made.ensures.node
 
 pub statement::statement-returns-then-room-least_height-clause-parsed : goal.statement::statement-returns-then-room-least_height-clause-parsed
 statement::statement-returns-then-room-least_height-clause-parsed t c =
@@ -135,7 +138,7 @@ statement::statement-returns-in-Empty-clause-parsed t c =
     let l : least c.form_at-form.result ≡ 1 = ap least c.in-Empty.is in
     let h = c.least_height.ensures in
     let f = c.if-room-least_height.false in
-    nothing_taken c.args.source.now.names.now c.args.room c.args.source.now.tokens.now c.args.from c.leaf.result (omega arith) (told_form c.args.source.now.names.now c.args.source.now.tokens.now c.args.from form.Empty (sym c.form_at-form.ensures.form ∙ c.in-Empty.is)) c.leaf.ensures
+    nothing_taken c.args.source.now.names.now c.args.room c.args.source.now.tokens.now c.args.from c.leaf.result (omega arith) (told_form c.args.source.now.names.now c.args.source.now.tokens.now c.args.from form.Empty (sym c.form_at-form.ensures.form ∙ c.in-Empty.is)) c.leaf.ensures.node
 
 pub statement::statement-returns-in-Goto-clause-parsed : goal.statement::statement-returns-in-Goto-clause-parsed
 statement::statement-returns-in-Goto-clause-parsed t c =
@@ -166,11 +169,11 @@ block::block-returns-in_err-items-clause-parsed t c =
 
 pub block::block-returns-clause-parsed : goal.block::block-returns-clause-parsed
 block::block-returns-clause-parsed t c =
-    block_taken c.args.source.now.names.now c.args.room c.args.source.now.tokens.now c.args.from c.in_ok-items.items c.node.result c.requires.some c.requires.stands c.in_ok-items.ensures.parsed c.node.ensures
+    block_taken c.args.source.now.names.now c.args.room c.args.source.now.tokens.now c.args.from c.in_ok-items.items c.node.result c.requires.some c.requires.stands c.in_ok-items.ensures.parsed c.node.ensures.node
 
 pub block::items-items-init : goal.block::items-items-init
 block::items-items-init t c =
-    record { onward = omega arith; inside = c.requires.within; low = omega arith; so_far = items_none c.args.source.now.names.now c.args.room c.args.source.now.tokens.now c.args.from c.new-list.result.items c.new-list.ensures.items c.requires.within }
+    record { onward = omega arith; inside = c.requires.within; low = omega arith; so_far = items_none c.args.source.now.names.now c.args.room c.args.source.now.tokens.now c.args.from c.new-list.result.items c.new-list.ensures.items c.requires.within; placed = items_begun c.args.source.now.tokens.now c.args.from c.new-list.result.items c.new-list.ensures.items }
 
 pub block::items-returns-in_err-taken-clause-parsed : goal.block::items-returns-in_err-taken-clause-parsed
 block::items-returns-in_err-taken-clause-parsed t c =
@@ -188,6 +191,7 @@ block::items-items-preserved t c =
       inside = b.1;
       low = omega arith;
       so_far = subst (λ (n : ℕ). ItemsSoFar c.args.source.now.names.now c.args.room c.args.source.now.tokens.now c.args.from c.push.new.self.items n c.in_ok-taken.taken.next) (sym h) (items_more c.args.source.now.names.now c.args.room c.args.source.now.tokens.now c.args.from c.items.list.items c.push.new.self.items c.items.height c.items.next c.in_ok-taken.taken i.so_far c.in_ok-taken.ensures.parsed c.in_ok-push.ensures.items);
+      placed = items_go_on c.args.source.now.tokens.now c.args.from c.items.list.items c.push.new.self.items c.items.next c.in_ok-taken.taken.tree c.in_ok-taken.taken.next i.placed c.in_ok-push.ensures.items c.in_ok-taken.ensures.parsed.spelled c.in_ok-taken.ensures.placed;
     }
 
 pub block::items-returns-clause-parsed : goal.block::items-returns-clause-parsed
@@ -232,11 +236,11 @@ branches::switch_statement-returns-in_err-items-clause-parsed t c =
 
 pub branches::switch_statement-returns-clause-parsed : goal.branches::switch_statement-returns-clause-parsed
 branches::switch_statement-returns-clause-parsed t c =
-    switch_taken c.args.source.now.names.now c.args.room c.args.source.now.tokens.now c.args.from c.in_ok-value.value c.in_ok-items.items c.node.result c.requires.enough c.requires.stands c.in_ok-value.ensures.parsed (c.is_mark.ensures.mark.0 c.if-not-is_mark.false) c.in_ok-items.ensures.parsed (subst (λ (n : ℕ). IsNode (sentence (kind.Switch c.in_ok-value.value.tree c.in_ok-items.items.tree)) (n + 1) c.in_ok-items.items.next c.node.result) c.max-height.ensures c.node.ensures)
+    switch_taken c.args.source.now.names.now c.args.room c.args.source.now.tokens.now c.args.from c.in_ok-value.value c.in_ok-items.items c.node.result c.requires.enough c.requires.stands c.in_ok-value.ensures.parsed (c.is_mark.ensures.mark.0 c.if-not-is_mark.false) c.in_ok-items.ensures.parsed (subst (λ (n : ℕ). IsNode (sentence (kind.Switch c.in_ok-value.value.tree c.in_ok-items.items.tree)) (n + 1) c.in_ok-items.items.next c.node.result) c.max-height.ensures c.node.ensures.node)
 
 pub branches::switch_items-items-init : goal.branches::switch_items-items-init
 branches::switch_items-items-init t c =
-    record { onward = omega arith; inside = c.requires.within; low = omega arith; so_far = switch_none c.args.source.now.names.now c.args.room c.args.source.now.tokens.now c.args.from c.new-list.result.items c.new-list.ensures.items c.requires.within }
+    record { onward = omega arith; inside = c.requires.within; low = omega arith; so_far = switch_none c.args.source.now.names.now c.args.room c.args.source.now.tokens.now c.args.from c.new-list.result.items c.new-list.ensures.items c.requires.within; placed = switch_begun c.args.source.now.tokens.now c.args.from c.new-list.result.items c.new-list.ensures.items }
 
 pub branches::switch_items-returns-in_err-taken-clause-parsed : goal.branches::switch_items-returns-in_err-taken-clause-parsed
 branches::switch_items-returns-in_err-taken-clause-parsed t c =
@@ -254,6 +258,7 @@ branches::switch_items-items-preserved t c =
       inside = b.1;
       low = omega arith;
       so_far = subst (λ (n : ℕ). SwitchSoFar c.args.source.now.names.now c.args.room c.args.source.now.tokens.now c.args.from c.push.new.self.items n c.in_ok-taken.taken.next) (sym h) (switch_more c.args.source.now.names.now c.args.room c.args.source.now.tokens.now c.args.from c.items.list.items c.push.new.self.items c.items.height c.items.next c.in_ok-taken.taken i.so_far c.in_ok-taken.ensures.parsed c.in_ok-push.ensures.items);
+      placed = switch_goes_on c.args.source.now.tokens.now c.args.from c.items.list.items c.push.new.self.items c.items.next c.in_ok-taken.taken.tree c.in_ok-taken.taken.next i.placed c.in_ok-push.ensures.items c.in_ok-taken.ensures.parsed.spelled c.in_ok-taken.ensures.placed;
     }
 
 pub branches::switch_items-returns-clause-parsed : goal.branches::switch_items-returns-clause-parsed
@@ -273,3 +278,46 @@ branches::switch_item-returns-in_err-inner-clause-parsed t c =
 pub branches::switch_item-returns-clause-parsed : goal.branches::switch_item-returns-clause-parsed
 branches::switch_item-returns-clause-parsed t c =
     inside_taken c.args.source.now.names.now c.args.room c.args.source.now.tokens.now c.args.from c.in_ok-inner.inner _ (no_case (kind_or_end c.args.source.now.tokens.now c.args.from) (λ k. false≢true (sym c.if-is_keyword.false ∙ c.is_keyword.ensures.keyword.1 k)) (λ k. false≢true (sym c.if-is_keyword-2.false ∙ c.is_keyword-2.ensures.keyword.1 k))) c.in_ok-inner.ensures.parsed refl refl refl
+
+pub statement::statement-returns-in-Empty-clause-placed : goal.statement::statement-returns-in-Empty-clause-placed
+statement::statement-returns-in-Empty-clause-placed t c =
+    c.leaf.ensures.placed tt
+
+pub statement::label-returns-clause-placed : goal.statement::label-returns-clause-placed
+statement::label-returns-clause-placed t c =
+    let at = subst (λ (n : Option RawName). IsNamePlaced n (drop c.args.from c.args.source.now.tokens.now)) c.in-Some.is c.in_ok-name.ensures.placed in
+    label_placed c.args.source.now.tokens.now c.args.from c.in-Some.name.place c.in_ok-body.body.tree c.in_ok-made.made.tree c.in_ok-made.ensures.placed at c.in_ok-body.ensures.placed
+
+pub block::block-returns-clause-placed : goal.block::block-returns-clause-placed
+block::block-returns-clause-placed t c =
+    block_placed c.args.source.now.tokens.now c.args.from c.place_at.result c.in_ok-items.items.tree c.node.result.tree c.node.ensures.placed c.place_at.ensures c.in_ok-items.ensures.placed
+
+pub block::items-returns-clause-placed : goal.block::items-returns-clause-placed
+block::items-returns-clause-placed t c = c.items.invariant.placed.row
+
+pub branches::switch_items-returns-clause-placed : goal.branches::switch_items-returns-clause-placed
+branches::switch_items-returns-clause-placed t c = c.items.invariant.placed.row
+
+pub branches::if_statement-returns-then-not-is_keyword-clause-placed : goal.branches::if_statement-returns-then-not-is_keyword-clause-placed
+branches::if_statement-returns-then-not-is_keyword-clause-placed t c =
+    tested_placed c.args.source.now.tokens.now c.args.from c.place_at-place.result c.in_ok-test.test.tree c.in_ok-test.test.next c.in_ok-body.body.tree c.in_ok-made.made.tree c.in_ok-made.ensures.placed c.place_at-place.ensures c.in_ok-test.ensures.parsed.spelled c.in_ok-test.ensures.placed c.in_ok-body.ensures.placed
+
+pub branches::if_statement-returns-clause-placed : goal.branches::if_statement-returns-clause-placed
+branches::if_statement-returns-clause-placed t c =
+    choice_placed c.args.source.now.tokens.now c.args.from c.place_at-place.result c.in_ok-test.test.tree c.in_ok-test.test.next c.in_ok-body.body.tree c.in_ok-body.body.next c.in_ok-other.other.tree c.in_ok-made-2.made.tree c.in_ok-made-2.ensures.placed c.place_at-place.ensures c.in_ok-test.ensures.parsed.spelled c.in_ok-test.ensures.placed c.in_ok-body.ensures.parsed.spelled c.in_ok-body.ensures.placed c.in_ok-other.ensures.placed
+
+pub branches::switch_statement-returns-clause-placed : goal.branches::switch_statement-returns-clause-placed
+branches::switch_statement-returns-clause-placed t c =
+    switch_placed c.args.source.now.tokens.now c.args.from c.place_at.result c.in_ok-value.value.tree c.in_ok-value.value.next c.in_ok-items.items.tree c.node.result.tree c.node.ensures.placed c.place_at.ensures c.in_ok-value.ensures.parsed.spelled c.in_ok-value.ensures.placed c.in_ok-items.ensures.placed
+
+pub loops::while_statement-returns-clause-placed : goal.loops::while_statement-returns-clause-placed
+loops::while_statement-returns-clause-placed t c =
+    tested_placed c.args.source.now.tokens.now c.args.from c.place_at-place.result c.in_ok-test.test.tree c.in_ok-test.test.next c.in_ok-body.body.tree c.in_ok-made.made.tree c.in_ok-made.ensures.placed c.place_at-place.ensures c.in_ok-test.ensures.parsed.spelled c.in_ok-test.ensures.placed c.in_ok-body.ensures.placed
+
+pub loops::do_statement-returns-clause-placed : goal.loops::do_statement-returns-clause-placed
+loops::do_statement-returns-clause-placed t c =
+    done_placed c.args.source.now.tokens.now c.args.from c.place_at-place.result c.in_ok-body.body.tree c.in_ok-body.body.next c.in_ok-test.test.tree c.in_ok-made.made.tree c.in_ok-made.ensures.placed c.place_at-place.ensures c.in_ok-body.ensures.parsed.spelled c.in_ok-body.ensures.placed c.in_ok-test.ensures.placed
+
+pub loops::for_statement-returns-clause-placed : goal.loops::for_statement-returns-clause-placed
+loops::for_statement-returns-clause-placed t c =
+    loop_placed c.args.source.now.names.now c.args.source.now.tokens.now c.args.from c.place_at-place.result c.in_ok-control.control.tree c.in_ok-control.control.next c.in_ok-body.body.tree c.in_ok-made.made.tree c.in_ok-made.ensures.placed c.place_at-place.ensures c.in_ok-control.ensures.parsed.spelled c.in_ok-control.ensures.placed c.in_ok-body.ensures.placed

@@ -1,6 +1,7 @@
 -- How much room and which part are left: the measure of the parts; and what their loops keep.
 use Rattle.std.proofs.Common.{◌≤◌, ◌<◌, ◌+◌, ◌-◌, ◌*◌, length}
 use Rattle.cs_decl_parser.proofs.BlockSites.{ItemsSoFar, SwitchSoFar}
+use Rattle.cs_decl_parser.proofs.PlacingStatements.{ItemsPlaced, SwitchPlaced}
 use Rattle.cs_decl_parser.proofs.+statement.Given as goal
 
 abbrev pub decreases-statement::statement : goal.decreases-statement::statement
@@ -45,6 +46,7 @@ invariant-block::items-items l = record {
   inside : l.next ≤ length l.source.tokens.now;
   low : l.height ≤ l.room;
   so_far : ItemsSoFar l.source.names.now l.room l.source.tokens.now l.fn.from l.list.items l.height l.next;
+  placed : ItemsPlaced l.source.tokens.now l.fn.from l.list.items l.next;
 }
 
 abbrev pub decreases-block::items-items : goal.decreases-block::items-items
@@ -56,6 +58,7 @@ invariant-branches::switch_items-items l = record {
   inside : l.next ≤ length l.source.tokens.now;
   low : l.height ≤ l.room;
   so_far : SwitchSoFar l.source.names.now l.room l.source.tokens.now l.fn.from l.list.items l.height l.next;
+  placed : SwitchPlaced l.source.tokens.now l.fn.from l.list.items l.next;
 }
 
 abbrev pub decreases-branches::switch_items-items : goal.decreases-branches::switch_items-items

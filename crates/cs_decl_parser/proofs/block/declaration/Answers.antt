@@ -3,6 +3,7 @@ use Rattle.std.proofs.Common.{◌≡◌, ℕ, ◌+◌, ◌-◌, Result, Ok, Err,
 use Rattle.cs_decl_parser.specs.Answers.{ExactAnswers}
 use Rattle.cs_decl_parser.specs.Blocks.{Locals, local_of}
 use Rattle.cs_decl_parser.proofs.LocalSites.{local_none, local_type_stops, local_objects_stop, local_taken}
+use Rattle.cs_decl_parser.proofs.PlacingStatements.{declaration_placed}
 use Rattle.cs_decl_parser.proofs.block.declaration.Goals as goal
 
 pub returns-then-room-lt2-clause-parsed : goal.returns-then-room-lt2-clause-parsed
@@ -25,3 +26,7 @@ pub returns-clause-parsed : goal.returns-clause-parsed
 returns-clause-parsed c =
     let h = c.max.ensures in
     local_taken c.args.source.now.names.now c.args.room c.args.source.now.tokens.now c.args.from c.in_ok-specs.specs c.in_ok-objects.objects _ c.if-room-lt2.false c.requires.within c.in_ok-specs.ensures.parsed c.in_ok-objects.ensures.parsed refl (omega arith) refl
+
+pub returns-clause-placed : goal.returns-clause-placed
+returns-clause-placed c =
+    declaration_placed c.args.source.now.tokens.now c.args.from c.in_ok-specs.specs.next c.in_ok-specs.specs.tree c.in_ok-objects.objects.tree.items c.in_ok-specs.ensures.parsed.spelled c.in_ok-specs.ensures.placed c.in_ok-objects.ensures.placed

@@ -4,6 +4,7 @@ use Rattle.cs_ast.specs.RawStatementView.{switch_item}
 use Rattle.cs_grammar.specs.FileClasses.{SwitchParts}
 use Rattle.cs_decl_parser.specs.Answers.{Answers}
 use Rattle.cs_decl_parser.proofs.BlockSites.{case_full, case_stops, case_taken}
+use Rattle.cs_decl_parser.proofs.PlacingStatements.{case_placed}
 use Rattle.cs_decl_parser.proofs.branches.case.Goals as goal
 
 pub returns-then-room-eq0-clause-parsed : goal.returns-then-room-eq0-clause-parsed
@@ -19,3 +20,7 @@ returns-in_err-value-clause-parsed c =
 pub returns-clause-parsed : goal.returns-clause-parsed
 returns-clause-parsed c =
     case_taken c.args.source.now.names.now c.args.room c.args.source.now.tokens.now c.args.from c.in_ok-value.value _ (let some = c.if-room-eq0.false in omega arith) c.requires.stands c.in_ok-value.ensures.parsed refl refl refl
+
+pub returns-clause-placed : goal.returns-clause-placed
+returns-clause-placed c =
+    case_placed c.args.source.now.tokens.now c.args.from c.place_at.result c.in_ok-value.value.tree c.place_at.ensures c.in_ok-value.ensures.placed

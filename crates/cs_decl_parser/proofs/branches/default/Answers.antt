@@ -11,3 +11,6 @@ returns-then-not-is_mark-clause-parsed c =
 pub returns-clause-parsed : goal.returns-clause-parsed
 returns-clause-parsed c =
     λ room. default_taken c.args.source.now.names.now room c.args.source.now.tokens.now c.args.from _ c.requires.stands (c.is_mark.ensures.mark.0 c.if-not-is_mark.false) refl refl refl
+
+pub returns-clause-placed : goal.returns-clause-placed
+returns-clause-placed c = c.place_at.ensures

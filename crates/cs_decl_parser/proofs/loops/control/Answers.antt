@@ -4,6 +4,7 @@ use Rattle.std.proofs.lemmas.Bool.{false≢true}
 use Rattle.cs_decl_parser.specs.Answers.{ExactAnswers}
 use Rattle.cs_decl_parser.specs.Blocks.{Controls, control_of}
 use Rattle.cs_decl_parser.proofs.ForSites.{control_missing, control_first_stops, control_test_stops, control_last_stops, control_taken}
+use Rattle.cs_decl_parser.proofs.PlacingStatements.{control_placed}
 use Rattle.cs_decl_parser.proofs.loops.control.Goals as goal
 
 pub returns-then-not-is_mark-clause-parsed : goal.returns-then-not-is_mark-clause-parsed
@@ -33,3 +34,7 @@ returns-clause-parsed c =
     let h = c.max.ensures in
     let k = c.max-2.ensures in
     control_taken c.args.source.now.names.now c.args.room c.args.source.now.tokens.now c.args.from c.in_ok-first.first c.in_ok-test.test c.in_ok-last.last _ (c.is_mark.ensures.mark.0 c.if-not-is_mark.false) c.in_ok-first.ensures.parsed c.in_ok-test.ensures.parsed c.in_ok-last.ensures.parsed refl (omega arith) refl
+
+pub returns-clause-placed : goal.returns-clause-placed
+returns-clause-placed c =
+    control_placed c.args.source.now.tokens.now (c.args.from + 1) c.in_ok-first.first.next c.in_ok-test.test.next _ c.in_ok-first.ensures.parsed.spelled c.in_ok-test.ensures.parsed.spelled c.in_ok-first.ensures.placed c.in_ok-test.ensures.placed c.in_ok-last.ensures.placed

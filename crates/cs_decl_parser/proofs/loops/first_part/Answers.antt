@@ -4,6 +4,7 @@ use Rattle.cs_ast.specs.RawStatementView.{first_of}
 use Rattle.cs_grammar.specs.FileClasses.{Firsts}
 use Rattle.cs_decl_parser.specs.Answers.{ExactAnswers}
 use Rattle.cs_decl_parser.proofs.ForSites.{first_declares_stops, first_declares_taken, first_runs_stops, first_runs_taken}
+use Rattle.std.specs.Prelude.{drop}
 use Rattle.cs_decl_parser.proofs.loops.first_part.Goals as goal
 
 pub returns-in_err-declared-clause-parsed : goal.returns-in_err-declared-clause-parsed
@@ -24,4 +25,7 @@ returns-in_err-value-clause-parsed c =
 
 pub returns-clause-parsed : goal.returns-clause-parsed
 returns-clause-parsed c =
-    first_runs_taken c.args.source.now.names.now c.args.room c.args.source.now.tokens.now c.args.from c.in_ok-value.value _ c.in_ok-value.ensures.parsed c.run_if_any.ensures refl refl
+    first_runs_taken c.args.source.now.names.now c.args.room c.args.source.now.tokens.now c.args.from c.in_ok-value.value _ c.in_ok-value.ensures.parsed c.run_if_any.ensures.tree refl refl
+
+pub returns-clause-placed : goal.returns-clause-placed
+returns-clause-placed c = c.run_if_any.ensures.placed (drop c.args.from c.args.source.now.tokens.now) c.in_ok-value.ensures.placed

@@ -22,4 +22,7 @@ pub returns-clause-parsed : goal.returns-clause-parsed
 returns-clause-parsed c =
     λ room some.
     let name = subst (IsNameAt (λ name. Unit {0}) (kind_or_end c.args.source.now.tokens.now (c.args.from + 1))) c.in-Some.is c.in_ok-name.ensures.name in
-    goto_taken c.args.source.now.names.now room c.args.source.now.tokens.now c.args.from c.in-Some.name.name c.leaf.result some c.requires.stands name.0 (c.is_mark.ensures.mark.0 c.if-not-is_mark.false) c.leaf.ensures
+    goto_taken c.args.source.now.names.now room c.args.source.now.tokens.now c.args.from c.in-Some.name.name c.leaf.result some c.requires.stands name.0 (c.is_mark.ensures.mark.0 c.if-not-is_mark.false) c.leaf.ensures.node
+
+pub returns-clause-placed : goal.returns-clause-placed
+returns-clause-placed c = c.leaf.ensures.placed tt

@@ -3,6 +3,9 @@ use Rattle.std.proofs.Common.{◌≡◌, ℕ, ◌+◌, ◌-◌, Result, Ok, Err,
 use Rattle.std.proofs.lemmas.Bool.{false≢true}
 use Rattle.cs_ast.specs.RawStatementView.{sentence}
 use Rattle.cs_decl_parser.proofs.RunSites.{jump_stops, jump_taken}
+use Rattle.std.specs.Prelude.{drop}
+use Rattle.cs_expr_parser.specs.Positions.{kind_or_end}
+use Rattle.cs_decl_parser.proofs.PlacingStatements.{jump_made}
 use Rattle.cs_decl_parser.proofs.statement.jump.Goals as goal
 
 pub returns-then-not-is_mark-clause-parsed : goal.returns-then-not-is_mark-clause-parsed
@@ -11,4 +14,8 @@ returns-then-not-is_mark-clause-parsed c =
 
 pub returns-clause-parsed : goal.returns-clause-parsed
 returns-clause-parsed c =
-    λ room some. jump_taken c.args.source.now.names.now room c.args.source.now.tokens.now c.args.from (sentence c.args.kind) c.leaf.result some c.requires.stands (c.is_mark.ensures.mark.0 c.if-not-is_mark.false) c.leaf.ensures
+    λ room some. jump_taken c.args.source.now.names.now room c.args.source.now.tokens.now c.args.from (sentence c.args.kind) c.leaf.result some c.requires.stands (c.is_mark.ensures.mark.0 c.if-not-is_mark.false) c.leaf.ensures.node
+
+pub returns-clause-placed : goal.returns-clause-placed
+returns-clause-placed c =
+    c.leaf.ensures.placed (jump_made (kind_or_end c.args.source.now.tokens.now c.args.from) c.args.kind (drop c.args.from c.args.source.now.tokens.now) c.requires.stands)

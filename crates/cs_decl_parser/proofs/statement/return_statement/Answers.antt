@@ -4,6 +4,7 @@ use Rattle.cs_ast.specs.RawStatementView.{statement_of}
 use Rattle.cs_grammar.specs.FileClasses.{Sentences}
 use Rattle.cs_decl_parser.specs.Answers.{Answers}
 use Rattle.cs_decl_parser.proofs.StatementSites.{return_stops, return_taken}
+use Rattle.cs_decl_parser.proofs.PlacingStatements.{return_placed}
 use Rattle.cs_decl_parser.proofs.statement.return_statement.Goals as goal
 
 pub returns-in_err-value-clause-parsed : goal.returns-in_err-value-clause-parsed
@@ -14,4 +15,8 @@ returns-in_err-value-clause-parsed c =
 
 pub returns-clause-parsed : goal.returns-clause-parsed
 returns-clause-parsed c =
-    return_taken c.args.source.now.names.now c.args.room c.args.source.now.tokens.now c.args.from c.in_ok-value.value c.node.result c.requires.some c.requires.stands c.in_ok-value.ensures.parsed c.node.ensures
+    return_taken c.args.source.now.names.now c.args.room c.args.source.now.tokens.now c.args.from c.in_ok-value.value c.node.result c.requires.some c.requires.stands c.in_ok-value.ensures.parsed c.node.ensures.node
+
+pub returns-clause-placed : goal.returns-clause-placed
+returns-clause-placed c =
+    return_placed c.args.source.now.tokens.now c.args.from c.place_at.result c.in_ok-value.value.tree c.node.result.tree c.node.ensures.placed c.place_at.ensures c.in_ok-value.ensures.placed

@@ -4,6 +4,7 @@ use Rattle.cs_ast.specs.RawStatementView.{statement_of}
 use Rattle.cs_grammar.specs.FileClasses.{Sentences}
 use Rattle.cs_decl_parser.specs.Answers.{Answers}
 use Rattle.cs_decl_parser.proofs.RunSites.{run_stops, run_taken}
+use Rattle.std.specs.Prelude.{drop}
 use Rattle.cs_decl_parser.proofs.statement.run.Goals as goal
 
 pub returns-in_err-value-clause-parsed : goal.returns-in_err-value-clause-parsed
@@ -14,4 +15,7 @@ returns-in_err-value-clause-parsed c =
 
 pub returns-clause-parsed : goal.returns-clause-parsed
 returns-clause-parsed c =
-    run_taken c.args.source.now.names.now c.args.room c.saturating_sub.result c.args.source.now.tokens.now c.args.from c.in_ok-value.value c.node.result (let h = c.saturating_sub.ensures in omega arith) c.requires.within c.in_ok-value.ensures.parsed c.node.ensures
+    run_taken c.args.source.now.names.now c.args.room c.saturating_sub.result c.args.source.now.tokens.now c.args.from c.in_ok-value.value c.node.result (let h = c.saturating_sub.ensures in omega arith) c.requires.within c.in_ok-value.ensures.parsed c.node.ensures.node
+
+pub returns-clause-placed : goal.returns-clause-placed
+returns-clause-placed c = c.node.ensures.placed (drop c.args.from c.args.source.now.tokens.now) c.place_at.ensures c.in_ok-value.ensures.placed
