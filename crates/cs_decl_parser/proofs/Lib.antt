@@ -19,3 +19,4 @@ pub mod ExternalSites
 pub mod FileSites
 pub mod Placing
 pub mod PlacingSpecs
+pub mod MemberSites
