@@ -20,3 +20,4 @@ pub mod FileSites
 pub mod Placing
 pub mod PlacingStatements
 pub mod PlacingSpecs
+pub mod MemberSites

@@ -18,6 +18,8 @@ use Rattle.cs_ast.specs.declared.raw.declaration.SpecWord as words
 use Rattle.cs_ast.specs.declared.raw.declaration.SpecWord.{SpecWord}
 use Rattle.cs_ast.specs.declared.raw.declaration.RawEnumerator.{RawEnumerator}
 use Rattle.cs_ast.specs.declared.raw.declaration.RawMember.{RawMember}
+use Rattle.cs_ast.specs.declared.raw.declaration.RawSpecs.{RawSpecs}
+use Rattle.cs_ast.specs.declared.raw.declaration.RawDeclarator.{RawDeclarator}
 use Rattle.cs_ast.specs.RawDeclarations.{Spec, Static, Plain, StructBody, EnumBody, Specs, NoSpec, MoreSpecs, Members, Constant}
 use Rattle.cs_ast.specs.RawDeclarationView.{spec, specs_list, specs_row, specs, declarator, constant}
 use Rattle.cs_ast.proofs.RawDeclarationRows.{specs-row}
@@ -269,6 +271,10 @@ pub group_framed : (m : RawMember) → IsFramed (group_text m)
 group_framed m x y =
     specs_append (specs m.specs) (with_commas declarator_text (map declarator m.declarators.items) (token.Mark mark.Semicolon ∷ x)) y
     ∙ ap (specs_text (specs m.specs)) (declarators_framed m (token.Mark mark.Semicolon ∷ x) y)
+
+-- the declarators behind what stands before them
+pub declarators_behind : (s : RawSpecs) (list : List RawDeclarator) (tokens : List Token) (from next : ℕ) → Spells tokens from next (specs_text (specs s)) → AreDeclaratorsPlaced list (drop next tokens) → AreDeclaratorsPlaced list (past (specs_text (specs s)) (drop from tokens))
+declarators_behind s list tokens from next sp has = behind_text (AreDeclaratorsPlaced list) (specs_text (specs s)) (specs_append (specs s)) tokens from next sp has
 
 -- behind members of one type
 past_group : (m : RawMember) (list : List Token) → past (group_text m) list ≡ drop 1 (past (with_commas declarator_text (map declarator m.declarators.items)) (past (specs_text (specs m.specs)) list))

@@ -1,7 +1,6 @@
 -- What stands before declarators outside blocks, and members: what each return gives. For the contracts of `specs`, `members` and
 -- their like.
-use Rattle.std.proofs.Common.{◌≡◌, ℕ, ◌+◌, ◌-◌, ◌<◌, ◌≤◌, max, ◌⊎◌, inl, inr, Bool, true, false, map, Option, Some, None, Result, Ok, Err, List, [], ◌∷◌, ◌++◌, length, drop, refl, sym, ap, ◌∙◌, subst, arith, append_assoc, append-nil}
-use Rattle.std.specs.Option.{option_map}
+use Rattle.std.proofs.Common.{◌≡◌, ℕ, ◌+◌, ◌<◌, ◌≤◌, max, inl, inr, Bool, true, false, Option, Some, None, Result, Ok, Err, List, [], ◌∷◌, ◌++◌, length, refl, sym, ap, ◌∙◌, subst, arith, append_assoc, append-nil}
 use Rattle.std.proofs.lemmas.Bool.{false≢true}
 use Rattle.cs_ast.specs.declared.place.Place.{Place}
 use Rattle.cs_ast.specs.declared.token.Token.{Token}
@@ -9,38 +8,35 @@ use Rattle.cs_ast.specs.declared.token.TokenKind.{TokenKind}
 use Rattle.cs_ast.specs.declared.token.TokenKind.TheVariants as token
 use Rattle.cs_ast.specs.declared.token.Keyword.TheVariants as keyword
 use Rattle.cs_ast.specs.declared.token.Mark.TheVariants as mark
-use Rattle.cs_ast.specs.declared.raw.declaration.RawMember.{RawMember}
 use Rattle.cs_ast.specs.declared.raw.declaration.RawSpecs.{RawSpecs}
 use Rattle.cs_ast.specs.declared.raw.declaration.SpecWord.{SpecWord}
-use Rattle.cs_ast.specs.declared.raw.declaration.SpecWord.TheVariants as words
 use Rattle.cs_ast.specs.declared.raw.name.RawName.{RawName}
 use Rattle.cs_ast.specs.declared.raw.written_type.TypeWord.{TypeWord}
 use Rattle.cs_ast.specs.declared.raw.written_type.TypeWord.TheVariants as word
-use Rattle.cs_ast.specs.RawDeclarations.{Declarator, Constant, Spec, Plain, Static, StructBody, EnumBody, Specs, NoSpec, MoreSpecs, Members, NoMember, MoreMembers}
-use Rattle.cs_ast.specs.RawDeclarationView.{spec, specs, specs_list, declarator, members_list}
-use Rattle.cs_ast.specs.RawFileHeight.{spec_height, specs_height, members_height, constant_height, highest_by}
+use Rattle.cs_ast.specs.RawDeclarations.{Constant, Spec, Plain, Static, StructBody, Specs, NoSpec, MoreSpecs, Members}
+use Rattle.cs_ast.specs.RawDeclarationView.{spec, specs, specs_list}
+use Rattle.cs_ast.specs.RawFileHeight.{spec_height, specs_height}
 use Rattle.cs_grammar.specs.declared.refusal.Reason.{Reason}
 use Rattle.cs_grammar.specs.declared.refusal.Reason.TheVariants.{TooDeep}
 use Rattle.cs_grammar.specs.declared.refusal.SyntaxRefusal.TheVariants as refusal
 use Rattle.cs_grammar.specs.declared.type_words.TypeSoFar.{TypeSoFar}
-use Rattle.cs_grammar.specs.declared.type_words.TypeSoFar.TheVariants.{Nothing, Integers, Whole}
+use Rattle.cs_grammar.specs.declared.type_words.TypeSoFar.TheVariants.{Nothing, Whole}
 use Rattle.cs_grammar.specs.TypeWords.{Names, named_by, names_type, is_type}
 use Rattle.cs_grammar.specs.TypesSoFar.{Describes, is_whole}
 use Rattle.cs_grammar.proofs.WordsOfTypes.{named_more}
-use Rattle.cs_grammar.specs.Text.{Kinds, type_word_text}
-use Rattle.cs_grammar.specs.FileText.{name_text, spec_text, specs_text, members_text, with_commas, constant_text, comma_text}
+use Rattle.cs_grammar.specs.Text.{Kinds}
+use Rattle.cs_grammar.specs.FileText.{name_text, spec_text, specs_text, members_text}
 use Rattle.cs_grammar.specs.FilePhrases.{HasBody, words_of}
-use Rattle.cs_grammar.specs.Parsing.{Class, Near, Took, Refused, Exactly}
-use Rattle.cs_grammar.specs.Composed.{Trailing, Separated}
-use Rattle.cs_grammar.specs.DeclarationClasses.{IsQuiet, SpecElements, FileSpecs, Constants, MemberRows, MemberGroups, MemberDeclarators}
+use Rattle.cs_grammar.specs.Parsing.{Class, Near, Took, Refused}
+use Rattle.cs_grammar.specs.Composed.{Trailing}
+use Rattle.cs_grammar.specs.DeclarationClasses.{IsQuiet, SpecElements, FileSpecs, Constants, MemberRows}
 use Rattle.cs_grammar.proofs.FileTexts.{specs_append}
 use Rattle.cs_grammar.proofs.TypeNames.{tag_word}
-use Rattle.cs_grammar.proofs.SpecRows.{joined_specs, joined_text, joined_words, joined_tall, AreExact, exact_more, EndsQuiet, IsStuckAfter, specs_took, specs_refused, element_refused, static_exact, plain_exact, with_spec}
-use Rattle.cs_grammar.proofs.Bodies.{opened, struct_exact, enum_exact, struct_refused, enum_refused, tag_missing}
+use Rattle.cs_grammar.proofs.SpecRows.{joined_specs, joined_text, joined_words, joined_tall, AreExact, exact_more, EndsQuiet, specs_took, specs_refused, element_refused, static_exact, plain_exact}
+use Rattle.cs_grammar.proofs.Bodies.{struct_exact, enum_exact, struct_refused, enum_refused, tag_missing}
 use Rattle.cs_grammar.proofs.SmallRooms.{stuck_after, with_enum, enum_tag_full, enum_full}
-use Rattle.cs_expr_parser.specs.Positions.{kinds, kind_or_end}
+use Rattle.cs_expr_parser.specs.Positions.{kind_or_end}
 use Rattle.cs_expr_parser.specs.Parts.{Spells, IsRefused, is_deep}
-use Rattle.cs_expr_parser.specs.Expression.{IsRefusalFor}
 use Rattle.cs_expr_parser.specs.Words.{names_some, word_of_tag}
 use Rattle.cs_decl_parser.specs.declared.source.Scope.TheVariants.{File}
 use Rattle.cs_decl_parser.specs.declared.specs.NextWord.{NextWord}
@@ -49,11 +45,10 @@ use Rattle.cs_decl_parser.specs.declared.stop.Stop.TheVariants as stop
 use Rattle.cs_decl_parser.specs.declared.stop.Taken.{Taken}
 use Rattle.cs_decl_parser.specs.Reasons.{plain_reason}
 use Rattle.cs_decl_parser.specs.Answers.{Stops, StopsOrBrace, IsTaken, IsExactly, IsBraceRefused}
-use Rattle.cs_decl_parser.specs.SpecWords.{NothingFits, HasNoTag, IsPlainWord, PlainAnswer, IsSpecTaken, IsElementRefused, IsEnumFull, ElementStops, ElementAnswer, SpecAnswer, IsStatic, IsToldByTokens, tag_keyword, IsOpened, IsSpecOf, IsTagKeyword, IsTagged, enum_of, name_in, number_behind}
+use Rattle.cs_decl_parser.specs.SpecWords.{NothingFits, HasNoTag, IsPlainWord, PlainAnswer, IsSpecTaken, IsElementRefused, IsEnumFull, ElementStops, SpecAnswer, IsStatic, IsToldByTokens, tag_keyword, IsOpened, IsSpecOf, IsTagKeyword, IsTagged, enum_of, name_in, number_behind}
 use Rattle.cs_decl_parser.specs.DeclarationAnswers.{IsNameAt}
 use Rattle.cs_decl_parser.proofs.Standing.{spells_one, spells_none, spells_more, spells_as}
 use Rattle.cs_decl_parser.proofs.StatementStops.{plain_flat}
-use Rattle.cs_decl_parser.proofs.RowSites.{highest_more}
 use Rattle.cs_decl_parser.proofs.StuckWords.{some_type, nothing_named, fresh_nothing, tag_unfit, tag_some, tag_spelled, tag_taken}
 use Rattle.cs_decl_parser.proofs.BlockSpecSites.{stuck_at}
 

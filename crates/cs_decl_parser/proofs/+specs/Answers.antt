@@ -1,24 +1,29 @@
-use Rattle.std.proofs.Common.{drop, None, ◌≡◌, ℕ, ◌+◌, ◌-◌, ◌∷◌, Bool, ◌≤◌, ◌<◌, max, Err, Ok, List, [], Option, Some, false, refl, sym, ap, ◌∙◌, subst, arith, rules}
+use Rattle.std.proofs.Common.{◌≡◌, ℕ, ◌+◌, ◌-◌, ◌∷◌, Bool, max, map, drop, Err, Ok, List, Option, None, false, refl, sym, ap, ◌∙◌, subst, arith, rules}
 use Rattle.std.proofs.lemmas.Bool.{false≢true}
+use Rattle.cs_ast.specs.declared.raw.declaration.RawMember.{RawMember}
 use Rattle.cs_ast.specs.declared.raw.declaration.SpecWord.{SpecWord}
 use Rattle.cs_grammar.specs.declared.type_words.TypeSoFar.TheVariants.{Nothing}
 use Rattle.cs_expr_parser.specs.Positions.{kind_or_end}
 use Rattle.cs_decl_parser.specs.declared.specs.NextWord.{NextWord}
 use Rattle.cs_ast.specs.declared.token.TokenKind.TheVariants as token
 use Rattle.cs_ast.specs.declared.token.Mark.TheVariants as mark
-use Rattle.cs_ast.specs.RawDeclarationView.{members_list}
+use Rattle.cs_ast.specs.RawDeclarationView.{declarator, members_list}
 use Rattle.cs_grammar.specs.FileText.{name_text}
+use Rattle.cs_grammar.specs.DeclarationClasses.{MemberGroups, MemberRows}
 use Rattle.cs_expr_parser.specs.Parts.{Spells}
+use Rattle.cs_decl_parser.specs.Answers.{ExactAnswers}
 use Rattle.cs_decl_parser.specs.DeclarationAnswers.{constant_row}
-use Rattle.cs_decl_parser.specs.SpecWords.{ElementAnswer, ElementStops, tag_keyword, name_in, SpecsAnswer, SpecAnswer}
+use Rattle.cs_decl_parser.specs.SpecWords.{ElementAnswer, ElementStops, tag_keyword, name_in, group, SpecsAnswer, SpecAnswer}
 use Rattle.cs_decl_parser.proofs.RowSites.{max_is}
 use Rattle.cs_decl_parser.proofs.SpecSites.{enum_little, same_struct, opened_at, opened_later, tagged_found, untagged_stops, with_struct, struct_stops, struct_found, enum_stops, enum_found, SpecsSoFar, specs_none, spec_more, specs_stop, specs_taken, spec_stops, plain_answer, static_found, tag_none, element_error, element_found}
 use Rattle.cs_ast.specs.declared.raw.name.RawName.{RawName}
 use Rattle.cs_ast.specs.RawDeclarationView.{constant}
 use Rattle.cs_grammar.specs.FileText.{constant_text}
 use Rattle.cs_decl_parser.specs.FilePlaces.{AreInRow, IsNamePlaced, IsConstantPlaced}
-use Rattle.cs_decl_parser.specs.SpecPlaces.{IsWordThere, AreGroupsPlaced}
-use Rattle.cs_decl_parser.proofs.PlacingSpecs.{SpecsPlaced, specs_begun, specs_go_on, static_there, tagged_placed, body_begins, struct_placed, enum_placed}
+use Rattle.cs_decl_parser.specs.SpecPlaces.{IsWordThere, IsGroupPlaced, group_text, AreGroupsPlaced}
+use Rattle.cs_decl_parser.proofs.PlacingSpecs.{SpecsPlaced, specs_begun, specs_go_on, static_there, tagged_placed, body_begins, struct_placed, enum_placed, group_framed, declarators_behind}
+use Rattle.cs_decl_parser.proofs.Placing.{SidePlaced, side_begun, side_goes_on}
+use Rattle.cs_decl_parser.proofs.MemberSites.{member_absent, member_full, member_specs_stop, member_list_stops, member_taken, MembersSoFar, members_none, member_more, member_stops, members_taken}
 use Rattle.cs_decl_parser.proofs.+specs.Goals as goal
 
 pub specs::specs-words-init : goal.specs::specs-words-init
@@ -163,3 +168,74 @@ specs::tagged-returns-in-Some-clause-element t c =
 pub specs::tagged-returns-in-None-clause-element : goal.specs::tagged-returns-in-None-clause-element
 specs::tagged-returns-in-None-clause-element t c =
     untagged_stops c.args.source.now.names.now c.args.room c.requires.some c.args.source.now.tokens.now c.args.source.now.end c.args.at c.behind_tag-behind.result c.in_ok-tag.tag c.in-None.is c.requires.stands c.in_ok-tag.ensures.name c.behind_tag-behind.ensures (λ b. false≢true (sym c.if-is_mark.false ∙ c.is_mark.ensures.mark.1 b)) c.refuse.result c.refuse.ensures
+
+pub members::member-returns-then-not-begins_specs-clause-parsed : goal.members::member-returns-then-not-begins_specs-clause-parsed
+members::member-returns-then-not-begins_specs-clause-parsed t c =
+    member_absent c.args.source.now.names.now c.args.room c.args.source.now.tokens.now c.args.source.now.end c.args.from c.refuse.result c.requires.within (sym c.begins_specs.ensures ∙ c.if-not-begins_specs.true) c.refuse.ensures
+
+pub members::member-returns-then-room-lt2-clause-parsed : goal.members::member-returns-then-room-lt2-clause-parsed
+members::member-returns-then-room-lt2-clause-parsed t c =
+    member_full c.args.source.now.names.now c.args.room c.args.source.now.tokens.now c.args.source.now.end c.args.from c.refuse_deep.result c.requires.within c.if-room-lt2.true (sym c.begins_specs.ensures ∙ c.if-not-begins_specs.false) c.refuse_deep.ensures
+
+pub members::member-returns-in_err-specs-clause-parsed : goal.members::member-returns-in_err-specs-clause-parsed
+members::member-returns-in_err-specs-clause-parsed t c =
+    let e : c.from_residual.result ≡ Err c.in_err-specs.field-0.0 = search rules in
+    let enough = c.if-room-lt2.false in
+    subst (ExactAnswers (MemberGroups c.args.source.now.names.now) group c.args.room c.args.source.now.tokens.now c.args.source.now.end c.args.from) (sym e)
+    (member_specs_stop c.args.source.now.names.now c.args.room (c.args.room - 1) (omega arith) (omega arith) c.args.source.now.tokens.now c.args.source.now.end c.args.from c.requires.within c.in_err-specs.field-0.0 c.in_err-specs.ensures.parsed)
+
+pub members::member-returns-in_err-members-clause-parsed : goal.members::member-returns-in_err-members-clause-parsed
+members::member-returns-in_err-members-clause-parsed t c =
+    let e : c.from_residual-in_err-members.result ≡ Err c.in_err-members.field-0.0 = search rules in
+    let enough = c.if-room-lt2.false in
+    subst (ExactAnswers (MemberGroups c.args.source.now.names.now) group c.args.room c.args.source.now.tokens.now c.args.source.now.end c.args.from) (sym e)
+    (member_list_stops c.args.source.now.names.now c.args.room (c.args.room - 1) (omega arith) (omega arith) c.args.source.now.tokens.now c.args.source.now.end c.args.from c.in_ok-specs.specs c.in_ok-specs.ensures.parsed c.in_err-members.field-0.0 c.in_err-members.ensures.parsed)
+
+pub members::member-returns-clause-parsed : goal.members::member-returns-clause-parsed
+members::member-returns-clause-parsed t c =
+    let enough = c.if-room-lt2.false in
+    let h : c.max.result ≡ max c.in_ok-specs.specs.height c.in_ok-members.members.height = c.max.ensures in
+    member_taken c.args.source.now.names.now c.args.room (c.args.room - 1) (omega arith) (omega arith) c.args.source.now.tokens.now c.args.from c.in_ok-specs.specs c.in_ok-specs.ensures.parsed (λ list. map declarator list.items) c.in_ok-members.members c.in_ok-members.ensures.parsed _ refl (ap (λ (n : ℕ). n + 1) h) refl
+
+pub members::member-returns-clause-placed : goal.members::member-returns-clause-placed
+members::member-returns-clause-placed t c = (
+  c.in_ok-specs.ensures.placed,
+  declarators_behind c.in_ok-specs.specs.tree c.in_ok-members.members.tree.items c.args.source.now.tokens.now c.args.from c.in_ok-specs.specs.next c.in_ok-specs.ensures.parsed.spelled c.in_ok-members.ensures.placed,
+)
+
+pub members::members-members-init : goal.members::members-members-init
+members::members-members-init t c = record {
+  onward = omega arith;
+  inside = c.requires.within;
+  low = omega arith;
+  placed = subst (λ (x : List RawMember). SidePlaced IsGroupPlaced group_text c.args.source.now.tokens.now c.args.from x c.args.from) (sym c.new-list.ensures.items) (side_begun IsGroupPlaced group_text c.args.source.now.tokens.now c.args.from);
+  so_far = subst (λ (x : List RawMember). MembersSoFar c.args.source.now.names.now c.args.room c.args.source.now.tokens.now c.args.from c.args.from x 0) (sym c.new-list.ensures.items) (members_none c.args.source.now.names.now c.args.room c.args.source.now.tokens.now c.args.from c.requires.within);
+}
+
+pub members::members-members-preserved : goal.members::members-members-preserved
+members::members-members-preserved t c =
+    let i = c.members.invariant in
+    let b = c.in_ok-taken.ensures.bounds in
+    let h : c.max-height.result ≡ max c.members.height c.in_ok-taken.taken.height = c.max-height.ensures ∙ max_is c.members.height c.in_ok-taken.taken.height in
+    record {
+      onward = omega arith;
+      inside = b.1;
+      low = omega arith;
+      placed = side_goes_on IsGroupPlaced group_text group_framed c.args.source.now.tokens.now c.args.from c.members.list.items c.push.new.self.items c.members.next c.in_ok-taken.taken.tree c.in_ok-taken.taken.next i.placed c.in_ok-push.ensures.items c.in_ok-taken.ensures.parsed.spelled c.in_ok-taken.ensures.placed;
+      so_far =
+          subst (λ (x : ℕ). MembersSoFar c.args.source.now.names.now c.args.room c.args.source.now.tokens.now c.args.from c.in_ok-taken.taken.next c.push.new.self.items x) (sym h)
+          (member_more c.args.source.now.names.now c.args.room c.args.source.now.tokens.now c.args.from c.members.next c.members.list.items c.push.new.self.items c.members.height i.so_far c.in_ok-taken.taken c.in_ok-taken.ensures.parsed c.in_ok-push.ensures.items);
+    }
+
+pub members::members-returns-in_err-taken-clause-parsed : goal.members::members-returns-in_err-taken-clause-parsed
+members::members-returns-in_err-taken-clause-parsed t c =
+    let e : c.from_residual.result ≡ Err c.in_err-taken.field-0.0 = search rules in
+    subst (ExactAnswers (MemberRows c.args.source.now.names.now) (λ list. members_list list.items) c.args.room c.args.source.now.tokens.now c.args.source.now.end c.args.from) (sym e)
+    (member_stops c.args.source.now.names.now c.args.room c.args.source.now.tokens.now c.args.source.now.end c.args.from c.members.next c.members.list.items c.members.height c.members.invariant.so_far (λ k. false≢true (sym c.members-test.true ∙ c.is_mark.ensures.mark.1 k)) c.in_err-taken.field-0.0 c.in_err-taken.ensures.parsed)
+
+pub members::members-returns-clause-parsed : goal.members::members-returns-clause-parsed
+members::members-returns-clause-parsed t c =
+    members_taken c.args.source.now.names.now c.args.room c.args.source.now.tokens.now c.args.from c.members.next c.members.list.items c.members.height c.members.invariant.so_far (c.is_mark.ensures.mark.0 c.members-test.false) (λ list. members_list list.items) _ refl refl refl
+
+pub members::members-returns-clause-placed : goal.members::members-returns-clause-placed
+members::members-returns-clause-placed t c = c.members.invariant.placed.row

@@ -4,6 +4,9 @@ use Rattle.std.specs.Prelude.{IsTrue}
 use Rattle.cs_expr_parser.specs.Words.{names_some}
 use Rattle.cs_decl_parser.proofs.SpecSites.{SpecsSoFar}
 use Rattle.cs_decl_parser.proofs.PlacingSpecs.{SpecsPlaced}
+use Rattle.cs_decl_parser.proofs.MemberSites.{MembersSoFar}
+use Rattle.cs_decl_parser.specs.SpecPlaces.{IsGroupPlaced, group_text}
+use Rattle.cs_decl_parser.proofs.Placing.{SidePlaced}
 use Rattle.cs_decl_parser.proofs.+specs.Given as goal
 
 abbrev pub decreases-specs::specs : goal.decreases-specs::specs
@@ -38,7 +41,13 @@ abbrev pub decreases-specs::specs-words : goal.decreases-specs::specs-words
 decreases-specs::specs-words l = length l.source.tokens.now - l.next
 
 abbrev pub invariant-members::members-members : goal.invariant-members::members-members
-invariant-members::members-members l = (l.fn.from ≤ l.next) × (l.next ≤ length l.source.tokens.now) × (l.height ≤ l.room)
+invariant-members::members-members l = record {
+  onward : l.fn.from ≤ l.next;
+  inside : l.next ≤ length l.source.tokens.now;
+  low : l.height ≤ l.room;
+  placed : SidePlaced IsGroupPlaced group_text l.source.tokens.now l.fn.from l.list.items l.next;
+  so_far : MembersSoFar l.source.names.now l.room l.source.tokens.now l.fn.from l.next l.list.items l.height;
+}
 
 abbrev pub decreases-members::members-members : goal.decreases-members::members-members
 decreases-members::members-members l = length l.source.tokens.now - l.next

@@ -1,6 +1,4 @@
-use Rattle.std.proofs.Common.{◌≡◌, Option, Some, None, refl, sym, ap, ◌∙◌, subst}
-use Rattle.cs_ast.specs.declared.raw.written_type.TypeWord.{TypeWord}
-use Rattle.cs_grammar.specs.declared.type_words.TypeSoFar.{TypeSoFar}
+use Rattle.std.proofs.Common.{refl, subst}
 use Rattle.cs_grammar.specs.TypesSoFar.{IsExtended}
 use Rattle.cs_expr_parser.specs.Positions.{kind_or_end}
 use Rattle.cs_decl_parser.specs.SpecWords.{IsTypeWord}

@@ -1,4 +1,4 @@
-use Rattle.std.proofs.Common.{◌≡◌, refl, ap, ◌∙◌}
+use Rattle.std.proofs.Common.{refl, ap, ◌∙◌}
 use Rattle.cs_ast.specs.RawDeclarations.{StructBody}
 use Rattle.cs_ast.specs.RawDeclarationView.{members_list}
 use Rattle.cs_ast.proofs.RawDeclarationRows.{spec-Struct}
