@@ -20,3 +20,6 @@ pub mod FileSites
 pub mod Placing
 pub mod PlacingSpecs
 pub mod MemberSites
+pub mod ParameterSites
+pub mod ParameterRowSites
+pub mod PlacingParameters
