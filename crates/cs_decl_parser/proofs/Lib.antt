@@ -21,3 +21,6 @@ pub mod Placing
 pub mod PlacingStatements
 pub mod PlacingSpecs
 pub mod MemberSites
+pub mod ParameterSites
+pub mod ParameterRowSites
+pub mod PlacingParameters

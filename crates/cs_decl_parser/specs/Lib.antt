@@ -4,6 +4,7 @@ pub mod Forms
 pub mod Nodes
 pub mod Answers
 pub mod DeclarationAnswers
+pub mod ParameterAnswers
 pub mod SpecWords
 pub mod Blocks
 pub mod FileAnswers

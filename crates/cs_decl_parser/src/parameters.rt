@@ -1,15 +1,16 @@
 //! The parameters of functions (C11 6.7.6.3).
-ghost use Rattle.std.specs.Prelude.{◌≤◌, ◌<◌, ◌^◌, ◌+◌, ◌≡◌, ◌↔◌, length, map, IsTrue};
-ghost use Rattle.cs_ast.specs.declared.token.TokenKind.TheVariants as token;
-ghost use Rattle.cs_ast.specs.declared.token.Keyword.TheVariants as keyword;
-ghost use Rattle.cs_ast.specs.declared.token.Mark.TheVariants as mark;
+ghost use Rattle.std.specs.List.{list_all};
+ghost use Rattle.std.specs.Prelude.{◌≤◌, ◌<◌, ◌^◌, ◌+◌, ◌≡◌, ◌↔◌, length, map, drop, IfOk, IsTrue};
 ghost use Rattle.cs_ast.specs.RawDeclarationView.{parameter as parameter_of, parameters as parameters_of};
 ghost use Rattle.cs_grammar.specs.FilePhrases.{AreNamed};
-ghost use Rattle.cs_grammar.specs.DeclarationClasses.{ParameterClass, ParameterRows, ParameterLists};
-ghost use Rattle.cs_expr_parser.specs.Positions.{kind_or_end};
-ghost use Rattle.cs_decl_parser.specs.Answers.{Answers, ExactAnswers};
+ghost use Rattle.cs_grammar.specs.FileText.{parameter_text};
+ghost use Rattle.cs_grammar.specs.DeclarationClasses.{ParameterRows, ParameterLists};
+ghost use Rattle.cs_decl_parser.specs.Answers.{ExactAnswers};
 ghost use Rattle.cs_decl_parser.specs.DeclarationAnswers.{ParameterNameAnswer, IsVoidAlone};
+ghost use Rattle.cs_decl_parser.specs.ParameterAnswers.{ParameterAnswer, number_past, has_name};
+ghost use Rattle.cs_decl_parser.specs.SpecWords.{name_in};
 ghost use Rattle.cs_decl_parser.specs.Bounds.{IsBounded, IsRowBounded};
+ghost use Rattle.cs_decl_parser.specs.FilePlaces.{AreInRow, IsNamePlaced, IsParameterPlaced, AreParametersPlaced};
 
 use crate::declarator::{Declares, bounds};
 use crate::names::free_name_at;
@@ -34,6 +35,7 @@ pub fn parameters(
     requires enough { 4 ≤ room }
     ensures bounds { IsBounded room source.now.tokens.now from result }
     ensures parsed { ExactAnswers (ParameterLists source.now.names.now) parameters_of room source.now.tokens.now source.now.end from result }
+    ensures placed { IfOk result (λ taken. AreParametersPlaced taken.tree (drop from source.now.tokens.now)) }
 {
     if is_mark(source, from, Mark::CloseParenthesis) {
         return Ok(Taken {
@@ -75,11 +77,11 @@ fn parameter_list(
 ) -> Result<Taken<Vec<RawParameter>>, Stop>
     requires within { from ≤ length source.now.tokens.now }
     requires few { length source.now.tokens.now < 2 ^ 32 }
-    requires enough { 3 ≤ room }
-    requires no_parenthesis { kind_or_end source.now.tokens.now from ≡ token.Mark mark.CloseParenthesis → ⊥ }
+    requires enough { 2 ≤ room }
     requires no_void { IsVoidAlone source.now.tokens.now from → ⊥ }
     ensures bounds { IsBounded room source.now.tokens.now from result }
     ensures parsed { ExactAnswers (ParameterRows source.now.names.now) (λ list. map parameter_of list.items) room source.now.tokens.now source.now.end from result }
+    ensures placed { IfOk result (λ taken. AreInRow IsParameterPlaced (λ p. parameter_text (parameter_of p)) taken.tree.items (drop from source.now.tokens.now)) }
 {
     let mut list = Vec::new(alloc);
     let mut last = parameter(alloc, source, from, room)?;
@@ -109,9 +111,10 @@ fn parameter(
 ) -> Result<Taken<RawParameter>, Stop>
     requires within { from ≤ length source.now.tokens.now }
     requires few { length source.now.tokens.now < 2 ^ 32 }
-    requires enough { 3 ≤ room }
+    requires enough { 2 ≤ room }
     ensures bounds { IsBounded room source.now.tokens.now from result }
-    ensures parsed { Answers (ParameterClass source.now.names.now) parameter_of room source.now.tokens.now source.now.end from result }
+    ensures parsed { ParameterAnswer source.now.names.now room source.now.tokens.now source.now.end from result }
+    ensures placed { IfOk result (λ taken. IsParameterPlaced taken.tree (drop from source.now.tokens.now)) }
 {
     let specs = specs(alloc, source, from, room - 1)?;
     let pointers = stars(alloc, source, specs.next)?;
@@ -136,17 +139,29 @@ fn parameter_name(source: &Source, at: usize) -> Result<Taken<Option<RawName>>, 
     requires few { length source.now.tokens.now < 2 ^ 32 }
     ensures bounds { IsRowBounded 0 source.now.tokens.now at result }
     ensures name { ParameterNameAnswer source.now.names.now source.now.tokens.now at result }
+    ensures placed { IfOk result (λ taken. IsNamePlaced taken.tree (drop at source.now.tokens.now)) }
 {
     if is_mark(source, at, Mark::OpenParenthesis) {
         return Err(refuse_but(source, at, Scope::File, Mark::OpenParenthesis));
     }
     let name = free_name_at(source, at)?;
-    let next = if name.is_some() { at + 1 } else { at };
+    let next = behind_name(at, &name);
     Ok(Taken {
         tree: name,
         height: 0,
         next,
     })
+}
+
+/// The number behind a name, if there is one at a number.
+fn behind_name(at: usize, name: &Option<RawName>) -> usize
+    requires few { at < 2 ^ 32 }
+    ensures { result ≡ number_past at (name_in name.now) }
+{
+    match name {
+        Some(_) => at + 1,
+        None => at,
+    }
 }
 
 /// Whether every parameter has a name, so that a body may follow.
@@ -155,6 +170,12 @@ pub fn are_named(parameters: &RawParameters) -> bool
 {
     match parameters {
         RawParameters::Empty | RawParameters::Void => true,
-        RawParameters::List(list) => list.iter().all(|parameter| parameter.name.is_some()),
+        RawParameters::List(list) => have_names(list),
     }
+}
+
+fn have_names(list: &[RawParameter]) -> bool
+    ensures { result ≡ list_all has_name list.now }
+{
+    list.iter().all(|parameter| parameter.name.is_some())
 }
