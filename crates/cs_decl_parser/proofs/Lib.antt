@@ -24,3 +24,4 @@ pub mod MemberSites
 pub mod ParameterSites
 pub mod ParameterRowSites
 pub mod PlacingParameters
+pub mod PlacingFiles
