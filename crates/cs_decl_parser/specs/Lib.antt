@@ -13,3 +13,4 @@ pub mod FileStops
 pub mod FilePlaces
 pub mod StatementPlaces
 pub mod SpecPlaces
+pub mod ExternalPlaces

@@ -1,5 +1,5 @@
 //! What a file has: types, typedefs, objects and functions (C11 6.9).
-ghost use Rattle.std.specs.Prelude.{◌≡◌, ℕ, ◌≤◌, ◌<◌, ◌^◌, ◌+◌, ◌-◌, length};
+ghost use Rattle.std.specs.Prelude.{◌≡◌, ℕ, ◌≤◌, ◌<◌, ◌^◌, ◌+◌, ◌-◌, length, drop, IfOk};
 ghost use Rattle.cs_ast.specs.declared.token.TokenKind.TheVariants as token;
 ghost use Rattle.cs_ast.specs.declared.token.Keyword.TheVariants as keyword;
 ghost use Rattle.cs_ast.specs.declared.token.Mark.TheVariants as mark;
@@ -12,6 +12,8 @@ ghost use Rattle.cs_decl_parser.specs.Answers.{ExactAnswers};
 ghost use Rattle.cs_decl_parser.specs.Bounds.{IsBounded, IsOf};
 ghost use Rattle.cs_decl_parser.specs.DeclarationAnswers.{IsPointed};
 ghost use Rattle.cs_decl_parser.specs.FileAnswers.{IsHeadOf, IsTypeTaken};
+ghost use Rattle.cs_decl_parser.specs.FilePlaces.{IsExternalInside, IsExternalPlaced};
+ghost use Rattle.cs_decl_parser.specs.ExternalPlaces.{IsTypePlaced, IsPointedPlaced, IsHeadBuilt};
 
 use crate::block::items;
 use crate::declarator::{Declares, Pointed, declarators, pointed_name, with_bounds};
@@ -34,6 +36,7 @@ pub fn external(alloc: Global, source: &Source, from: usize) -> Result<Taken<Raw
     requires few { length source.now.tokens.now < 2 ^ 32 }
     ensures bounds { IsBounded 200 source.now.tokens.now from result }
     ensures parsed { ExactAnswers (Externals source.now.names.now) external_view 200 source.now.tokens.now source.now.end from result }
+    ensures placed { IfOk result (λ taken. IsExternalPlaced taken.tree (drop from source.now.tokens.now)) }
 {
     let taken = if is_keyword(source, from, Keyword::Typedef) {
         typedef(alloc, source, from)?
@@ -57,6 +60,7 @@ fn typedef(alloc: Global, source: &Source, from: usize) -> Result<Taken<RawExter
     requires stands { kind_or_end source.now.tokens.now from ≡ token.Keyword keyword.Typedef }
     ensures bounds { IsBounded 200 source.now.tokens.now from result }
     ensures parsed { ExactAnswers (Externals source.now.names.now) external_of 200 source.now.tokens.now source.now.end from result }
+    ensures placed { IfOk result (λ taken. IsExternalInside taken.tree (drop from source.now.tokens.now)) }
 {
     let specs = specs(alloc, source, from + 1, MOST - 1)?;
     let names = declarators(alloc, source, specs.next, MOST - 1, Declares::Names)?;
@@ -74,6 +78,7 @@ fn declared(alloc: Global, source: &Source, from: usize) -> Result<Taken<RawExte
     requires other { kind_or_end source.now.tokens.now from ≡ token.Keyword keyword.Typedef → ⊥ }
     ensures bounds { IsBounded 200 source.now.tokens.now from result }
     ensures parsed { ExactAnswers (Externals source.now.names.now) external_of 200 source.now.tokens.now source.now.end from result }
+    ensures placed { IfOk result (λ taken. IsExternalInside taken.tree (drop from source.now.tokens.now)) }
 {
     let scope = Scope::File;
     let specs = specs(alloc, source, from, MOST - 1)?;
@@ -104,6 +109,7 @@ fn objects(
     requires stands { kind_or_end source.now.tokens.now pointed.next ≡ token.Mark mark.OpenParenthesis → ⊥ }
     ensures bounds { IsBounded 200 source.now.tokens.now pointed.next result }
     ensures parsed { (from : ℕ) → IsTypeTaken source.now.names.now source.now.tokens.now from specs → IsPointed declaring.Names source.now.names.now source.now.tokens.now specs.next pointed → ExactAnswers (Externals source.now.names.now) external_of 200 source.now.tokens.now source.now.end from result }
+    ensures placed { (from : ℕ) → IsTypePlaced source.now.names.now source.now.tokens.now from specs → IsPointedPlaced source.now.names.now source.now.tokens.now specs.next pointed → IfOk result (λ taken. IsExternalInside taken.tree (drop from source.now.tokens.now)) }
 {
     let scope = Scope::File;
     let declarator = with_bounds(alloc, source, pointed, MOST - 1, Declares::Names)?;
@@ -129,6 +135,7 @@ fn function(
     requires stands { kind_or_end source.now.tokens.now pointed.next ≡ token.Mark mark.OpenParenthesis }
     ensures bounds { IsBounded 200 source.now.tokens.now pointed.next result }
     ensures parsed { (from : ℕ) → IsTypeTaken source.now.names.now source.now.tokens.now from specs → IsPointed declaring.Names source.now.names.now source.now.tokens.now specs.next pointed → ExactAnswers (Externals source.now.names.now) external_of 200 source.now.tokens.now source.now.end from result }
+    ensures placed { (from : ℕ) → IsTypePlaced source.now.names.now source.now.tokens.now from specs → IsPointedPlaced source.now.names.now source.now.tokens.now specs.next pointed → IfOk result (λ taken. IsExternalInside taken.tree (drop from source.now.tokens.now)) }
 {
     let parameters = parameters(alloc, source, pointed.next + 1, MOST - 2)?;
     let head = head(pointed.tree, parameters);
@@ -164,6 +171,7 @@ fn head(pointed: Pointed, parameters: Taken<RawParameters>) -> Taken<RawFunction
     requires low { parameters.height < 2 ^ 32 - 1 }
     ensures size { IsOf (parameters.height + 1) parameters.next result }
     ensures tree { IsHeadOf pointed (parameters_of parameters.tree) (head_of result.tree) }
+    ensures placed { IsHeadBuilt pointed parameters.tree result.tree }
 {
     Taken {
         tree: RawFunction {

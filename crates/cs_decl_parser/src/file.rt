@@ -6,6 +6,7 @@ ghost use Rattle.cs_ast.specs.RawStatementView.{external as external_view};
 ghost use Rattle.cs_grammar.specs.FilePhrases.{names_behind, with_names};
 ghost use Rattle.cs_decl_parser.specs.Files.{parts_of, spelling_here, IsTheFile, IsRefusalOf, IsFileRefusal};
 ghost use Rattle.cs_decl_parser.specs.FileStops.{FileStops, FileAnswer};
+ghost use Rattle.cs_decl_parser.specs.FilePlaces.{AreFilePlaced};
 
 use crate::external::external;
 use crate::source::Source;
@@ -24,6 +25,7 @@ use std::alloc::{AllocError, Global};
 pub fn parse(alloc: Global, tokens: &[Token], end: Place) -> Result<Tree, SyntaxRefusal>
     requires few { length tokens.now < 2 ^ 32 }
     ensures taken { IfOk result (λ tree. IsTheFile tokens.now (parts_of tree.externals.items)) }
+    ensures placed { IfOk result (λ tree. AreFilePlaced tree.externals.items tokens.now) }
     ensures refused { IfErr result (IsFileRefusal tokens.now end) }
 {
     match externals(alloc, tokens, end) {
@@ -36,6 +38,7 @@ pub fn parse(alloc: Global, tokens: &[Token], end: Place) -> Result<Tree, Syntax
 fn externals(alloc: Global, tokens: &[Token], end: Place) -> Result<Vec<RawExternal>, Stop>
     requires few { length tokens.now < 2 ^ 32 }
     ensures parsed { FileAnswer tokens.now end result }
+    ensures placed { IfOk result (λ list. AreFilePlaced list.items tokens.now) }
 {
     let mut list = Vec::new(alloc);
     let mut names = TypedefNames::new(alloc);

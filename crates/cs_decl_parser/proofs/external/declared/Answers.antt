@@ -30,3 +30,14 @@ returns-then-is_mark-2-clause-parsed c =
 pub returns-clause-parsed : goal.returns-clause-parsed
 returns-clause-parsed c =
     c.objects.ensures.parsed c.args.from (record { taken = c.in_ok-specs.ensures.parsed; no_typedef = c.requires.other }) c.in_ok-pointed.ensures.parsed
+
+pub returns-then-is_mark-clause-placed : goal.returns-then-is_mark-clause-placed
+returns-then-is_mark-clause-placed c = c.in_ok-specs.ensures.placed
+
+pub returns-then-is_mark-2-clause-placed : goal.returns-then-is_mark-2-clause-placed
+returns-then-is_mark-2-clause-placed c =
+    c.function.ensures.placed c.args.from (record { taken = c.in_ok-specs.ensures.parsed; no_typedef = c.requires.other }, c.in_ok-specs.ensures.placed) (c.in_ok-pointed.ensures.parsed, c.in_ok-pointed.ensures.placed)
+
+pub returns-clause-placed : goal.returns-clause-placed
+returns-clause-placed c =
+    c.objects.ensures.placed c.args.from (record { taken = c.in_ok-specs.ensures.parsed; no_typedef = c.requires.other }, c.in_ok-specs.ensures.placed) (c.in_ok-pointed.ensures.parsed, c.in_ok-pointed.ensures.placed)

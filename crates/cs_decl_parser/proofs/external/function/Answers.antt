@@ -5,6 +5,7 @@ use Rattle.cs_ast.specs.RawStatementView.{external, external_of}
 use Rattle.cs_grammar.specs.DeclarationClasses.{Externals}
 use Rattle.cs_decl_parser.specs.Answers.{ExactAnswers}
 use Rattle.cs_decl_parser.proofs.ExternalSites.{external_parameters_stop, head_made, external_end_missing, external_function_taken, external_body_stops, external_definition_taken}
+use Rattle.cs_decl_parser.proofs.PlacingFiles.{head_placed, function_placed, body_placed, definition_placed}
 use Rattle.cs_decl_parser.proofs.external.function.Goals as goal
 
 pub returns-in_err-parameters-clause-parsed : goal.returns-in_err-parameters-clause-parsed
@@ -41,3 +42,17 @@ returns-in_err-body-clause-parsed c =
     let e : c.from_residual-in_err-body.result ≡ Err c.in_err-body.field-0.0 = search rules in
     subst (ExactAnswers (Externals c.args.source.now.names.now) external_of 200 c.args.source.now.tokens.now c.args.source.now.end from) (sym e)
     (external_body_stops c.args.source.now.names.now c.args.source.now.tokens.now c.args.source.now.end from c.args.specs c.head-head.result t (head_made c.args.source.now.names.now c.args.source.now.tokens.now c.args.specs.next c.args.pointed c.in_ok-parameters.parameters c.head-head.result p c.requires.stands c.in_ok-parameters.ensures.parsed c.head-head.ensures.size.0 c.head-head.ensures.size.1 c.head-head.ensures.tree) (c.are_named.ensures.0 c.if-not-are_named.false) (c.is_mark-2.ensures.mark.0 c.if-not-is_mark.false) c.in_err-body.field-0.0 c.in_err-body.ensures.parsed)
+
+pub returns-then-is_mark-clause-placed : goal.returns-then-is_mark-clause-placed
+returns-then-is_mark-clause-placed c =
+    λ from t p.
+    function_placed c.args.source.now.tokens.now from c.args.specs.next c.args.specs.tree c.head-head.result.tree t.0.taken.spelled t.1
+    (head_placed c.args.source.now.names.now c.args.source.now.tokens.now c.args.specs.next c.args.pointed c.in_ok-parameters.parameters.tree c.head-head.result.tree c.head-head.ensures.placed p c.in_ok-parameters.ensures.placed)
+
+pub returns-clause-placed : goal.returns-clause-placed
+returns-clause-placed c =
+    λ from t p.
+    let made = (head_made c.args.source.now.names.now c.args.source.now.tokens.now c.args.specs.next c.args.pointed c.in_ok-parameters.parameters c.head-head.result p.0 c.requires.stands c.in_ok-parameters.ensures.parsed c.head-head.ensures.size.0 c.head-head.ensures.size.1 c.head-head.ensures.tree) in
+    definition_placed c.args.source.now.tokens.now from c.args.specs.next c.head-head.result.next c.args.specs.tree c.head-head.result.tree _ t.0.taken.spelled made.stands.spelled t.1
+    (head_placed c.args.source.now.names.now c.args.source.now.tokens.now c.args.specs.next c.args.pointed c.in_ok-parameters.parameters.tree c.head-head.result.tree c.head-head.ensures.placed p c.in_ok-parameters.ensures.placed)
+    (body_placed c.args.source.now.tokens.now c.head-head.result.next c.in_ok-body.body.next _ c.place_at.ensures c.in_ok-body.ensures.placed c.in_ok-body.ensures.parsed.spelled c.place_at-2.ensures)

@@ -4,6 +4,7 @@ use Rattle.cs_ast.specs.RawStatementView.{external, external_of}
 use Rattle.cs_grammar.specs.DeclarationClasses.{Externals}
 use Rattle.cs_decl_parser.specs.Answers.{ExactAnswers}
 use Rattle.cs_decl_parser.proofs.ExternalSites.{external_declarator_stops, external_value_stops, external_object_stops, external_objects_taken}
+use Rattle.cs_decl_parser.proofs.PlacingStatements.{declaration_placed}
 use Rattle.cs_decl_parser.proofs.external.objects.Goals as goal
 
 pub returns-in_err-declarator-clause-parsed : goal.returns-in_err-declarator-clause-parsed
@@ -32,3 +33,11 @@ returns-clause-parsed c =
     λ from t p.
     let h = c.max.ensures in
     external_objects_taken c.args.source.now.names.now c.args.source.now.tokens.now from c.args.specs c.in_ok-objects.objects _ t (c.in_ok-objects.ensures.parsed c.args.specs.next (c.in_ok-first.ensures.parsed c.args.specs.next (c.in_ok-declarator.ensures.parsed c.args.specs.next p))) refl (omega arith) refl
+
+pub returns-clause-placed : goal.returns-clause-placed
+returns-clause-placed c =
+    λ from t p.
+    let d = c.in_ok-declarator.ensures.parsed c.args.specs.next p.0 in
+    let first = c.in_ok-first.ensures.placed c.args.specs.next d (c.in_ok-declarator.ensures.placed c.args.specs.next p.0 p.1) in
+    declaration_placed c.args.source.now.tokens.now from c.args.specs.next c.args.specs.tree c.in_ok-objects.objects.tree.items t.0.taken.spelled t.1
+    (c.in_ok-objects.ensures.placed c.args.specs.next (c.in_ok-first.ensures.parsed c.args.specs.next d) first)

@@ -4,6 +4,7 @@ use Rattle.cs_ast.specs.RawStatementView.{external, external_of}
 use Rattle.cs_grammar.specs.DeclarationClasses.{Externals}
 use Rattle.cs_decl_parser.specs.Answers.{ExactAnswers}
 use Rattle.cs_decl_parser.proofs.ExternalSites.{typedef_type_stops, typedef_names_stop, typedef_taken}
+use Rattle.cs_decl_parser.proofs.PlacingFiles.{typedef_placed}
 use Rattle.cs_decl_parser.proofs.external.typedef.Goals as goal
 
 pub returns-in_err-specs-clause-parsed : goal.returns-in_err-specs-clause-parsed
@@ -22,3 +23,7 @@ pub returns-clause-parsed : goal.returns-clause-parsed
 returns-clause-parsed c =
     let h = c.max.ensures in
     typedef_taken c.args.source.now.names.now c.args.source.now.tokens.now c.args.from c.in_ok-specs.specs c.in_ok-names.names _ c.requires.stands c.in_ok-specs.ensures.parsed c.in_ok-names.ensures.parsed refl (omega arith) refl
+
+pub returns-clause-placed : goal.returns-clause-placed
+returns-clause-placed c =
+    typedef_placed c.args.source.now.tokens.now c.args.from c.in_ok-specs.specs.next c.in_ok-specs.specs.tree c.in_ok-names.names.tree.items c.in_ok-specs.ensures.parsed.spelled c.in_ok-specs.ensures.placed c.in_ok-names.ensures.placed
