@@ -24,7 +24,4 @@ pub mod Placing
 pub mod PlacingStatements
 pub mod PlacingSpecs
 pub mod PlacingParameters
-pub mod MemberSites
-pub mod ParameterSites
-pub mod ParameterRowSites
 pub mod PlacingFiles
