@@ -201,7 +201,7 @@ fn line(alloc: Global, list: &[&'static str]) -> Result<String, AllocError> {
 }
 
 /// The column of the first refused token of a line, and none where the line is a file. The end of input is a token.
-fn refused(alloc: Global, text: &str) -> Result<Option<u32>, Fail> {
+fn refused(alloc: Global, text: &str) -> Result<Option<usize>, Fail> {
     let bytes = text.as_bytes();
     if bytes.len() > 4_194_304 {
         return Ok(None);
@@ -220,22 +220,22 @@ fn refused(alloc: Global, text: &str) -> Result<Option<u32>, Fail> {
 }
 
 /// The column of a refusal; want of memory has none that a token could have.
-fn column(refusal: &SyntaxRefusal) -> Option<u32> {
+fn column(refusal: &SyntaxRefusal) -> Option<usize> {
     match refusal {
-        SyntaxRefusal::Syntax(at) | SyntaxRefusal::TooDeep(at) => Some(at.column),
-        SyntaxRefusal::LeftOut(at, _) => Some(at.column),
+        SyntaxRefusal::Syntax(at) | SyntaxRefusal::TooDeep(at) => Some(at.column as usize),
+        SyntaxRefusal::LeftOut(at, _) => Some(at.column as usize),
         SyntaxRefusal::Memory => Some(0),
     }
 }
 
 /// The column that the token with a number has in the line of these tokens, and none where the line is a file.
-fn expected(list: &[&'static str], number: usize) -> Option<u32> {
+fn expected(list: &[&'static str], number: usize) -> Option<usize> {
     if number == A {
         return None;
     }
-    let mut column = 1u32;
+    let mut column = 1usize;
     for token in list.iter().take(number) {
-        column = column.wrapping_add(token.len() as u32).wrapping_add(1);
+        column = column.wrapping_add(token.len()).wrapping_add(1);
     }
     Some(column)
 }
