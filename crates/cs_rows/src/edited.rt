@@ -1,9 +1,8 @@
 //! Which token is refused in the beginnings of a file and in the file with one token changed. `data/chart.py` makes the
 //! tables: a chart parser that reads the grammar as it is written.
 
-use cs_decl_parser::parse;
+use crate::front::{Told, front};
 use cs_grammar::SyntaxRefusal;
-use cs_lexer::tokens;
 use std::alloc::{AllocError, Global};
 use std::test::Fail;
 
@@ -201,30 +200,20 @@ fn line(alloc: Global, list: &[&'static str]) -> Result<String, AllocError> {
 }
 
 /// The column of the first refused token of a line, and none where the line is a file. The end of input is a token.
-fn refused(alloc: Global, text: &str) -> Result<Option<usize>, Fail> {
-    let bytes = text.as_bytes();
-    if bytes.len() > 4_194_304 {
-        return Ok(None);
-    }
-    let Ok(lexed) = tokens(alloc, bytes) else {
-        return Ok(Some(0));
-    };
-    let list = lexed.list.as_slice();
-    if list.len() > 400_000 {
-        return Ok(Some(0));
-    }
-    match parse(alloc, list, lexed.end) {
-        Ok(_) => Ok(None),
-        Err(refusal) => Ok(column(&refusal)),
+fn refused(alloc: Global, text: &str) -> Option<usize> {
+    match front(alloc, text) {
+        Told::NoTokens => Some(0),
+        Told::Refused(refusal) => Some(column(&refusal)),
+        Told::File(_) => None,
     }
 }
 
-/// The column of a refusal; want of memory has none that a token could have.
-fn column(refusal: &SyntaxRefusal) -> Option<usize> {
+/// The column of a refusal; want of memory has one that no token could have.
+fn column(refusal: &SyntaxRefusal) -> usize {
     match refusal {
-        SyntaxRefusal::Syntax(at) | SyntaxRefusal::TooDeep(at) => Some(at.column as usize),
-        SyntaxRefusal::LeftOut(at, _) => Some(at.column as usize),
-        SyntaxRefusal::Memory => Some(0),
+        SyntaxRefusal::Syntax(at) | SyntaxRefusal::TooDeep(at) => at.column as usize,
+        SyntaxRefusal::LeftOut(at, _) => at.column as usize,
+        SyntaxRefusal::Memory => 0,
     }
 }
 
@@ -247,7 +236,7 @@ fn refuses_each_beginning_at_its_end(rt: HostRuntime) -> Result<(), Fail> {
         let text = line(rt.alloc(), list)?;
         let number = if FILES.contains(&count) { A } else { count };
         assert_eq!(rt;
-            refused(rt.alloc(), text.as_str())?,
+            refused(rt.alloc(), text.as_str()),
             expected(list, number),
             "{count}"
         );
@@ -264,7 +253,7 @@ fn refuses_a_changed_file_at_the_token_that_a_chart_parser_finds(
             let list = edited(rt.alloc(), edit, at)?;
             let text = line(rt.alloc(), list.as_slice())?;
             assert_eq!(rt;
-                refused(rt.alloc(), text.as_str())?,
+                refused(rt.alloc(), text.as_str()),
                 expected(list.as_slice(), *number),
                 "{at}"
             );

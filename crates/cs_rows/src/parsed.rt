@@ -1,8 +1,7 @@
 //! What the front end says of whole files: how many parts they have, or which token is refused and why.
 
-use cs_decl_parser::parse;
+use crate::front::{Told, front};
 use cs_grammar::SyntaxRefusal;
-use cs_lexer::tokens;
 use std::alloc::{AllocError, Global};
 use std::str::from_utf8;
 use std::test::Fail;
@@ -43,29 +42,20 @@ const FILES: [(&str, &str); 32] = [
     ("int x=(int){3};", "left out { 1:12"),
 ];
 
-/// What the front end says of a file.
+/// What the front end says of a file, in words.
 fn verdict(alloc: Global, file: &str) -> Result<String, AllocError> {
-    if file.as_bytes().len() > 4_194_304 {
-        return String::from_str(alloc, "too long");
-    }
-    let Ok(lexed) = tokens(alloc, file.as_bytes()) else {
-        return String::from_str(alloc, "no tokens");
-    };
-    let list = lexed.list.as_slice();
-    if list.len() > 400_000 {
-        return String::from_str(alloc, "too many tokens");
-    }
-    match parse(alloc, list, lexed.end) {
-        Ok(tree) => {
+    match front(alloc, file) {
+        Told::NoTokens => String::from_str(alloc, "no tokens"),
+        Told::Refused(refusal) => in_words(alloc, &refusal),
+        Told::File(tree) => {
             let count = tree.externals.len();
             format!(in alloc; "{count} parts")
         }
-        Err(refusal) => told(alloc, &refusal),
     }
 }
 
 /// A refusal in words.
-fn told(alloc: Global, refusal: &SyntaxRefusal) -> Result<String, AllocError> {
+fn in_words(alloc: Global, refusal: &SyntaxRefusal) -> Result<String, AllocError> {
     match refusal {
         SyntaxRefusal::Syntax(at) => format!(in alloc; "syntax {}:{}", at.line, at.column),
         SyntaxRefusal::TooDeep(at) => format!(in alloc; "too deep {}:{}", at.line, at.column),
