@@ -73,11 +73,6 @@ abbrev pub BraceAnswers : {A : Type 0} (C : Class) → (A → C.Tree) → ℕ �
 BraceAnswers C view room tokens end from (Ok taken) = IsTaken C view room tokens from false taken
 BraceAnswers C view room tokens end from (Err stop) = StopsOrBrace C room tokens end from stop
 
--- the refusal of a token with which no phrase of any height goes on
-abbrev pub RefusesPlainly : ℕ → Stop → Type 0
-RefusesPlainly number (stop.Refused at reason) = (at ≡ number) × (is_deep reason ≡ false)
-RefusesPlainly number other = ⊥
-
 -- the mark closes expressions of each level
 abbrev pub closes : Mark → Bool
 closes mark.CloseParenthesis = true
