@@ -55,7 +55,7 @@ fn member(alloc: Global, source: &Source, from: usize, room: u32) -> Result<Take
     ensures placed { IfOk result (λ taken. IsGroupPlaced taken.tree (drop from source.now.tokens.now)) }
 {
     let scope = Scope::File;
-    if !begins_specs(source, from, scope) {
+    if !begins_specs(source, from) {
         return Err(refuse(source, from, scope));
     }
     if room < 2 {

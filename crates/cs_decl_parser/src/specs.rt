@@ -39,11 +39,11 @@ pub struct NextWord {
     pub so_far: TypeSoFar,
 }
 
-/// Whether what stands before declarators may begin with the token at a number.
-pub fn begins_specs(source: &Source, at: usize, scope: Scope) -> bool
-    ensures { result ≡ begins_words scope source.now.names.now (kind_or_end source.now.tokens.now at) }
+/// Whether what stands before declarators outside blocks may begin with the token at a number.
+pub fn begins_specs(source: &Source, at: usize) -> bool
+    ensures { result ≡ begins_words Scope.File source.now.names.now (kind_or_end source.now.tokens.now at) }
 {
-    begins_type(source, at) || scope == Scope::File && is_keyword(source, at, Keyword::Static)
+    begins_type(source, at) || is_keyword(source, at, Keyword::Static)
 }
 
 /// What stands before declarators outside blocks, from a number on: as many words as fit together.
