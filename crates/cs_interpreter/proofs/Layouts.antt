@@ -7,7 +7,7 @@ use Rattle.cs_types.proofs.Leaves.{scalar_at-moved}
 use Rattle.std.specs.Option.{option_map, option_and_then}
 use Rattle.cs_types.specs.declared.data_model.DataModel.{DataModel}
 use Rattle.cs_types.specs.declared.structs.StructType.{StructType}
-use Rattle.cs_types.specs.declared.structs.Member.{Member}
+use Rattle.cs_types.specs.Members.{Member}
 use Rattle.cs_types.specs.Shape.{Shape, array, struct, integer}
 use Rattle.cs_types.specs.Layout.{Layout, alone, row, scalar_at, leaf_of, layout_of, struct_layout, member_layouts, layout_with, padded, side_by_side, repeated, members_of, complete_count, IsSmall, HasSmallSizes, IsLaidOut}
 

@@ -1,7 +1,7 @@
 -- Structs in structs: for the contract of `begins_in_struct`.
 use Rattle.std.proofs.Common.{◌≡◌, ◌==◌, ◌&&◌, ℕ, zero, suc, ◌-◌, ◌<◌, false, List, [], Some, ap, ◌∙◌, arith}
 use Rattle.std.specs.Prelude.{unwrap_or, ◌||◌}
-use Rattle.cs_types.specs.declared.structs.Member.{Member}
+use Rattle.cs_types.specs.Members.{Member}
 use Rattle.cs_types.specs.Layout.{members_of}
 use Rattle.cs_ast.specs.TypedProgram.{TypedProgram}
 use Rattle.cs_plain.specs.Types.{begins_in_struct, some_member}

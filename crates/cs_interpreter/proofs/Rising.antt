@@ -5,7 +5,7 @@ use Rattle.std.specs.Option.{option_and_then}
 use Rattle.std.proofs.lemmas.Bool.Decides.{nat_tests}
 use Rattle.cs_types.specs.declared.data_model.DataModel.{DataModel}
 use Rattle.cs_types.specs.declared.structs.StructType.{StructType}
-use Rattle.cs_types.specs.declared.structs.Member.{Member}
+use Rattle.cs_types.specs.Members.{Member}
 use Rattle.cs_types.specs.IntType.{bytes_of, word_bytes}
 use Rattle.cs_types.specs.Shape.{Shape, void, integer, pointer, array, struct, shape_of}
 use Rattle.cs_types.specs.Layout.{Layout, Leaf, moved, alone, row, repeated, round_up, side_by_side, padded, layout_with, member_layouts, members_of, struct_layout, layout_of, complete_count, scalar_at, leaf_of}

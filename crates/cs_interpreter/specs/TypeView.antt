@@ -1,6 +1,6 @@
 -- Words of what begins in a type.
 use Rattle.std.specs.Prelude.{ℕ, ◌-◌, nat_le, Bool, true, false, ◌&&◌, List, [], ◌∷◌, Option, Some, None}
-use Rattle.cs_types.specs.declared.structs.Member.{Member}
+use Rattle.cs_types.specs.Members.{Member}
 use Rattle.cs_types.specs.Shape.{shape_of}
 use Rattle.cs_ast.specs.TypedProgram.{TypedProgram}
 use Rattle.cs_runs.specs.Objects as objects

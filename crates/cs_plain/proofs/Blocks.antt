@@ -2,7 +2,6 @@
 use Rattle.std.proofs.Common.{ℕ, pos, List, [], ◌∷◌, Some, None, Bool, true, false, refl}
 use Rattle.cs_types.specs.declared.int_type.IntType.TheVariants.{Int, ULong}
 use Rattle.cs_types.specs.Shape.{void, integer, pointer, array, struct}
-use Rattle.cs_types.specs.declared.ctype.CType.{Int as IntOf}
 use Rattle.cs_types.specs.declared.structs.StructType.{StructType}
 use Rattle.cs_inputs.specs.declared.path.Root.TheVariants as root
 use Rattle.cs_ast.specs.declared.typed.operator.BinOp.TheVariants.{Div}
@@ -119,7 +118,7 @@ writes_nothing_through_const = ends_so (calls_outside (false ∷ [])) 1 (plain [
 
 -- struct s{int a;int b;};int f(void){struct s x;struct s y;x.a=1;y=x;return y.b;}
 abbrev pair : StructType
-pair = record { tag = 115 ∷ []; members = Some (record { name = 97 ∷ []; ty = IntOf Int; offset = 0 } ∷ (record { name = 98 ∷ []; ty = IntOf Int; offset = 4 } ∷ [])); size = 8; align = 4 }
+pair = record { tag = 115 ∷ []; members = Some (record { name = 97 ∷ []; ty = integer Int; offset = 0 } ∷ (record { name = 98 ∷ []; ty = integer Int; offset = 4 } ∷ [])); size = 8; align = 4 }
 
 abbrev copies_unset : ℕ → TypedProgram
 copies_unset offset = record (functions (defined 28 int 0 (named 120 (struct 0) ∷ (named 121 (struct 0) ∷ [])) 80 (

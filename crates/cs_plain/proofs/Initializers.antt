@@ -2,7 +2,6 @@
 use Rattle.std.proofs.Common.{ℕ, Bool, ◌+◌, ℤ, pos, negsuc, List, [], ◌∷◌, Some, None, true, false, refl}
 use Rattle.cs_types.specs.declared.int_type.IntType.TheVariants.{Int, Char}
 use Rattle.cs_types.specs.Shape.{Shape, void, integer, pointer, array, struct}
-use Rattle.cs_types.specs.declared.ctype.CType.{Int as IntOf}
 use Rattle.cs_types.specs.declared.structs.StructType.{StructType}
 use Rattle.cs_inputs.specs.declared.path.Root.TheVariants as root
 use Rattle.cs_ast.specs.declared.typed.operator.BinOp.TheVariants.{Add}
@@ -111,7 +110,7 @@ writes_a_const_object = ends_so writes_const_object 0 (plain []) USUAL 30 refl
 
 -- struct s{int a;int b;};int f(struct s*p){struct s x;x=p[1];return x.b;}
 abbrev pair : StructType
-pair = record { tag = 115 ∷ []; members = Some (record { name = 97 ∷ []; ty = IntOf Int; offset = 0 } ∷ (record { name = 98 ∷ []; ty = IntOf Int; offset = 4 } ∷ [])); size = 8; align = 4 }
+pair = record { tag = 115 ∷ []; members = Some (record { name = 97 ∷ []; ty = integer Int; offset = 0 } ∷ (record { name = 98 ∷ []; ty = integer Int; offset = 4 } ∷ [])); size = 8; align = 4 }
 
 abbrev copies_second : TypedProgram
 copies_second = record (functions (defined 28 int 1 (named 112 (pointer (struct 0)) ∷ (named 120 (struct 0) ∷ [])) 72 (

@@ -2,7 +2,7 @@
 use Rattle.std.specs.Prelude.{ℕ, zero, suc, ◌-◌, ◌*◌, ◌%◌, ◌==◌, nat_lt, nat_le, Bool, true, false, ◌&&◌, ◌||◌, List, [], ◌∷◌, map, Option, Some, None, option_map, unwrap_or, slice_get}
 use Rattle.cs_types.specs.declared.int_type.IntType.{IntType}
 use Rattle.cs_types.specs.declared.int_type.IntType.TheVariants.{Int, UChar}
-use Rattle.cs_types.specs.declared.structs.Member.{Member}
+use Rattle.cs_types.specs.Members.{Member}
 use Rattle.cs_types.specs.Shape.{Shape, void, integer, pointer, array, struct, shape_of, same_shape}
 use Rattle.cs_types.specs.Layout.{Layout, Leaf, layout_of, leaf_of, members_of, complete_count}
 use Rattle.cs_ast.specs.TypedTree.{Typed, Of}
@@ -62,7 +62,7 @@ begins_in program in_struct (struct number) offset = in_struct number offset
 abbrev pub begins_in_struct : TypedProgram → ℕ → ℕ → ℕ → ℕ → Bool
 begins_in_struct program wanted zero number offset = false
 begins_in_struct program wanted (suc depth) number offset =
-    ((number == wanted) && (offset == 0)) || some_member (λ (m : Member). nat_le m.offset offset && begins_in program (begins_in_struct program wanted depth) (shape_of m.ty) (offset - m.offset)) (unwrap_or (members_of program.table number) [])
+    ((number == wanted) && (offset == 0)) || some_member (λ (m : Member). nat_le m.offset offset && begins_in program (begins_in_struct program wanted depth) (m.ty) (offset - m.offset)) (unwrap_or (members_of program.table number) [])
 
 -- whether a scalar, if one was found, is of a type
 abbrev pub is_of : Shape → Option Shape → Bool
@@ -77,7 +77,7 @@ begins program scalar shape offset = is_of scalar (scalar_of program shape offse
 -- the type of a part of an array or of a struct, by its number, and where it begins (C11 6.7.9, paragraph 17)
 abbrev pub part_type : TypedProgram → Shape → ℕ → Shape
 part_type program (array element count) number = element
-part_type program (struct tag) number = unwrap_or (option_map (λ (m : Member). shape_of m.ty) (slice_get (unwrap_or (members_of program.table tag) []) number)) void
+part_type program (struct tag) number = unwrap_or (option_map (λ (m : Member). m.ty) (slice_get (unwrap_or (members_of program.table tag) []) number)) void
 part_type program other number = other
 
 abbrev pub part_offset : TypedProgram → Shape → ℕ → ℕ

@@ -4,9 +4,8 @@ use Rattle.std.proofs.Common.{◌≡◌, ℕ, suc, ◌-◌, ◌≤◌, List, sym
 use Rattle.std.specs.Prelude.{Option, Some, None}
 use Rattle.std.specs.Option.{option_map, option_and_then}
 use Rattle.cs_types.specs.declared.data_model.DataModel.{DataModel}
-use Rattle.cs_types.specs.declared.structs.Member.{Member}
+use Rattle.cs_types.specs.Members.{Member}
 use Rattle.cs_types.specs.declared.structs.StructType.{StructType}
-use Rattle.cs_types.specs.Shape.{shape_of}
 use Rattle.cs_types.specs.Layout.{Layout, complete_count, side_by_side, offsets, padded, member_layouts, members_of, struct_layout, layout_of, scalar_at, HasSmallSizes, IsLaidOut}
 use Rattle.cs_types.specs.LeafSearch.{layout_within, last_at, IsHeld}
 use Rattle.cs_types.proofs.Nesting.{mapped, chained, member_layouts-Extends, layout_within-Extends, layout_within-GivesSound, member_layouts-AllSound}
@@ -54,5 +53,5 @@ in_member model table number depth offset found layout member h at d e last =
       inner = inner.0;
       laid = inner.1;
       same = at_members model table depth offset layout at.members members ∙ ap (at_member (layout_within model table depth) offset) last ∙ ap (option_and_then (λ (l : Layout). scalar_at (offset - member.offset) l.leaves)) inner.1;
-      small = last_at-All (λ (m : Member). HasSmallSizes model table (shape_of m.ty)) offset at.members member put.small last;
+      small = last_at-All (λ (m : Member). HasSmallSizes model table m.ty) offset at.members member put.small last;
     }

@@ -4,8 +4,8 @@ use Rattle.std.specs.Prelude.{Option, Some, None, nat_le}
 use Rattle.std.specs.Option.{option_and_then, option_or}
 use Rattle.std.specs.List.{All}
 use Rattle.std.proofs.lemmas.Bool.Decides.{nat_tests}
-use Rattle.cs_types.specs.declared.structs.Member.{Member}
-use Rattle.cs_types.specs.Shape.{Shape, shape_of}
+use Rattle.cs_types.specs.Members.{Member}
+use Rattle.cs_types.specs.Shape.{Shape}
 use Rattle.cs_types.specs.Layout.{Layout, round_up, moved, side_by_side, offsets, member_layouts, scalar_at}
 use Rattle.cs_types.specs.LeafSearch.{last_at}
 use Rattle.cs_types.proofs.Leaves.{Within, Within-moved, outside, scalar_at-append, scalar_at-moved, option_or-None, round_up-least, AllSound}
@@ -14,7 +14,7 @@ use Rattle.cs_types.proofs.Nesting.{first_member}
 -- what the layout of a found member has at the rest of an offset
 abbrev pub at_member : (Shape → Option Layout) → ℕ → Option Member → Option Shape
 at_member of_type offset None = None
-at_member of_type offset (Some m) = option_and_then (λ (l : Layout). scalar_at (offset - m.offset) l.leaves) (of_type (shape_of m.ty))
+at_member of_type offset (Some m) = option_and_then (λ (l : Layout). scalar_at (offset - m.offset) l.leaves) (of_type m.ty)
 
 -- the last of more members
 last_cases : (o : ℕ) (m found : Member) (later : Option Member) (t : Bool) → option_or later (cond t (Some m) None) ≡ Some found → (later ≡ Some found) ⊎ ((later ≡ None) × (t ≡ true) × (m ≡ found))
@@ -42,7 +42,7 @@ last_at-bounds o from (m ∷ ms) (l ∷ ls) found e s h =
     ]
 
 -- where no later member is found, the first one has what there is
-only_first : (of_type : Shape → Option Layout) (o at : ℕ) (m : Member) (l : Layout) → of_type (shape_of m.ty) ≡ Some l → m.offset ≡ at → Within 0 l.size l.leaves → (t : Bool) → nat_le m.offset o ≡ t → scalar_at o (moved at l.leaves) ≡ at_member of_type o (cond t (Some m) None)
+only_first : (of_type : Shape → Option Layout) (o at : ℕ) (m : Member) (l : Layout) → of_type m.ty ≡ Some l → m.offset ≡ at → Within 0 l.size l.leaves → (t : Bool) → nat_le m.offset o ≡ t → scalar_at o (moved at l.leaves) ≡ at_member of_type o (cond t (Some m) None)
 only_first of_type o at m l own begins w true is =
     let before : m.offset ≤ o = leb-true m.offset o is in
     scalar_at-moved at o l.leaves (omega arith) ∙ ap (λ x. scalar_at (o - x) l.leaves) (sym begins) ∙ sym (ap (option_and_then (λ (x : Layout). scalar_at (o - m.offset) x.leaves)) own)
@@ -58,7 +58,7 @@ scalar_at-members of_type o from [] ls h e s =
 scalar_at-members of_type o from (m ∷ ms) [] h e s = absurd (cc)
 scalar_at-members of_type o from (m ∷ ms) (l ∷ ls) h e s =
     let parts = first_member of_type m ms (l ∷ ls) h in
-    let own : of_type (shape_of m.ty) ≡ Some l = cc in
+    let own : of_type m.ty ≡ Some l = cc in
     let others : member_layouts of_type ms ≡ Some ls = cc in
     let at : ℕ = round_up from l.align in
     let begins : m.offset ≡ at = cc in
@@ -67,7 +67,7 @@ scalar_at-members of_type o from (m ∷ ms) (l ∷ ls) h e s =
     let split = scalar_at-append o (moved at l.leaves) (side_by_side (at + l.size) ls).leaves in
     split ∙ step (last_at o ms) refl own begins rest s behind
   where
-    step : (later : Option Member) → last_at o ms ≡ later → of_type (shape_of m.ty) ≡ Some l → m.offset ≡ round_up from l.align → map (λ (m : Member). m.offset) ms ≡ offsets (round_up from l.align + l.size) ls → AllSound (l ∷ ls) → scalar_at o (side_by_side (round_up from l.align + l.size) ls).leaves ≡ at_member of_type o later → option_or (scalar_at o (moved (round_up from l.align) l.leaves)) (scalar_at o (side_by_side (round_up from l.align + l.size) ls).leaves) ≡ at_member of_type o (option_or later (cond (nat_le m.offset o) (Some m) None))
+    step : (later : Option Member) → last_at o ms ≡ later → of_type m.ty ≡ Some l → m.offset ≡ round_up from l.align → map (λ (m : Member). m.offset) ms ≡ offsets (round_up from l.align + l.size) ls → AllSound (l ∷ ls) → scalar_at o (side_by_side (round_up from l.align + l.size) ls).leaves ≡ at_member of_type o later → option_or (scalar_at o (moved (round_up from l.align) l.leaves)) (scalar_at o (side_by_side (round_up from l.align + l.size) ls).leaves) ≡ at_member of_type o (option_or later (cond (nat_le m.offset o) (Some m) None))
     step (Some found) is own begins rest s behind =
         let at : ℕ = round_up from l.align in
         let bounds = last_at-bounds o (at + l.size) ms ls found rest s.1 is in
@@ -87,13 +87,13 @@ last_at-All P o (m ∷ ms) found h e =
     ]
 
 -- and has a layout
-pub last_at-laid : (of_type : Shape → Option Layout) (o : ℕ) (ms : List Member) (ls : List Layout) (found : Member) → member_layouts of_type ms ≡ Some ls → last_at o ms ≡ Some found → (l : Layout) × (of_type (shape_of found.ty) ≡ Some l)
+pub last_at-laid : (of_type : Shape → Option Layout) (o : ℕ) (ms : List Member) (ls : List Layout) (found : Member) → member_layouts of_type ms ≡ Some ls → last_at o ms ≡ Some found → (l : Layout) × (of_type found.ty ≡ Some l)
 last_at-laid of_type o [] ls found h e = absurd (cc)
 last_at-laid of_type o (m ∷ ms) ls found h e =
     let parts = first_member of_type m ms ls h in
     elim (last_cases o m found (last_at o ms) (nat_le m.offset o) e) [
       | inl later ↦ last_at-laid of_type o ms parts.rest found parts.others later
-      | inr here ↦ (parts.first, subst (λ (x : Member). of_type (shape_of x.ty) ≡ Some parts.first) here.2 parts.laid)
+      | inr here ↦ (parts.first, subst (λ (x : Member). of_type x.ty ≡ Some parts.first) here.2 parts.laid)
     ]
 
 -- one more member

@@ -7,7 +7,7 @@ use Rattle.cs_types.specs.declared.data_model.DataModel.{DataModel}
 use Rattle.cs_types.specs.declared.data_model.DataModel.TheVariants.{Lp64, Ilp32}
 use Rattle.cs_types.specs.declared.int_type.IntType.{IntType}
 use Rattle.cs_types.specs.declared.int_type.IntType.TheVariants.{Char, SChar, UChar, Short, UShort, Int, UInt, Long, ULong, LLong, ULLong}
-use Rattle.cs_types.specs.declared.structs.Member.{Member}
+use Rattle.cs_types.specs.Members.{Member}
 use Rattle.cs_types.specs.declared.structs.StructType.{StructType}
 use Rattle.cs_types.specs.IntType.{bytes_of, word_bytes}
 use Rattle.cs_types.specs.Shape.{Shape, void, integer, pointer, array, struct, shape_of}
@@ -29,13 +29,13 @@ chained f (Some a) b h = (a, refl, h)
 pub record FirstMember (of_type : Shape → Option Layout) (m : Member) (ms : List Member) (ls : List Layout) : Type 0 where
   pub first : Layout
   pub rest : List Layout
-  pub laid : of_type (shape_of m.ty) ≡ Some first
+  pub laid : of_type m.ty ≡ Some first
   pub others : member_layouts of_type ms ≡ Some rest
   pub whole : ls ≡ first ∷ rest
 
 pub first_member : (of_type : Shape → Option Layout) (m : Member) (ms : List Member) (ls : List Layout) → member_layouts of_type (m ∷ ms) ≡ Some ls → FirstMember of_type m ms ls
 first_member of_type m ms ls h =
-    let first = chained (λ (l : Layout). option_map (λ rest. l ∷ rest) (member_layouts of_type ms)) (of_type (shape_of m.ty)) ls h in
+    let first = chained (λ (l : Layout). option_map (λ rest. l ∷ rest) (member_layouts of_type ms)) (of_type m.ty) ls h in
     let rest = mapped (λ rest. first.0 ∷ rest) (member_layouts of_type ms) ls first.2 in
     record { first = first.0; rest = rest.0; laid = first.1; others = rest.1; whole = rest.2 }
 
@@ -58,7 +58,7 @@ pub member_layouts-Extends : (f g : Shape → Option Layout) → Extends f g →
 member_layouts-Extends f g e [] ls h = h
 member_layouts-Extends f g e (m ∷ ms) ls h =
     let parts = first_member f m ms ls h in
-    let first = e (shape_of m.ty) parts.first parts.laid in
+    let first = e m.ty parts.first parts.laid in
     let others = member_layouts-Extends f g e ms parts.rest parts.others in
     ap (option_and_then (λ (l : Layout). option_map (λ rest. l ∷ rest) (member_layouts g ms))) first ∙ ap (option_map (λ rest. parts.first ∷ rest)) others ∙ ap Some (sym parts.whole)
 
@@ -131,7 +131,7 @@ pub member_layouts-AllSound : (f : Shape → Option Layout) → GivesSound f →
 member_layouts-AllSound f s [] ls h = subst AllSound (let e : [] ≡ ls = cc in e) tt
 member_layouts-AllSound f s (m ∷ ms) ls h =
     let parts = first_member f m ms ls h in
-    subst AllSound (sym parts.whole) (s (shape_of m.ty) parts.first parts.laid, member_layouts-AllSound f s ms parts.rest parts.others)
+    subst AllSound (sym parts.whole) (s m.ty parts.first parts.laid, member_layouts-AllSound f s ms parts.rest parts.others)
 
 padded-IsSound : (ls : List Layout) → AllSound ls → IsSound (padded (side_by_side 0 ls))
 padded-IsSound ls h =

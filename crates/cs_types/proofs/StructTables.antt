@@ -3,7 +3,7 @@ use Rattle.std.proofs.Common.{◌≡◌, ℕ, List, sym, ◌∙◌, ap, refl}
 use Rattle.std.specs.Prelude.{Option, Some, None, slice_get}
 use Rattle.std.specs.Option.{option_map, option_and_then}
 use Rattle.cs_types.specs.declared.data_model.DataModel.{DataModel}
-use Rattle.cs_types.specs.declared.structs.Member.{Member}
+use Rattle.cs_types.specs.Members.{Member}
 use Rattle.cs_types.specs.declared.structs.StructType.{StructType}
 use Rattle.cs_types.specs.Shape.{struct}
 use Rattle.cs_types.specs.Layout.{Layout, IsLaidOut, IsLaid, layout_of, complete_of}

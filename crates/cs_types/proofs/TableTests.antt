@@ -9,7 +9,7 @@ use Rattle.std.proofs.lemmas.Bool.Decides.{nat_tests}
 use Rattle.std.proofs.lemmas.List.Elements.{All-nil, All-cons}
 use Rattle.cs_names.proofs.Comparisons.{same_bytes}
 use Rattle.cs_types.specs.declared.data_model.DataModel.{DataModel}
-use Rattle.cs_types.specs.declared.structs.Member.{Member}
+use Rattle.cs_types.specs.Members.{Member}
 use Rattle.cs_types.specs.declared.structs.StructType.{StructType}
 use Rattle.cs_types.specs.Shape.{Shape, void, integer, pointer, array, struct, shape_of}
 use Rattle.cs_types.specs.Layout.{Layout, layout_of, member_layouts, offsets, HasSmallSizes, IsLaid, IsLaidOut, Fits}
@@ -61,13 +61,13 @@ has_small_sizes-true model table (struct number) h = is_small-true (layout_of mo
 
 abbrev are_small : DataModel → List StructType → List Member → Bool
 are_small model table [] = true
-are_small model table (m ∷ ms) = has_small_sizes model table (shape_of m.ty) && are_small model table ms
+are_small model table (m ∷ ms) = has_small_sizes model table m.ty && are_small model table ms
 
-are_small-true : (model : DataModel) (table : List StructType) (ms : List Member) → are_small model table ms ≡ true → All (λ (m : Member). HasSmallSizes model table (shape_of m.ty)) ms
-are_small-true model table [] h = All-nil (λ (m : Member). HasSmallSizes model table (shape_of m.ty))
+are_small-true : (model : DataModel) (table : List StructType) (ms : List Member) → are_small model table ms ≡ true → All (λ (m : Member). HasSmallSizes model table m.ty) ms
+are_small-true model table [] h = All-nil (λ (m : Member). HasSmallSizes model table m.ty)
 are_small-true model table (m ∷ ms) h =
-    let parts = both (has_small_sizes model table (shape_of m.ty)) (are_small model table ms) h in
-    All-cons (λ (m : Member). HasSmallSizes model table (shape_of m.ty)) m ms (has_small_sizes-true model table (shape_of m.ty) parts.0) (are_small-true model table ms parts.1)
+    let parts = both (has_small_sizes model table m.ty) (are_small model table ms) h in
+    All-cons (λ (m : Member). HasSmallSizes model table m.ty) m ms (has_small_sizes-true model table m.ty parts.0) (are_small-true model table ms parts.1)
 
 -- ---- one struct, and all of a table
 abbrev is_laid : DataModel → List StructType → ℕ → StructType → List Member → Bool

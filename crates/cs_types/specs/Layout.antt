@@ -4,7 +4,7 @@ use Rattle.std.specs.Prelude.{◌≡◌, ℕ, zero, suc, ◌+◌, ◌*◌, ◌/�
 use Rattle.std.specs.Option.{option_map, option_and_then}
 use Rattle.std.specs.List.{All}
 use Rattle.cs_types.specs.declared.data_model.DataModel.{DataModel}
-use Rattle.cs_types.specs.declared.structs.Member.{Member}
+use Rattle.cs_types.specs.Members.{Member}
 use Rattle.cs_types.specs.declared.structs.StructType.{StructType}
 use Rattle.cs_types.specs.IntType.{bytes_of, word_bytes}
 use Rattle.cs_types.specs.Shape.{Shape, void, integer, pointer, array, struct, shape_of}
@@ -66,7 +66,7 @@ layout_with model of_struct (struct number) = of_struct number
 -- the layouts of members, if each has one
 abbrev pub member_layouts : (Shape → Option Layout) → List Member → Option (List Layout)
 member_layouts of_type [] = Some []
-member_layouts of_type (m ∷ ms) = option_and_then (λ first. option_map (λ rest. first ∷ rest) (member_layouts of_type ms)) (of_type (shape_of m.ty))
+member_layouts of_type (m ∷ ms) = option_and_then (λ first. option_map (λ rest. first ∷ rest) (member_layouts of_type ms)) (of_type m.ty)
 
 -- the struct with this number, if it has its members
 abbrev pub complete_of : List StructType → ℕ → Option StructType
@@ -115,7 +115,7 @@ pub record IsLaid (model : DataModel) (table : List StructType) (number : ℕ) (
   pub size : option_map (λ (layout : Layout). layout.size) (layout_of model table (struct number)) ≡ Some laid.size
   pub align : option_map (λ (layout : Layout). layout.align) (layout_of model table (struct number)) ≡ Some laid.align
   pub offsets : option_map (offsets 0) (member_layouts (layout_of model table) members) ≡ Some (map (λ (m : Member). m.offset) members)
-  pub small : All (λ (m : Member). HasSmallSizes model table (shape_of m.ty)) members
+  pub small : All (λ (m : Member). HasSmallSizes model table m.ty) members
 
 -- every complete struct of the table is laid out, so that none holds itself, and no size passes 2^40
 abbrev pub IsLaidOut : DataModel → List StructType → Type 0

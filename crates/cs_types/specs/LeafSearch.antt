@@ -6,7 +6,7 @@ use Rattle.cs_types.specs.declared.ctype.CType.{CType}
 use Rattle.cs_types.specs.declared.data_model.DataModel.{DataModel}
 use Rattle.cs_types.specs.declared.layout.Base.{Base}
 use Rattle.cs_types.specs.declared.layout.Base.TheVariants.{Scalar, Inside}
-use Rattle.cs_types.specs.declared.structs.Member.{Member}
+use Rattle.cs_types.specs.Members.{Member}
 use Rattle.cs_types.specs.declared.structs.StructType.{StructType}
 use Rattle.cs_types.specs.Shape.{Shape, shape_of}
 use Rattle.cs_types.specs.Layout.{Layout, layout_with, struct_layout, scalar_at, complete_count, HasSmallSizes}
@@ -30,12 +30,12 @@ abbrev pub DividesArrays : DataModel → List StructType → Shape → ℕ → O
 DividesArrays model table shape offset answer = (depth : ℕ) (layout : Layout) → depth ≤ complete_count table → layout_within model table depth shape ≡ Some layout → MatchOption answer (scalar_at offset layout.leaves ≡ None) (IsBase model table depth layout offset)
 
 -- a member's type, with an offset in it, has there what the struct has
-pub record IsHeld (model : DataModel) (table : List StructType) (depth : ℕ) (layout : Layout) (offset : ℕ) (held : CType) (rest : ℕ) : Type 0 where
+pub record IsHeld (model : DataModel) (table : List StructType) (depth : ℕ) (layout : Layout) (offset : ℕ) (held : Shape) (rest : ℕ) : Type 0 where
   pub inner : Layout
-  pub laid : layout_within model table depth (shape_of held) ≡ Some inner
+  pub laid : layout_within model table depth held ≡ Some inner
   pub same : scalar_at offset layout.leaves ≡ scalar_at rest inner.leaves
-  pub small : HasSmallSizes model table (shape_of held)
+  pub small : HasSmallSizes model table held
 
 -- the member in which an offset of a struct lies
 abbrev pub EntersMember : DataModel → List StructType → ℕ → ℕ → Option (Bor CType × ℕ) → Type 0
-EntersMember model table number offset answer = (depth : ℕ) (layout : Layout) → suc depth ≤ complete_count table → struct_layout model table (suc depth) number ≡ Some layout → MatchOption answer (scalar_at offset layout.leaves ≡ None) (λ found. IsHeld model table depth layout offset found.0.now found.1)
+EntersMember model table number offset answer = (depth : ℕ) (layout : Layout) → suc depth ≤ complete_count table → struct_layout model table (suc depth) number ≡ Some layout → MatchOption answer (scalar_at offset layout.leaves ≡ None) (λ found. IsHeld model table depth layout offset (shape_of found.0.now) found.1)

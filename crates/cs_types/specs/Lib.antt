@@ -4,5 +4,8 @@ pub mod IntType
 pub mod Layout
 pub mod LeafSearch
 pub mod Shape
+pub mod Members
+pub mod Codes
+pub mod StructCodes
 pub mod ShapeEquality
 pub mod Wrap

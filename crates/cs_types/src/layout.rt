@@ -9,7 +9,8 @@ ghost use Rattle.cs_types.specs.LeafSearch.{DividesArrays, EntersMember, last_at
 use crate::ctype::CType;
 use crate::data_model::DataModel;
 use crate::int_type::bytes;
-use crate::structs::{Member, StructTable, StructType};
+use crate::members::Member;
+use crate::structs::{StructTable, StructType};
 
 /// The bytes of a type, as `sizeof` tells them, and `None` for `void` and incomplete types.
 pub fn size(model: DataModel, table: &StructTable, ty: &CType) -> Option<u64>
@@ -131,7 +132,7 @@ fn member_at<'a>(
 {
     let members = complete_struct(table, number)?.members.as_ref()?;
     let member = last_member(members.as_slice(), offset)?;
-    Some((&member.ty, offset - member.offset))
+    Some((member.ty(), offset - member.offset()))
 }
 
 // The last of the members that begin at or before an offset: the members behind it lie past the offset, and those
@@ -141,7 +142,7 @@ fn last_member(members: &[Member], offset: u64) -> Option<&Member>
 {
     let mut last = None;
     for member in members {
-        if member.offset <= offset {
+        if member.offset() <= offset {
             last = Some(member);
         }
     }

@@ -7,6 +7,7 @@ mod ctype;
 mod data_model;
 mod int_type;
 mod layout;
+mod members;
 mod structs;
 #[cfg(test)]
 mod tests;
@@ -19,4 +20,5 @@ pub use data_model::{
 };
 pub use int_type::{IntType, bytes, is_signed};
 pub use layout::{align, leaf_at, size};
-pub use structs::{Member, Members, StructTable, StructType, Structs};
+pub use members::{Member, Members};
+pub use structs::{StructTable, StructType, Structs};

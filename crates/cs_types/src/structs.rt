@@ -1,64 +1,10 @@
-//! The structs of a program: their members, laid out, and the table that numbers them.
+//! The structs of a program, and the table that numbers them.
 ghost use Rattle.std.specs.Prelude.{◌≡◌, ◌<◌, ◌++◌, [], ◌∷◌, OnOk, OnErr, length, slice_set};
 
-use crate::ctype::CType;
+use crate::members::Members;
 use cs_names::Name;
 use std::alloc::{AllocError, Global};
 use std::marker::Model;
-
-/// A member of a struct, with its offset in bytes from the struct's start.
-#[derive(Debug, Drop)]
-pub struct Member {
-    pub name: Name,
-    pub ty: CType,
-    pub offset: u64,
-}
-
-/// The members of a struct in their order. A contract sees them as a list.
-#[derive(Debug, Drop)]
-pub struct Members {
-    list: Vec<Member>,
-}
-
-impl Model for Members {
-    ghost use Rattle.std.specs.Prelude.{List};
-    ghost use Rattle.std.specs.Coded.{codes};
-    ghost use Rattle.cs_types.specs.declared.structs.Member.{Member};
-    ghost use Rattle.cs_types.specs.contracts.ctype.CType as ctype;
-
-    ghost Value = { List Member };
-
-    ghost coded = { Prim.hlevel (codes, ctype.the_row.coded) };
-
-    ghost view = { λ m. m.list.items };
-}
-
-impl Members {
-    /// No members.
-    pub fn new(alloc: Global) -> Members
-        ensures { result ≡ [] }
-    {
-        Members {
-            list: Vec::new(alloc),
-        }
-    }
-
-    /// Adds a member behind the others.
-    pub fn push(&mut self, member: Member) -> Result<(), AllocError>
-        ensures ok { OnOk result (self.new ≡ self.old ++ member ∷ []) }
-        ensures err { OnErr result (self.new ≡ self.old) }
-    {
-        self.list.push(member)?;
-        Ok(())
-    }
-
-    /// The members in order.
-    pub fn as_slice(&self) -> &[Member]
-        ensures { result.now ≡ self.now }
-    {
-        self.list.as_slice()
-    }
-}
 
 /// A struct by its tag, with its size and alignment in bytes. An incomplete one has no members yet, and its size and
 /// alignment mean nothing.
@@ -78,13 +24,12 @@ pub struct Structs {
 
 impl Model for Structs {
     ghost use Rattle.std.specs.Prelude.{List};
-    ghost use Rattle.std.specs.Coded.{codes};
     ghost use Rattle.cs_types.specs.declared.structs.StructType.{StructType};
-    ghost use Rattle.cs_types.specs.contracts.ctype.CType as ctype;
+    ghost use Rattle.cs_types.specs.StructCodes.{structs_code};
 
     ghost Value = { List StructType };
 
-    ghost coded = { Prim.hlevel (codes, ctype.the_row.coded) };
+    ghost coded = { structs_code };
 
     ghost view = { λ s. s.list.items };
 }

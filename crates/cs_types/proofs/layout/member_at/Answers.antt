@@ -1,4 +1,4 @@
-use Rattle.std.proofs.Common.{rules, ◌≡◌}
+use Rattle.std.proofs.Common.{rules, ◌≡◌, ℕ, ◌≤◌, sym, subst}
 use Rattle.std.specs.Prelude.{Some, None}
 use Rattle.cs_types.specs.Layout.{complete_of}
 use Rattle.cs_types.specs.LeafSearch.{last_at}
@@ -19,7 +19,7 @@ returns-in_err-member c = λ depth layout d e.
 pub overflow_sub-result : goal.overflow_sub-result
 overflow_sub-result c =
     let last : last_at c.args.offset c.as_slice.result.now ≡ Some c.in_ok-member.member.now = search rules in
-    last_at-before c.args.offset c.as_slice.result.now c.in_ok-member.member.now last
+    subst (λ (n : ℕ). n ≤ c.args.offset) (sym c.offset.ensures) (last_at-before c.args.offset c.as_slice.result.now c.in_ok-member.member.now last)
 
 pub returns : goal.returns
 returns c = λ depth layout d e.
@@ -28,4 +28,4 @@ returns c = λ depth layout d e.
     let has : found.members ≡ Some c.in_ok-members.members.now = search rules in
     let at : IsComplete c.args.table.now.list c.args.number found = record { members = c.in_ok-members.members.now; stands = (complete-IsComplete c.args.table.now.list c.args.number found complete).stands; has_members = has } in
     let last : last_at c.args.offset c.in_ok-members.members.now ≡ Some c.in_ok-member.member.now = search rules in
-    in_member c.args.model c.args.table.now.list c.args.number depth c.args.offset found layout c.in_ok-member.member.now c.requires at d e last
+    rw c.ty.ensures (rw c.offset.ensures (in_member c.args.model c.args.table.now.list c.args.number depth c.args.offset found layout c.in_ok-member.member.now c.requires at d e last))
