@@ -1,6 +1,6 @@
 //! Values of C's arithmetic from gcc and from the ranges of its types.
 ghost use Rattle.std.specs.Prelude.{◌≡◌, ◌∷◌, [], IfOk, Some};
-ghost use Rattle.cs_types.specs.Shape.{array, struct};
+ghost use Rattle.cs_types.specs.Shape.{array, struct, shape_of};
 ghost use Rattle.cs_types.specs.Layout.{Fits};
 ghost use Rattle.cs_types.specs.declared.data_model.DataModel.TheVariants.{Lp64, Ilp32};
 
