@@ -9,3 +9,4 @@ pub mod SingleParts
 pub mod ArgumentConversions
 pub mod ArraySizes
 pub mod Admitting
+pub mod Heights

@@ -19,7 +19,7 @@ struct_scalars-returns-in_err-all t c =
     e ∙ sym (struct_scalars-members c.args.table.now.list c.args.depth c.args.number c.if-depth-eq0.false
     ∙ ap (scalars_of_members (scalars_with (struct_scalars c.args.table.now.list (c.args.depth - 1)))) there
     ∙ sym c.loop-member.invariant
-    ∙ member_past (scalars_with (struct_scalars c.args.table.now.list (c.args.depth - 1))) c.loop-member.all c.in_ok-own.own c.loop-member.member-index c.as_slice-member-items.result.now c.member-item.result (member_there c.loop-member.member-index c.as_slice-member-items.result.now c.member-item.result c.loop-member-test.true c.member-item.is) (sym c.scalars.ensures ∙ c.in_ok-own.was) (sym c.few_more.ensures ∙ c.in_err-all.was))
+    ∙ member_past (scalars_with (struct_scalars c.args.table.now.list (c.args.depth - 1))) c.loop-member.all c.in_ok-own.own c.loop-member.member-index c.as_slice-member-items.result.now c.member-item.result (member_there c.loop-member.member-index c.as_slice-member-items.result.now c.member-item.result c.loop-member-test.true c.member-item.is) (ap (scalars_with (struct_scalars c.args.table.now.list (c.args.depth - 1))) (sym c.ty.ensures) ∙ sym c.scalars.ensures ∙ c.in_ok-own.was) (sym c.few_more.ensures ∙ c.in_err-all.was))
 
 pub struct_scalars-returns : goal.struct_scalars-returns
 struct_scalars-returns t c =

@@ -1,6 +1,8 @@
 -- The cycle of typing: each return is its production's equation at these parts.
-use Rattle.std.proofs.Common.{◌≡◌, ◌+◌, ◌∷◌, drop, length, map, Option, Some, None, Ok, Err, rules, arith, refl, sym, ap, subst, ◌∙◌}
-use Rattle.std.specs.Prelude.{option_copied, OnOk}
+use Rattle.std.proofs.Common.{◌≡◌, ◌+◌, [], ◌∷◌, ◌++◌, max, drop, length, map, Option, Some, None, Ok, Err, rules, arith, refl, sym, ap, subst, ◌∙◌}
+use Rattle.std.specs.Prelude.{option_copied, OnOk, FitsSigned}
+use Rattle.std.specs.Int.{w128}
+use Rattle.std.proofs.lemmas.Int.{to_z-of_z}
 use Rattle.std.specs.Option.{option_map}
 use Rattle.std.proofs.lemmas.List.{length-map, drop_all}
 use Rattle.cs_types.specs.declared.ctype.CType.{CType}
@@ -10,6 +12,10 @@ use Rattle.cs_ast.specs.declared.raw.expression.RawExpr.{RawExpr}
 use Rattle.cs_ast.specs.declared.typed.operator.Gives.TheVariants.{Old, New}
 use Rattle.cs_consts.specs.declared.purpose.Purpose.TheVariants.{Run}
 use Rattle.cs_ast.specs.TypedView.{typed, typed_list}
+use Rattle.cs_ast.specs.RawView.{written, written_kind, written_list}
+use Rattle.cs_ast.specs.RawHeight.{height, highest}
+use Rattle.cs_ast.proofs.HeightsOfNodes.{height-Call, height-SizeOfType, height-Cast}
+use Rattle.cs_consts.proofs.Heights.{height-among}
 use Rattle.cs_consts.specs.Verdicts.{Fine, lift, lift2, IsRefused, Tells, Answers}
 use Rattle.cs_consts.specs.Stores.{updatable, step_operator}
 use Rattle.cs_consts.specs.Operators.{followed}
@@ -317,8 +323,10 @@ pub numbers_of-loop-bound-preserved : goal.numbers_of-loop-bound-preserved
 numbers_of-loop-bound-preserved t c =
     let i = c.loop-bound.bound-index in
     let there : drop i c.args.bounds.now ≡ c.bound-item.result ∷ drop (i + 1) c.args.bounds.now = at_place i c.args.bounds.now c.bound-item.result c.loop-bound-test.true c.bound-item.is in
+    let fits : FitsSigned w128 c.number_at.result = search rules in
+    let pushed : c.push.new.self.items ≡ c.loop-bound.numbers.items ++ c.number_at.result ∷ [] = simp to_z-of_z at c.in_ok-push.ensures.items in
     record {
-      told = ap (λ l. lift (numbers_before l) (numbers_listed c.args.context.now c.judged.new.literals.items (drop (i + 1) c.args.bounds.now))) c.in_ok-push.ensures.items ∙ numbers_turn c.args.context.now c.loop-bound.numbers.items (typed c.in_ok-value.value) c.number_at.result (numbers_listed c.args.context.now c.args.literals.now.items c.args.bounds.now) c.bound-item.result (drop i c.args.bounds.now) (drop (i + 1) c.args.bounds.now) c.loop-bound.literals.items c.judged.new.literals.items there c.in_ok-value.ensures.told c.number_at.ensures c.in_ok-value.ensures.texts c.loop-bound.invariant.told;
+      told = ap (λ l. lift (numbers_before l) (numbers_listed c.args.context.now c.judged.new.literals.items (drop (i + 1) c.args.bounds.now))) pushed ∙ numbers_turn c.args.context.now c.loop-bound.numbers.items (typed c.in_ok-value.value) c.number_at.result (numbers_listed c.args.context.now c.args.literals.now.items c.args.bounds.now) c.bound-item.result (drop i c.args.bounds.now) (drop (i + 1) c.args.bounds.now) c.loop-bound.literals.items c.judged.new.literals.items there c.in_ok-value.ensures.told c.number_at.ensures c.in_ok-value.ensures.texts c.loop-bound.invariant.told;
       texts = ap (λ l. literals_behind_list l (drop (i + 1) c.args.bounds.now)) c.in_ok-value.ensures.texts ∙ ap (literals_behind_list c.loop-bound.literals.items) (sym there) ∙ c.loop-bound.invariant.texts;
     }
 
@@ -332,7 +340,7 @@ arguments_of-returns-clause-told t c =
 
 pub call-arguments_of-requires : goal.call-arguments_of-requires
 call-arguments_of-requires t c =
-    omega (arith, c.in-Some.called.now.parameters.ok.0, admitted_counts c.args.place (shape_in c.args.target) (length c.args.arguments.now) (signature_of c.in-Some.called.now) (signature_of c.in-Some.called.now) c.in_ok-admitted.ensures, length-map c.in-Some.called.now.parameters.items (λ (ty : CType). shape_of ty))
+    (grind arith, omega (arith, c.in-Some.called.now.parameters.ok.0, admitted_counts c.args.place (shape_in c.args.target) (length c.args.arguments.now) (signature_of c.in-Some.called.now) (signature_of c.in-Some.called.now) c.in_ok-admitted.ensures, length-map c.in-Some.called.now.parameters.items (λ (ty : CType). shape_of ty)))
 
 pub formed-returns-in-Call-clause-texts : goal.formed-returns-in-Call-clause-texts
 formed-returns-in-Call-clause-texts t c =
@@ -341,3 +349,54 @@ formed-returns-in-Call-clause-texts t c =
 pub formed-returns-in-SizeOfType-clause-texts : goal.formed-returns-in-SizeOfType-clause-texts
 formed-returns-in-SizeOfType-clause-texts t c =
     subst (λ k. OnOk c.size_of_type.result (c.size_of_type.new.literals.items ≡ literals_behind c.args.literals.now.items k)) (sym c.in-SizeOfType.is) (subst (λ ls. OnOk c.size_of_type.result (c.size_of_type.new.literals.items ≡ ls)) (sym (literals-SizeOfType c.args.literals.now.items c.in-SizeOfType.ty c.in-SizeOfType.bounds)) (subst (λ l. OnOk c.size_of_type.result (c.size_of_type.new.literals.items ≡ literals_behind_list c.args.literals.now.items l)) c.deref-in-SizeOfType.ensures.value c.size_of_type.ensures.texts))
+
+pub formed-call-requires : goal.formed-call-requires
+formed-call-requires t c =
+    let e = height-Call c.in-Call.function c.in-Call.arguments c.in-Call.is in
+    let f : height (written c.deref-in-Call.result.now) ≡ height (written c.in-Call.function.value) = ap (λ (x : RawExpr). height (written x)) c.deref-in-Call.ensures in
+    let g : highest (written_list c.deref-in-Call-2.result.now) ≡ highest (written_list c.in-Call.arguments.items) = ap (λ l. highest (written_list l)) c.deref-in-Call-2.ensures.value in
+    grind arith
+
+pub formed-size_of_type-requires : goal.formed-size_of_type-requires
+formed-size_of_type-requires t c =
+    let e = height-SizeOfType c.in-SizeOfType.ty c.in-SizeOfType.bounds c.in-SizeOfType.is in
+    let g : highest (written_list c.deref-in-SizeOfType.result.now) ≡ highest (written_list c.in-SizeOfType.bounds.items) = ap (λ l. highest (written_list l)) c.deref-in-SizeOfType.ensures.value in
+    grind arith
+
+pub formed-cast-requires : goal.formed-cast-requires
+formed-cast-requires t c =
+    let e = height-Cast c.in-Cast.ty c.in-Cast.bounds c.in-Cast.operand c.in-Cast.is in
+    let f : height (written c.deref-in-Cast.result.now) ≡ height (written c.in-Cast.operand.value) = ap (λ (x : RawExpr). height (written x)) c.deref-in-Cast.ensures in
+    grind arith
+
+pub arguments_of-operand_in-requires : goal.arguments_of-operand_in-requires
+arguments_of-operand_in-requires t c =
+    let h = height-among c.args.arguments.now c.loop-i.i c.index-arguments-i.result c.loop-i-test.true c.index-arguments-i.is in
+    grind arith
+
+pub numbers_of-judged-requires : goal.numbers_of-judged-requires
+numbers_of-judged-requires t c =
+    let h = height-among c.args.bounds.now c.loop-bound.bound-index c.bound-item.result c.loop-bound-test.true c.bound-item.is in
+    grind arith
+
+pub formed-infix-requires : goal.formed-infix-requires
+formed-infix-requires t c =
+    let e : height (written c.args.tree.now) ≡ 1 + max (height (written c.in-Infix.left.value)) (height (written c.in-Infix.right.value)) = ap (λ k. height (written_kind k)) c.in-Infix.is in
+    let f : height (written c.deref-in-Infix.result.now) ≡ height (written c.in-Infix.left.value) = ap (λ (x : RawExpr). height (written x)) c.deref-in-Infix.ensures in
+    let g : height (written c.deref-in-Infix-2.result.now) ≡ height (written c.in-Infix.right.value) = ap (λ (x : RawExpr). height (written x)) c.deref-in-Infix-2.ensures in
+    grind arith
+
+pub formed-select-requires : goal.formed-select-requires
+formed-select-requires t c =
+    let e : height (written c.args.tree.now) ≡ 1 + max (height (written c.in-Choice.test.value)) (max (height (written c.in-Choice.one.value)) (height (written c.in-Choice.other.value))) = ap (λ k. height (written_kind k)) c.in-Choice.is in
+    let f : height (written c.deref-in-Choice.result.now) ≡ height (written c.in-Choice.test.value) = ap (λ (x : RawExpr). height (written x)) c.deref-in-Choice.ensures in
+    let g : height (written c.deref-in-Choice-2.result.now) ≡ height (written c.in-Choice.one.value) = ap (λ (x : RawExpr). height (written x)) c.deref-in-Choice-2.ensures in
+    let h : height (written c.deref-in-Choice-3.result.now) ≡ height (written c.in-Choice.other.value) = ap (λ (x : RawExpr). height (written x)) c.deref-in-Choice-3.ensures in
+    grind arith
+
+pub formed-store-requires : goal.formed-store-requires
+formed-store-requires t c =
+    let e : height (written c.args.tree.now) ≡ 1 + max (height (written c.in-Assign.object.value)) (height (written c.in-Assign.value.value)) = ap (λ k. height (written_kind k)) c.in-Assign.is in
+    let f : height (written c.deref-in-Assign.result.now) ≡ height (written c.in-Assign.object.value) = ap (λ (x : RawExpr). height (written x)) c.deref-in-Assign.ensures in
+    let g : height (written c.deref-in-Assign-2.result.now) ≡ height (written c.in-Assign.value.value) = ap (λ (x : RawExpr). height (written x)) c.deref-in-Assign-2.ensures in
+    grind arith
