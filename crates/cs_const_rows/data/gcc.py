@@ -21,7 +21,7 @@ int f(int); void g(void);
 void *malloc(__SIZE_TYPE__); void *calloc(__SIZE_TYPE__, __SIZE_TYPE__); void free(void *);
 """
 CODES_OF_CSA = {"7", "8", "14", "18"}
-TAKEN_BY_C = {"*v", "(int)p", "(char*)p"}
+TAKEN_BY_C = {"*v", "p=v", "(char*)v", "(int)p", "(char*)p"}
 
 
 def tables(path):

@@ -77,7 +77,10 @@ const LP64: [(&str, &str); 100] = [
     ("(int)2147483648u", "int -2147483648"),
     ("(unsigned)-1", "unsigned int 4294967295"),
     ("(long)-1", "long -1"),
-    ("(unsigned long long)-1", "unsigned long long 18446744073709551615"),
+    (
+        "(unsigned long long)-1",
+        "unsigned long long 18446744073709551615",
+    ),
     ("(T)7", "int 7"),
     ("1l+1u", "long 2"),
     ("1ul+1ll", "unsigned long long 2"),
@@ -112,7 +115,10 @@ const LP64: [(&str, &str); 100] = [
 const ILP32: [(&str, &str); 24] = [
     ("2147483648", "long long 2147483648"),
     ("9223372036854775807", "long long 9223372036854775807"),
-    ("0xffffffffffffffff", "unsigned long long 18446744073709551615"),
+    (
+        "0xffffffffffffffff",
+        "unsigned long long 18446744073709551615",
+    ),
     ("4294967296u", "unsigned long long 4294967296"),
     ("-1l<0u", "int 0"),
     ("1l+1u", "unsigned long 2"),

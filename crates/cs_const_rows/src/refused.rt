@@ -5,7 +5,7 @@ use cs_types::DataModel;
 use std::test::Fail;
 
 /// Expressions that are typed to be run.
-const TYPES: [(&str, &str); 69] = [
+const TYPES: [(&str, &str); 71] = [
     ("z", "code 1 at 1"),
     ("i", "int"),
     ("sizeof(struct Q)", "code 1 at 15"),
@@ -54,13 +54,15 @@ const TYPES: [(&str, &str); 69] = [
     ("i=malloc(4)", "code 8 at 9"),
     ("(int*)calloc(4,4)", "int *"),
     ("p=q", "code 9 at 2"),
-    ("p=v", "int *"),
+    ("p=v", "code 9 at 2"),
+    ("v=p", "void *"),
     ("p=1", "code 9 at 2"),
     ("p=0", "int *"),
     ("i=p", "code 9 at 2"),
     ("(int)p", "code 9 at 1"),
     ("(char*)p", "code 9 at 1"),
-    ("(char*)v", "char *"),
+    ("(char*)v", "code 9 at 1"),
+    ("(void*)q", "void *"),
     ("free(i)", "code 9 at 5"),
     ("free(p)", "void"),
     ("s.x", "code 12 at 3"),

@@ -1,8 +1,12 @@
 //! The declarations that the examples go by. `data/gcc.py` has the same in C.
 
-use cs_consts::{Callee, Context, Declaration, Declarations, Function, Meaning, Scope, Tag, TagMeaning, Tags};
+use cs_consts::{
+    Callee, Context, Declaration, Declarations, Function, Meaning, Scope, Tag, TagMeaning, Tags,
+};
 use cs_names::Name;
-use cs_types::{CType, DataModel, IntType, Member, Members, StructTable, StructType, Structs, size_type};
+use cs_types::{
+    CType, DataModel, IntType, Member, Members, StructTable, StructType, Structs, size_type,
+};
 use std::alloc::{AllocError, Global};
 
 /// Objects of integer types.
@@ -47,12 +51,12 @@ fn function(
     all: &mut Declarations,
     text: &str,
     callee: Callee,
-    result: CType,
+    gives: CType,
     parameters: Vec<CType>,
 ) -> Result<(), AllocError> {
     let function = Function {
         callee,
-        result,
+        result: gives,
         parameters,
     };
     declare(alloc, all, text, Meaning::Function(function))
@@ -85,9 +89,23 @@ fn functions(alloc: Global, model: DataModel, all: &mut Declarations) -> Result<
     let none = Vec::new(alloc);
     function(alloc, all, "g", Callee::Numbered(1), CType::Void, none)?;
     let one = vec![in alloc; CType::Int(bytes)]?;
-    function(alloc, all, "malloc", Callee::Malloc, pointer(alloc, CType::Void)?, one)?;
+    function(
+        alloc,
+        all,
+        "malloc",
+        Callee::Malloc,
+        pointer(alloc, CType::Void)?,
+        one,
+    )?;
     let two = vec![in alloc; CType::Int(bytes), CType::Int(bytes)]?;
-    function(alloc, all, "calloc", Callee::Calloc, pointer(alloc, CType::Void)?, two)?;
+    function(
+        alloc,
+        all,
+        "calloc",
+        Callee::Calloc,
+        pointer(alloc, CType::Void)?,
+        two,
+    )?;
     let one = vec![in alloc; pointer(alloc, CType::Void)?]?;
     function(alloc, all, "free", Callee::Free, CType::Void, one)
 }

@@ -66,7 +66,7 @@ const LP64: [(&str, &str); 72] = [
     ("f(1)", "int"),
     ("(char)i", "char"),
     ("(long)c", "long"),
-    ("(struct S*)v", "struct S *"),
+    ("(void*)t", "void *"),
     ("(void*)0", "void *"),
     ("K", "int"),
     ("'a'", "int"),

@@ -117,11 +117,7 @@ fn drop_last(list: &mut Vec<Entry>, places: &mut IndexMap<Name, Option<usize>>)
 
 /// Drops the declarations behind the first ones, of which there are `outer`.
 #[tactic(auto, using(crate::proofs::DeclaredNames::take_less))]
-pub fn drop_behind(
-    list: &mut Vec<Entry>,
-    places: &mut IndexMap<Name, Option<usize>>,
-    outer: usize,
-)
+pub fn drop_behind(list: &mut Vec<Entry>, places: &mut IndexMap<Name, Option<usize>>, outer: usize)
     requires { Indexed places.old list.old.items }
     ensures left { list.new.items ≡ take outer list.old.items }
     ensures indexed { Indexed places.new list.new.items }

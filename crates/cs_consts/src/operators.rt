@@ -442,12 +442,7 @@ fn chosen_pair(alloc: Global, place: Place, test: Expr, pair: Pair) -> Result<Ex
 }
 
 /// Two values one after the other.
-pub fn followed(
-    alloc: Global,
-    place: Place,
-    first: Expr,
-    second: Expr,
-) -> Result<Expr, TypeRefusal>
+pub fn followed(alloc: Global, place: Place, first: Expr, second: Expr) -> Result<Expr, TypeRefusal>
     ensures { Tells (followed place (typed first) (typed second)) result }
 {
     let ty = second.ty.copy(alloc)?;
