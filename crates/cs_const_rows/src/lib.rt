@@ -1,0 +1,15 @@
+//! Worked examples of the typing of expressions: texts with the types and the values that gcc gives them.
+#![tactic(auto)]
+
+#[cfg(test)]
+mod constants;
+#[cfg(test)]
+mod refused;
+#[cfg(test)]
+mod said;
+#[cfg(test)]
+mod scene;
+#[cfg(test)]
+mod types;
+#[cfg(test)]
+mod words;

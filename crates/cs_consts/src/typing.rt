@@ -1,0 +1,628 @@
+//! The typing of expressions (C11 6.5): a function for each production or group of productions.
+ghost use Rattle.std.specs.Prelude.{◌≡◌, OnOk, IfOk, None, Some, length, vec_len, if◌then◌else◌};
+ghost use Rattle.cs_types.specs.Shape.{shape_of};
+ghost use Rattle.cs_ast.specs.TypedView.{typed, form, typed_list};
+ghost use Rattle.cs_consts.specs.Verdicts.{Fine, lift, lift2, lift3, Tells, Answers};
+ghost use Rattle.cs_consts.specs.Stores.{updatable, step_operator};
+ghost use Rattle.cs_consts.specs.TypeNames.{complete_at};
+ghost use Rattle.cs_consts.specs.Meanings.{signature_of};
+ghost use Rattle.cs_consts.specs.Calls.{shape_in};
+ghost use Rattle.cs_consts.specs.Typing.{literals_behind, literals_behind_list, formed, judged, value_in, operand_in, done, stepped_object, is_address, prefixed, prefixed_value, purpose_behind, purpose_if, is_zero_number, is_plain, operator_of, left_side, stored, arguments_listed, numbers_listed, measured_arrays, base_in, number_at, call_with, cast_type, castable, cast_operand, cast_to, infix_formed, choice_formed, store_formed, call_formed, cast_formed};
+
+use crate::calls::{admitted, call_of, called, converted_list};
+use crate::constants::finished;
+use crate::context::Context;
+use crate::conversions::{converted, recast};
+use crate::integers::{raised, turned};
+use crate::nodes::number;
+use crate::objects::{is_void, measured, operand, valued};
+use crate::operators::{chosen, combined, denied, followed, tested};
+use crate::places::{address_of, indexed, selected, selected_through, through};
+use crate::primary::{constant_type, named, text};
+use crate::purpose::Purpose;
+use crate::refusal::{TypeCode, TypeRefusal};
+use crate::scope::Function;
+use crate::stores::{assignable, assigned, step_operator, stepped, updatable, updated};
+use crate::type_names::{arrayed, complete_at, type_named};
+use cs_ast::Place;
+use cs_ast::raw::expression::{RawExpr, RawExprKind};
+use cs_ast::raw::operator::{AssignOp, InfixOp, PrefixOp, Step};
+use cs_ast::raw::written_type::WrittenType;
+use cs_ast::typed::expression::{Expr, ExprKind};
+use cs_ast::typed::operator::{BinOp, Gives, UnOp};
+use cs_names::Bytes;
+use cs_types::{CType, IntType};
+use std::alloc::Global;
+
+/// The typing of an expression for its purpose. String literals are put behind those that are there; the value goes to a type
+/// where what stands around the expression asks for one.
+#[cycle(typing)]
+pub fn judged(
+    alloc: Global,
+    context: &Context,
+    purpose: Purpose,
+    literals: &mut Vec<Bytes>,
+    target: Option<&CType>,
+    tree: &RawExpr,
+) -> Result<Expr, TypeRefusal>
+    ensures told { Tells (judged context.now purpose literals.old.items (shape_in target.entry) tree.now) result }
+    ensures texts { OnOk result (literals.new.items ≡ literals_behind literals.old.items tree.now.kind) }
+{
+    let value = formed(alloc, context, purpose, literals, target, tree)?;
+    finished(context.model, purpose, value)
+}
+
+/// The value of an expression, if it has one.
+#[cycle(typing)]
+pub fn value_in(
+    alloc: Global,
+    context: &Context,
+    purpose: Purpose,
+    literals: &mut Vec<Bytes>,
+    tree: &RawExpr,
+) -> Result<Expr, TypeRefusal>
+    ensures told { Tells (value_in context.now purpose (formed context.now purpose literals.old.items None tree.now.place tree.now.kind)) result }
+    ensures texts { OnOk result (literals.new.items ≡ literals_behind literals.old.items tree.now.kind) }
+{
+    let value = judged(alloc, context, purpose, literals, None, tree)?;
+    valued(alloc, &context.table, value)
+}
+
+/// The value of an expression that has to have one.
+#[cycle(typing)]
+pub fn operand_in(
+    alloc: Global,
+    context: &Context,
+    purpose: Purpose,
+    literals: &mut Vec<Bytes>,
+    target: Option<&CType>,
+    tree: &RawExpr,
+) -> Result<Expr, TypeRefusal>
+    ensures told { Tells (operand_in context.now purpose (formed context.now purpose literals.old.items (shape_in target.entry) tree.now.place tree.now.kind)) result }
+    ensures texts { OnOk result (literals.new.items ≡ literals_behind literals.old.items tree.now.kind) }
+{
+    let value = judged(alloc, context, purpose, literals, target, tree)?;
+    operand(alloc, &context.table, value)
+}
+
+// An expression by its rule.
+#[cycle(typing)]
+fn formed(
+    alloc: Global,
+    context: &Context,
+    purpose: Purpose,
+    literals: &mut Vec<Bytes>,
+    target: Option<&CType>,
+    tree: &RawExpr,
+) -> Result<Expr, TypeRefusal>
+    ensures told { Tells (formed context.now purpose literals.old.items (shape_in target.entry) tree.now.place tree.now.kind) result }
+    ensures texts { OnOk result (literals.new.items ≡ literals_behind literals.old.items tree.now.kind) }
+{
+    let place = tree.place;
+    match &tree.kind {
+        RawExprKind::Name(name) => named(alloc, place, context.scope.declarations.newest(name)),
+        RawExprKind::Number(constant) => {
+            let ty = constant_type(context.model, *constant);
+            Ok(number(place, ty, i128::from(constant.value)))
+        }
+        RawExprKind::Character(value) => Ok(number(place, IntType::Int, i128::from(*value))),
+        RawExprKind::Text(bytes) => text(alloc, literals, place, bytes),
+        RawExprKind::Parenthesis(inner) => {
+            judged(alloc, context, purpose, literals, target, inner)
+        }
+        RawExprKind::Index(array, number) => {
+            let array = operand_in(alloc, context, purpose, literals, None, array)?;
+            let number = operand_in(alloc, context, purpose, literals, None, number)?;
+            indexed(alloc, &context.table, place, array, number)
+        }
+        RawExprKind::Call(function, arguments) => call(
+            alloc, context, purpose, literals, target, place, function, arguments,
+        ),
+        RawExprKind::Member(object, name) => {
+            let object = judged(alloc, context, purpose, literals, None, object)?;
+            selected(alloc, &context.table, place, name, object)
+        }
+        RawExprKind::Arrow(value, name) => {
+            let value = operand_in(alloc, context, purpose, literals, None, value)?;
+            selected_through(alloc, &context.table, place, name, value)
+        }
+        RawExprKind::StepBehind(by, object) => {
+            let gives = Gives::Old;
+            step(alloc, context, purpose, literals, place, *by, gives, object)
+        }
+        RawExprKind::StepBefore(by, object) => {
+            let gives = Gives::New;
+            step(alloc, context, purpose, literals, place, *by, gives, object)
+        }
+        RawExprKind::Prefix(operator, operand) => {
+            let operand = judged(alloc, context, purpose, literals, None, operand)?;
+            prefixed(alloc, context, *operator, place, operand)
+        }
+        RawExprKind::SizeOf(operand) => {
+            let operand = judged(alloc, context, Purpose::Run, literals, None, operand)?;
+            measured(context.model, &context.table, place, &operand.ty)
+        }
+        RawExprKind::SizeOfType(ty, bounds) => {
+            size_of_type(alloc, context, literals, place, ty, bounds)
+        }
+        RawExprKind::Cast(ty, bounds, operand) => {
+            let count = bounds.len();
+            cast(alloc, context, purpose, literals, place, ty, count, operand)
+        }
+        RawExprKind::Infix(operator, left, right) => infix(
+            alloc, context, purpose, literals, place, *operator, left, right,
+        ),
+        RawExprKind::Choice(test, one, other) => {
+            select(alloc, context, purpose, literals, place, test, one, other)
+        }
+        RawExprKind::Assign(operator, object, value) => store(
+            alloc, context, purpose, literals, place, *operator, object, value,
+        ),
+        RawExprKind::Comma(first, second) => {
+            let first = value_in(alloc, context, purpose, literals, first)?;
+            let second = value_in(alloc, context, purpose, literals, second)?;
+            followed(alloc, place, first, second)
+        }
+    }
+}
+
+// `++` or `--`.
+#[cycle(typing)]
+fn step(
+    alloc: Global,
+    context: &Context,
+    purpose: Purpose,
+    literals: &mut Vec<Bytes>,
+    place: Place,
+    step: Step,
+    gives: Gives,
+    object: &RawExpr,
+) -> Result<Expr, TypeRefusal>
+    ensures told { Tells (lift (stepped_object context.now (step_operator step) gives place) (lift (updatable context.now.table.list (step_operator step) place) (done context.now purpose (formed context.now purpose literals.old.items None object.now.place object.now.kind)))) result }
+    ensures texts { OnOk result (literals.new.items ≡ literals_behind literals.old.items object.now.kind) }
+{
+    let operator = step_operator(step);
+    let object = judged(alloc, context, purpose, literals, None, object)?;
+    let object = updatable(&context.table, operator, place, object)?;
+    stepped(alloc, context.model, operator, gives, place, object)
+}
+
+// An operator before one operand.
+#[tactic(auto, unfolding(crate::specs::Typing::prefixed), using(crate::proofs::Lifting::lifts))]
+fn prefixed(
+    alloc: Global,
+    context: &Context,
+    operator: PrefixOp,
+    place: Place,
+    value: Expr,
+) -> Result<Expr, TypeRefusal>
+    ensures { Tells (prefixed context.now operator place (typed value)) result }
+{
+    if is_address(operator) {
+        return address_of(alloc, place, value);
+    }
+    let value = operand(alloc, &context.table, value)?;
+    prefixed_value(alloc, context, operator, place, value)
+}
+
+// Whether the operator is `&`.
+fn is_address(operator: PrefixOp) -> bool
+    ensures { result ≡ is_address operator }
+{
+    match operator {
+        PrefixOp::Address => true,
+        _ => false,
+    }
+}
+
+// An operator before a value.
+#[tactic(auto, unfolding(crate::specs::Typing::prefixed_value))]
+fn prefixed_value(
+    alloc: Global,
+    context: &Context,
+    operator: PrefixOp,
+    place: Place,
+    value: Expr,
+) -> Result<Expr, TypeRefusal>
+    ensures { Tells (prefixed_value context.now operator place (typed value)) result }
+{
+    let model = context.model;
+    match operator {
+        PrefixOp::Address => address_of(alloc, place, value),
+        PrefixOp::Through => through(alloc, place, value),
+        PrefixOp::Plus => raised(alloc, model, place, value),
+        PrefixOp::Minus => turned(alloc, model, UnOp::Negate, place, value),
+        PrefixOp::Complement => turned(alloc, model, UnOp::Complement, place, value),
+        PrefixOp::Not => denied(alloc, place, value),
+    }
+}
+
+// An operator between two operands, of which `&&` and `||` may leave the second one out.
+#[cycle(typing)]
+fn infix(
+    alloc: Global,
+    context: &Context,
+    purpose: Purpose,
+    literals: &mut Vec<Bytes>,
+    place: Place,
+    operator: InfixOp,
+    left: &RawExpr,
+    right: &RawExpr,
+) -> Result<Expr, TypeRefusal>
+    ensures told { Tells (infix_formed context.now purpose literals.old.items place operator left.now right.now) result }
+    ensures texts { OnOk result (literals.new.items ≡ literals_behind (literals_behind literals.old.items left.now.kind) right.now.kind) }
+{
+    let left = operand_in(alloc, context, purpose, literals, None, left)?;
+    let behind = purpose_behind(operator, purpose, &left);
+    let right = operand_in(alloc, context, behind, literals, None, right)?;
+    combined(
+        alloc,
+        context.model,
+        &context.table,
+        operator,
+        place,
+        left,
+        right,
+    )
+}
+
+// What the operand behind an operator is typed for.
+fn purpose_behind(operator: InfixOp, purpose: Purpose, left: &Expr) -> Purpose
+    ensures { result ≡ purpose_behind operator purpose (Fine (typed left.now)) }
+{
+    match operator {
+        InfixOp::And => purpose_if(true, purpose, left),
+        InfixOp::Or => purpose_if(false, purpose, left),
+        _ => purpose,
+    }
+}
+
+// What an operand is typed for that is evaluated only where a test is true, or only where it is false.
+fn purpose_if(way: bool, purpose: Purpose, test: &Expr) -> Purpose
+    ensures { result ≡ purpose_if way purpose (Fine (typed test.now)) }
+{
+    match purpose {
+        Purpose::Constant if is_zero_number(&test.kind) == way => Purpose::Unneeded,
+        _ => purpose,
+    }
+}
+
+// Whether it is the number 0.
+fn is_zero_number(kind: &ExprKind) -> bool
+    ensures { result ≡ is_zero_number (form kind.now) }
+{
+    match kind {
+        ExprKind::Number(number) => *number == 0,
+        _ => false,
+    }
+}
+
+// `?:`.
+#[cycle(typing)]
+fn select(
+    alloc: Global,
+    context: &Context,
+    purpose: Purpose,
+    literals: &mut Vec<Bytes>,
+    place: Place,
+    test: &RawExpr,
+    one: &RawExpr,
+    other: &RawExpr,
+) -> Result<Expr, TypeRefusal>
+    ensures told { Tells (choice_formed context.now purpose literals.old.items place test.now one.now other.now) result }
+    ensures texts { OnOk result (literals.new.items ≡ literals_behind (literals_behind (literals_behind literals.old.items test.now.kind) one.now.kind) other.now.kind) }
+{
+    let test = operand_in(alloc, context, purpose, literals, None, test)?;
+    let test = tested(place, test)?;
+    let for_one = purpose_if(true, purpose, &test);
+    let for_other = purpose_if(false, purpose, &test);
+    let one = value_in(alloc, context, for_one, literals, one)?;
+    let other = value_in(alloc, context, for_other, literals, other)?;
+    chosen(alloc, context.model, place, test, one, other)
+}
+
+// An operator that stores.
+#[cycle(typing)]
+fn store(
+    alloc: Global,
+    context: &Context,
+    purpose: Purpose,
+    literals: &mut Vec<Bytes>,
+    place: Place,
+    operator: AssignOp,
+    object: &RawExpr,
+    value: &RawExpr,
+) -> Result<Expr, TypeRefusal>
+    ensures told { Tells (store_formed context.now purpose literals.old.items place operator object.now value.now) result }
+    ensures texts { OnOk result (literals.new.items ≡ literals_behind (literals_behind literals.old.items object.now.kind) value.now.kind) }
+{
+    let object = judged(alloc, context, purpose, literals, None, object)?;
+    let object = left_side(context, operator, place, object)?;
+    let target = right_target(operator, &object.ty);
+    let value = operand_in(alloc, context, purpose, literals, target, value)?;
+    stored(alloc, context, operator, place, object, value)
+}
+
+// The type to which the right side of an operator that stores goes.
+fn right_target(operator: AssignOp, ty: &CType) -> Option<&CType>
+    ensures { shape_in result ≡ (if is_plain operator then Some (shape_of ty.now) else None) }
+{
+    if is_plain(operator) { Some(ty) } else { None }
+}
+
+// Whether the operator stores a value as it is.
+fn is_plain(operator: AssignOp) -> bool
+    ensures { result ≡ is_plain operator }
+{
+    match operator {
+        AssignOp::Plain => true,
+        _ => false,
+    }
+}
+
+// The operator of a compound assignment.
+fn operator_of(operator: AssignOp) -> BinOp
+    ensures { result ≡ operator_of operator }
+{
+    match operator {
+        AssignOp::Plain | AssignOp::Add => BinOp::Add,
+        AssignOp::Multiply => BinOp::Mul,
+        AssignOp::Divide => BinOp::Div,
+        AssignOp::Remainder => BinOp::Rem,
+        AssignOp::Subtract => BinOp::Sub,
+        AssignOp::ShiftLeft => BinOp::Shl,
+        AssignOp::ShiftRight => BinOp::Shr,
+        AssignOp::BitAnd => BinOp::And,
+        AssignOp::BitXor => BinOp::Xor,
+        AssignOp::BitOr => BinOp::Or,
+    }
+}
+
+// The left side of an operator that stores: what the operator asks of it alone.
+#[tactic(auto, unfolding(crate::specs::Typing::left_side))]
+fn left_side(
+    context: &Context,
+    operator: AssignOp,
+    place: Place,
+    object: Expr,
+) -> Result<Expr, TypeRefusal>
+    ensures { Tells (left_side context.now operator place (typed object)) result }
+{
+    if is_plain(operator) {
+        assignable(&context.table, place, object)
+    } else {
+        updatable(&context.table, operator_of(operator), place, object)
+    }
+}
+
+// An operator that stores, between an object and a value.
+#[tactic(auto, unfolding(crate::specs::Typing::stored), using(crate::proofs::Lifting::lifts))]
+fn stored(
+    alloc: Global,
+    context: &Context,
+    operator: AssignOp,
+    place: Place,
+    object: Expr,
+    value: Expr,
+) -> Result<Expr, TypeRefusal>
+    ensures { Tells (stored context.now operator place (typed object) (typed value)) result }
+{
+    if !is_plain(operator) {
+        let operator = operator_of(operator);
+        return updated(alloc, context.model, operator, place, object, value);
+    }
+    let value = converted(alloc, context.model, place, value, &object.ty)?;
+    let made = assigned(alloc, place, object, value)?;
+    Ok(made)
+}
+
+// A call of a function, or of something else, which is refused.
+#[cycle(typing)]
+fn call(
+    alloc: Global,
+    context: &Context,
+    purpose: Purpose,
+    literals: &mut Vec<Bytes>,
+    target: Option<&CType>,
+    place: Place,
+    function: &RawExpr,
+    arguments: &[RawExpr],
+) -> Result<Expr, TypeRefusal>
+    ensures told { Tells (call_formed context.now purpose literals.old.items (shape_in target.entry) place function.now arguments.now) result }
+    ensures texts { OnOk result (literals.new.items ≡ literals_behind_list literals.old.items arguments.now) }
+{
+    let Some(called) = called(&context.scope, function) else {
+        operand_in(alloc, context, purpose, literals, None, function)?;
+        return Err(TypeRefusal::Code(TypeCode::OperandTypes, place));
+    };
+    admitted(place, target, arguments.len(), called)?;
+    let values = arguments_of(alloc, context, purpose, literals, called, arguments)?;
+    call_with(alloc, context, place, target, called, values)
+}
+
+// A call of a function with the values of its arguments.
+#[tactic(auto, unfolding(crate::specs::Typing::call_with), using(crate::proofs::Lifting::lifts))]
+fn call_with(
+    alloc: Global,
+    context: &Context,
+    place: Place,
+    target: Option<&CType>,
+    function: &Function,
+    values: Vec<Expr>,
+) -> Result<Expr, TypeRefusal>
+    requires { vec_len values ≡ vec_len function.now.parameters }
+    ensures { Tells (call_with context.now place (shape_in target.entry) (signature_of function.now) (typed_list values.items)) result }
+{
+    let list = converted_list(alloc, context.model, place, &function.parameters, values)?;
+    call_of(alloc, place, target, function, list)
+}
+
+// The values of the arguments of a call, each for a parameter.
+#[cycle(typing)]
+fn arguments_of(
+    alloc: Global,
+    context: &Context,
+    purpose: Purpose,
+    literals: &mut Vec<Bytes>,
+    function: &Function,
+    arguments: &[RawExpr],
+) -> Result<Vec<Expr>, TypeRefusal>
+    requires { length arguments.now ≡ vec_len function.now.parameters }
+    ensures told { Answers (λ list. typed_list list.items) (arguments_listed context.now purpose literals.old.items (signature_of function.now).parameters arguments.now) result }
+    ensures texts { OnOk result (literals.new.items ≡ literals_behind_list literals.old.items arguments.now) }
+    ensures count { IfOk result (λ list. vec_len list ≡ length arguments.now) }
+{
+    let types = function.parameters.as_slice();
+    let mut list = Vec::new(alloc);
+    for i in 0..arguments.len() {
+        let ty = &types[i];
+        let value = operand_in(alloc, context, purpose, literals, Some(ty), &arguments[i])?;
+        list.push(value)?;
+    }
+    Ok(list)
+}
+
+// `sizeof` of a type with bounds.
+#[cycle(typing)]
+fn size_of_type(
+    alloc: Global,
+    context: &Context,
+    literals: &mut Vec<Bytes>,
+    place: Place,
+    ty: &WrittenType,
+    bounds: &[RawExpr],
+) -> Result<Expr, TypeRefusal>
+    ensures told { Tells (lift2 (measured_arrays context.now place) (lift (complete_at context.now.table.list place) (base_in context.now place ty.now)) (numbers_listed context.now literals.old.items bounds.now)) result }
+    ensures texts { OnOk result (literals.new.items ≡ literals_behind_list literals.old.items bounds.now) }
+{
+    let base = type_named(alloc, &context.scope, place, ty)?;
+    let base = complete_at(&context.table, place, base)?;
+    let numbers = numbers_of(alloc, context, literals, bounds)?;
+    measured_arrays(alloc, context, place, base, &numbers)
+}
+
+// `sizeof` of arrays of these sizes.
+#[tactic(auto, unfolding(crate::specs::Typing::measured_arrays), using(crate::proofs::Lifting::lifts))]
+fn measured_arrays(
+    alloc: Global,
+    context: &Context,
+    place: Place,
+    base: CType,
+    numbers: &[i128],
+) -> Result<Expr, TypeRefusal>
+    ensures { Tells (measured_arrays context.now place (shape_of base) numbers.now) result }
+{
+    let ty = arrayed(alloc, context.model, &context.table, place, base, numbers)?;
+    measured(context.model, &context.table, place, &ty)
+}
+
+// The numbers of bounds, which are constant.
+#[cycle(typing)]
+fn numbers_of(
+    alloc: Global,
+    context: &Context,
+    literals: &mut Vec<Bytes>,
+    bounds: &[RawExpr],
+) -> Result<Vec<i128>, TypeRefusal>
+    ensures told { Answers (λ numbers. numbers.items) (numbers_listed context.now literals.old.items bounds.now) result }
+    ensures texts { OnOk result (literals.new.items ≡ literals_behind_list literals.old.items bounds.now) }
+{
+    let mut numbers = Vec::new(alloc);
+    for bound in bounds {
+        let value = judged(alloc, context, Purpose::Constant, literals, None, bound)?;
+        numbers.push(number_at(&value.kind))?;
+    }
+    Ok(numbers)
+}
+
+// The number of a constant.
+fn number_at(kind: &ExprKind) -> i128
+    ensures { number_at (form kind.now) ≡ Fine result }
+{
+    match kind {
+        ExprKind::Number(number) => *number,
+        _ => 0,
+    }
+}
+
+// A cast to a type with so many bounds.
+#[cycle(typing)]
+fn cast(
+    alloc: Global,
+    context: &Context,
+    purpose: Purpose,
+    literals: &mut Vec<Bytes>,
+    place: Place,
+    ty: &WrittenType,
+    bounds: usize,
+    operand: &RawExpr,
+) -> Result<Expr, TypeRefusal>
+    ensures told { Tells (cast_formed context.now purpose literals.old.items place ty.now bounds operand.now) result }
+    ensures texts { OnOk result (literals.new.items ≡ literals_behind literals.old.items operand.now.kind) }
+{
+    let target = cast_type(alloc, context, place, ty, bounds)?;
+    let value = judged(alloc, context, purpose, literals, Some(&target), operand)?;
+    cast_to(alloc, context, place, &target, value)
+}
+
+// The type of a cast with so many bounds.
+#[tactic(auto, unfolding(crate::specs::Typing::cast_type), using(crate::proofs::Lifting::lifts))]
+fn cast_type(
+    alloc: Global,
+    context: &Context,
+    place: Place,
+    ty: &WrittenType,
+    bounds: usize,
+) -> Result<CType, TypeRefusal>
+    ensures { Answers shape_of (cast_type place bounds (base_in context.now place ty.now)) result }
+{
+    if bounds > 0 {
+        return Err(TypeRefusal::Code(TypeCode::OperandTypes, place));
+    }
+    let target = type_named(alloc, &context.scope, place, ty)?;
+    castable(place, target)
+}
+
+// A type to which a value can be cast.
+fn castable(place: Place, ty: CType) -> Result<CType, TypeRefusal>
+    ensures { Answers shape_of (castable place (shape_of ty)) result }
+{
+    match &ty {
+        CType::Array(_, _) | CType::Struct(_) => {
+            Err(TypeRefusal::Code(TypeCode::OperandTypes, place))
+        }
+        _ => Ok(ty),
+    }
+}
+
+// The operand of a cast: one to `void` takes what has no value.
+#[tactic(auto, unfolding(crate::specs::Typing::cast_operand))]
+fn cast_operand(
+    alloc: Global,
+    context: &Context,
+    target: &CType,
+    value: Expr,
+) -> Result<Expr, TypeRefusal>
+    ensures { Tells (cast_operand context.now (shape_of target.now) (typed value)) result }
+{
+    if is_void(target) {
+        valued(alloc, &context.table, value)
+    } else {
+        operand(alloc, &context.table, value)
+    }
+}
+
+// A cast of a value to a type.
+#[tactic(auto, unfolding(crate::specs::Typing::cast_to), using(crate::proofs::Lifting::lifts))]
+fn cast_to(
+    alloc: Global,
+    context: &Context,
+    place: Place,
+    target: &CType,
+    value: Expr,
+) -> Result<Expr, TypeRefusal>
+    ensures { Tells (cast_to context.now place (shape_of target.now) (typed value)) result }
+{
+    let value = cast_operand(alloc, context, target, value)?;
+    recast(alloc, context.model, place, value, target)
+}
