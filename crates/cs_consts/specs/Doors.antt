@@ -23,6 +23,10 @@ number_of_constant (Of at ty form) = Fault code.NotConstant at
 unfoldable pub value_of : Context → RawExpr → Verdict (IntType × ℤ)
 value_of c e = lift number_of_constant (judged c Constant [] None e)
 
+-- an expression that has to have a value, which goes to a type where one is asked for
+unfoldable pub operand_of : Context → Literals → Option Shape → RawExpr → Verdict Typed
+operand_of c literals target e = operand_in c Run (formed c Run literals target e.place e.kind)
+
 -- an expression whose value goes to a type as if by assignment (C11 6.7.9, paragraph 11; 6.8.6.4, paragraph 3)
 unfoldable pub assigned_value : Context → Literals → Place → Shape → RawExpr → Verdict Typed
 assigned_value c literals at target e =

@@ -33,9 +33,13 @@ abbrev pub struct_scalars : List StructType → ℕ → ℕ → Option ℕ
 struct_scalars table zero number = Some 0
 struct_scalars table (suc depth) number = scalars_of_members (scalars_with (struct_scalars table depth)) (members_of table number)
 
--- the type has so few scalars that one store may write them: where no struct holds itself, at most all structs hold one another
+-- how many scalars a type has, if they are few: where no struct holds itself, at most all structs hold one another
+abbrev pub scalars_in : List StructType → Shape → Option ℕ
+scalars_in table ty = scalars_with (struct_scalars table (length table)) ty
+
+-- the type has so few scalars that one store may write them
 unfoldable pub has_few_scalars : List StructType → Shape → Bool
-has_few_scalars table ty = is_some (scalars_with (struct_scalars table (length table)) ty)
+has_few_scalars table ty = is_some (scalars_in table ty)
 
 -- the type of the elements of all arrays that are a type
 abbrev pub innermost : Shape → Shape

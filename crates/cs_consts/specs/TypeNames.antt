@@ -14,6 +14,7 @@ use Rattle.cs_ast.specs.declared.raw.written_type.IntegerWord.TheVariants as int
 use Rattle.cs_ast.specs.declared.raw.written_type.PointerWord.{PointerWord}
 use Rattle.cs_ast.specs.declared.raw.written_type.PointerWord.TheVariants.{Star, Const}
 use Rattle.cs_ast.specs.declared.raw.written_type.WrittenType.{WrittenType}
+use Rattle.cs_consts.specs.declared.integer_words.IntegerWords.{IntegerWords}
 use Rattle.cs_consts.specs.declared.refusal.TypeCode.TheVariants as code
 use Rattle.cs_consts.specs.declared.scope.Tag.{Tag}
 use Rattle.cs_consts.specs.declared.scope.TagMeaning.{TagMeaning}
@@ -51,15 +52,25 @@ char_type false false = int_type.Char
 abbrev pub signed_or : Bool → IntType → IntType → IntType
 signed_or unsigned without with_sign = if unsigned then without else with_sign
 
--- the integer type that words name (C11 6.7.2, paragraph 2)
-unfoldable pub integer_type : List TypeWord → IntType
-integer_type words =
-    let unsigned = nat_lt 0 (times integer_word.Unsigned words) in
-    if nat_lt 0 (times integer_word.Char words) then char_type (nat_lt 0 (times integer_word.Signed words)) unsigned
-    else (if nat_lt 0 (times integer_word.Short words) then signed_or unsigned int_type.UShort int_type.Short
-    else (if nat_lt 1 (times integer_word.Long words) then signed_or unsigned int_type.ULLong int_type.LLong
-    else (if nat_lt 0 (times integer_word.Long words) then signed_or unsigned int_type.ULong int_type.Long
+-- the integer type that so many words name (C11 6.7.2, paragraph 2)
+unfoldable pub named_by : IntegerWords → IntType
+named_by n =
+    let unsigned = nat_lt 0 n.unsigned in
+    if nat_lt 0 n.char then char_type (nat_lt 0 n.signed) unsigned
+    else (if nat_lt 0 n.short then signed_or unsigned int_type.UShort int_type.Short
+    else (if nat_lt 1 n.long then signed_or unsigned int_type.ULLong int_type.LLong
+    else (if nat_lt 0 n.long then signed_or unsigned int_type.ULong int_type.Long
     else signed_or unsigned int_type.UInt int_type.Int)))
+
+-- the integer type that words name
+unfoldable pub integer_type : List TypeWord → IntType
+integer_type words = named_by (record {
+  char = times integer_word.Char words;
+  short = times integer_word.Short words;
+  long = times integer_word.Long words;
+  signed = times integer_word.Signed words;
+  unsigned = times integer_word.Unsigned words;
+})
 
 -- the word that names a whole type, if one does
 abbrev pub whole_word : List TypeWord → Option TypeWord

@@ -90,8 +90,8 @@ fn lesser(code: TypeCode, other: TypeCode) -> TypeCode
     }
 }
 
-// The lesser of a code and one that may be there.
-fn least(code: TypeCode, other: Option<TypeCode>) -> TypeCode
+/// The lesser of a code and one that may be there.
+pub fn least(code: TypeCode, other: Option<TypeCode>) -> TypeCode
     ensures { result ≡ least code other }
 {
     match other {

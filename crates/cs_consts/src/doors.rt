@@ -3,8 +3,9 @@ ghost use Rattle.std.specs.Prelude.{◌≡◌, OnOk, None, Some};
 ghost use Rattle.cs_types.specs.Shape.{shape_of};
 ghost use Rattle.cs_ast.specs.TypedView.{typed};
 ghost use Rattle.cs_consts.specs.Verdicts.{Tells, Answers};
+ghost use Rattle.cs_consts.specs.Calls.{shape_in};
 ghost use Rattle.cs_consts.specs.Typing.{literals_behind};
-ghost use Rattle.cs_consts.specs.Doors.{number_of_constant, value_of, assigned_value, test_of, selector_of, discarded_value};
+ghost use Rattle.cs_consts.specs.Doors.{number_of_constant, value_of, operand_of, assigned_value, test_of, selector_of, discarded_value};
 
 use crate::context::Context;
 use crate::conversions::converted;
@@ -42,6 +43,21 @@ fn number_of_constant(constant: &Expr) -> Result<(IntType, i128), TypeRefusal>
         (CType::Int(ty), ExprKind::Number(number)) => Ok((*ty, *number)),
         _ => Err(TypeRefusal::Code(TypeCode::NotConstant, constant.place)),
     }
+}
+
+/// An expression that has to have a value, which goes to a type where one is asked for. It isn't converted yet.
+#[tactic(auto, unfolding(crate::specs::Doors::operand_of))]
+pub fn operand(
+    alloc: Global,
+    context: &Context,
+    literals: &mut Vec<Bytes>,
+    target: Option<&CType>,
+    tree: &RawExpr,
+) -> Result<Expr, TypeRefusal>
+    ensures told { Tells (operand_of context.now literals.old.items (shape_in target.entry) tree.now) result }
+    ensures texts { OnOk result (literals.new.items ≡ literals_behind literals.old.items tree.now.kind) }
+{
+    operand_in(alloc, context, Purpose::Run, literals, target, tree)
 }
 
 /// An expression whose value goes to a type as if by assignment: an initializer, or what `return` gives (C11 6.7.9, 6.8.6.4).

@@ -83,8 +83,8 @@ pub fn members(table: &StructTable, number: u32) -> Option<&Members>
     }
 }
 
-// The struct with this number, if it has its members.
-fn complete_struct(table: &StructTable, number: u32) -> Option<&StructType>
+/// The struct with this number, if it has its members.
+pub fn complete_struct(table: &StructTable, number: u32) -> Option<&StructType>
     ensures { option_copied result ≡ complete_of table.now.list number }
 {
     let structs = table.list.as_slice();
@@ -129,8 +129,8 @@ fn limited(bytes: u64) -> Option<u64>
     }
 }
 
-// The bytes of a pointer.
-fn pointer_bytes(model: DataModel) -> u64
+/// The bytes of a pointer.
+pub fn pointer_bytes(model: DataModel) -> u64
     ensures { result ≡ word_bytes model }
 {
     match model {

@@ -1,7 +1,7 @@
 //! How many scalars an object has, if they are so few that one store writes them.
 ghost use Rattle.std.specs.Prelude.{◌≡◌, ◌+◌};
 ghost use Rattle.cs_types.specs.Shape.{shape_of};
-ghost use Rattle.cs_consts.specs.Scalars.{few, scalars_with, struct_scalars, has_few_scalars, innermost, scalars_alone, scalars_times};
+ghost use Rattle.cs_consts.specs.Scalars.{few, scalars_in, scalars_with, struct_scalars, has_few_scalars, innermost, scalars_alone, scalars_times};
 
 use crate::objects::members;
 use cs_types::{CType, StructTable};
@@ -9,13 +9,19 @@ use cs_types::{CType, StructTable};
 /// The most scalars that one store may write.
 const MOST: u64 = 4096;
 
+/// How many scalars the type has, if they are few.
+pub fn scalars_in(table: &StructTable, ty: &CType) -> Option<u64>
+    ensures { result ≡ scalars_in table.now.list (shape_of ty.now) }
+{
+    scalars(table, table.list.as_slice().len(), ty)
+}
+
 /// Whether the type has so few scalars that one store may write them.
 #[tactic(auto, unfolding(crate::specs::Scalars::has_few_scalars))]
 pub fn has_few_scalars(table: &StructTable, ty: &CType) -> bool
     ensures { result ≡ has_few_scalars table.now.list (shape_of ty.now) }
 {
-    let depth = table.list.as_slice().len();
-    scalars(table, depth, ty).is_some()
+    scalars_in(table, ty).is_some()
 }
 
 // How many scalars the type has, if they are few, where structs hold one another at most so deep.
@@ -85,8 +91,8 @@ fn few_more(before: u64, more: u64) -> Option<u64>
     few(before.saturating_add(more))
 }
 
-// So many scalars, if they are few.
-fn few(scalars: u64) -> Option<u64>
+/// So many scalars, if they are few.
+pub fn few(scalars: u64) -> Option<u64>
     ensures { result ≡ few scalars }
 {
     if scalars <= MOST { Some(scalars) } else { None }

@@ -3,9 +3,10 @@ ghost use Rattle.std.specs.Prelude.{◌≡◌, IfOk, option_copied};
 ghost use Rattle.cs_types.specs.Shape.{shape_of};
 ghost use Rattle.cs_consts.specs.Verdicts.{Answers};
 ghost use Rattle.cs_consts.specs.Scopes.{newest, tagged};
-ghost use Rattle.cs_consts.specs.TypeNames.{is_word, times, char_type, is_star, typedef_at, struct_at, enum_at, integer_type, whole_word, tag_place, based, starred, type_named, is_array_size, array_of, arrayed, complete_at};
+ghost use Rattle.cs_consts.specs.TypeNames.{times, is_star, typedef_at, struct_at, enum_at, integer_type, whole_word, tag_place, based, starred, type_named, is_array_size, array_of, arrayed, complete_at};
 
 use crate::context::Scope;
+use crate::integer_words::{IntegerWords, is_word};
 use crate::objects::{bytes_in, is_complete};
 use crate::refusal::{TypeCode, TypeRefusal};
 use crate::scope::{Meaning, TagMeaning};
@@ -14,16 +15,6 @@ use cs_ast::raw::written_type::{IntegerWord, PointerWord, TypeWord, WrittenType}
 use cs_names::Name;
 use cs_types::{CType, DataModel, IntType, StructTable};
 use std::alloc::{AllocError, Global};
-
-// Whether the word is this one of an integer type.
-fn is_word(kind: IntegerWord, word: &TypeWord) -> bool
-    ensures { result ≡ is_word kind word.now }
-{
-    match word {
-        TypeWord::Integer(other) => kind as u8 == *other as u8,
-        _ => false,
-    }
-}
 
 // How often a word of an integer type stands among these.
 fn times(kind: IntegerWord, words: &[TypeWord]) -> usize
@@ -37,50 +28,14 @@ fn times(kind: IntegerWord, words: &[TypeWord]) -> usize
 fn integer_type(words: &[TypeWord]) -> IntType
     ensures { result ≡ integer_type words.now }
 {
-    let unsigned = times(IntegerWord::Unsigned, words) > 0;
-    let long = times(IntegerWord::Long, words);
-    if times(IntegerWord::Char, words) > 0 {
-        return char_type(times(IntegerWord::Signed, words) > 0, unsigned);
-    }
-    if times(IntegerWord::Short, words) > 0 {
-        return if unsigned {
-            IntType::UShort
-        } else {
-            IntType::Short
-        };
-    }
-    if long > 1 {
-        return if unsigned {
-            IntType::ULLong
-        } else {
-            IntType::LLong
-        };
-    }
-    if long > 0 {
-        return if unsigned {
-            IntType::ULong
-        } else {
-            IntType::Long
-        };
-    }
-    if unsigned {
-        IntType::UInt
-    } else {
-        IntType::Int
-    }
-}
-
-// The type of `char` with a sign or none.
-fn char_type(signed: bool, unsigned: bool) -> IntType
-    ensures { result ≡ char_type signed unsigned }
-{
-    if unsigned {
-        IntType::UChar
-    } else if signed {
-        IntType::SChar
-    } else {
-        IntType::Char
-    }
+    let counts = IntegerWords {
+        char: times(IntegerWord::Char, words),
+        short: times(IntegerWord::Short, words),
+        long: times(IntegerWord::Long, words),
+        signed: times(IntegerWord::Signed, words),
+        unsigned: times(IntegerWord::Unsigned, words),
+    };
+    counts.named()
 }
 
 // The word that names a whole type, if one does.
@@ -96,8 +51,8 @@ fn whole_word(words: &[TypeWord]) -> Option<&TypeWord>
     None
 }
 
-// The type of a typedef name.
-fn typedef_type(
+/// The type of a typedef name.
+pub fn typedef_type(
     alloc: Global,
     scope: &Scope,
     place: Place,
@@ -125,8 +80,8 @@ fn struct_type(scope: &Scope, place: Place, name: &Name) -> Result<CType, TypeRe
     }
 }
 
-// The enum of a tag, whose type is `int`.
-fn enum_type(scope: &Scope, place: Place, name: &Name) -> Result<CType, TypeRefusal>
+/// The enum of a tag, whose type is `int`.
+pub fn enum_type(scope: &Scope, place: Place, name: &Name) -> Result<CType, TypeRefusal>
     ensures { Answers shape_of (enum_at place (tagged name.now scope.now.tags)) result }
 {
     match scope.tags.meaning(name) {
@@ -151,8 +106,8 @@ fn based(alloc: Global, scope: &Scope, place: Place, ty: &WrittenType) -> Result
     }
 }
 
-// A type behind as many pointers as there are stars.
-fn starred(alloc: Global, words: &[PointerWord], base: CType) -> Result<CType, AllocError>
+/// A type behind as many pointers as there are stars.
+pub fn starred(alloc: Global, words: &[PointerWord], base: CType) -> Result<CType, AllocError>
     ensures { IfOk result (λ made. shape_of made ≡ starred words.now (shape_of base)) }
 {
     let mut ty = base;
@@ -196,9 +151,9 @@ fn is_array_size(number: i128) -> bool
     1 <= number && number <= 65536
 }
 
-// An array of so many elements, if it is small enough.
+/// An array of so many elements, if it is small enough.
 #[tactic(auto, unfolding(crate::specs::TypeNames::array_of))]
-fn array_of(
+pub fn array_of(
     alloc: Global,
     model: DataModel,
     table: &StructTable,
