@@ -1,6 +1,6 @@
 use Rattle.std.proofs.Common.{Err, ap}
 use Rattle.cs_app.proofs.AnswerLemmas.{answers_source, refuses_length}
-use Rattle.cs_app.proofs.answer.analysis.Goals as goal
+use Rattle.cs_app.proofs.command.analysis.Goals as goal
 
 pub returns-in_ok-answer-in-Ok-clause-whole : goal.returns-in_ok-answer-in-Ok-clause-whole
 returns-in_ok-answer-in-Ok-clause-whole g c =
