@@ -1,8 +1,10 @@
 -- How the analysis of functions grows by one: for the loop that analyzes them.
-use Rattle.std.proofs.Common.{◌≡◌, ℕ, ◌+◌, ◌<◌, ◌≤◌, ◌||◌, Bool, true, false, cond, List, [], ◌∷◌, ◌++◌, map, length, take, get_or, suc, refl, sym, ap, ◌∙◌, subst, append_assoc, append-nil, arith}
+use Rattle.std.proofs.Common.{◌≡◌, ℕ, ◌+◌, ◌<◌, ◌≤◌, ◌||◌, Bool, true, false, cond, List, [], ◌∷◌, ◌++◌, map, length, take, get_or, zero, suc, refl, sym, ap, ◌∙◌, subst, append_assoc, append-nil, arith}
+use Rattle.std.specs.Prelude.{All}
 use Rattle.std.specs.List.{list_any}
 use Rattle.std.proofs.lemmas.List.{take_more, map-append}
 use Rattle.std.proofs.lemmas.List.Folds.{list_any-append}
+use Rattle.std.proofs.lemmas.List.Elements.{All-head, All-tail}
 use Rattle.std.proofs.lemmas.Grind.{common_steps}
 use Rattle.cs_ast.specs.declared.function.Function.{Function}
 use Rattle.cs_ast.specs.Tree.{Definition}
@@ -11,7 +13,7 @@ use Rattle.cs_model.specs.declared.finding.EntryResult.{EntryResult}
 use Rattle.cs_model.specs.Texts.{entry_lines}
 use Rattle.cs_app.specs.declared.status.Status.{Status}
 use Rattle.cs_app.specs.declared.status.Status.TheVariants.{Clean, Found}
-use Rattle.cs_app.specs.Entries.{IsResultOf, AreResultsFrom, entries_text, is_some_list, has_report, found_if, status_of, IsAnalysisOf}
+use Rattle.cs_app.specs.Entries.{IsAnalyzable, IsResultOf, AreResultsFrom, entries_text, is_some_list, has_report, found_if, status_of, IsAnalysisOf}
 
 results_push : (number : ℕ) (functions : List Definition) (results : List EntryResult) (f : Definition) (told : EntryResult) → AreResultsFrom number functions results → IsResultOf (number + length functions) f told → AreResultsFrom number (functions ++ f ∷ []) (results ++ told ∷ [])
 results_push number [] [] f told h one = (one, tt)
@@ -60,3 +62,9 @@ one_more files functions n f told before now text more inside h one status lines
     let taken : map definition (take (n + 1) functions) ≡ map definition (take n functions) ++ definition (get_or functions n f) ∷ [] = ap (map definition) (take_more functions n f inside) ∙ map-append definition (take n functions) (get_or functions n f ∷ []) in
     let numbered = subst (λ k. IsResultOf k (definition (get_or functions n f)) told) (length_taken definition functions n (omega (arith, inside))) one in
     subst (λ fs. IsAnalysisOf files fs now more) (sym taken) (analysis_push files (map definition (take n functions)) (definition (get_or functions n f)) told before now text more h numbered status lines)
+
+-- each of the functions can be analyzed
+pub covered_at : (functions : List Function) (n : ℕ) (f : Function) → n < length functions → All IsAnalyzable (map definition functions) → IsAnalyzable (definition (get_or functions n f))
+covered_at [] n f inside all = absurd (omega (arith, inside))
+covered_at (x ∷ xs) zero f inside all = All-head IsAnalyzable (definition x) (map definition xs) all
+covered_at (x ∷ xs) (suc n) f inside all = covered_at xs n f (omega (arith, inside)) (All-tail IsAnalyzable (definition x) (map definition xs) all)
