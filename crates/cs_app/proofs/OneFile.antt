@@ -29,7 +29,7 @@ not_refused tokens file at reason h r =
         spelled = spelled ∙ with_first r.front (drop at tokens) (omega (arith, less, length-drop at tokens));
       })
       | inr all ↦ r.unfinished (omega (arith, all, r.spelled.within)) file h.is_file
-        (spelled ∙ ap (λ rest. r.front ++ kinds rest) (drop_of_length-le tokens all) ∙ append-nil r.front)
+          (spelled ∙ ap (λ rest. r.front ++ kinds rest) (drop_of_length-le tokens all) ∙ append-nil r.front)
     ]
 
 pub file_or_refused : (tokens : List Token) (end : Place) (file : List External) (r : SyntaxRefusal) → IsTheFile tokens file → IsFileRefusal tokens end r → r ≡ refusal.Memory

@@ -13,11 +13,7 @@ use cs_report::append_entry;
 use std::alloc::{AllocError, Global};
 
 /// The analyses of functions that it covers, whose places are in these files.
-pub fn analyzed(
-    alloc: Global,
-    files: &[Name],
-    functions: &[Function],
-) -> Result<Answer, AllocError>
+pub fn analyzed(alloc: Global, files: &[Name], functions: &[Function]) -> Result<Answer, AllocError>
     requires few { length functions.now ≤ 400000 }
     requires covered { All IsAnalyzable (map definition functions.now) }
     ensures { IfOk result (λ answer. IsAnalysisOf files.now (map definition functions.now) answer.status answer.text.items) }

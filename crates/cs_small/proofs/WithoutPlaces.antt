@@ -289,7 +289,7 @@ read_named : (f : RawFunction) (block : RawBody) → option_map small_name (read
 read_named f block =
     map-then small_name (λ names. option_and_then (λ found. Some (made f block names found)) (body names block.items.items)) (parameter_names f.parameters)
     ∙ and_then_same (parameter_names f.parameters) (λ names. option_map small_name (option_and_then (λ found. Some (made f block names found)) (body names block.items.items))) (name_if f block) (λ names.
-      name-then f.name (made f block names) (λ a. refl) (body names block.items.items) ∙ ap (λ b. cond b (Some f.name) None) (body_there names block.items.items))
+    name-then f.name (made f block names) (λ a. refl) (body names block.items.items) ∙ ap (λ b. cond b (Some f.name) None) (body_there names block.items.items))
     ∙ ap (option_and_then (name_if f block)) (names_are f.parameters)
 
 parts_named : (f : RawFunction) (block : RawBody) → option_map small_name (parts f block) ≡ name_for (declarations.head f) (statements.items_list block.items.items)
