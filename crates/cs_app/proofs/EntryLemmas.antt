@@ -16,7 +16,9 @@ use Rattle.cs_app.specs.declared.status.Status.TheVariants.{Clean, Found}
 use Rattle.cs_app.specs.Entries.{IsAnalyzable, IsResultOf, AreResultsFrom, entries_text, is_some_list, has_report, found_if, status_of, IsAnalysisOf}
 
 results_push : (number : ℕ) (functions : List Definition) (results : List EntryResult) (f : Definition) (told : EntryResult) → AreResultsFrom number functions results → IsResultOf (number + length functions) f told → AreResultsFrom number (functions ++ f ∷ []) (results ++ told ∷ [])
-results_push number [] [] f told h one = (one, tt)
+results_push number [] [] f told h one =
+    let same : number + 0 ≡ number = omega arith in
+    (subst (λ n. IsResultOf n f told) same one, tt)
 results_push number [] (t ∷ ts) f told h one = absurd h
 results_push number (g ∷ gs) [] f told h one = absurd h
 results_push number (g ∷ gs) (t ∷ ts) f told h one =
@@ -42,9 +44,11 @@ status_push results told =
     found_or (list_any has_report results) (has_report told) ∙ ap (λ b. cond b Found Clean) (sym (list_any-append has_report results (told ∷ [])))
 
 analysis_push : (files : List (List ℕ)) (functions : List Definition) (f : Definition) (told : EntryResult) (before now : Status) (text more : List ℕ) → IsAnalysisOf files functions before text → IsResultOf (length functions) f told → now ≡ found_if before told.reports.items → more ≡ text ++ entry_lines files f.name told → IsAnalysisOf files (functions ++ f ∷ []) now more
-analysis_push files functions f told before now text more h one status lines = record {
+analysis_push files functions f told before now text more h one status lines =
+    let same : length functions ≡ 0 + length functions = omega arith in
+    record {
   results = h.results ++ told ∷ [];
-  good = results_push 0 functions h.results f told h.good one;
+  good = results_push 0 functions h.results f told h.good (subst (λ n. IsResultOf n f told) same one);
   is = lines ∙ ap (λ t. t ++ entry_lines files f.name told) h.is ∙ sym (text_push files 0 functions h.results f told h.good);
   found = status ∙ ap (λ s. found_if s told.reports.items) h.found ∙ status_push h.results told;
 }

@@ -1,11 +1,13 @@
 -- Functions of the form are such as the analysis covers, and no more than a file has tokens: for the functions that analyze them.
 use Rattle.std.proofs.Common.{◌≡◌, ℕ, ◌+◌, ◌<◌, ◌≤◌, ◌^◌, List, [], ◌∷◌, ◌++◌, map, length, suc, refl, sym, ap, ◌∙◌, subst, length-append, arith, rules, tests, nat_lt, true}
-use Rattle.std.specs.Prelude.{All, option_and_then, Some}
+use Rattle.std.specs.Prelude.{All, Option, Some, None}
 use Rattle.std.proofs.lemmas.List.Elements.{All-head, All-tail, All-map, All-weaker}
 use Rattle.cs_ast.specs.declared.place.Place.{Place}
+use Rattle.cs_ast.specs.declared.token.Token.{Token}
 use Rattle.cs_ast.specs.declared.raw.external.RawExternal.{RawExternal}
 use Rattle.cs_ast.specs.Tree.{Definition}
 use Rattle.cs_ast.specs.RawStatements.{External}
+use Rattle.cs_ast.specs.RawStatementView.{external}
 use Rattle.cs_grammar.specs.Text.{Kinds}
 use Rattle.cs_grammar.specs.FileText.{external_text, externals_text, file_text}
 use Rattle.cs_grammar.specs.FilePhrases.{IsFile, IsExternal, names_behind}
@@ -22,8 +24,8 @@ use Rattle.cs_small.specs.declared.small.Answer.TheVariants.{Single, Quotient}
 use Rattle.cs_small.specs.declared.small.Guard.{Guard}
 use Rattle.cs_small.specs.Small.{Small, tree, atom_tree, answer_tree, body_trees, IsAtomWithin, IsAnswerWithin, IsGuardWithin, IsWithinLimits}
 use Rattle.cs_small.specs.Reading as reading
-use Rattle.cs_small.specs.Reading.{number_of, function, IsOfForm}
-use Rattle.cs_small.proofs.Limits.{and_then_some, map_some, new_some, functions_within}
+use Rattle.cs_small.specs.Reading.{number_of, where_new, function, IsOfForm}
+use Rattle.cs_small.proofs.Limits.{and_then_some, map_some, functions_within}
 use Rattle.cs_analysis.specs.Shape.{IsAtom, IsAnswer, IsBody, IsCoverable, LeavesRoom, count_of}
 use Rattle.cs_app.specs.Entries.{DEFAULT_BUDGETS, IsAnalyzable}
 
@@ -66,9 +68,13 @@ form_is_analyzable file functions form =
     let read = map_some (map tree) (reading.functions [] file) functions form in
     subst (All IsAnalyzable) read.2 (All-map IsAnalyzable tree read.0 (All-weaker IsWithinLimits (λ small. IsAnalyzable (tree small)) small_is_analyzable read.0 (functions_within [] file read.0 read.1)))
 
-length_is : {X Y : Type 0} (f : X → Y) (xs : List X) → length (map f xs) ≡ length xs
+pub length_is : {X Y : Type 0} (f : X → Y) (xs : List X) → length (map f xs) ≡ length xs
 length_is f [] = refl
 length_is f (x ∷ xs) = ap suc (length_is f xs)
+
+new_length : (number : Option ℕ) (rest : Option (List Small)) (smalls : List Small) (n : ℕ) → ((more : List Small) → rest ≡ Some more → length more ≡ n) → where_new number rest ≡ Some smalls → length smalls ≡ n
+new_length None rest smalls n h e = h smalls e
+new_length (Some number) rest smalls n h e = absurd cc
 
 one_each : (before : reading.Names) (file : List RawExternal) (smalls : List Small) → reading.functions before file ≡ Some smalls → length smalls ≡ length file
 one_each before [] smalls h =
@@ -76,10 +82,10 @@ one_each before [] smalls h =
     sym (ap length is)
 one_each before (e ∷ others) smalls h =
     let first = and_then_some (function e.kind) _ smalls h in
-    let new = new_some (number_of before first.0.name) _ smalls first.2 in
-    let rest = and_then_some (reading.functions (before ++ first.0.name ∷ []) others) _ smalls new.1 in
-    let is : first.0 ∷ rest.0 ≡ smalls = cc in
-    sym (ap length is) ∙ ap suc (one_each (before ++ first.0.name ∷ []) others rest.0 rest.1)
+    new_length (number_of before first.0.name) _ smalls (suc (length others)) (λ more read.
+      let rest = and_then_some (reading.functions (before ++ first.0.name ∷ []) others) _ more read in
+      let is : first.0 ∷ rest.0 ≡ more = cc in
+      sym (ap length is) ∙ ap suc (one_each (before ++ first.0.name ∷ []) others rest.0 rest.1)) first.2
 
 -- a file of the form has one function for each of its parts
 pub form_has_one_each : (file : List RawExternal) (functions : List Definition) → IsOfForm file functions → length functions ≡ length file
@@ -100,6 +106,7 @@ parts_few names (e ∷ others) h =
     omega (arith, one, more, ap length (external_append e [] rest), length-append (external_text e []) rest)
 
 -- the file that tokens are has no more parts than there are tokens
-pub file_has_few : (lexed : Lexed) (tree : List RawExternal) → length lexed.list.items ≤ 400000 → IsTheFile lexed.list.items (parts_of tree) → length tree ≤ 400000
-file_has_few lexed tree few h =
-    omega (arith, few, parts_few [] (parts_of tree) h.is_file, sym (ap length h.spelled) ∙ length_is _ lexed.list.items, length_is _ tree)
+pub file_has_few : (lexed : Lexed) (parsed : List RawExternal) → length lexed.list.items ≤ 400000 → IsTheFile lexed.list.items (parts_of parsed) → length parsed ≤ 400000
+file_has_few lexed parsed few h =
+    let tokens : length (file_text (parts_of parsed)) ≡ length lexed.list.items = sym (ap length h.spelled) ∙ length_is (λ (t : Token). t.kind) lexed.list.items in
+    omega (arith, few, parts_few [] (parts_of parsed) h.is_file, tokens, length_is external parsed)
