@@ -1,12 +1,11 @@
 -- Which text belongs to a status: for the functions that make an answer.
-use Rattle.std.proofs.Common.{◌≡◌, ℕ, ◌+◌, ◌<◌, ◌≤◌, Bool, true, false, cond, List, [], ◌∷◌, ◌++◌, map, length, Option, Some, None, sym, ap, ◌∙◌, subst, arith}
+use Rattle.std.proofs.Common.{◌≡◌, ℕ, ◌+◌, ◌<◌, ◌≤◌, Bool, true, false, cond, List, [], ◌++◌, map, length, Option, Some, None, sym, ap, ◌∙◌, subst, arith}
 use Rattle.std.specs.Prelude.{IfSome, codes, replicate, option_map}
 use Rattle.std.specs.List.{list_any}
 use Rattle.std.proofs.lemmas.List.{length-replicate}
 use Rattle.std.specs.Fmt.{decimal}
 use Rattle.cs_ast.specs.declared.raw.external.RawExternal.{RawExternal}
 use Rattle.cs_ast.specs.Tree.{Definition}
-use Rattle.cs_ast.specs.RawStatements.{External}
 use Rattle.cs_lexer.specs.declared.lexer.Lexed.{Lexed}
 use Rattle.cs_lexer.specs.declared.refusal.LexRefusal.{LexRefusal}
 use Rattle.cs_lexer.specs.Lexing.{Lexes, IsRefused}
@@ -16,7 +15,7 @@ use Rattle.cs_decl_parser.specs.Files.{parts_of, IsTheFile, IsFileRefusal}
 use Rattle.cs_small.specs.Small.{tree}
 use Rattle.cs_small.specs.Reading.{functions, IsOfForm}
 use Rattle.cs_small.proofs.WithoutPlaces.{of_form_by_parts}
-use Rattle.cs_app.specs.Trees.{MOST_BYTES, Parses, IsOfNoForm}
+use Rattle.cs_app.specs.Trees.{MOST_BYTES, Parses}
 use Rattle.cs_app.specs.Refusals.{IsLexLine, IsSyntaxLine, IsRefusal, too_long, by_lexing, by_syntax, by_form, RefusesSource}
 use Rattle.cs_app.specs.declared.status.Status.{Status}
 use Rattle.cs_app.specs.declared.status.Status.TheVariants.{Clean, Found, BadWords, BadFile, ReadFault, WriteFault, Memory}

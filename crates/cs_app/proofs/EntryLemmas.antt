@@ -13,7 +13,7 @@ use Rattle.cs_model.specs.declared.finding.EntryResult.{EntryResult}
 use Rattle.cs_model.specs.Texts.{entry_lines}
 use Rattle.cs_app.specs.declared.status.Status.{Status}
 use Rattle.cs_app.specs.declared.status.Status.TheVariants.{Clean, Found}
-use Rattle.cs_app.specs.Entries.{IsAnalyzable, IsResultOf, AreResultsFrom, entries_text, is_some_list, has_report, found_if, status_of, IsAnalysisOf}
+use Rattle.cs_app.specs.Entries.{IsAnalyzable, IsResultOf, AreResultsFrom, entries_text, has_report, found_if, status_of, IsAnalysisOf}
 
 results_push : (number : ℕ) (functions : List Definition) (results : List EntryResult) (f : Definition) (told : EntryResult) → AreResultsFrom number functions results → IsResultOf (number + length functions) f told → AreResultsFrom number (functions ++ f ∷ []) (results ++ told ∷ [])
 results_push number [] [] f told h one =

@@ -10,12 +10,11 @@ use Rattle.cs_ast.specs.RawStatements.{External}
 use Rattle.cs_ast.specs.RawStatementView.{external}
 use Rattle.cs_grammar.specs.Text.{Kinds}
 use Rattle.cs_grammar.specs.FileText.{external_text, externals_text, file_text}
-use Rattle.cs_grammar.specs.FilePhrases.{IsFile, IsExternal, names_behind}
+use Rattle.cs_grammar.specs.FilePhrases.{IsFile, names_behind}
 use Rattle.cs_grammar.specs.TypeWords.{Names}
 use Rattle.cs_grammar.proofs.FileTexts.{external_append}
 use Rattle.cs_grammar.proofs.FileRules.{external_has}
 use Rattle.cs_lexer.specs.declared.lexer.Lexed.{Lexed}
-use Rattle.cs_lexer.specs.Lexing.{Lexes}
 use Rattle.cs_decl_parser.specs.Files.{parts_of, IsTheFile}
 use Rattle.cs_small.specs.declared.small.Atom.{Atom}
 use Rattle.cs_small.specs.declared.small.Atom.TheVariants.{Parameter, Literal}
@@ -26,8 +25,8 @@ use Rattle.cs_small.specs.Small.{Small, tree, atom_tree, answer_tree, body_trees
 use Rattle.cs_small.specs.Reading as reading
 use Rattle.cs_small.specs.Reading.{number_of, where_new, function, IsOfForm}
 use Rattle.cs_small.proofs.Limits.{and_then_some, map_some, functions_within}
-use Rattle.cs_analysis.specs.Shape.{IsAtom, IsAnswer, IsBody, IsCoverable, LeavesRoom, count_of}
-use Rattle.cs_app.specs.Entries.{DEFAULT_BUDGETS, IsAnalyzable}
+use Rattle.cs_analysis.specs.Shape.{IsAtom, IsAnswer, IsBody, count_of}
+use Rattle.cs_app.specs.Entries.{IsAnalyzable}
 
 literal_is_int : (value : ℕ) → value < 2 ^ 31 → nat_lt value (2 ^ 31) ≡ true
 literal_is_int value small = search (rules, tests)

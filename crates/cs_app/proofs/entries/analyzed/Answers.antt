@@ -1,4 +1,4 @@
-use Rattle.std.proofs.Common.{◌++◌, get_or, sym, subst, ap, ◌∙◌, arith}
+use Rattle.std.proofs.Common.{◌++◌, sym, subst, ap, ◌∙◌, arith}
 use Rattle.cs_ast.specs.View.{definition}
 use Rattle.cs_model.specs.Texts.{entry_lines}
 use Rattle.cs_analysis.specs.Shape.{IsCoverable, LeavesRoom}
