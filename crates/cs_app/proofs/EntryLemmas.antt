@@ -47,11 +47,11 @@ analysis_push : (files : List (List ℕ)) (functions : List Definition) (f : Def
 analysis_push files functions f told before now text more h one status lines =
     let same : length functions ≡ 0 + length functions = omega arith in
     record {
-  results = h.results ++ told ∷ [];
-  good = results_push 0 functions h.results f told h.good (subst (λ n. IsResultOf n f told) same one);
-  is = lines ∙ ap (λ t. t ++ entry_lines files f.name told) h.is ∙ sym (text_push files 0 functions h.results f told h.good);
-  found = status ∙ ap (λ s. found_if s told.reports.items) h.found ∙ status_push h.results told;
-}
+      results = h.results ++ told ∷ [];
+      good = results_push 0 functions h.results f told h.good (subst (λ n. IsResultOf n f told) same one);
+      is = lines ∙ ap (λ t. t ++ entry_lines files f.name told) h.is ∙ sym (text_push files 0 functions h.results f told h.good);
+      found = status ∙ ap (λ s. found_if s told.reports.items) h.found ∙ status_push h.results told;
+    }
 
 -- before the first function
 pub none_analyzed : (files : List (List ℕ)) → IsAnalysisOf files [] Clean []

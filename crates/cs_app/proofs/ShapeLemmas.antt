@@ -82,9 +82,9 @@ one_each before [] smalls h =
 one_each before (e ∷ others) smalls h =
     let first = and_then_some (function e.kind) _ smalls h in
     new_length (number_of before first.0.name) _ smalls (suc (length others)) (λ more read.
-      let rest = and_then_some (reading.functions (before ++ first.0.name ∷ []) others) _ more read in
-      let is : first.0 ∷ rest.0 ≡ more = cc in
-      sym (ap length is) ∙ ap suc (one_each (before ++ first.0.name ∷ []) others rest.0 rest.1)) first.2
+    let rest = and_then_some (reading.functions (before ++ first.0.name ∷ []) others) _ more read in
+    let is : first.0 ∷ rest.0 ≡ more = cc in
+    sym (ap length is) ∙ ap suc (one_each (before ++ first.0.name ∷ []) others rest.0 rest.1)) first.2
 
 -- a file of the form has one function for each of its parts
 pub form_has_one_each : (file : List RawExternal) (functions : List Definition) → IsOfForm file functions → length functions ≡ length file

@@ -22,6 +22,6 @@ loop-number-preserved c =
     let room = subst (λ f. LeavesRoom (definition f) DEFAULT_BUDGETS) (sym c.index-functions-number.is) (covered_at functions number item (omega arith) c.requires.covered).room in
     let one : IsResultOf number (definition item) told = record { numbered = c.in_ok-told.ensures.entry; good = c.in_ok-told.ensures.good DEFAULT_BUDGETS room; no_budget_met = c.in_ok-told.ensures.no_budget } in
     one_more files functions number item told c.loop-number.status c.found_if-status.result text c.append_entry.new.text.items (omega arith) c.loop-number.invariant
-      (subst (λ f. IsResultOf number (definition f) told) c.index-functions-number.is one)
-      (c.found_if-status.ensures ∙ ap (found_if c.loop-number.status) c.deref.ensures.value)
-      (c.in_ok-append_entry.ensures ∙ ap (λ f. text ++ entry_lines files (definition f).name told) c.index-functions-number.is)
+    (subst (λ f. IsResultOf number (definition f) told) c.index-functions-number.is one)
+    (c.found_if-status.ensures ∙ ap (found_if c.loop-number.status) c.deref.ensures.value)
+    (c.in_ok-append_entry.ensures ∙ ap (λ f. text ++ entry_lines files (definition f).name told) c.index-functions-number.is)
