@@ -1,44 +1,57 @@
 -- Which text belongs to a status: for the functions that make an answer.
-use Rattle.std.proofs.Common.{◌≡◌, ℕ, ◌+◌, ◌<◌, ◌≤◌, List, [], ◌∷◌, ◌++◌, length, Option, Some, None, sym, subst, arith}
-use Rattle.std.specs.Prelude.{IfSome, codes, replicate}
+use Rattle.std.proofs.Common.{◌≡◌, ℕ, ◌+◌, ◌<◌, ◌≤◌, Bool, true, false, cond, List, [], ◌++◌, map, length, Option, Some, None, sym, ap, ◌∙◌, subst, arith}
+use Rattle.std.specs.Prelude.{IfSome, codes, replicate, option_map}
+use Rattle.std.specs.List.{list_any}
 use Rattle.std.proofs.lemmas.List.{length-replicate}
 use Rattle.std.specs.Fmt.{decimal}
+use Rattle.cs_ast.specs.declared.raw.external.RawExternal.{RawExternal}
 use Rattle.cs_ast.specs.Tree.{Definition}
-use Rattle.cs_model.specs.declared.finding.Finding.{Finding}
 use Rattle.cs_lexer.specs.declared.lexer.Lexed.{Lexed}
 use Rattle.cs_lexer.specs.declared.refusal.LexRefusal.{LexRefusal}
 use Rattle.cs_lexer.specs.Lexing.{Lexes, IsRefused}
-use Rattle.cs_lexer.proofs.OneLexing.{lexed_or_refused}
-use Rattle.cs_form.specs.Form.{IsOfForm}
-use Rattle.cs_app.specs.Refusals.{MOST_BYTES, IsLexLine, IsOfNoForm, IsRefusal, too_long, by_lexing, by_form, RefusesSource}
+use Rattle.cs_lexer.proofs.OneLexing.{lexed_once, lexed_or_refused}
+use Rattle.cs_grammar.specs.declared.refusal.SyntaxRefusal.{SyntaxRefusal}
+use Rattle.cs_decl_parser.specs.Files.{parts_of, IsTheFile, IsFileRefusal}
+use Rattle.cs_small.specs.Small.{tree}
+use Rattle.cs_small.specs.Reading.{functions, IsOfForm}
+use Rattle.cs_small.proofs.WithoutPlaces.{of_form_by_parts}
+use Rattle.cs_app.specs.Trees.{MOST_BYTES, Parses}
+use Rattle.cs_app.specs.Refusals.{IsLexLine, IsSyntaxLine, IsRefusal, too_long, by_lexing, by_syntax, by_form, RefusesSource}
 use Rattle.cs_app.specs.declared.status.Status.{Status}
 use Rattle.cs_app.specs.declared.status.Status.TheVariants.{Clean, Found, BadWords, BadFile, ReadFault, WriteFault, Memory}
 use Rattle.cs_app.specs.Words.{first_refused}
-use Rattle.cs_app.specs.Answers.{IsResultText, IsFormAnswer, IsFileAnswer, IsWhole, IsAnalyzed, IsAcceptable, status_of}
+use Rattle.cs_app.specs.Entries.{has_report, IsAnalysisOf}
+use Rattle.cs_app.specs.Answers.{IsTreeAnswer, IsFileAnswer, IsWhole, IsAnalyzed, IsAcceptable}
+use Rattle.cs_app.proofs.OneFile.{file_or_refused}
 
 -- a status that no analysis answers
-no_analysis : {A : Type 0} (status : Status) (reports : List Finding) → (status ≡ Clean → ⊥) → (status ≡ Found → ⊥) → status ≡ status_of reports → A
-no_analysis status [] not_clean not_found is = absurd (not_clean is)
-no_analysis status (report ∷ reports) not_clean not_found is = absurd (not_found is)
+no_analysis : {A : Type 0} (status : Status) (found : Bool) → (status ≡ Clean → ⊥) → (status ≡ Found → ⊥) → status ≡ cond found Found Clean → A
+no_analysis status true not_clean not_found is = absurd (not_found is)
+no_analysis status false not_clean not_found is = absurd (not_clean is)
 
--- the text of a result answers the file that spells its function
-pub answers_form : (file : List ℕ) (function : Definition) (status : Status) (text : List ℕ) → IsOfForm file function → IsResultText function status text → IsFormAnswer file status text
-answers_form file function BadFile text spelled told = no_analysis BadFile told.told.reports.items (λ e. cc) (λ e. cc) told.found
-answers_form file function _ text spelled told = (function, spelled, told)
+-- the analysis of the functions of a tree answers it
+pub answers_form : (files : List (List ℕ)) (file : List RawExternal) (trees : List Definition) (status : Status) (text : List ℕ) → IsOfForm file trees → IsAnalysisOf files trees status text → IsTreeAnswer files file status text
+answers_form files file trees BadFile text form told = no_analysis BadFile (list_any has_report told.results) (λ e. cc) (λ e. cc) told.found
+answers_form files file trees _ text form told = (trees, form, told)
 
--- the line that refuses a file answers what spells no function
-pub refuses_form : (file : List ℕ) (status : Status) (text : List ℕ) → status ≡ BadFile → text ≡ codes "refused form\n" → IsOfNoForm file → IsFormAnswer file status text
-refuses_form file status text is line none = subst (λ s. IsFormAnswer file s text) (sym is) (none, line)
+-- no function was read, and the line says so
+pub refuses_form : (files : List (List ℕ)) (file : List RawExternal) (status : Status) (text : List ℕ) → status ≡ BadFile → text ≡ codes "refused form\n" → option_map (map tree) (functions [] file) ≡ None → IsTreeAnswer files file status text
+refuses_form files file status text is line none =
+    subst (λ s. IsTreeAnswer files file s text) (sym is) ((λ trees form. let e = sym none ∙ form in cc), line)
 
--- the answer to a file with tokens, by its form
-pub answers_file : (file : List ℕ) (lexed : Lexed) (status : Status) (text : List ℕ) → length file ≤ MOST_BYTES → Lexes file lexed → IsFormAnswer file status text → IsFileAnswer (Some file) status text
-answers_file file lexed Clean text short has answer = record { lexed = lexed; has_tokens = has; function = answer.0; spelled = answer.1; analyzed = answer.2 }
-answers_file file lexed Found text short has answer = record { lexed = lexed; has_tokens = has; function = answer.0; spelled = answer.1; analyzed = answer.2 }
-answers_file file lexed BadFile text short has answer = by_form short lexed has answer.0 answer.1
-answers_file file lexed BadWords text short has answer = no_analysis BadWords answer.2.told.reports.items (λ e. cc) (λ e. cc) answer.2.found
-answers_file file lexed ReadFault text short has answer = no_analysis ReadFault answer.2.told.reports.items (λ e. cc) (λ e. cc) answer.2.found
-answers_file file lexed WriteFault text short has answer = no_analysis WriteFault answer.2.told.reports.items (λ e. cc) (λ e. cc) answer.2.found
-answers_file file lexed Memory text short has answer = no_analysis Memory answer.2.told.reports.items (λ e. cc) (λ e. cc) answer.2.found
+-- the answer to a file with a tree, by its form
+pub answers_file : (file : List ℕ) (lexed : Lexed) (parsed : List RawExternal) (status : Status) (text : List ℕ) → Parses file lexed parsed → IsTreeAnswer lexed.files.items parsed status text → IsFileAnswer (Some file) status text
+answers_file file lexed parsed Clean text h answer = record { lexed = lexed; tree = parsed; parsed = h; functions = answer.0; of_form = answer.1; analyzed = answer.2 }
+answers_file file lexed parsed Found text h answer = record { lexed = lexed; tree = parsed; parsed = h; functions = answer.0; of_form = answer.1; analyzed = answer.2 }
+answers_file file lexed parsed BadFile text h answer = by_form lexed parsed h answer.0 answer.1
+answers_file file lexed parsed BadWords text h answer = no_analysis BadWords (list_any has_report answer.2.results) (λ e. cc) (λ e. cc) answer.2.found
+answers_file file lexed parsed ReadFault text h answer = no_analysis ReadFault (list_any has_report answer.2.results) (λ e. cc) (λ e. cc) answer.2.found
+answers_file file lexed parsed WriteFault text h answer = no_analysis WriteFault (list_any has_report answer.2.results) (λ e. cc) (λ e. cc) answer.2.found
+answers_file file lexed parsed Memory text h answer = no_analysis Memory (list_any has_report answer.2.results) (λ e. cc) (λ e. cc) answer.2.found
+
+-- the line that refuses tokens that are no file answers the file that has them
+pub refuses_syntax : (file : List ℕ) (lexed : Lexed) (refusal : SyntaxRefusal) (status : Status) (text : List ℕ) → status ≡ BadFile → IsFileRefusal lexed.list.items lexed.end refusal → IsSyntaxLine lexed.files.items refusal text → length file ≤ MOST_BYTES → Lexes file lexed → IsFileAnswer (Some file) status text
+refuses_syntax file lexed refusal status text is refused line short has = subst (λ s. IsFileAnswer (Some file) s text) (sym is) (by_syntax short lexed has refusal refused line)
 
 -- the line that refuses a text without tokens answers it
 pub refuses_tokens : (file : List ℕ) (refusal : LexRefusal) (status : Status) (text : List ℕ) → status ≡ BadFile → length file ≤ MOST_BYTES → IsRefused file refusal → IsLexLine refusal text → IsFileAnswer (Some file) status text
@@ -84,11 +97,23 @@ whole_of_file words file Memory text command answer = absurd answer
 pub whole_of_words : (words : List (List ℕ)) (file : Option (List ℕ)) (status : Status) (text : List ℕ) (n : ℕ) → status ≡ BadWords → first_refused words ≡ Some n → text ≡ codes "refused words " ++ (decimal n ++ codes "\n") → IsWhole words file status text
 whole_of_words words file status text n is refused line = subst (λ s. IsWhole words file s text) (sym is) (n, refused, line)
 
--- a file with tokens that is of the form is refused by no check
-not_refused : (file text : List ℕ) (lexed : Lexed) (function : Definition) → Lexes file lexed → IsOfForm file function → IsRefusal file text → ⊥
-not_refused file text lexed function has spelled (too_long long line) = absurd (omega (arith, long, spelled.spells.short))
-not_refused file text lexed function has spelled (by_lexing short refusal refused line) = subst (λ r. IsLexLine r text) (lexed_or_refused file lexed refusal has refused) line
-not_refused file text lexed function has spelled (by_form short other tokens none line) = none function spelled
+-- two trees of one file have the same parts
+same_parts : (file : List ℕ) (lexed other : Lexed) (one two : List RawExternal) → Parses file lexed one → Parses file other two → parts_of one ≡ parts_of two
+same_parts file lexed other one two h i =
+    let same = lexed_once file lexed other h.has_tokens i.has_tokens in
+    sym (h.is_the_file.only (parts_of two) i.is_the_file.is_file (sym i.is_the_file.spelled ∙ ap (λ list. map (λ token. token.kind) list) (sym same.list) ∙ h.is_the_file.spelled))
+
+-- a file with a tree of the form is refused by no check
+not_refused : (file text : List ℕ) (lexed : Lexed) (parsed : List RawExternal) (trees : List Definition) → Parses file lexed parsed → IsOfForm parsed trees → IsRefusal file text → ⊥
+not_refused file text lexed parsed trees h form (too_long long line) = absurd (omega (arith, long, h.short))
+not_refused file text lexed parsed trees h form (by_lexing short refusal refused line) = subst (λ r. IsLexLine r text) (lexed_or_refused file lexed refusal h.has_tokens refused) line
+not_refused file text lexed parsed trees h form (by_syntax short other has refusal refused line) =
+    let same = lexed_once file lexed other h.has_tokens has in
+    let is_file = subst (λ list. IsTheFile list (parts_of parsed)) same.list h.is_the_file in
+    subst (λ r. IsSyntaxLine other.files.items r text) (file_or_refused other.list.items other.end (parts_of parsed) refusal is_file refused) line
+not_refused file text lexed parsed trees h form (by_form other two i none line) =
+    let more = of_form_by_parts parsed two trees (same_parts file lexed other parsed two h i) form in
+    none more.0 more.1
 
 -- what is accepted has no other whole text than that of an analysis
 pub acceptable_is_analyzed : (words : List (List ℕ)) (file : Option (List ℕ)) (status : Status) (text : List ℕ) → IsWhole words file status text → IsAcceptable words file → IsAnalyzed status
@@ -99,7 +124,7 @@ acceptable_is_analyzed words file BadWords text whole acceptable =
     let refused : first_refused words ≡ Some whole.0 = whole.1 in
     cc
 acceptable_is_analyzed words file BadFile text whole acceptable =
-    not_refused acceptable.bytes text acceptable.lexed acceptable.function acceptable.has_tokens acceptable.spelled (subst (λ f. RefusesSource f text) acceptable.told whole.1)
+    not_refused acceptable.bytes text acceptable.lexed acceptable.tree acceptable.functions acceptable.parsed acceptable.of_form (subst (λ f. RefusesSource f text) acceptable.told whole.1)
 acceptable_is_analyzed words file ReadFault text whole acceptable = whole.1
 acceptable_is_analyzed words file WriteFault text whole acceptable = whole.1
 acceptable_is_analyzed words file Memory text whole acceptable = whole.1

@@ -1,2 +1,4 @@
 pub mod ShapeLemmas
+pub mod EntryLemmas
+pub mod OneFile
 pub mod AnswerLemmas

@@ -1,56 +1,33 @@
 -- What a run of the program answers.
-use Rattle.std.specs.Prelude.{◌≡◌, ◌⊎◌, ℕ, List, [], ◌∷◌, ◌++◌, Option, Some, None, IfSome, codes}
+use Rattle.std.specs.Prelude.{◌≡◌, ◌⊎◌, ℕ, List, ◌++◌, Option, Some, None, IfSome, codes}
 use Rattle.std.specs.Fmt.{decimal}
 use Rattle.std.specs.Io.KnownBytes.{Appends}
 use Rattle.cs_io.specs.Count.{Rose}
 use Rattle.cs_io.specs.Told.{AppendsPart}
+use Rattle.cs_ast.specs.declared.raw.external.RawExternal.{RawExternal}
 use Rattle.cs_ast.specs.Tree.{Definition}
-use Rattle.cs_model.specs.declared.finding.Finding.{Finding}
-use Rattle.cs_model.specs.declared.finding.EntryResult.{EntryResult}
-use Rattle.cs_model.specs.declared.outcome.Budgets.{Budgets}
-use Rattle.cs_model.specs.Findings.{IsGoodEntry}
-use Rattle.cs_model.specs.Texts.{entry_lines}
 use Rattle.cs_lexer.specs.declared.lexer.Lexed.{Lexed}
-use Rattle.cs_lexer.specs.Lexing.{Lexes}
-use Rattle.cs_form.specs.Form.{IsOfForm}
-use Rattle.cs_app.specs.Refusals.{IsOfNoForm, RefusesSource}
+use Rattle.cs_small.specs.Reading.{IsOfForm}
+use Rattle.cs_app.specs.Trees.{Parses, IsOfNoForm}
+use Rattle.cs_app.specs.Refusals.{RefusesSource}
+use Rattle.cs_app.specs.Entries.{IsAnalysisOf}
 use Rattle.cs_app.specs.declared.status.Status.{Status}
 use Rattle.cs_app.specs.declared.status.Status.TheVariants.{Clean, Found, BadWords, BadFile}
 use Rattle.cs_app.specs.Words.{first_refused}
 
--- the budgets that a run has where the words name none
-abbrev pub DEFAULT_BUDGETS : Budgets
-DEFAULT_BUDGETS = record { visits = 4; depth = 5; events = 20000; nodes = 150000; splits = 64 }
-
--- the files of a program, by number: what is read from standard input is the one
-abbrev pub FILES : List (List ℕ)
-FILES = codes "<input>" ∷ []
-
--- found where there is a report
-abbrev pub status_of : List Finding → Status
-status_of [] = Clean
-status_of (report ∷ reports) = Found
-
--- the text is that of a result of the function that is good under the default budgets, and meets none
-pub record IsResultText (function : Definition) (status : Status) (text : List ℕ) : Type 0 where
-  pub told : EntryResult
-  pub good : IsGoodEntry function DEFAULT_BUDGETS told
-  pub no_budget_met : told.overs.items ≡ []
-  pub is : text ≡ entry_lines FILES function.name told
-  pub found : status ≡ status_of told.reports.items
-
--- the text is the analysis of the function that the file spells, a file with tokens
+-- the file has a tree of the form, and the text is the analysis of the functions that the tree has
 pub record IsAnalysis (file : List ℕ) (status : Status) (text : List ℕ) : Type 0 where
   pub lexed : Lexed
-  pub has_tokens : Lexes file lexed
-  pub function : Definition
-  pub spelled : IsOfForm file function
-  pub analyzed : IsResultText function status text
+  pub tree : List RawExternal
+  pub parsed : Parses file lexed tree
+  pub functions : List Definition
+  pub of_form : IsOfForm tree functions
+  pub analyzed : IsAnalysisOf lexed.files.items functions status text
 
--- the text is that of the function that the file spells, or says that it spells none
-abbrev pub IsFormAnswer : List ℕ → Status → List ℕ → Type 0
-IsFormAnswer file BadFile text = IsOfNoForm file × (text ≡ codes "refused form\n")
-IsFormAnswer file status text = (function : Definition) × IsOfForm file function × IsResultText function status text
+-- the text is the analysis of the tree's functions, or says that it isn't of the form
+abbrev pub IsTreeAnswer : List (List ℕ) → List RawExternal → Status → List ℕ → Type 0
+IsTreeAnswer files tree BadFile text = IsOfNoForm tree × (text ≡ codes "refused form\n")
+IsTreeAnswer files tree status text = (functions : List Definition) × IsOfForm tree functions × IsAnalysisOf files functions status text
 
 -- the whole text that belongs to a status, for this file, where the source tells what it is
 abbrev pub IsFileAnswer : Option (List ℕ) → Status → List ℕ → Type 0
@@ -91,12 +68,13 @@ IsPartWritten words file before now =
 abbrev pub SinkRose : (faults faults' empty_takes empty_takes' : ℕ) → Type 0
 SinkRose faults faults' empty_takes empty_takes' = Rose faults faults' ⊎ Rose empty_takes empty_takes'
 
--- the words are a command, and the file has tokens and is of the form
+-- the words are a command, and the file has a tree of the form
 pub record IsAcceptable (words : List (List ℕ)) (file : Option (List ℕ)) : Type 0 where
   pub command : first_refused words ≡ None
   pub bytes : List ℕ
   pub told : file ≡ Some bytes
   pub lexed : Lexed
-  pub has_tokens : Lexes bytes lexed
-  pub function : Definition
-  pub spelled : IsOfForm bytes function
+  pub tree : List RawExternal
+  pub parsed : Parses bytes lexed tree
+  pub functions : List Definition
+  pub of_form : IsOfForm tree functions

@@ -1,16 +1,16 @@
 -- Why a file is refused, and the line that says so.
-use Rattle.std.specs.Prelude.{◌≡◌, ◌≤◌, ◌<◌, ℕ, List, length, codes, Option, Some, None}
-use Rattle.cs_ast.specs.Tree.{Definition}
+use Rattle.std.specs.Prelude.{◌≡◌, ◌≤◌, ◌<◌, ℕ, List, [], ◌++◌, length, codes, Option, Some, None, slice_index_or}
+use Rattle.cs_ast.specs.declared.place.Place.{Place}
+use Rattle.cs_ast.specs.declared.raw.external.RawExternal.{RawExternal}
 use Rattle.cs_lexer.specs.declared.lexer.Lexed.{Lexed}
 use Rattle.cs_lexer.specs.declared.refusal.LexRefusal.{LexRefusal}
 use Rattle.cs_lexer.specs.declared.refusal.LexRefusal.TheVariants.{BadByte, Unclosed, WideNumber, BadLine, TooManyTokens, Memory}
 use Rattle.cs_lexer.specs.Lexing.{Lexes, IsRefused}
-use Rattle.cs_form.specs.Form.{IsOfForm}
+use Rattle.cs_grammar.specs.declared.refusal.SyntaxRefusal.{SyntaxRefusal}
+use Rattle.cs_grammar.specs.declared.refusal.SyntaxRefusal.TheVariants as syntax
+use Rattle.cs_decl_parser.specs.Files.{IsFileRefusal}
 use Rattle.cs_report.specs.RefusalLines.{refusal_line}
-
--- the most bytes that a file may have
-abbrev pub MOST_BYTES : ℕ
-MOST_BYTES = 4194304
+use Rattle.cs_app.specs.Trees.{MOST_BYTES, Parses, IsOfNoForm}
 
 -- the line for a text that has no tokens; want of memory has none
 abbrev pub IsLexLine : LexRefusal → List ℕ → Type 0
@@ -21,15 +21,26 @@ IsLexLine (BadLine place file) text = text ≡ refusal_line (codes "refused lex 
 IsLexLine TooManyTokens text = text ≡ codes "refused too-many-tokens 400001\n"
 IsLexLine Memory text = ⊥
 
--- no function is spelled by the file
-abbrev pub IsOfNoForm : List ℕ → Type 0
-IsOfNoForm file = (function : Definition) → IsOfForm file function → ⊥
+-- the line of a refusal at a place of one of these files
+abbrev pub line_in : List (List ℕ) → List ℕ → Place → List ℕ
+line_in files words place = refusal_line words (slice_index_or files place.file []) place
 
--- the first check that a file doesn't pass, with the line that says so: it is too long; it has no tokens; it isn't of the form
+-- the line for tokens that are no file, the files by their numbers; want of memory has none
+abbrev pub IsSyntaxLine : List (List ℕ) → SyntaxRefusal → List ℕ → Type 0
+IsSyntaxLine files (syntax.Syntax place) text = text ≡ line_in files (codes "refused syntax ") place
+IsSyntaxLine files (syntax.LeftOut place word) text = text ≡ line_in files (codes "refused left-out " ++ word ++ codes " ") place
+IsSyntaxLine files (syntax.TooDeep place) text = text ≡ line_in files (codes "refused too-deep ") place
+IsSyntaxLine files syntax.Memory text = ⊥
+
+-- the first check that a file doesn't pass, with the line that says so: it is too long; it has no tokens; they are no file; it
+-- isn't of the form
 pub data IsRefusal (file text : List ℕ) : Type 0 where
   too_long : MOST_BYTES < length file → text ≡ codes "refused too-long 4194305\n" → IsRefusal file text
   by_lexing : length file ≤ MOST_BYTES → (refusal : LexRefusal) → IsRefused file refusal → IsLexLine refusal text → IsRefusal file text
-  by_form : length file ≤ MOST_BYTES → (lexed : Lexed) → Lexes file lexed → IsOfNoForm file → text ≡ codes "refused form\n" → IsRefusal file text
+  by_syntax : length file ≤ MOST_BYTES → (lexed : Lexed) → Lexes file lexed
+      → (refusal : SyntaxRefusal) → IsFileRefusal lexed.list.items lexed.end refusal → IsSyntaxLine lexed.files.items refusal text → IsRefusal file text
+  by_form : (lexed : Lexed) → (tree : List RawExternal) → Parses file lexed tree
+      → IsOfNoForm tree → text ≡ codes "refused form\n" → IsRefusal file text
 
 -- the same of what a source has left; where it doesn't tell, of some bytes
 abbrev pub RefusesSource : Option (List ℕ) → List ℕ → Type 0

@@ -5,14 +5,15 @@ ghost use Rattle.cs_io.specs.Count.{Rose};
 ghost use Rattle.cs_app.specs.Words.{words_text, first_refused};
 ghost use Rattle.cs_app.specs.Answers.{IsWritten, IsPartWritten, IsDone, IsAnalyzed, IsAcceptable, SinkRose};
 
-use crate::answer::{Failure, answer_for};
+use crate::answer::Failure;
+use crate::command::answer_for;
 use crate::status::Status;
 use cs_io::{Sink, Source, write_all_of};
 use std::alloc::Global;
 
 /// Runs the program: these words, the file that the source has left, and the text into the sink.
 ///
-/// The checks come in this order: words, reading, length, lexing, form, analysis, writing. The whole text is made before
+/// The checks come in this order: words, reading, length, lexing, syntax, form, analysis, writing. The whole text is made before
 /// the first write, so that nothing is written where the source fails or memory is short.
 pub fn csa<S: Source, K: Sink>(
     alloc: Global,

@@ -3,6 +3,10 @@
 
 mod answer;
 mod app;
+mod command;
+mod entries;
+mod file;
+mod refused;
 mod status;
 mod words;
 

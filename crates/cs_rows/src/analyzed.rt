@@ -6,7 +6,7 @@ use std::alloc::Global;
 use std::test::Fail;
 
 /// Files with the status and the text of their analysis.
-const ANALYSES: [(&str, Status, &str); 9] = [
+const ANALYSES: [(&str, Status, &str); 15] = [
     (
         "int f(int x){if(x==0)return 0;return 10/x;}",
         Status::Clean,
@@ -52,10 +52,36 @@ const ANALYSES: [(&str, Status, &str); 9] = [
         Status::Found,
         "entry f complete\nreport divide <input>:1:22 confirmed\n  input f = 0\n",
     ),
+    ("", Status::Clean, ""),
+    (
+        "int f(void){return 0;}",
+        Status::Clean,
+        "entry f complete\n",
+    ),
+    (
+        "int g(int x){return 1/x;}int f(){return 4/2;}",
+        Status::Found,
+        "entry g complete\nreport divide <input>:1:22 confirmed\n  input x = 0\nentry f complete\n",
+    ),
+    (
+        "# 1 \"a.h\"\nint f(int x){return 1/x;}\n# 7 \"b.c\"\nint g(int y){if(y==0)return 1/y;return 2/y;}\n",
+        Status::Found,
+        "entry f complete\nreport divide a.h:1:22 confirmed\n  input x = 0\nentry g complete\nreport divide b.c:7:30 confirmed\n  input y = 0\n  step b.c:7:14 branch true\n",
+    ),
+    (
+        "/* a */int f(int x)//b\n{return 0x10/* c *//x;}",
+        Status::Found,
+        "entry f complete\nreport divide <input>:2:20 confirmed\n  input x = 0\n",
+    ),
+    (
+        "extern int __attribute__((noinline)) f(volatile int x){if(x==010)return 1/x;return 0;}",
+        Status::Clean,
+        "entry f complete\n",
+    ),
 ];
 
 /// The status and the text of `analyze` on a file, with ample memory.
-fn analysis(alloc: Global, file: &str) -> Result<(Status, Vec<u8>), Fail> {
+pub fn analysis(alloc: Global, file: &str) -> Result<(Status, Vec<u8>), Fail> {
     let words = vec![in alloc; String::from_str(alloc, "analyze")?]?;
     let mut source = SureSource::new(Vec::from_slice(alloc, file.as_bytes())?);
     let mut sink = SureSink::new(alloc, 4096)?;

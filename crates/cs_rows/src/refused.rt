@@ -1,5 +1,6 @@
 //! What comes of refused words and files, and of sources and sinks that fail.
 
+use crate::analyzed::analysis;
 use cs_app::{Status, csa};
 use cs_io::{MemSink, MemSource, SureSink, SureSource};
 use std::alloc::{AllocError, Global};
@@ -25,7 +26,6 @@ fn refuses_words_and_files_with_a_line(rt: HostRuntime) -> Result<(), Fail> {
         ("", DIVISION, Status::BadWords, "refused words 1\n"),
         ("replay f", DIVISION, Status::BadWords, "refused words 1\n"),
         ("analyze f", DIVISION, Status::BadWords, "refused words 2\n"),
-        ("analyze", "", Status::BadFile, "refused form\n"),
         (
             "analyze",
             "int x; /* a",
@@ -52,15 +52,33 @@ fn refuses_words_and_files_with_a_line(rt: HostRuntime) -> Result<(), Fail> {
         ),
         (
             "analyze",
-            "int f(void){return 0;}",
+            "float x;",
             Status::BadFile,
-            "refused form\n",
+            "refused left-out float <input>:1:1\n",
         ),
         (
             "analyze",
-            "int f(int x){return y;}",
+            "int f(int x){return x}",
             Status::BadFile,
-            "refused form\n",
+            "refused syntax <input>:1:22\n",
+        ),
+        (
+            "analyze",
+            "int f(int x){return x;",
+            Status::BadFile,
+            "refused syntax <input>:1:23\n",
+        ),
+        (
+            "analyze",
+            "int x;\n# 3 \"a.h\"\nint f(int x){\n  static int y;return x;}",
+            Status::BadFile,
+            "refused left-out static a.h:4:3\n",
+        ),
+        (
+            "analyze",
+            "int x[sizeof(char)];struct s{int a:3;};",
+            Status::BadFile,
+            "refused left-out : <input>:1:35\n",
         ),
     ] {
         let words = words_of(alloc, words)?;
@@ -69,6 +87,59 @@ fn refuses_words_and_files_with_a_line(rt: HostRuntime) -> Result<(), Fail> {
         let ended = csa(alloc, words.as_slice(), &mut source, &mut sink);
         assert_eq!(rt; sink.written(), line.as_bytes(), "{file}");
         assert_eq!(rt; ended, status, "{file}");
+    }
+    Ok(())
+}
+
+/// Files with a tree that isn't of the form: an operand that is no parameter; an object beside the function; parentheses; two
+/// functions of one name; a longer spelling of the type; a parameter that is
+/// named twice; a name that is taken.
+const OTHER_TREES: [&str; 7] = [
+    "int f(int x){return y;}",
+    "int x;int f(int x){return 1/x;}",
+    "int f(int x){return (x);}",
+    "int f(void){return 0;}int f(void){return 1;}",
+    "signed int f(void){return 0;}",
+    "int f(int x,int x){return x;}",
+    "int malloc(int x){return x;}",
+];
+
+#[test]
+fn refuses_trees_that_are_of_another_form(rt: HostRuntime) -> Result<(), Fail> {
+    let alloc = rt.alloc();
+    for file in OTHER_TREES {
+        let (ended, written) = analysis(alloc, file)?;
+        assert_eq!(rt; written.as_slice(), b"refused form\n".as_slice(), "{file}");
+        assert_eq!(rt; ended, Status::BadFile, "{file}");
+    }
+    Ok(())
+}
+
+/// A function that returns its parameter in so many parentheses.
+fn enclosed(alloc: Global, count: usize) -> Result<String, AllocError> {
+    let mut file = String::from_str(alloc, "int f(int x){return ")?;
+    for _ in 0..count {
+        file.push('(')?;
+    }
+    file.push('x')?;
+    for _ in 0..count {
+        file.push(')')?;
+    }
+    file.push_str(";}")?;
+    Ok(file)
+}
+
+#[test]
+fn refuses_a_tree_that_is_too_high(rt: HostRuntime) -> Result<(), Fail> {
+    let alloc = rt.alloc();
+    for (count, line) in [
+        (196, "refused form\n"),
+        (197, "refused too-deep <input>:1:217\n"),
+    ] {
+        let file = enclosed(alloc, count)?;
+        let (ended, written) = analysis(alloc, file.as_str())?;
+        assert_eq!(rt; written.as_slice(), line.as_bytes(), "{count}");
+        assert_eq!(rt; ended, Status::BadFile, "{count}");
     }
     Ok(())
 }

@@ -1,13 +1,14 @@
 //! Reports against the plain interpreter: the run of each report ends in its fault.
 
+use crate::front::{Told, front};
 use cs_analysis::analyze;
-use cs_form::function_of;
 use cs_machine::run;
 use cs_model::Budgets;
+use cs_small::functions_of;
 use std::test::Fail;
 
 /// Files with the number of their reports.
-const REPORTED: [(&str, usize); 5] = [
+const REPORTED: [(&str, usize); 6] = [
     ("int f(int x){return 10/x;}", 1),
     ("int f(int x){if(x==0)return 0;return 10/x;}", 0),
     ("int f(int x,int y){if(x==3)return 10/y;return y/x;}", 2),
@@ -16,27 +17,34 @@ const REPORTED: [(&str, usize); 5] = [
         3,
     ),
     ("int f(int x){if(x==0)return 1/x;return 1/0;}", 2),
+    (
+        "int f(int x){return 1/x;}int g(void){return 1/0;}int h(int x){return x;}",
+        2,
+    ),
 ];
 
 #[test]
 fn each_report_replays_to_its_fault(rt: HostRuntime) -> Result<(), Fail> {
     let alloc = rt.alloc();
-    for (file, count) in REPORTED {
-        let Ok(function) = function_of(alloc, file.as_bytes()) else {
+    for (file, expected) in REPORTED {
+        let Told::File(tree) = front(alloc, file) else {
+            panic!(rt; "no file: {file}");
+        };
+        let Ok(functions) = functions_of(alloc, &tree.externals) else {
             panic!(rt; "not of the form: {file}");
         };
-        let told = analyze(alloc, 0, &function)?;
-        assert_eq!(rt; told.reports.len(), count, "{file}");
-        for report in &told.reports {
-            let ended = run(
-                alloc,
-                &function,
-                report.run.inputs.as_slice(),
-                &Budgets::DEFAULT,
-            )?;
-            assert_eq!(rt; ended.outcome, report.what, "{file}");
-            assert_eq!(rt; ended.events.as_slice(), report.events.as_slice(), "{file}");
+        let mut count = 0usize;
+        for function in &functions {
+            let told = analyze(alloc, 0, function)?;
+            count = count.wrapping_add(told.reports.len());
+            for report in &told.reports {
+                let inputs = report.run.inputs.as_slice();
+                let ended = run(alloc, function, inputs, &Budgets::DEFAULT)?;
+                assert_eq!(rt; ended.outcome, report.what, "{file}");
+                assert_eq!(rt; ended.events.as_slice(), report.events.as_slice(), "{file}");
+            }
         }
+        assert_eq!(rt; count, expected, "{file}");
     }
     Ok(())
 }

@@ -2,3 +2,4 @@ pub mod Positions
 pub mod Bodies
 pub mod Growing
 pub mod Limits
+pub mod WithoutPlaces

@@ -1,0 +1,39 @@
+//! The answer to functions: the analysis of each, in order.
+ghost use Rattle.std.specs.Prelude.{◌≡◌, ◌≤◌, map, length, All, IfOk};
+ghost use Rattle.cs_ast.specs.View.{definition};
+ghost use Rattle.cs_app.specs.Entries.{IsAnalyzable, IsAnalysisOf, found_if};
+
+use crate::answer::Answer;
+use crate::status::Status;
+use cs_analysis::analyze;
+use cs_ast::Function;
+use cs_model::Finding;
+use cs_names::Name;
+use cs_report::append_entry;
+use std::alloc::{AllocError, Global};
+
+/// The analyses of functions that it covers, whose places are in these files.
+pub fn analyzed(alloc: Global, files: &[Name], functions: &[Function]) -> Result<Answer, AllocError>
+    requires few { length functions.now ≤ 400000 }
+    requires covered { All IsAnalyzable (map definition functions.now) }
+    ensures { IfOk result (λ answer. IsAnalysisOf files.now (map definition functions.now) answer.status answer.text.items) }
+{
+    let mut text = Vec::new(alloc);
+    let mut status = Status::Clean;
+    for (number, function) in functions.iter().enumerate() {
+        let told = analyze(alloc, number as u32, function)?;
+        append_entry(&mut text, files, &function.name, &told)?;
+        status = found_if(status, &told.reports);
+    }
+    Ok(Answer { status, text })
+}
+
+/// Found where there is a report, and else as before.
+fn found_if(before: Status, reports: &[Finding]) -> Status
+    ensures { result ≡ found_if before reports.now }
+{
+    match reports {
+        [] => before,
+        [_, ..] => Status::Found,
+    }
+}
