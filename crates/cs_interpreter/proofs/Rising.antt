@@ -7,7 +7,7 @@ use Rattle.cs_types.specs.declared.data_model.DataModel.{DataModel}
 use Rattle.cs_types.specs.declared.structs.StructType.{StructType}
 use Rattle.cs_types.specs.Members.{Member}
 use Rattle.cs_types.specs.IntType.{bytes_of, word_bytes}
-use Rattle.cs_types.specs.Shape.{Shape, void, integer, pointer, array, struct, shape_of}
+use Rattle.cs_types.specs.Shape.{Shape, void, integer, pointer, array, struct}
 use Rattle.cs_types.specs.Layout.{Layout, Leaf, moved, alone, row, repeated, round_up, side_by_side, padded, layout_with, member_layouts, members_of, struct_layout, layout_of, complete_count, scalar_at, leaf_of}
 use Rattle.cs_types.specs.LeafSearch.{layout_within}
 use Rattle.cs_interpreter.specs.TypeView.{if_here}
@@ -74,7 +74,7 @@ member_layouts-AllRise : (f : Shape → Option Layout) → GivesRising f → (ms
 member_layouts-AllRise f r [] ls h = subst AllRise (let e : [] ≡ ls = cc in e) tt
 member_layouts-AllRise f r (m ∷ ms) ls h =
     let parts = first_member f m ms ls h in
-    subst AllRise (sym parts.whole) (r (shape_of m.ty) parts.first parts.laid, member_layouts-AllRise f r ms parts.rest parts.others)
+    subst AllRise (sym parts.whole) (r m.ty parts.first parts.laid, member_layouts-AllRise f r ms parts.rest parts.others)
 
 struct_layout-GivesRising : (model : DataModel) (table : List StructType) (depth : ℕ) → GivesRising (struct_layout model table depth)
 struct_layout-GivesRising model table zero k l h = absurd (cc)

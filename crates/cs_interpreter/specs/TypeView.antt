@@ -1,7 +1,6 @@
 -- Words of what begins in a type.
 use Rattle.std.specs.Prelude.{ℕ, ◌-◌, nat_le, Bool, true, false, ◌&&◌, List, [], ◌∷◌, Option, Some, None}
 use Rattle.cs_types.specs.Members.{Member}
-use Rattle.cs_types.specs.Shape.{shape_of}
 use Rattle.cs_ast.specs.TypedProgram.{TypedProgram}
 use Rattle.cs_runs.specs.Objects as objects
 use Rattle.cs_plain.specs.Types.{begins_in, begins_in_struct}
@@ -15,7 +14,7 @@ in_found in_struct (Some found) = in_struct found.0 found.1
 
 -- whether a struct begins in the type of a member, at the rest of an offset of the struct that has it
 abbrev pub in_member : TypedProgram → ℕ → ℕ → ℕ → Member → Bool
-in_member program wanted depth offset m = nat_le m.offset offset && begins_in program (begins_in_struct program wanted depth) (shape_of m.ty) (offset - m.offset)
+in_member program wanted depth offset m = nat_le m.offset offset && begins_in program (begins_in_struct program wanted depth) m.ty (offset - m.offset)
 
 -- the cell that was found, or else another
 abbrev pub or_cell : Option Cell → objects.Cell → objects.Cell

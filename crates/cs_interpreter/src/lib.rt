@@ -1,24 +1,24 @@
 //! A plain interpreter: it runs a typed program as the plain machine does, step by step.
 #![tactic(auto, using(crate::proofs::Performing::silent))]
 
-mod access;
-mod arithmetic;
+pub mod access;
+pub mod arithmetic;
 pub mod blocks;
 mod choosing;
-mod constants;
+pub mod constants;
 mod evaluating;
-mod found;
+pub mod found;
 mod guessing;
-mod inputs;
-mod items;
+pub mod inputs;
+pub mod items;
 mod logs;
 pub mod machine;
 pub mod memory;
 mod objects;
 mod offsets;
 mod operations;
-mod operators;
-mod pieces;
+pub mod operators;
+pub mod pieces;
 mod scalars;
 mod settings;
 #[cfg(test)]

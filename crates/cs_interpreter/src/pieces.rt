@@ -140,7 +140,7 @@ fn member_type<'a>(program: &'a Program, tag: u32, number: u64) -> BlockType<'a>
 {
     match members_of(program, tag) {
         Some(members) => match members.get(number as usize) {
-            Some(member) => BlockType::Of(&member.ty),
+            Some(member) => BlockType::Of(member.ty()),
             None => BlockType::Void,
         },
         None => BlockType::Void,
@@ -153,7 +153,7 @@ fn member_offset(program: &Program, tag: u32, number: u64) -> u64
 {
     match members_of(program, tag) {
         Some(members) => match members.get(number as usize) {
-            Some(member) => member.offset,
+            Some(member) => member.offset(),
             None => 0,
         },
         None => 0,

@@ -218,8 +218,8 @@ fn begins_in_members(
     ensures { IfOk result (λ holds. holds ≡ types.some_member (in_member (typed_program program.now) wanted depth offset) members.now) }
 {
     for member in members {
-        if member.offset <= offset {
-            let found = struct_at(program, &member.ty, offset - member.offset)?;
+        if member.offset() <= offset {
+            let found = struct_at(program, member.ty(), offset - member.offset())?;
             if let Some((number, rest)) = found
                 && begins_in_struct(program, wanted, depth, number, rest)?
             {

@@ -1,0 +1,7 @@
+pub mod StatementForms
+pub mod Leaving
+pub mod Stacks
+pub mod Locals
+pub mod Statics
+pub mod InRows
+pub mod Remaining
