@@ -35,3 +35,5 @@ count_of-list (s ∷ ss) = omega (arith, count_of-list ss)
 pub piece_before : (at : Place) (declaration : ℕ) (piece : Piece) (others : List Piece) (behind : List Item) → stores_pieces at declaration (piece ∷ others) behind ≡ with_piece at declaration piece (stores_pieces at declaration others behind)
 piece_before at declaration (Evaluated offset e) others behind = refl
 piece_before at declaration (Spelled offset bytes) others behind = refl
+
+pub ruleset in_rows = (count_of-list, piece_before)

@@ -8,6 +8,7 @@ ghost use Rattle.cs_runs.specs.Objects.{NumberCell};
 ghost use Rattle.cs_runs.specs.Acts.{Goes};
 ghost use Rattle.cs_plain.specs.Access as loads;
 ghost use Rattle.cs_interpreter.specs.View.{cell_of, operand_of};
+ghost use Rattle.cs_interpreter.specs.MachineView.{state_of};
 ghost use Rattle.cs_interpreter.specs.Pieces as pieces;
 ghost use Rattle.cs_steps.specs.RunnerView.{program_of, budgets_of, state_in, IsReady, LeadsOn, Ends};
 ghost use Rattle.cs_steps.specs.Acting.{local_place, member_place, index_act, arrow_act, load_act, convert_act, unary_act, not_act, binary_act, compare_act, sum_act, difference_act, assign_act, update_act, move_act, free_act};
@@ -18,6 +19,7 @@ use cs_ast::typed::expression::{Expr, ExprKind};
 use cs_ast::typed::operator::{BinOp, CmpOp, Direction, Gives, Order, UnOp};
 use cs_interpreter::access::access_of;
 use cs_interpreter::constants::{integer_of, target_size, truth_cell, unary_operation};
+use cs_interpreter::machine::Machine;
 use cs_interpreter::types::size_of;
 use cs_interpreter::{Cell, Object, Operand, Stop, stride_of};
 use cs_runs::Label;
@@ -243,8 +245,7 @@ impl<'a> Runner<'a> {
         ensures err { IfErr result (Ends self.old self.new (assign_act (program_of self.old) place (typed object.now) (state_in self.old))) }
         ensures kept { OnOk result (self.new.setting ≡ self.old.setting) }
     {
-        let value = self.machine.pop();
-        let target = self.machine.pop_cell();
+        let (target, value) = pop_stored(&mut self.machine);
         let left = value.copy()?;
         self.store(place, object, target, value)?;
         self.machine.push(left)?;
@@ -265,9 +266,7 @@ impl<'a> Runner<'a> {
         ensures err { IfErr result (Ends self.old self.new (update_act (program_of self.old) place operator (typed object.now) works_in gives (state_in self.old))) }
         ensures kept { OnOk result (self.new.setting ≡ self.old.setting) }
     {
-        let (converted, right) = self.machine.pop_two();
-        let before = self.machine.pop();
-        let target = self.machine.pop_cell();
+        let (target, before, converted, right) = pop_updated(&mut self.machine);
         let number = self
             .log
             .operate(self.setting, place, operator, works_in, &converted, &right)?;
@@ -296,9 +295,7 @@ impl<'a> Runner<'a> {
         ensures kept { OnOk result (self.new.setting ≡ self.old.setting) }
     {
         let size = target_size(self.setting.program, &object.ty)?;
-        let amount = self.machine.pop_cell();
-        let before = self.machine.pop();
-        let target = self.machine.pop_cell();
+        let (target, before, amount) = pop_moved(&mut self.machine);
         let stride = stride_of(&amount, direction, size)?;
         let pointer = before.copy()?.into_cell();
         let moved = self.log.sum(self.setting, place, pointer, stride)?;
@@ -337,6 +334,45 @@ impl<'a> Runner<'a> {
             .store(&mut self.log, self.setting, place, access, target, operand)?;
         Ok(())
     }
+}
+
+// Takes the place of an assignment and the value.
+#[tactic(auto, using(cs_interpreter::proofs::States::states))]
+fn pop_stored(state: &mut Machine) -> (Cell, Operand)
+    ensures target { cell_of result.0 ≡ machine.cell_at (state_of state.old) 1 }
+    ensures value { operand_of result.1 ≡ machine.operand_at (state_of state.old) 0 }
+    ensures state { state_of state.new ≡ machine.pop_many 2 (state_of state.old) }
+{
+    let value = state.pop();
+    let target = state.pop_cell();
+    (target, value)
+}
+
+// Takes the place of an update of a pointer, the value before, and the amount.
+#[tactic(auto, using(cs_interpreter::proofs::States::states))]
+fn pop_moved(state: &mut Machine) -> (Cell, Operand, Cell)
+    ensures target { cell_of result.0 ≡ machine.cell_at (state_of state.old) 2 }
+    ensures before { operand_of result.1 ≡ machine.operand_at (state_of state.old) 1 }
+    ensures amount { cell_of result.2 ≡ machine.cell_at (state_of state.old) 0 }
+    ensures state { state_of state.new ≡ machine.pop_many 3 (state_of state.old) }
+{
+    let amount = state.pop_cell();
+    let (target, before) = pop_stored(state);
+    (target, before, amount)
+}
+
+// Takes the place of an update of a number, the value before, the same converted, and the right operand.
+#[tactic(auto, using(cs_interpreter::proofs::States::states))]
+fn pop_updated(state: &mut Machine) -> (Cell, Operand, Cell, Cell)
+    ensures target { cell_of result.0 ≡ machine.cell_at (state_of state.old) 3 }
+    ensures before { operand_of result.1 ≡ machine.operand_at (state_of state.old) 2 }
+    ensures converted { cell_of result.2 ≡ machine.cell_at (state_of state.old) 1 }
+    ensures right { cell_of result.3 ≡ machine.cell_at (state_of state.old) 0 }
+    ensures state { state_of state.new ≡ machine.pop_many 4 (state_of state.old) }
+{
+    let right = state.pop_cell();
+    let (target, before, converted) = pop_moved(state);
+    (target, before, converted, right)
 }
 
 // The value that an update gives.

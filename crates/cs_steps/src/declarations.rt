@@ -95,6 +95,7 @@ impl<'a> Runner<'a> {
 }
 
 // The newest value of a type is taken, and written in a local at an offset.
+#[tactic(auto, using(cs_interpreter::proofs::States::states), unfolding(cs_interpreter::specs::MachineView::state_of))]
 fn store_newest(
     state: &mut Machine,
     program: &Program,
@@ -114,6 +115,7 @@ fn store_newest(
 }
 
 /// Bytes are stored in a local.
+#[tactic(auto, using(cs_interpreter::proofs::States::states), unfolding(cs_interpreter::specs::MachineView::state_of))]
 pub fn spell_local<'a>(
     state: &mut Machine<'a>,
     program: &'a Program,
@@ -197,6 +199,7 @@ fn refill_local<'a>(
 }
 
 // The type of a local of the function that runs.
+#[tactic(auto, using(cs_interpreter::proofs::States::states), unfolding(cs_interpreter::specs::MachineView::state_of))]
 fn local_type<'a>(state: &Machine, program: &'a Program, declaration: u32) -> BlockType<'a>
     ensures { type_of result ≡ plain.local_type (typed_program program.now) declaration (state_of state.now) }
 {

@@ -20,6 +20,7 @@ pub fn put_first<'a>(todo: &mut Vec<Item<'a>>, item: Item<'a>) -> Result<(), All
 }
 
 /// Takes away the first thing to do, if there is one.
+#[tactic(auto, using(crate::proofs::Stacks::stacks))]
 pub fn drop_first(todo: &mut Vec<Item>)
     ensures { todo_of todo.new.items ≡ drop 1 (todo_of todo.old.items) }
 {

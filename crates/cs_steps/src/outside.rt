@@ -153,12 +153,23 @@ fn overwrite(
 {
     match memory.block(object) {
         Some(block) => {
-            if matches!(block.standing, Standing::Live) && !is_constant(program, object) {
+            if is_writable(program, object, block.standing) {
                 memory.change(object, Change::Refill(Fill::Input(path)))?;
             }
             Ok(())
         }
         None => Ok(()),
+    }
+}
+
+// Whether what a block holds may be written by a function without a body.
+fn is_writable(program: &Program, object: &Object, standing: Standing) -> bool
+    ensures { result ≡ calls.is_writable (typed_program program.now) (object_of object.now) standing }
+{
+    match standing {
+        Standing::Live => !is_constant(program, object),
+        Standing::Freed => false,
+        Standing::Ended => false,
     }
 }
 

@@ -1,6 +1,7 @@
 //! What executing a statement does (C11 6.8).
-ghost use Rattle.std.specs.Prelude.{◌≡◌, ◌∷◌, OnOk, IfErr, option_map, option_copied};
-ghost use Rattle.cs_ast.specs.TypedView.{typed, statement};
+ghost use Rattle.std.specs.Prelude.{◌≡◌, ◌+◌, ◌∷◌, OnOk, IfErr, option_map, option_copied};
+ghost use Rattle.cs_ast.specs.TypedView.{typed, statement, statement_list};
+ghost use Rattle.cs_plain.specs.Jumps as jumps;
 ghost use Rattle.cs_plain.specs.Machine as machine;
 ghost use Rattle.cs_plain.specs.Statements as plain;
 ghost use Rattle.cs_plain.specs.Steps as steps;
@@ -29,34 +30,61 @@ impl<'a> Runner<'a> {
         ensures kept { OnOk result (self.new.setting ≡ self.old.setting) }
     {
         match &s.kind {
-            StmtKind::Block(statements) => put_all(&mut self.machine, statements, mark)?,
+            StmtKind::Block(statements) => Ok(put_all(&mut self.machine, statements, mark)?),
             StmtKind::Declare(declaration, first) => {
-                self.declare(s.place, *declaration, first.as_ref())?;
+                self.declare(s.place, *declaration, first.as_ref())
             }
-            StmtKind::Run(e) => put_run(&mut self.machine, e)?,
-            StmtKind::If(test, _) => put_test(&mut self.machine, test, s, mark)?,
-            StmtKind::IfElse(test, _, _) => put_test(&mut self.machine, test, s, mark)?,
-            StmtKind::While(_, _) => put_loop(&mut self.machine, s, mark)?,
-            StmtKind::Do(_, _) => put_loop(&mut self.machine, s, mark)?,
-            StmtKind::For(first, _, _, _) => {
-                put_loop(&mut self.machine, s, mark)?;
-                put_all(&mut self.machine, first, together(mark, 1)?)?;
-            }
-            StmtKind::Switch(value, _, _) => {
-                self.machine.put(Item::Out)?;
-                put_test(&mut self.machine, value, s, mark)?;
-            }
-            StmtKind::Goto(label) => self.go_to(*label)?,
+            StmtKind::Run(e) => Ok(put_run(&mut self.machine, e)?),
+            StmtKind::If(test, _) => Ok(put_test(&mut self.machine, test, s, mark)?),
+            StmtKind::IfElse(test, _, _) => Ok(put_test(&mut self.machine, test, s, mark)?),
+            StmtKind::While(_, _) => Ok(put_loop(&mut self.machine, s, mark)?),
+            StmtKind::Do(_, _) => Ok(put_loop(&mut self.machine, s, mark)?),
+            StmtKind::For(first, _, _, _) => Ok(put_for(&mut self.machine, s, mark, first)?),
+            StmtKind::Switch(value, _, _) => Ok(put_switch(&mut self.machine, s, mark, value)?),
+            StmtKind::Goto(label) => self.go_to(*label),
             StmtKind::Label(_, body) => {
                 put_stmt(&mut self.machine, StmtStep::Execute, body, together(mark, 1)?)?;
-                self.reach_mark(s.place, PointKind::Label, mark)?;
+                self.reach_mark(s.place, PointKind::Label, mark)
             }
-            StmtKind::Break => break_out(&mut self.machine),
-            StmtKind::Continue => go_on(&mut self.machine),
-            StmtKind::Return(value) => put_return(&mut self.machine, s.place, value.as_ref())?,
+            StmtKind::Break => {
+                break_out(&mut self.machine);
+                Ok(())
+            }
+            StmtKind::Continue => {
+                go_on(&mut self.machine);
+                Ok(())
+            }
+            StmtKind::Return(value) => Ok(put_return(&mut self.machine, s.place, value.as_ref())?),
         }
-        Ok(())
     }
+}
+
+// A `for`: its first part is executed, and then it turns.
+fn put_for<'a>(
+    state: &mut Machine<'a>,
+    s: &'a Stmt,
+    mark: u64,
+    first: &'a [Stmt],
+) -> Result<(), AllocError>
+    ensures { OnOk result (state_of state.new ≡ machine.to_do (jumps.executes (statement_list first.now) (mark + 1) (machine.Turn (statement s.now) mark ∷ (machine.Out ∷ (state_of state.old).frame.todo))) (state_of state.old)) }
+{
+    put_loop(state, s, mark)?;
+    put_all(state, first, together(mark, 1)?)?;
+    Ok(())
+}
+
+// A `switch`: its value is evaluated, and then decides.
+fn put_switch<'a>(
+    state: &mut Machine<'a>,
+    s: &'a Stmt,
+    mark: u64,
+    value: &'a Expr,
+) -> Result<(), AllocError>
+    ensures { OnOk result (state_of state.new ≡ machine.to_do (machine.Evaluate (typed value.now) ∷ (machine.Decide (statement s.now) mark ∷ (machine.Out ∷ (state_of state.old).frame.todo))) (state_of state.old)) }
+{
+    state.put(Item::Out)?;
+    put_test(state, value, s, mark)?;
+    Ok(())
 }
 
 // An expression is evaluated, and its value dropped.

@@ -1,5 +1,5 @@
 //! The ways of a `switch` (C11 6.8.4.2).
-ghost use Rattle.std.specs.Prelude.{◌≡◌, ℕ, OnOk, IfErr, IfOk, option_map, unwrap_or};
+ghost use Rattle.std.specs.Prelude.{◌≡◌, ℕ, OnOk, IfErr, IfOk, None, option_map, unwrap_or};
 ghost use Rattle.cs_ast.specs.TypedView.{statement_list};
 ghost use Rattle.cs_plain.specs.Initials.{number_in};
 ghost use Rattle.cs_plain.specs.Machine as machine;
@@ -71,14 +71,26 @@ fn chosen_case(cases: &[Case], statements: &[Stmt], number: i128) -> Result<Chos
 {
     match case_of(cases, number)? {
         Some(chosen) => Ok(chosen),
-        None => {
-            let behind = u32::try_from(statements.len()).ok().ok_or(AllocError)?;
-            Ok(Chosen {
-                number: values_in(cases)?,
-                item: default_item(cases).unwrap_or(behind),
-            })
-        }
+        None => otherwise(cases, statements),
     }
+}
+
+// The case that a `switch` takes where none stands for its number.
+fn otherwise(cases: &[Case], statements: &[Stmt]) -> Result<Chosen, AllocError>
+    ensures { IfOk result (λ chosen. chosen_of chosen ≡ plain.chosen_case cases.now (statement_list statements.now) None) }
+{
+    let number = values_in(cases)?;
+    let behind = count_of(statements)?;
+    let item = default_item(cases).unwrap_or(behind);
+    Ok(Chosen { number, item })
+}
+
+// How many statements there are.
+#[tactic(auto, using(crate::proofs::InRows::in_rows))]
+fn count_of(statements: &[Stmt]) -> Result<u32, AllocError>
+    ensures { IfOk result (λ count. count ≡ plain.count_of (statement_list statements.now)) }
+{
+    u32::try_from(statements.len()).ok().ok_or(AllocError)
 }
 
 // The case that stands for a number.
