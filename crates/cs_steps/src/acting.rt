@@ -13,6 +13,7 @@ ghost use Rattle.cs_interpreter.specs.Pieces as pieces;
 ghost use Rattle.cs_steps.specs.RunnerView.{program_of, budgets_of, state_in, IsReady, LeadsOn, Ends};
 ghost use Rattle.cs_steps.specs.Acting.{local_place, member_place, index_act, arrow_act, load_act, convert_act, unary_act, not_act, binary_act, compare_act, sum_act, difference_act, assign_act, update_act, move_act, free_act};
 
+use crate::frames::number_of;
 use crate::runner::Runner;
 use cs_ast::Place;
 use cs_ast::typed::expression::{Expr, ExprKind};
@@ -83,7 +84,7 @@ impl<'a> Runner<'a> {
         ensures err { IfErr result (Ends self.old self.new (Goes (local_place declaration (state_in self.old)))) }
         ensures kept { OnOk result (self.new.setting ≡ self.old.setting) }
     {
-        let object = Object::Local(self.machine.frame.number, declaration);
+        let object = Object::Local(number_of(&self.machine), declaration);
         self.machine.push_cell(Cell::Pointer(object, 0))?;
         Ok(())
     }

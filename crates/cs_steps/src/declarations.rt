@@ -17,6 +17,7 @@ ghost use Rattle.cs_interpreter.specs.MachineView.{state_of};
 ghost use Rattle.cs_steps.specs.Storing.{with_piece};
 ghost use Rattle.cs_steps.specs.RunnerView.{program_of, state_in, IsReady, LeadsOn, Ends};
 
+use crate::frames::number_of;
 use crate::runner::Runner;
 use cs_ast::Place;
 use cs_ast::typed::program::Program;
@@ -65,7 +66,7 @@ impl<'a> Runner<'a> {
         ensures err { IfErr result (Ends self.old self.new (plain.clear_local (program_of self.old) place declaration (state_in self.old))) }
         ensures kept { OnOk result (self.new.setting ≡ self.old.setting) }
     {
-        let frame = self.machine.frame.number;
+        let frame = number_of(&self.machine);
         if let Some(local) = scalar_local(&self.machine, self.setting.program, declaration) {
             self.log.touch(Touch::Clears(frame, local, place))?;
         }
@@ -86,7 +87,7 @@ impl<'a> Runner<'a> {
         ensures err { IfErr result (Ends self.old self.new (plain.store_local (program_of self.old) place declaration offset (shape_of ty.now) (state_in self.old))) }
         ensures kept { OnOk result (self.new.setting ≡ self.old.setting) }
     {
-        let frame = self.machine.frame.number;
+        let frame = number_of(&self.machine);
         let local = scalar_local(&self.machine, self.setting.program, declaration);
         touch_store(&mut self.log, frame, place, local)?;
         store_newest(&mut self.machine, self.setting.program, ty, declaration, offset)?;

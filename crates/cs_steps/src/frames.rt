@@ -6,7 +6,7 @@ ghost use Rattle.cs_plain.specs.Calls as calls;
 ghost use Rattle.cs_plain.specs.Machine as machine;
 ghost use Rattle.cs_interpreter.specs.View.{operand_of};
 ghost use Rattle.cs_interpreter.specs.MemoryView.{block_of, block_at};
-ghost use Rattle.cs_interpreter.specs.MachineView.{frame_of};
+ghost use Rattle.cs_interpreter.specs.MachineView.{frame_of, state_of};
 
 use crate::marks::marks;
 use cs_ast::Place;
@@ -14,7 +14,7 @@ use cs_ast::typed::program::{Function, Local, Program};
 use cs_interpreter::Operand;
 use cs_interpreter::blocks::{Block, BlockType, Change, Fill};
 use cs_interpreter::items::{Item, StmtStep};
-use cs_interpreter::machine::Frame;
+use cs_interpreter::machine::{Frame, Machine};
 use cs_interpreter::types::size_of;
 use std::alloc::{AllocError, Global};
 
@@ -24,6 +24,14 @@ const NOWHERE: Place = Place {
     line: 0,
     column: 0,
 };
+
+/// The number of the frame that runs.
+#[tactic(auto, unfolding(cs_interpreter::specs::MachineView::state_of))]
+pub fn number_of(state: &Machine) -> u64
+    ensures { result ≡ (state_of state.now).frame.number }
+{
+    state.frame.number
+}
 
 /// A frame in which a function is to be executed.
 pub fn new_frame<'a>(
