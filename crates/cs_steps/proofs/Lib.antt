@@ -1,5 +1,6 @@
 pub mod StatementForms
 pub mod Leaving
+pub mod MachineStates
 pub mod Overwriting
 pub mod Stacks
 pub mod Locals

@@ -6,4 +6,4 @@ use Rattle.cs_steps.proofs.acting.pop_updated.Goals as goal
 
 pub returns-clause-state : goal.returns-clause-state
 returns-clause-state c =
-    c.pop_moved.ensures.state ∙ (ap (λ (m : State). pop_many 3 m) c.pop_cell-right.ensures.state ∙ pop-many 3 (state_of c.args.state.now))
+    c.pop_moved-target.ensures.state ∙ (ap (λ (m : State). pop_many 3 m) c.pop_cell-right.ensures.state ∙ pop-many 3 (state_of c.args.state.now))

@@ -6,10 +6,10 @@ pub returns-in-Start : goal.returns-in-Start
 unfolding state_of
 returns-in-Start c =
     let known = rw c.in-Start.is at c.block.ensures in
-    rw c.in-Start.is (λ place. rw known at (c.refused_standing.ensures place (StartBlock c.in-Start.field-0.now) (state_of c.args.state.now)))
+    rw c.in-Start.is (λ place. rw known at (c.refused_standing.ensures place (StartBlock c.in-Start.field-0) (state_of c.args.state.now)))
 
 pub returns-in-Heap : goal.returns-in-Heap
 unfolding state_of
 returns-in-Heap c =
     let known = rw c.in-Heap.is at c.block-in-Heap.ensures in
-    rw c.in-Heap.is (λ place. rw known at (c.refused_standing-in-Heap.ensures place (HeapBlock c.in-Heap.field-0.now) (state_of c.args.state.now)))
+    rw c.in-Heap.is (λ place. rw known at (c.refused_standing-in-Heap.ensures place (HeapBlock c.in-Heap.field-0) (state_of c.args.state.now)))
