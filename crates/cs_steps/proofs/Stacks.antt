@@ -60,3 +60,5 @@ pop-many n m = ap (λ stack. with_stack stack m) (behind n m.frame.stack)
     behind zero [] = refl
     behind (suc k) [] = refl
     behind k (x ∷ xs) = refl
+
+pub ruleset takes = (take-map)

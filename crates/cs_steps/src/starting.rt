@@ -130,6 +130,7 @@ fn literal_block(alloc: Global, literal: &Bytes) -> Result<Block<'_>, AllocError
 }
 
 // The parameters of a function.
+#[tactic(auto, using(crate::proofs::Stacks::takes))]
 fn parameters_of(function: &Function) -> &[Local]
     ensures { map variable result.now ≡ steps.parameters_of (routine function.now) }
 {
