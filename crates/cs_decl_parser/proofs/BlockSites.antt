@@ -42,7 +42,7 @@ use Rattle.cs_decl_parser.specs.declared.stop.Taken.{Taken}
 use Rattle.cs_decl_parser.specs.Nodes.{IsNode}
 use Rattle.cs_decl_parser.specs.Answers.{Stops, IsExactly, IsTaken}
 use Rattle.cs_decl_parser.specs.Blocks.{items_of, switch_items_of, AreTaken}
-use Rattle.cs_decl_parser.proofs.Standing.{spells_none, spells_more}
+use Rattle.cs_expr_parser.proofs.Standing.{spells_none, spells_more}
 use Rattle.cs_decl_parser.proofs.StatementStops.{Standing, StandingExactly, FitsAll, IsPlainStop, near_start, stops_pass, stops_plain, stops_full, pair_first_stops, pair_second_stops, pair_stands, single_stops, single_stands, no_fits, exactly_stands, closed_missing, closed_stands}
 use Rattle.cs_decl_parser.proofs.StatementSites.{word_stands, mark_stands, taken_stands, exact_stands, node_taken}
 use Rattle.cs_decl_parser.proofs.Passing.{RowSoFar, row_none, row_stops, row_more, row_exactly, pass_stops, pass_stands, begins_near}

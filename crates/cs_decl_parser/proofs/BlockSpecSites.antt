@@ -40,9 +40,10 @@ use Rattle.cs_decl_parser.specs.declared.stop.Taken.{Taken}
 use Rattle.cs_decl_parser.specs.Reasons.{plain_reason}
 use Rattle.cs_decl_parser.specs.Answers.{Stops, StopsOrBrace, IsTaken, IsBraceRefused}
 use Rattle.cs_decl_parser.specs.SpecWords.{NothingFits, IsPlainWord, IsTagBraced, BlockTagStops, BlockWordAnswer, tag_keyword}
-use Rattle.cs_decl_parser.proofs.Standing.{spells_one, spells_none, spells_more, spells_as}
+use Rattle.cs_expr_parser.proofs.Standing.{spells_one, spells_none, spells_more, spells_as}
 use Rattle.cs_decl_parser.proofs.StatementStops.{plain_flat}
-use Rattle.cs_decl_parser.proofs.StuckWords.{some_type, nothing_named, tag_some}
+use Rattle.cs_expr_parser.proofs.SitesOfWords.{some_type, nothing_named}
+use Rattle.cs_decl_parser.proofs.StuckWords.{tag_some}
 
 -- the words so far
 pub record WordsSoFar (names : Names) (tokens : List Token) (from next : ℕ) (so_far : TypeSoFar) (items : List SpecWord) : Type 0 where

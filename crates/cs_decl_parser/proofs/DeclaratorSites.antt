@@ -38,7 +38,7 @@ use Rattle.cs_grammar.proofs.FreshNames.{fresh, fresh_free}
 use Rattle.cs_grammar.proofs.Declarators.{BracketsSoFar, brackets_none, brackets_more, brackets_refused, brackets_end, brackets_full, brackets_took, brackets_law, declarator_of, declarator_single, declarators_law, declarators_least, IsNoName, name_missing, bound_refused, bound_exact}
 use Rattle.cs_expr_parser.specs.Positions.{kinds, kind_or_end}
 use Rattle.cs_expr_parser.specs.Parts.{Spells, IsRefused, is_deep}
-use Rattle.cs_decl_parser.proofs.Standing.{spells_one, spells_none, spells_more, spells_as}
+use Rattle.cs_expr_parser.proofs.Standing.{spells_one, spells_none, spells_more, spells_as}
 use Rattle.cs_decl_parser.specs.declared.stop.Stop.{Stop}
 use Rattle.cs_decl_parser.specs.declared.stop.Stop.TheVariants as stop
 use Rattle.cs_decl_parser.specs.declared.stop.Taken.{Taken}

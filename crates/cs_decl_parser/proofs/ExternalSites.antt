@@ -62,7 +62,8 @@ use Rattle.cs_decl_parser.specs.DeclarationAnswers.{DeclaratorsFor, ArePointers,
 use Rattle.cs_decl_parser.proofs.RowSites.{row_first_stops}
 use Rattle.cs_decl_parser.proofs.DeclaratorSites.{pointed_stops}
 use Rattle.cs_decl_parser.proofs.ObjectSites.{object_stops}
-use Rattle.cs_decl_parser.proofs.Standing.{kinds_first, spells_none, spells_one, spells_more, spells_as, refused_number}
+use Rattle.cs_expr_parser.proofs.Standing.{kinds_first, spells_none, spells_one, spells_more, spells_as}
+use Rattle.cs_expr_parser.proofs.Stopping.{refused_number}
 use Rattle.cs_decl_parser.proofs.StatementStops.{StandingExactly, IsPlainStop, stops_in, stops_pass, stops_plain, front_of, first_front, single_stops, no_fits}
 
 type_lift : (names : Names) (tokens : List Token) (from : ℕ) → (kind_or_end tokens from ≡ token.Keyword keyword.Typedef → ⊥) → (front : Kinds) (at : ℕ) (deep : Bool) → Spells tokens from at (λ rest. front ++ rest) → Refused (TypedParts names) 199 front (kind_or_end tokens at) deep → Refused (Externals names) 200 front (kind_or_end tokens at) deep

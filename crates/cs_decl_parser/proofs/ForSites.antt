@@ -45,7 +45,7 @@ use Rattle.cs_decl_parser.specs.declared.loops.ForParts.{ForParts}
 use Rattle.cs_decl_parser.specs.Nodes.{IsNode}
 use Rattle.cs_decl_parser.specs.Answers.{Stops, IsExactly, IsTaken}
 use Rattle.cs_decl_parser.specs.Blocks.{Locals, local_of, Controls, control_of, first_if_any}
-use Rattle.cs_decl_parser.proofs.Standing.{spells_none, spells_more, spells_as}
+use Rattle.cs_expr_parser.proofs.Standing.{spells_none, spells_more, spells_as}
 use Rattle.cs_decl_parser.proofs.StatementStops.{Standing, StandingExactly, IsPlainStop, near_start, stops_in, stops_pass, stops_plain, front_of, pair_first_stops, pair_second_stops, pair_stands}
 use Rattle.cs_decl_parser.proofs.StatementSites.{word_stands, mark_stands, taken_stands, exact_stands, node_taken}
 use Rattle.cs_decl_parser.proofs.Passing.{pass_stops, pass_exactly}

@@ -43,8 +43,10 @@ use Rattle.cs_decl_parser.specs.declared.stop.Unclosed.{Unclosed}
 use Rattle.cs_decl_parser.specs.Reasons.{plain_reason}
 use Rattle.cs_decl_parser.specs.Answers.{Stops, IsExactly, IsUnclosed}
 use Rattle.cs_decl_parser.specs.DeclarationAnswers.{IsNameAt, IsConstantOf, goes_on, is_comma, is_closing_brace, is_designator}
-use Rattle.cs_decl_parser.proofs.Standing.{spells_one, spells_none, spells_more, spells_as, refused_here}
+use Rattle.cs_expr_parser.proofs.Standing.{spells_one, spells_none, spells_more, spells_as}
+use Rattle.cs_expr_parser.proofs.Stopping.{refused_here}
 use Rattle.cs_decl_parser.proofs.StatementStops.{stops_in, stops_pass, stops_plain, plain_flat, front_of, single_stops, no_fits}
+use Rattle.cs_decl_parser.specs.Aptness.{IsApt}
 use Rattle.cs_decl_parser.proofs.RowSites.{TrailingRow, trailing_missing, IsRowTaken}
 
 abbrev pub close_brace : TokenKind
@@ -83,6 +85,11 @@ pub list_unclosed : (D : Class) (room : ℕ) → (s : Separates D close_brace) �
 list_unclosed D room s none tokens from done last next reason tall r true stands ends other = absurd (other (brace_behind (kind_or_end tokens next) (kind_or_end tokens (next + 1)) ends (stands.0 refl)))
 list_unclosed D room s none tokens from done last next reason tall r false stands ends other =
     trailing_missing D close_brace room s none tokens from done last next reason tall r (λ k. false≢true (stands.1 k)) other
+
+-- the token that doesn't close the list is the one behind its last part
+pub unclosed_apt : (scope : Scope) (tokens : List Token) (next : ℕ) (reason : Reason) (comma : Bool) → (comma ≡ true → kind_or_end tokens next ≡ comma_token) → goes_on (kind_or_end tokens next) (kind_or_end tokens (next + 1)) ≡ false → (kind_or_end tokens (if comma then next + 1 else next) ≡ close_brace → ⊥) → IsApt scope (kind_or_end tokens next) reason → IsApt scope (kind_or_end tokens (if comma then next + 1 else next)) reason
+unclosed_apt scope tokens next reason true stands ends other a = absurd (other (brace_behind (kind_or_end tokens next) (kind_or_end tokens (next + 1)) ends (stands refl)))
+unclosed_apt scope tokens next reason false stands ends other a = a
 
 -- what was taken of a class, in other words
 pub unclosed_as : {A : Type 0} (C : Class) (view : A → C.Tree) (room : ℕ) (tokens : List Token) (from : ℕ) (tree : C.Tree) (tall next : ℕ) (deep : Bool) (taken : Unclosed A) → tall ≡ C.tall tree → Spells tokens from next (C.spell tree) → Took C room tree (kind_or_end tokens next) deep → view taken.tree ≡ tree → taken.height ≡ tall → taken.next ≡ next → is_deep taken.otherwise ≡ deep → IsUnclosed C view room tokens from taken

@@ -52,7 +52,9 @@ use Rattle.cs_decl_parser.specs.declared.block.DeclaredObjects.{DeclaredObjects}
 use Rattle.cs_decl_parser.specs.Answers.{Stops, IsExactly, IsTaken, StopsOrBrace}
 use Rattle.cs_decl_parser.specs.Blocks.{Locals, local_of}
 use Rattle.cs_decl_parser.specs.Forms.{is_colon, is_labelled}
-use Rattle.cs_decl_parser.proofs.Standing.{spells_none, spells_more, spells_as, refused_number, refused_here, second_front}
+use Rattle.cs_expr_parser.proofs.Standing.{spells_none, spells_more, spells_as}
+use Rattle.cs_expr_parser.proofs.Stopping.{refused_number, refused_here}
+use Rattle.cs_decl_parser.proofs.SecondTokens.{second_front}
 use Rattle.cs_decl_parser.proofs.StatementStops.{Standing, StandingExactly, stops_in, stops_pass, stops_full, front_of, first_front, near_start, single_stops, no_fits}
 use Rattle.cs_decl_parser.proofs.StatementForms.{label_name}
 use Rattle.cs_decl_parser.proofs.StatementSites.{taken_stands}

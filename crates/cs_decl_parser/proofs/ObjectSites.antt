@@ -31,7 +31,7 @@ use Rattle.cs_decl_parser.specs.declared.declarator.Declares.TheVariants as decl
 use Rattle.cs_decl_parser.specs.Reasons.{plain_reason}
 use Rattle.cs_decl_parser.specs.Answers.{Stops, IsTaken, IsUnclosed}
 use Rattle.cs_decl_parser.specs.DeclarationAnswers.{DeclaratorsFor, IsDeclaratorTaken, IsAlone}
-use Rattle.cs_decl_parser.proofs.Standing.{spells_one, spells_more, spells_as}
+use Rattle.cs_expr_parser.proofs.Standing.{spells_one, spells_more, spells_as}
 use Rattle.cs_decl_parser.proofs.StatementStops.{stops_in, stops_pass, plain_flat}
 use Rattle.cs_decl_parser.proofs.ListSites.{unclosed_as}
 

@@ -16,7 +16,7 @@ use Rattle.cs_expr_parser.specs.Positions.{kinds, kind_or_end}
 use Rattle.cs_expr_parser.specs.Parts.{Spells}
 use Rattle.cs_decl_parser.specs.declared.stop.Stop.{Stop}
 use Rattle.cs_decl_parser.specs.Answers.{Stops}
-use Rattle.cs_decl_parser.proofs.Standing.{kinds_first, spells_none, spells_more, spells_as}
+use Rattle.cs_expr_parser.proofs.Standing.{kinds_first, spells_none, spells_more, spells_as}
 use Rattle.cs_decl_parser.proofs.StatementStops.{Standing, StandingExactly, FitsAll, near_start, stops_in, stops_pass}
 
 pub pass_tail : (C D : Class) (build : D.Tree → C.Tree) (Fit : Kinds → Type 0) (room : ℕ) → Production C D 0 [] build Fit → Tail C D room room [] build Fit

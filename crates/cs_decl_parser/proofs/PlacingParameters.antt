@@ -12,7 +12,7 @@ use Rattle.cs_grammar.proofs.Texts.{pointers_append}
 use Rattle.cs_grammar.proofs.FileTexts.{name_append, specs_append, parameter_append}
 use Rattle.cs_expr_parser.specs.Parts.{Spells}
 use Rattle.cs_decl_parser.specs.FilePlaces.{IsNamePlaced, AreBracketsPlaced, HasSpecPlaces, IsParameterPlaced}
-use Rattle.cs_decl_parser.proofs.Standing.{spells_more}
+use Rattle.cs_expr_parser.proofs.Standing.{spells_more}
 use Rattle.cs_decl_parser.proofs.Placing.{IsFramed, behind_text}
 
 pub parameter_framed : (p : RawParameter) → IsFramed (parameter_text (parameter p))

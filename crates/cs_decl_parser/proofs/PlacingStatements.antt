@@ -35,7 +35,8 @@ use Rattle.cs_decl_parser.specs.Forms.{IsJump}
 use Rattle.cs_decl_parser.specs.FilePlaces.{past, past_first, past_test, IsSomePlaced, IsFirstPlaced, IsStatementPlaced, ArePartsPlaced, IsItemPlaced, AreItemsPlaced, IsSwitchItemPlaced, AreSwitchItemsPlaced, HasSpecPlaces, AreObjectsPlaced, IsDeclarationPlaced}
 use Rattle.cs_decl_parser.specs.StatementPlaces.{HasStatementPlaces, AreItemsBeside, AreSwitchItemsBeside, AreForPartsPlaced, IsMadeOf, IsLabelOf, IsTestedOf, IsChoiceOf, IsDoneOf, IsLoopOf}
 use Rattle.cs_decl_parser.specs.Blocks.{Controls, control_of}
-use Rattle.cs_decl_parser.proofs.Standing.{refused_number, spells_as}
+use Rattle.cs_expr_parser.proofs.Standing.{spells_as}
+use Rattle.cs_expr_parser.proofs.Stopping.{refused_number}
 use Rattle.cs_decl_parser.proofs.ForSites.{controls_law}
 use Rattle.cs_decl_parser.proofs.Placing.{IsFramed, one_behind, past_text, behind_text, behind_text_and_one, SidePlaced, side_begun, side_goes_on}
 

@@ -18,7 +18,8 @@ use Rattle.cs_grammar.proofs.Rows.{comma_token, Separates, separated_law, SoFar,
 use Rattle.cs_grammar.proofs.TrailingRows.{TrailingSoFar, CommaSoFar, NoneCloses, NotClosed, Opens, trailing_law, trailing_start, trailing_refused, trailing_wrong, trailing_comma, trailing_exact, comma_exact, comma_more, comma_refused, opens_not_closed}
 use Rattle.cs_expr_parser.specs.Positions.{kinds, kind_or_end}
 use Rattle.cs_expr_parser.specs.Parts.{Spells, IsRefused, is_deep}
-use Rattle.cs_decl_parser.proofs.Standing.{spells_one, spells_none, spells_more, spells_as, refused_here}
+use Rattle.cs_expr_parser.proofs.Standing.{spells_one, spells_none, spells_more, spells_as}
+use Rattle.cs_expr_parser.proofs.Stopping.{refused_here}
 use Rattle.cs_decl_parser.specs.declared.stop.Stop.{Stop}
 use Rattle.cs_decl_parser.specs.declared.stop.Taken.{Taken}
 use Rattle.cs_decl_parser.specs.Answers.{Stops, IsExactly}

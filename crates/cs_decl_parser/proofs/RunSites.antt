@@ -40,7 +40,9 @@ use Rattle.cs_decl_parser.specs.declared.stop.Taken.{Taken}
 use Rattle.cs_decl_parser.specs.Nodes.{IsNode}
 use Rattle.cs_decl_parser.specs.Forms.{form_of, IsJump}
 use Rattle.cs_decl_parser.specs.Answers.{Stops, IsExactly, IsTaken}
-use Rattle.cs_decl_parser.proofs.Standing.{spells_none, refused_here, second_front}
+use Rattle.cs_expr_parser.proofs.Standing.{spells_none}
+use Rattle.cs_expr_parser.proofs.Stopping.{refused_here}
+use Rattle.cs_decl_parser.proofs.SecondTokens.{second_front}
 use Rattle.cs_decl_parser.proofs.StatementStops.{Standing, StandingExactly, IsPlainStop, stops_pass, first_front, near_start, single_stops, single_stands, no_fits, exactly_stands, closed_missing, closed_stands}
 use Rattle.cs_decl_parser.proofs.StatementForms.{run_name, no_colon}
 use Rattle.cs_decl_parser.proofs.StatementSites.{word_stands, exact_stands, node_taken, told_form}

@@ -42,7 +42,7 @@ use Rattle.cs_decl_parser.specs.declared.stop.Taken.{Taken}
 use Rattle.cs_decl_parser.specs.Nodes.{IsNode}
 use Rattle.cs_decl_parser.specs.Forms.{least, form_of, is_labelled, IsJump}
 use Rattle.cs_decl_parser.specs.Answers.{Stops, IsExactly, IsTaken}
-use Rattle.cs_decl_parser.proofs.Standing.{spells_one, spells_none, spells_more, spells_as}
+use Rattle.cs_expr_parser.proofs.Standing.{spells_one, spells_none, spells_more, spells_as}
 use Rattle.cs_decl_parser.proofs.StatementStops.{Standing, StandingExactly, IsPlainStop, stops_in, stops_pass, stops_plain, stops_full, front_of, pair_first_stops, pair_second_stops, pair_stands, single_stops, single_stands, no_fits, exactly_stands, closed_stops, closed_missing, closed_stands}
 use Rattle.cs_decl_parser.proofs.StatementForms.{Tells, form_tells, form_full, label_name, no_colon}
 

@@ -15,7 +15,8 @@ use Rattle.cs_grammar.proofs.Tails.{first_or, near_first}
 use Rattle.cs_grammar.proofs.Pairs.{Pair, HasRoom, pair_first_refused, pair_second_refused, pair_took, Single, HasPlace, single_refused, single_took}
 use Rattle.cs_expr_parser.specs.Positions.{kinds, kind_or_end}
 use Rattle.cs_expr_parser.specs.Parts.{Spells, IsRefused, is_deep}
-use Rattle.cs_decl_parser.proofs.Standing.{kinds_first, spells_one, spells_none, spells_more, spells_as, refused_here}
+use Rattle.cs_expr_parser.proofs.Standing.{kinds_first, spells_one, spells_none, spells_more, spells_as}
+use Rattle.cs_expr_parser.proofs.Stopping.{refused_here}
 use Rattle.cs_decl_parser.specs.declared.source.Scope.{Scope}
 use Rattle.cs_decl_parser.specs.declared.stop.Stop.{Stop}
 use Rattle.cs_decl_parser.specs.declared.stop.Stop.TheVariants as stop

@@ -33,7 +33,7 @@ use Rattle.cs_grammar.specs.Parsing.{Class, Near, Refused}
 use Rattle.cs_grammar.specs.DeclarationClasses.{IsQuiet, SpecElements, FileSpecs, BlockSpecs, MemberGroups, MemberRows}
 use Rattle.cs_expr_parser.specs.Positions.{kind_or_end}
 use Rattle.cs_expr_parser.specs.Parts.{Spells, is_deep}
-use Rattle.cs_expr_parser.specs.Expression.{IsRefusalFor}
+use Rattle.cs_decl_parser.specs.Aptness.{IsExpressionRefusal}
 use Rattle.cs_expr_parser.specs.Words.{first_of_word, has_tag, IsStuck, names_some, word_of_tag, IsTagMissing}
 use Rattle.cs_decl_parser.specs.declared.source.Scope.{Scope}
 use Rattle.cs_decl_parser.specs.declared.source.Scope.TheVariants.{File, Block}
@@ -147,7 +147,7 @@ abbrev pub ElementStops : Names → ℕ → List Token → Place → ℕ → Sto
 ElementStops names room tokens end at stop.Memory = Unit {0}
 ElementStops names room tokens end at (stop.Refused refused reason) = IsElementRefused names room tokens at refused reason ⊎ IsEnumFull room tokens at refused reason
 ElementStops names room tokens end at (stop.Expression refusal.Memory) = Unit {0}
-ElementStops names room tokens end at (stop.Expression other) = (refused : ℕ) × (reason : Reason) × IsRefusalFor tokens end refused reason other × IsElementRefused names room tokens at refused reason
+ElementStops names room tokens end at (stop.Expression other) = (refused : ℕ) × (reason : Reason) × IsExpressionRefusal tokens end refused reason other × IsElementRefused names room tokens at refused reason
 
 -- a type with `struct` or `enum`, where the words before it name nothing
 abbrev pub ElementAnswer : Names → ℕ → List Token → Place → ℕ → Result NextWord Stop → Type 0

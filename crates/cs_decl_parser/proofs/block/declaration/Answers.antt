@@ -8,7 +8,7 @@ use Rattle.cs_decl_parser.proofs.block.declaration.Goals as goal
 
 pub returns-then-room-lt2-clause-parsed : goal.returns-then-room-lt2-clause-parsed
 returns-then-room-lt2-clause-parsed c =
-    local_none c.args.source.now.names.now c.args.room c.args.source.now.tokens.now c.args.source.now.end c.args.from c.refuse_deep.result c.requires.within c.if-room-lt2.true c.requires.typed c.refuse_deep.ensures
+    local_none c.args.source.now.names.now c.args.room c.args.source.now.tokens.now c.args.source.now.end c.args.from c.refuse_deep.result c.requires.within c.if-room-lt2.true c.requires.typed c.refuse_deep.ensures.is
 
 pub returns-in_err-specs-clause-parsed : goal.returns-in_err-specs-clause-parsed
 returns-in_err-specs-clause-parsed c =

@@ -9,7 +9,7 @@ use Rattle.cs_decl_parser.proofs.branches.case.Goals as goal
 
 pub returns-then-room-eq0-clause-parsed : goal.returns-then-room-eq0-clause-parsed
 returns-then-room-eq0-clause-parsed c =
-    case_full c.args.source.now.names.now c.args.room c.args.source.now.tokens.now c.args.source.now.end c.args.from c.refuse_deep.result (let w = c.requires.within in omega arith) c.if-room-eq0.true c.requires.stands c.refuse_deep.ensures
+    case_full c.args.source.now.names.now c.args.room c.args.source.now.tokens.now c.args.source.now.end c.args.from c.refuse_deep.result (let w = c.requires.within in omega arith) c.if-room-eq0.true c.requires.stands c.refuse_deep.ensures.is
 
 pub returns-in_err-value-clause-parsed : goal.returns-in_err-value-clause-parsed
 returns-in_err-value-clause-parsed c =

@@ -16,12 +16,12 @@ use Rattle.cs_decl_parser.proofs.constants.constant.Goals as goal
 
 pub returns-in_default-clause-parsed : goal.returns-in_default-clause-parsed
 returns-in_default-clause-parsed c =
-    constant_stops c.args.source.now.names.now c.args.room c.args.source.now.tokens.now c.args.source.now.end c.args.from File c.refuse.result c.requires.within (subst (λ (x : Option RawName). IsNameAt (IsFree c.args.source.now.names.now) (kind_or_end c.args.source.now.tokens.now c.args.from) x) c.in_default.is c.in_ok-name.ensures.name) c.refuse.ensures
+    constant_stops c.args.source.now.names.now c.args.room c.args.source.now.tokens.now c.args.source.now.end c.args.from File c.refuse.result c.requires.within (subst (λ (x : Option RawName). IsNameAt (IsFree c.args.source.now.names.now) (kind_or_end c.args.source.now.tokens.now c.args.from) x) c.in_default.is c.in_ok-name.ensures.name) c.refuse.ensures.is
 
 pub returns-then-not-is_mark-clause-parsed : goal.returns-then-not-is_mark-clause-parsed
 returns-then-not-is_mark-clause-parsed c =
     let n = subst (λ (x : Option RawName). IsNameAt (IsFree c.args.source.now.names.now) (kind_or_end c.args.source.now.tokens.now c.args.from) x) c.in-Some.is c.in_ok-name.ensures.name in
-    lone_taken c.args.source.now.names.now c.args.room (c.args.room - 1) (let some = c.requires.some in omega arith) c.args.source.now.tokens.now c.args.from c.in-Some.name.name n.0 n.1 (λ k. false≢true (sym c.if-not-is_mark.true ∙ c.is_mark.ensures.mark.1 k)) File c.lone.result c.lone.ensures.tree c.lone.ensures.height c.lone.ensures.next (c.lone.ensures.otherwise ∙ c.reason_at.ensures)
+    lone_taken c.args.source.now.names.now c.args.room (c.args.room - 1) (let some = c.requires.some in omega arith) c.args.source.now.tokens.now c.args.from c.in-Some.name.name n.0 n.1 (λ k. false≢true (sym c.if-not-is_mark.true ∙ c.is_mark.ensures.mark.1 k)) File c.lone.result c.lone.ensures.tree c.lone.ensures.height c.lone.ensures.next (c.lone.ensures.otherwise ∙ c.reason_at.ensures.is)
 
 pub returns-then-room-lt2-clause-parsed : goal.returns-then-room-lt2-clause-parsed
 returns-then-room-lt2-clause-parsed c =

@@ -9,7 +9,7 @@ use Rattle.cs_decl_parser.proofs.loops.control.Goals as goal
 
 pub returns-then-not-is_mark-clause-parsed : goal.returns-then-not-is_mark-clause-parsed
 returns-then-not-is_mark-clause-parsed c =
-    control_missing c.args.source.now.names.now c.args.room c.args.source.now.tokens.now c.args.source.now.end c.args.from c.refuse.result c.requires.within (λ k. false≢true (sym c.if-not-is_mark.true ∙ c.is_mark.ensures.mark.1 k)) c.refuse.ensures
+    control_missing c.args.source.now.names.now c.args.room c.args.source.now.tokens.now c.args.source.now.end c.args.from c.refuse.result c.requires.within (λ k. false≢true (sym c.if-not-is_mark.true ∙ c.is_mark.ensures.mark.1 k)) c.refuse.ensures.is
 
 pub returns-in_err-first-clause-parsed : goal.returns-in_err-first-clause-parsed
 returns-in_err-first-clause-parsed c =

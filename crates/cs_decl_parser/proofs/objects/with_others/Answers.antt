@@ -23,6 +23,7 @@ objects-init c = record {
   onward = omega arith;
   inside = c.requires.within;
   low = c.requires.low;
+  apt = c.requires.apt;
   placed = λ from first has.
       subst (λ (x : List RawInit). RowPlaced IsDeclaredPlaced (λ d. declared_text (declared d)) c.args.source.now.tokens.now from x c.args.first.tree c.args.first.next) (sym c.new-list.ensures.items)
       (row_begun IsDeclaredPlaced (λ d. declared_text (declared d)) c.args.source.now.tokens.now from c.args.first.tree c.args.first.next first.spelled has);
@@ -48,6 +49,7 @@ objects-preserved c =
       onward = omega arith;
       inside = b.1;
       low = omega arith;
+      apt = c.in_ok-following.ensures.apt;
       placed = λ from first has.
           row_goes_on IsDeclaredPlaced (λ d. declared_text (declared d)) declared_framed c.args.source.now.tokens.now from c.objects.list.items c.push.new.self.items c.objects.last.tree c.objects.last.next c.in_ok-following.following.tree c.in_ok-following.following.next (i.placed from first has) c.in_ok-push.ensures.items t.spelled c.in_ok-following.ensures.placed;
       so_far = λ from first.
