@@ -22,7 +22,7 @@ use Rattle.cs_decl_parser.specs.declared.source.Scope.TheVariants.{File, Block}
 use Rattle.cs_decl_parser.specs.declared.stop.Stop.{Stop}
 use Rattle.cs_decl_parser.specs.declared.stop.Stop.TheVariants as stop
 use Rattle.cs_decl_parser.specs.Reasons.{is_left_out, plain_reason}
-use Rattle.cs_decl_parser.specs.Aptness.{may_be_out, IsApt, IsStopApt}
+use Rattle.cs_decl_parser.specs.Aptness.{may_be_out, IsApt, IsStopApt, IsAnswerApt}
 use Rattle.cs_decl_parser.specs.DeclarationAnswers.{is_designator}
 
 -- what is left out everywhere in a scope is left out somewhere in it
@@ -155,6 +155,12 @@ apt_found names level front tokens at reason None e r =
 pub expression_apt : (names : Names) (level : ℕ) (front : Kinds) (tokens : List Token) (at : ℕ) (reason : Reason) → IsReason names level front (kind_at tokens at) reason → IsApt Block (kind_or_end tokens at) reason
 expression_apt names level front tokens at reason r = apt_found names level front tokens at reason (slice_get tokens at) refl r
 
--- a refusal of a token, for a reason that it may have
-pub stop_apt : (scope : Scope) (tokens : List Token) (at : ℕ) (reason : Reason) (s : Stop) → s ≡ stop.Refused at reason → IsApt scope (kind_or_end tokens at) reason → IsStopApt scope tokens s
-stop_apt scope tokens at reason s e a = subst (IsStopApt scope tokens) (sym e) a
+-- the same of what the parts answer
+pub stop_apt : (scope : Scope) (tokens : List Token) (s : Stop) → IsStopApt Block tokens s → IsStopApt scope tokens s
+stop_apt scope tokens (stop.Refused at reason) a = apt_in scope (kind_or_end tokens at) reason a
+stop_apt scope tokens (stop.Expression r) a = tt
+stop_apt scope tokens stop.Memory a = tt
+
+pub answer_apt : {A : Type 0} (scope : Scope) (tokens : List Token) (answer : Result A Stop) → IsAnswerApt Block tokens answer → IsAnswerApt scope tokens answer
+answer_apt scope tokens (Ok taken) a = tt
+answer_apt scope tokens (Err s) a = stop_apt scope tokens s a

@@ -45,10 +45,9 @@ use Rattle.cs_decl_parser.specs.Answers.{Stops, IsExactly, IsUnclosed as IsUnclo
 use Rattle.cs_decl_parser.specs.DeclarationAnswers.{ClosedExpressions, MayLackFor}
 use Rattle.cs_decl_parser.specs.declared.declarator.Declares.{Declares}
 use Rattle.cs_decl_parser.specs.declared.declarator.Declares.TheVariants as declaring
-use Rattle.cs_decl_parser.specs.declared.source.Scope.{Scope}
 use Rattle.cs_decl_parser.specs.declared.source.Scope.TheVariants as scope
 use Rattle.cs_decl_parser.specs.Aptness.{IsApt}
-use Rattle.cs_decl_parser.proofs.AptReasons.{apt_in, expression_apt}
+use Rattle.cs_decl_parser.proofs.AptReasons.{expression_apt}
 use Rattle.cs_decl_parser.proofs.StatementStops.{stops_in, stops_pass, front_of, near_start}
 
 -- what the parser of expressions took
@@ -70,12 +69,11 @@ refused_expression names level room tokens from at reason r = record { front = r
 refused_apt : (names : Names) (level room : ℕ) (tokens : List Token) (from at : ℕ) (reason : Reason) → IsRefusedAt names level room tokens from at reason → IsApt scope.Block (kind_or_end tokens at) reason
 refused_apt names level room tokens from at reason r = expression_apt names level r.front tokens at reason r.why
 
--- the token behind it, if nothing else goes on with that, in each scope
-pub phrase_apt : (names : Names) (level room : ℕ) (tokens : List Token) (from : ℕ) (phrase : Phrase) (taken : Unclosed RawExpr) → IsPhraseOf phrase taken → IsPhraseTaken names level room tokens from phrase → (scope : Scope) → IsApt scope (kind_or_end tokens taken.next) taken.otherwise
-phrase_apt names level room tokens from phrase taken is t scope =
-    apt_in scope (kind_or_end tokens taken.next) taken.otherwise
-    (subst (λ (n : ℕ). IsApt scope.Block (kind_or_end tokens n) taken.otherwise) (sym is.2)
-    (subst (λ (r : Reason). IsApt scope.Block (kind_or_end tokens phrase.next) r) (sym is.3) (expression_apt names level (text (written phrase.tree) []) tokens phrase.next phrase.otherwise t.otherwise)))
+-- the token behind it, if nothing else goes on with that
+pub phrase_apt : (names : Names) (level room : ℕ) (tokens : List Token) (from : ℕ) (phrase : Phrase) (taken : Unclosed RawExpr) → IsPhraseOf phrase taken → IsPhraseTaken names level room tokens from phrase → IsApt scope.Block (kind_or_end tokens taken.next) taken.otherwise
+phrase_apt names level room tokens from phrase taken is t =
+    subst (λ (n : ℕ). IsApt scope.Block (kind_or_end tokens n) taken.otherwise) (sym is.2)
+    (subst (λ (r : Reason). IsApt scope.Block (kind_or_end tokens phrase.next) r) (sym is.3) (expression_apt names level (text (written phrase.tree) []) tokens phrase.next phrase.otherwise t.otherwise))
 
 -- what it refused
 pub phrase_stops : (names : Names) (level room : ℕ) (tokens : List Token) (end : Place) (from : ℕ) (r : SyntaxRefusal) → IsRefusal names level room tokens end from r → Stops (Expressions names level) room tokens end from (stop.Expression r)

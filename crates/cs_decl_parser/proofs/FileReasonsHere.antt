@@ -126,7 +126,7 @@ parts_text (d ∷ ds) more x = ap (external_text d) (parts_text ds more x)
 no_end : (a b : Kinds) (t : TokenKind) → a ++ (b ++ t ∷ []) ≡ [] → ⊥
 no_end [] [] t same = cc
 no_end [] (b ∷ bs) t same = cc
-no_end (a ∷ as) b t same = cc
+no_end (a ∷ others) b t same = cc
 
 -- what is to come behind the tokens of a file that ends in a body
 abbrev to_come : {front : Kinds} → IsInBlock front → Kinds

@@ -35,9 +35,8 @@ use Rattle.cs_decl_parser.specs.Files.{parts_of, IsTheFile, IsFileRefusedAt, IsR
 use Rattle.cs_decl_parser.specs.FileStops.{FileStops}
 use Rattle.cs_decl_parser.specs.declared.source.Scope.TheVariants as scope
 use Rattle.cs_decl_parser.specs.Aptness.{IsApt, IsStopApt}
-use Rattle.cs_decl_parser.specs.FileAnswers.{BeginsBody}
+use Rattle.cs_decl_parser.specs.FileAnswers.{BeginsBody, IsStopInBody}
 use Rattle.cs_decl_parser.proofs.AptReasons.{apt_in}
-use Rattle.cs_decl_parser.proofs.InBodies.{IsStopInBody}
 use Rattle.cs_decl_parser.proofs.FileReasonsHere.{reason_of_kind, reason_inside, body_begins}
 use Rattle.cs_grammar.specs.Spelling.{left_out_spelling}
 use Rattle.cs_expr_parser.proofs.Standing.{kind_of_some, past_end, spells_none, spells_more, spells_as}

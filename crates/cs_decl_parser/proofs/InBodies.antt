@@ -9,7 +9,6 @@ use Rattle.cs_ast.specs.declared.token.TokenKind.TheVariants as token
 use Rattle.cs_ast.specs.declared.token.Keyword.TheVariants as keyword
 use Rattle.cs_ast.specs.declared.raw.declaration.RawSpecs.{RawSpecs}
 use Rattle.cs_ast.specs.declared.raw.declaration.RawFunction.{RawFunction}
-use Rattle.cs_ast.specs.declared.raw.external.RawExternalKind.{RawExternalKind}
 use Rattle.cs_ast.specs.declared.raw.written_type.PointerWord.{PointerWord}
 use Rattle.cs_ast.specs.declared.raw.written_type.PointerWord.TheVariants as pointer
 use Rattle.cs_ast.specs.RawDeclarations.{Specs, Head}
@@ -38,14 +37,10 @@ use Rattle.cs_decl_parser.specs.Reasons.{plain_reason}
 use Rattle.cs_decl_parser.specs.Aptness.{IsApt, IsStopApt}
 use Rattle.cs_decl_parser.specs.Answers.{Stops, StopsOrBrace}
 use Rattle.cs_decl_parser.specs.DeclarationAnswers.{IsPointed, IsNameMissing, PointedAnswers}
-use Rattle.cs_decl_parser.specs.FileAnswers.{IsTypeTaken, BeginsBody, IsBodyApt}
+use Rattle.cs_decl_parser.specs.FileAnswers.{IsTypeTaken, BeginsBody, IsStopInBody}
 use Rattle.cs_decl_parser.proofs.AptReasons.{brace_apt}
 use Rattle.cs_decl_parser.proofs.StatementStops.{IsPlainStop}
 use Rattle.cs_decl_parser.proofs.ExternalSites.{HeadMade}
-
--- the refusals of a part of a file, as of an answer of it
-abbrev pub IsStopInBody : Names → List Token → ℕ → Stop → Type 0
-IsStopInBody names tokens from s = IsBodyApt {RawExternalKind} names tokens from (Err s)
 
 name_shuts : (ps : List PointerWord) (n : List ℕ) (x : Kinds) → IsTrue (is_pointer ps) → Follows ends_specs (pointers_text ps (token.Name n ∷ x))
 name_shuts [] n x p = refl

@@ -41,6 +41,10 @@ pub record BeginsBody (names : Names) (tokens : List Token) (from at : ℕ) : Ty
   pub spelled : Spells tokens from at (λ rest. specs_text type (head_text head (token.Mark mark.OpenBrace ∷ (inside ++ rest))))
 
 -- a token that is refused in the body of a function is refused for a reason that it may have in blocks
+abbrev pub IsStopInBody : Names → List Token → ℕ → Stop → Type 0
+IsStopInBody names tokens from (stop.Refused at reason) = BeginsBody names tokens from at → IsApt Block (kind_or_end tokens at) reason
+IsStopInBody names tokens from other = Unit {0}
+
 abbrev pub IsBodyApt : {A : Type 0} → Names → List Token → ℕ → Result A Stop → Type 0
-IsBodyApt names tokens from (Err (stop.Refused at reason)) = BeginsBody names tokens from at → IsApt Block (kind_or_end tokens at) reason
-IsBodyApt names tokens from other = Unit {0}
+IsBodyApt names tokens from (Ok taken) = Unit {0}
+IsBodyApt names tokens from (Err stop) = IsStopInBody names tokens from stop

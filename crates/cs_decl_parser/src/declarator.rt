@@ -122,7 +122,7 @@ pub fn with_bounds(
     ensures some { IfOk result (λ taken. 1 ≤ taken.height) }
     ensures parsed { (from : ℕ) → IsPointed declares source.now.names.now source.now.tokens.now from pointed → DeclaratorAnswers declares source.now.names.now room source.now.tokens.now source.now.end from result }
     ensures placed { (from : ℕ) → IsPointed declares source.now.names.now source.now.tokens.now from pointed → StandsAt pointed.tree.name.place (past (pointers_text pointed.tree.pointers.items) (drop from source.now.tokens.now)) → IfOk result (λ taken. IsDeclaratorPlaced taken.tree (drop from source.now.tokens.now)) }
-    ensures apt { (scope : Scope) → IsAnswerApt scope source.now.tokens.now result }
+    ensures apt { IsAnswerApt Scope.Block source.now.tokens.now result }
 {
     let bounds = bounds(alloc, source, pointed.next, room - 1, declares)?;
     Ok(Taken {
@@ -151,7 +151,7 @@ pub fn bounds(
     ensures bounds { IsRowBounded room source.now.tokens.now from result }
     ensures parsed { BoundsAnswer declares source.now.names.now (λ bounds. bounds_of bounds.items) room source.now.tokens.now source.now.end from result }
     ensures placed { IfOk result (λ taken. AreBracketsPlaced taken.tree.items (drop from source.now.tokens.now)) }
-    ensures apt { (scope : Scope) → IsAnswerApt scope source.now.tokens.now result }
+    ensures apt { IsAnswerApt Scope.Block source.now.tokens.now result }
 {
     let mut list = Vec::new(alloc);
     let mut height = 0;
@@ -202,7 +202,7 @@ fn bound(
     ensures bounds { IsBounded room source.now.tokens.now at result }
     ensures parsed { BoundAnswer declares source.now.names.now room source.now.tokens.now source.now.end (at + 1) result }
     ensures placed { IfOk result (λ taken. IsSomePlaced taken.tree (drop (at + 1) source.now.tokens.now)) }
-    ensures apt { (scope : Scope) → IsAnswerApt scope source.now.tokens.now result }
+    ensures apt { IsAnswerApt Scope.Block source.now.tokens.now result }
 {
     let (level, closing) = (ExprLevel::Cond, Mark::CloseBracket);
     match declares {

@@ -32,7 +32,7 @@ pub fn expression(
     ensures some { IfOk result (λ taken. 1 ≤ taken.height) }
     ensures parsed { UnclosedAnswers (Expressions source.now.names.now (level_asked level)) written room source.now.tokens.now source.now.end from result }
     ensures placed { IfOk result (λ taken. HasPlaces taken.tree (drop from source.now.tokens.now)) }
-    ensures apt { (scope : Scope) → IsUnclosedApt scope source.now.tokens.now result }
+    ensures apt { IsUnclosedApt Scope.Block source.now.tokens.now result }
 {
     let (tokens, end, names) = (source.tokens, source.end, source.names);
     match parse_expression(alloc, tokens, end, from, names, room, level) {
@@ -68,7 +68,7 @@ pub fn closed(
     ensures some { IfOk result (λ taken. 1 ≤ taken.height) }
     ensures parsed { ClosedAnswer source.now.names.now level closing room source.now.tokens.now source.now.end from result }
     ensures placed { IfOk result (λ taken. HasPlaces taken.tree (drop from source.now.tokens.now)) }
-    ensures apt { (scope : Scope) → IsAnswerApt scope source.now.tokens.now result }
+    ensures apt { IsAnswerApt Scope.Block source.now.tokens.now result }
 {
     let inner = expression(alloc, source, from, room, level)?;
     if !is_mark(source, inner.next, closing) {
@@ -96,7 +96,7 @@ pub fn closed_if_any(
     ensures bounds { IsBounded room source.now.tokens.now from result }
     ensures parsed { ClosedIfAnyAnswer source.now.names.now level closing room source.now.tokens.now source.now.end from result }
     ensures placed { IfOk result (λ taken. IsSomePlaced taken.tree (drop from source.now.tokens.now)) }
-    ensures apt { (scope : Scope) → IsAnswerApt scope source.now.tokens.now result }
+    ensures apt { IsAnswerApt Scope.Block source.now.tokens.now result }
 {
     if is_mark(source, from, closing) {
         return Ok(Taken {

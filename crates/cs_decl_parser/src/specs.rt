@@ -158,7 +158,7 @@ pub fn plain_word(source: &Source, at: usize, so_far: TypeSoFar) -> Result<Optio
     ensures bounds { IsWordBounded 1 source.now.tokens.now at result }
     ensures word { PlainAnswer source.now.names.now source.now.tokens.now at so_far result }
     ensures placed { IfOk result (IsWordThere source.now.tokens.now at so_far) }
-    ensures apt { (scope : Scope) → IsAnswerApt scope source.now.tokens.now result }
+    ensures apt { IsAnswerApt Scope.Block source.now.tokens.now result }
 {
     let Some(word) = type_word_at(source, at)? else {
         return Ok(None);

@@ -12,6 +12,9 @@ use Rattle.cs_decl_parser.proofs.ListSites.{constant_stops, lone_taken, lone_ful
 use Rattle.std.proofs.lemmas.List.{drop-drop}
 use Rattle.cs_grammar.specs.Places.{HasPlaces}
 use Rattle.cs_decl_parser.specs.FilePlaces.{IsNamePlaced}
+use Rattle.cs_decl_parser.specs.declared.source.Scope.TheVariants as scope
+use Rattle.cs_decl_parser.specs.Aptness.{IsUnclosedApt}
+use Rattle.cs_decl_parser.proofs.AptReasons.{apt_in, stop_apt}
 use Rattle.cs_decl_parser.proofs.constants.constant.Goals as goal
 
 pub returns-in_default-clause-parsed : goal.returns-in_default-clause-parsed
@@ -54,3 +57,11 @@ pub returns-clause-placed : goal.returns-clause-placed
 returns-clause-placed c =
     let n = subst (λ (x : Option RawName). IsNamePlaced x (drop c.args.from c.args.source.now.tokens.now)) c.in-Some.is c.in_ok-name.ensures.placed in
     c.enumerator.ensures.placed (drop c.args.from c.args.source.now.tokens.now) n (subst (HasPlaces c.in_ok-value.value.tree) (sym (drop-drop 2 c.args.from c.args.source.now.tokens.now)) c.in_ok-value.ensures.placed)
+
+pub returns-in_err-value-clause-apt : goal.returns-in_err-value-clause-apt
+returns-in_err-value-clause-apt c =
+    let e : c.from_residual-in_err-value.result ≡ Err c.in_err-value.field-0.0 = search rules in
+    subst (IsUnclosedApt scope.File c.args.source.now.tokens.now) (sym e) (stop_apt scope.File c.args.source.now.tokens.now c.in_err-value.field-0.0 c.in_err-value.ensures.apt)
+
+pub returns-clause-apt : goal.returns-clause-apt
+returns-clause-apt c = apt_in scope.File (kind_or_end c.args.source.now.tokens.now c.in_ok-value.value.next) c.in_ok-value.value.otherwise c.in_ok-value.ensures.apt

@@ -7,6 +7,9 @@ use Rattle.cs_decl_parser.proofs.ExternalSites.{external_declarator_stops, exter
 use Rattle.cs_decl_parser.proofs.PlacingStatements.{declaration_placed}
 use Rattle.cs_decl_parser.specs.FileAnswers.{IsBodyApt}
 use Rattle.cs_decl_parser.proofs.InBodies.{objects_body}
+use Rattle.cs_decl_parser.specs.declared.source.Scope.TheVariants as scope
+use Rattle.cs_decl_parser.specs.Aptness.{IsAnswerApt}
+use Rattle.cs_decl_parser.proofs.AptReasons.{stop_apt}
 use Rattle.cs_decl_parser.proofs.external.objects.Goals as goal
 
 pub returns-in_err-declarator-clause-parsed : goal.returns-in_err-declarator-clause-parsed
@@ -64,3 +67,8 @@ returns-in_err-objects-clause-inside c =
     let e : c.from_residual-in_err-objects.result ≡ Err c.in_err-objects.field-0.0 = search rules in
     subst (IsBodyApt c.args.source.now.names.now c.args.source.now.tokens.now from) (sym e)
     (objects_body c.args.source.now.names.now c.args.source.now.tokens.now from c.args.specs c.args.pointed t p c.requires.stands c.in_err-objects.field-0.0)
+
+pub returns-in_err-declarator-clause-apt : goal.returns-in_err-declarator-clause-apt
+returns-in_err-declarator-clause-apt c =
+    let e : c.from_residual.result ≡ Err c.in_err-declarator.field-0.0 = search rules in
+    subst (IsAnswerApt scope.File c.args.source.now.tokens.now) (sym e) (stop_apt scope.File c.args.source.now.tokens.now c.in_err-declarator.field-0.0 c.in_err-declarator.ensures.apt)

@@ -20,8 +20,9 @@ use Rattle.cs_grammar.specs.FileText.{initial_text}
 use Rattle.cs_decl_parser.specs.FilePlaces.{IsInitialPlaced}
 use Rattle.cs_decl_parser.proofs.Placing.{RowPlaced, row_begun, row_goes_on, row_placed, initial_framed, list_placed}
 use Rattle.cs_decl_parser.specs.Aptness.{IsApt}
-use Rattle.cs_decl_parser.proofs.AptReasons.{designator_apt}
+use Rattle.cs_decl_parser.proofs.AptReasons.{designator_apt, apt_in, stop_apt}
 use Rattle.cs_decl_parser.proofs.ListSites.{unclosed_apt}
+use Rattle.cs_decl_parser.specs.Aptness.{IsUnclosedApt}
 use Rattle.cs_decl_parser.proofs.initial.+initial.Goals as goal
 
 pub initial-returns-then-begins_designator-clause-parsed : goal.initial-returns-then-begins_designator-clause-parsed
@@ -126,3 +127,11 @@ items-returns-then-not-is_mark-clause-apt t c =
 
 pub initial-returns-then-begins_designator-clause-apt : goal.initial-returns-then-begins_designator-clause-apt
 initial-returns-then-begins_designator-clause-apt t c = designator_apt c.args.scope (kind_or_end c.args.source.now.tokens.now c.args.from) (c.begins_designator.ensures c.if-begins_designator.true)
+
+pub initial-returns-in_err-value-clause-apt : goal.initial-returns-in_err-value-clause-apt
+initial-returns-in_err-value-clause-apt t c =
+    let e : c.from_residual.result ≡ Err c.in_err-value.field-0.0 = search rules in
+    subst (IsUnclosedApt c.args.scope c.args.source.now.tokens.now) (sym e) (stop_apt c.args.scope c.args.source.now.tokens.now c.in_err-value.field-0.0 c.in_err-value.ensures.apt)
+
+pub initial-returns-clause-apt : goal.initial-returns-clause-apt
+initial-returns-clause-apt t c = apt_in c.args.scope (kind_or_end c.args.source.now.tokens.now c.in_ok-value.value.next) c.in_ok-value.value.otherwise c.in_ok-value.ensures.apt
