@@ -33,7 +33,7 @@ pub record IsTheFile (tokens : List Token) (file : List External) : Type 0 where
   pub spelled : kinds tokens ≡ file_text file
   pub only : (other : List External) → IsFile [] other → file_text other ≡ file_text file → other ≡ file
 
--- words that no block has, but a file
+-- `static` and `typedef`, which no block has
 abbrev pub is_file_word : TokenKind → Bool
 is_file_word (token.Keyword keyword.Static) = true
 is_file_word (token.Keyword keyword.Typedef) = true
@@ -49,8 +49,9 @@ is_left_out_by_place (token.Mark mark.OpenBracket) = true
 is_left_out_by_place other = is_file_word other
 
 -- a token, or the end of input, is refused: a file that is low enough begins with the tokens before it, and none with the token
--- too; a higher one does exactly where it is too deep; at the end of input the tokens are no file. It is left out exactly where it is
--- so behind these tokens, but for those that are left out by their place; of these, `static` and `typedef` are so in bodies
+-- too; a higher one does exactly where it is too deep; at the end of input the tokens are no file. `why` says for each token that is
+-- left out everywhere or nowhere that its reason is the right one behind these tokens, and `inside` the same of `static` and `typedef`
+-- in the body of a function
 pub record IsFileRefusedAt (tokens : List Token) (at : ℕ) (reason : Reason) : Type 0 where
   pub front : Kinds
   pub spelled : Spells tokens 0 at (λ rest. front ++ rest)
