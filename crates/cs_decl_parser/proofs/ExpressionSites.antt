@@ -1,5 +1,5 @@
 -- Expressions as parts of declarations and statements: what each return gives. For the contracts of `expression` and its like.
-use Rattle.std.proofs.Common.{◌≡◌, ℕ, ◌+◌, ◌<◌, ◌≤◌, ◌⊎◌, inl, inr, Bool, true, false, IsTrue, Option, Some, None, List, [], ◌∷◌, ◌++◌, length, drop, refl, sym, ap, ◌∙◌, subst, arith}
+use Rattle.std.proofs.Common.{◌≡◌, ℕ, ◌+◌, ◌≤◌, inl, inr, false, IsTrue, Option, Some, None, List, [], ◌∷◌, ◌++◌, refl, sym, ap, ◌∙◌, subst, arith}
 use Rattle.std.proofs.lemmas.Bool.{false≢true}
 use Rattle.cs_ast.specs.declared.place.Place.{Place}
 use Rattle.cs_ast.specs.declared.token.Token.{Token}
@@ -17,25 +17,23 @@ use Rattle.cs_grammar.specs.declared.refusal.SyntaxRefusal.TheVariants as refusa
 use Rattle.cs_grammar.specs.TypeWords.{Names}
 use Rattle.cs_grammar.specs.Text.{Kinds, text}
 use Rattle.cs_grammar.specs.Phrases.{IsPhrase}
-use Rattle.cs_grammar.specs.Parsing.{Class, Expressions, Near, Took, Refused, Exactly}
+use Rattle.cs_grammar.specs.Parsing.{Expressions, Near, Took, Refused, Exactly}
 use Rattle.cs_grammar.specs.Composed.{ClosedSome}
 use Rattle.cs_grammar.specs.FileClasses.{Tests}
 use Rattle.cs_grammar.proofs.Levels.{text_law}
-use Rattle.cs_grammar.proofs.Holes.{Lawful, Tail, ClosedBy, closed_law, closed_refused, closed_wrong, closed_exact, tail_refused}
-use Rattle.cs_grammar.proofs.Tails.{first_or, Least, none_refused}
+use Rattle.cs_grammar.proofs.Holes.{Tail, closed_law, closed_refused, closed_wrong, closed_exact, tail_refused}
+use Rattle.cs_grammar.proofs.Tails.{first_or, none_refused}
 use Rattle.std.specs.Option.{option_map}
 use Rattle.cs_ast.specs.RawFileHeight.{height_of_some}
 use Rattle.cs_grammar.proofs.Sequences.{behind_tail, closed_least}
 use Rattle.cs_grammar.proofs.StatementParts.{expression_least}
 use Rattle.cs_grammar.proofs.Optional.{Closes, IsUnclosed, no_close, some_none}
-use Rattle.cs_expr_parser.specs.Positions.{kinds, kind_or_end}
+use Rattle.cs_expr_parser.specs.Positions.{kind_or_end}
 use Rattle.cs_expr_parser.specs.Parts.{Spells, IsRefused, is_deep}
-use Rattle.cs_expr_parser.specs.Expression.{level_asked, IsRefusal, IsRefusedAt}
+use Rattle.cs_expr_parser.specs.Expression.{IsRefusal, IsRefusedAt}
 use Rattle.cs_expr_parser.specs.Expression.{IsTaken as IsPhraseTaken}
-use Rattle.cs_expr_parser.specs.declared.answer.ExprLevel.{ExprLevel}
-use Rattle.cs_expr_parser.specs.declared.answer.ExprLevel.TheVariants.{Expr, Assign, Cond}
 use Rattle.cs_expr_parser.specs.declared.answer.Phrase.{Phrase}
-use Rattle.cs_expr_parser.proofs.Standing.{spells_one, spells_none, spells_more, spells_as}
+use Rattle.cs_expr_parser.proofs.Standing.{spells_one, spells_more}
 use Rattle.cs_decl_parser.specs.declared.stop.Stop.{Stop}
 use Rattle.cs_decl_parser.specs.declared.stop.Stop.TheVariants as stop
 use Rattle.cs_decl_parser.specs.declared.stop.Taken.{Taken}

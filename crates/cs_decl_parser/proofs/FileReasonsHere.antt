@@ -1,5 +1,5 @@
 -- Why a token of a file is refused, as far as the parser tells: for the contract of the parser of files.
-use Rattle.std.proofs.Common.{◌≡◌, ℕ, inl, inr, Bool, true, false, List, [], ◌∷◌, ◌++◌, Some, drop, refl, sym, ap, ◌∙◌, subst, append_assoc, append-nil}
+use Rattle.std.proofs.Common.{◌≡◌, ℕ, inl, true, false, List, [], ◌∷◌, ◌++◌, Some, refl, sym, ap, ◌∙◌, subst, append_assoc, append-nil}
 use Rattle.std.proofs.lemmas.Bool.{false≢true}
 use Rattle.std.proofs.lemmas.List.{append_cancel_left}
 use Rattle.cs_ast.specs.declared.token.Token.{Token}
@@ -18,14 +18,12 @@ use Rattle.cs_grammar.specs.FileText.{specs_text, head_text, items_text, externa
 use Rattle.cs_grammar.specs.FilePhrases.{IsFile, IsExternal, BeginsFile}
 use Rattle.cs_grammar.specs.FileRefusals.{IsInBlock, IsLeftOutOfFile, IsFileReason}
 use Rattle.cs_grammar.specs.DeclarationClasses.{Externals}
-use Rattle.cs_grammar.specs.Parsing.{Refused}
 use Rattle.cs_grammar.proofs.Statements.{open_brace, close_brace}
 use Rattle.cs_grammar.proofs.FileTexts.{items_append, externals_append}
 use Rattle.cs_grammar.proofs.Bodies.{file_specs_law}
 use Rattle.cs_grammar.proofs.HeadRules.{heads_law}
 use Rattle.cs_grammar.proofs.FileRules.{FileSoFar}
-use Rattle.cs_expr_parser.specs.Positions.{kinds, kind_or_end}
-use Rattle.cs_expr_parser.specs.Parts.{Spells, IsRefused, is_deep}
+use Rattle.cs_expr_parser.specs.Parts.{IsRefused, is_deep}
 use Rattle.cs_expr_parser.proofs.Standing.{spells_as}
 use Rattle.cs_decl_parser.specs.declared.source.Scope.TheVariants.{File, Block}
 use Rattle.cs_decl_parser.specs.Aptness.{IsApt}

@@ -1,12 +1,10 @@
 -- Each return of the parser of files, over tokens by their numbers.
-use Rattle.std.proofs.Common.{◌≡◌, ℕ, suc, get_or, ◌+◌, ◌<◌, ◌≤◌, inl, inr, Bool, true, false, List, [], ◌∷◌, ◌++◌, map, length, drop, take, refl, sym, ap, ◌∙◌, subst, arith, append_assoc, append-nil, Option, Some, None, slice_get, Vec, Global}
-use Rattle.std.proofs.lemmas.Bool.{false≢true, cases_lt}
-use Rattle.std.proofs.lemmas.Option.{slice_get_within, get_or_from_slice_get, slice_get-get_or}
+use Rattle.std.proofs.Common.{◌≡◌, ℕ, suc, get_or, ◌<◌, ◌≤◌, List, [], ◌∷◌, ◌++◌, map, length, drop, refl, sym, ap, ◌∙◌, subst, arith, append_assoc, Some, None, slice_get}
+use Rattle.std.proofs.lemmas.Option.{slice_get_within, get_or_from_slice_get}
 use Rattle.std.proofs.Math.Seq.{drop-cons}
 use Rattle.std.proofs.Math.ListN.{drop_of_length-le}
 use Rattle.cs_ast.specs.declared.place.Place.{Place}
 use Rattle.cs_ast.specs.declared.token.Token.{Token}
-use Rattle.cs_ast.specs.declared.token.TokenKind.{TokenKind}
 use Rattle.cs_ast.specs.declared.raw.declaration.RawDeclarator.{RawDeclarator}
 use Rattle.cs_ast.specs.declared.raw.external.RawExternal.{RawExternal}
 use Rattle.cs_ast.specs.RawDeclarationView.{declarator}
@@ -18,13 +16,12 @@ use Rattle.cs_grammar.specs.declared.refusal.SyntaxRefusal.{SyntaxRefusal}
 use Rattle.cs_grammar.specs.declared.refusal.SyntaxRefusal.TheVariants as refusal
 use Rattle.cs_grammar.specs.TypeWords.{Names}
 use Rattle.cs_grammar.specs.Text.{Kinds}
-use Rattle.cs_grammar.specs.FileText.{externals_text, external_text, file_text}
-use Rattle.cs_grammar.specs.FilePhrases.{IsFile, with_name, with_names, names_behind, BeginsLowFile}
+use Rattle.cs_grammar.specs.FileText.{externals_text, external_text}
+use Rattle.cs_grammar.specs.FilePhrases.{with_name, with_names, names_behind}
 use Rattle.cs_grammar.specs.DeclarationClasses.{Externals}
-use Rattle.cs_grammar.specs.Parsing.{Refused, Exactly}
 use Rattle.cs_grammar.proofs.FileTexts.{externals_append}
-use Rattle.cs_grammar.proofs.FileRules.{FileSoFar, file_none, file_more, FileRefused, file_refused, file_unfinished, file_took}
-use Rattle.cs_expr_parser.specs.Positions.{kinds, first_kind, kind_or_end}
+use Rattle.cs_grammar.proofs.FileRules.{FileSoFar, file_none, file_more, file_refused, file_unfinished, file_took}
+use Rattle.cs_expr_parser.specs.Positions.{kinds, kind_or_end}
 use Rattle.cs_expr_parser.specs.Parts.{Spells, IsRefused, is_deep}
 use Rattle.cs_expr_parser.specs.Expression.{first_place, place_or_end, IsRefusalFor}
 use Rattle.cs_decl_parser.specs.declared.stop.Stop.{Stop}

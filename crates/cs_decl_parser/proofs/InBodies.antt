@@ -1,18 +1,16 @@
 -- No body of a function is begun where a token is refused before one: for the contracts of the parts of files.
-use Rattle.std.proofs.Common.{◌≡◌, ℕ, ◌+◌, ◌<◌, ◌≤◌, inl, inr, Bool, true, false, IsTrue, List, [], ◌∷◌, ◌++◌, Result, Ok, Err, length, drop, refl, sym, ap, ◌∙◌, subst, arith, append-nil}
+use Rattle.std.proofs.Common.{◌≡◌, ℕ, ◌+◌, inl, inr, IsTrue, List, [], ◌∷◌, ◌++◌, Err, length, drop, refl, sym, ap, ◌∙◌, subst, arith, append-nil}
 use Rattle.std.proofs.lemmas.Bool.{false≢true}
 use Rattle.std.proofs.lemmas.List.{append_cancel_right, length-append}
 use Rattle.cs_ast.specs.declared.place.Place.{Place}
 use Rattle.cs_ast.specs.declared.token.Token.{Token}
-use Rattle.cs_ast.specs.declared.token.TokenKind.{TokenKind}
 use Rattle.cs_ast.specs.declared.token.TokenKind.TheVariants as token
 use Rattle.cs_ast.specs.declared.token.Keyword.TheVariants as keyword
 use Rattle.cs_ast.specs.declared.raw.declaration.RawSpecs.{RawSpecs}
 use Rattle.cs_ast.specs.declared.raw.declaration.RawFunction.{RawFunction}
 use Rattle.cs_ast.specs.declared.raw.written_type.PointerWord.{PointerWord}
 use Rattle.cs_ast.specs.declared.raw.written_type.PointerWord.TheVariants as pointer
-use Rattle.cs_ast.specs.RawDeclarations.{Specs, Head}
-use Rattle.cs_ast.specs.RawDeclarationView.{specs, head as head_view}
+use Rattle.cs_ast.specs.RawDeclarations.{Head}
 use Rattle.cs_grammar.specs.declared.refusal.Reason.{Reason}
 use Rattle.cs_grammar.specs.TypeWords.{Names, is_pointer}
 use Rattle.cs_grammar.specs.Text.{Kinds, pointers_text}
@@ -25,7 +23,7 @@ use Rattle.cs_grammar.proofs.Bodies.{file_specs_law}
 use Rattle.cs_grammar.proofs.HeadRules.{heads_law, parameter_lists_law}
 use Rattle.cs_grammar.proofs.ExternalSites.{specs_first}
 use Rattle.cs_expr_parser.specs.Positions.{kinds, kind_or_end}
-use Rattle.cs_expr_parser.specs.Parts.{Spells, IsRefused}
+use Rattle.cs_expr_parser.specs.Parts.{IsRefused}
 use Rattle.cs_expr_parser.proofs.Standing.{stands, near, kinds_first}
 use Rattle.cs_decl_parser.specs.declared.source.Scope.TheVariants as scope
 use Rattle.cs_decl_parser.specs.declared.stop.Stop.{Stop}
@@ -33,8 +31,7 @@ use Rattle.cs_decl_parser.specs.declared.stop.Stop.TheVariants as stop
 use Rattle.cs_decl_parser.specs.declared.stop.Taken.{Taken}
 use Rattle.cs_decl_parser.specs.declared.declarator.Declares.TheVariants as declaring
 use Rattle.cs_decl_parser.specs.declared.declarator.Pointed.{Pointed}
-use Rattle.cs_decl_parser.specs.Reasons.{plain_reason}
-use Rattle.cs_decl_parser.specs.Aptness.{IsApt, IsStopApt}
+use Rattle.cs_decl_parser.specs.Aptness.{IsStopApt}
 use Rattle.cs_decl_parser.specs.Answers.{Stops, StopsOrBrace}
 use Rattle.cs_decl_parser.specs.DeclarationAnswers.{IsPointed, IsNameMissing, PointedAnswers}
 use Rattle.cs_decl_parser.specs.FileAnswers.{IsTypeTaken, BeginsBody, IsStopInBody}

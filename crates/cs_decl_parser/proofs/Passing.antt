@@ -1,11 +1,11 @@
 -- Phrases of one class that are phrases of another, and rows: for the contracts of the parts that read blocks.
-use Rattle.std.proofs.Common.{◌≡◌, ℕ, ◌+◌, ◌≤◌, max, inl, inr, Bool, true, false, List, [], ◌∷◌, ◌++◌, length, drop, refl, sym, ap, ◌∙◌, subst, arith}
+use Rattle.std.proofs.Common.{◌≡◌, ℕ, ◌≤◌, max, inl, inr, Bool, false, List, [], ◌∷◌, ◌++◌, length, drop, refl, sym, ap, ◌∙◌, arith}
 use Rattle.std.proofs.lemmas.Bool.{false≢true}
 use Rattle.cs_ast.specs.declared.place.Place.{Place}
 use Rattle.cs_ast.specs.declared.token.Token.{Token}
 use Rattle.cs_ast.specs.declared.token.TokenKind.{TokenKind}
 use Rattle.cs_grammar.specs.Text.{Kinds}
-use Rattle.cs_grammar.specs.Parsing.{Class, Near, Took, Refused, Exactly}
+use Rattle.cs_grammar.specs.Parsing.{Class, Near, Exactly}
 use Rattle.cs_grammar.proofs.Beginnings.{BeginsWith}
 use Rattle.cs_grammar.proofs.Holes.{Lawful, splits, Tail, tail_refused, tail_took}
 use Rattle.cs_grammar.proofs.Tails.{near_other, tail_as, Production}

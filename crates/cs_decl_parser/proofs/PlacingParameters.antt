@@ -1,5 +1,5 @@
 -- The places of a parameter, from those of its parts: for the clauses on places of the parts that read parameters.
-use Rattle.std.proofs.Common.{ℕ, List, Option, drop, ap, ◌∙◌}
+use Rattle.std.proofs.Common.{ℕ, List, drop, ap, ◌∙◌}
 use Rattle.std.specs.Option.{option_map}
 use Rattle.cs_ast.specs.declared.token.Token.{Token}
 use Rattle.cs_ast.specs.declared.raw.name.RawName.{RawName}

@@ -1,46 +1,39 @@
 -- Words of a type behind which a token's word doesn't fit: for the contracts of the parts that read what stands before declarators.
-use Rattle.std.proofs.Common.{◌≡◌, ℕ, ◌+◌, ◌<◌, ◌≤◌, ◌⊎◌, inl, inr, Bool, true, false, ◌&&◌, if◌then◌else◌, IsTrue, List, [], ◌∷◌, ◌++◌, Option, Some, None, Result, Ok, Err, length, drop, refl, sym, ap, ◌∙◌, subst, arith, append_assoc, append-nil}
+use Rattle.std.proofs.Common.{◌≡◌, ℕ, ◌+◌, inl, inr, Bool, true, false, if◌then◌else◌, List, [], ◌∷◌, ◌++◌, Option, Some, None, Result, Ok, Err, refl, sym, ap, ◌∙◌, subst, arith}
 use Rattle.std.specs.Option.{option_map}
-use Rattle.std.specs.List.{list_all}
-use Rattle.std.proofs.lemmas.List.Folds.{list_all-append}
-use Rattle.std.proofs.lemmas.Bool.{false≢true, both_ways, and_left, and_right, and_from}
-use Rattle.cs_grammar.specs.declared.type_words.IntegerWords.{IntegerWords}
-use Rattle.cs_ast.specs.declared.place.Place.{Place}
+use Rattle.std.proofs.lemmas.Bool.{false≢true}
 use Rattle.cs_ast.specs.declared.token.Token.{Token}
 use Rattle.cs_ast.specs.declared.token.TokenKind.{TokenKind}
 use Rattle.cs_ast.specs.declared.token.TokenKind.TheVariants as token
 use Rattle.cs_ast.specs.declared.token.Keyword.{Keyword}
 use Rattle.cs_ast.specs.declared.token.Keyword.TheVariants as keyword
 use Rattle.cs_ast.specs.declared.token.Mark.TheVariants as mark
-use Rattle.cs_ast.specs.declared.raw.declaration.SpecWord.{SpecWord}
 use Rattle.cs_ast.specs.declared.raw.declaration.SpecWord.TheVariants as words
-use Rattle.cs_ast.specs.declared.raw.name.RawName.{RawName}
 use Rattle.cs_ast.specs.declared.raw.written_type.TypeWord.{TypeWord}
 use Rattle.cs_ast.specs.declared.raw.written_type.TypeWord.TheVariants as word
 use Rattle.cs_ast.specs.declared.raw.written_type.IntegerWord.{IntegerWord}
 use Rattle.cs_ast.specs.declared.raw.written_type.IntegerWord.TheVariants.{Char, Short, Int, Long, Signed, Unsigned}
-use Rattle.cs_ast.specs.RawDeclarations.{Spec, Plain}
+use Rattle.cs_ast.specs.RawDeclarations.{Plain}
 use Rattle.cs_grammar.specs.declared.type_words.TypeSoFar.{TypeSoFar}
 use Rattle.cs_grammar.specs.declared.type_words.TypeSoFar.TheVariants.{Nothing, Integers, Whole}
-use Rattle.cs_grammar.specs.TypeWords.{Names, is_among, is_const, is_integer_word, named_by, names_type, is_type, fit_together, word_of}
-use Rattle.cs_grammar.specs.TypesSoFar.{Describes, AreIntegers, is_whole, is_known, IsExtended}
+use Rattle.cs_grammar.specs.TypeWords.{Names, named_by, is_type, word_of}
+use Rattle.cs_grammar.specs.TypesSoFar.{Describes, is_known, IsExtended}
 use Rattle.cs_grammar.specs.Text.{Kinds, type_word_text, integer_word_text}
 use Rattle.cs_grammar.specs.Parsing.{Near}
 use Rattle.cs_grammar.specs.DeclarationClasses.{IsQuiet, HasNoOpenBrace}
 use Rattle.cs_grammar.proofs.WordsOfTypes.{named_more}
 use Rattle.cs_grammar.proofs.TypeNames.{same_word}
-use Rattle.cs_expr_parser.specs.Positions.{kinds, kind_or_end, keyword_of}
+use Rattle.cs_expr_parser.specs.Positions.{kind_or_end}
 use Rattle.cs_expr_parser.specs.Parts.{Spells}
-use Rattle.cs_expr_parser.specs.Words.{first_of_word, IsStuck, IsUnusable, NoWord, names_some, has_tag, word_of_tag}
+use Rattle.cs_expr_parser.specs.Words.{first_of_word, IsUnusable, names_some, has_tag, word_of_tag}
 use Rattle.cs_decl_parser.specs.declared.specs.NextWord.{NextWord}
 use Rattle.cs_grammar.specs.declared.refusal.Reason.{Reason}
 use Rattle.cs_expr_parser.specs.Parts.{is_deep}
-use Rattle.cs_expr_parser.specs.Words.{IsTagMissing}
 use Rattle.cs_expr_parser.specs.Positions.{name_of}
 use Rattle.cs_decl_parser.specs.declared.stop.Stop.{Stop}
 use Rattle.cs_decl_parser.specs.declared.stop.Stop.TheVariants as stop
 use Rattle.cs_decl_parser.specs.DeclarationAnswers.{IsNameAt, RefusesBehind}
-use Rattle.cs_decl_parser.specs.SpecWords.{PlainAnswer, BlockTagAnswer, BlockTagStops, BlockWordAnswer, IsTagKeyword, IsTagBraced, IsTypeWord, HasNoTag, IsPlainWord, NothingFits, tag_keyword, IsTagged, word_of_keyword}
+use Rattle.cs_decl_parser.specs.SpecWords.{PlainAnswer, BlockTagAnswer, BlockTagStops, BlockWordAnswer, IsTagKeyword, IsTypeWord, HasNoTag, IsPlainWord, NothingFits, tag_keyword, IsTagged, word_of_keyword}
 use Rattle.cs_expr_parser.proofs.Standing.{spells_one, spells_more, spells_as}
 use Rattle.cs_expr_parser.proofs.WordsBegun.{no_word_stuck}
 

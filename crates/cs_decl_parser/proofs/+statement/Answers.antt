@@ -1,11 +1,9 @@
-use Rattle.std.proofs.Common.{◌≡◌, ℕ, ◌+◌, ◌-◌, ◌≤◌, ◌<◌, inl, inr, Bool, true, false, List, [], drop, Option, Result, Ok, Err, refl, sym, ap, ◌∙◌, subst, arith, rules}
+use Rattle.std.proofs.Common.{◌≡◌, ℕ, ◌+◌, ◌<◌, inl, inr, drop, Option, Err, refl, sym, ap, ◌∙◌, subst, arith, rules}
 use Rattle.std.proofs.lemmas.Bool.{false≢true}
 use Rattle.cs_ast.specs.declared.raw.name.RawName.{RawName}
 use Rattle.cs_ast.specs.RawStatementView.{sentence, statement_of, item, switch_item}
 use Rattle.cs_ast.specs.declared.raw.statement.RawStmtKind.TheVariants as kind
-use Rattle.cs_ast.specs.declared.token.TokenKind.TheVariants as token
 use Rattle.cs_grammar.specs.FileClasses.{Sentences, BlockItems, SwitchParts, SwitchRows}
-use Rattle.cs_decl_parser.specs.declared.stop.Stop.TheVariants as stop
 use Rattle.cs_decl_parser.specs.declared.form.Form.{Form}
 use Rattle.cs_decl_parser.specs.declared.form.Form.TheVariants as form
 use Rattle.cs_expr_parser.specs.Positions.{kind_or_end}

@@ -1,5 +1,5 @@
 -- Each return is the refusal of the first token, of the type or of the objects, or all were taken.
-use Rattle.std.proofs.Common.{◌≡◌, ℕ, ◌+◌, ◌-◌, Result, Ok, Err, refl, sym, ap, ◌∙◌, subst, arith, rules}
+use Rattle.std.proofs.Common.{◌≡◌, Err, refl, sym, subst, arith, rules}
 use Rattle.cs_decl_parser.specs.Answers.{ExactAnswers}
 use Rattle.cs_decl_parser.specs.Blocks.{Locals, local_of}
 use Rattle.cs_decl_parser.proofs.LocalSites.{local_none, local_type_stops, local_objects_stop, local_taken}

@@ -1,5 +1,5 @@
 -- Each return is the refusal of the word or of the value, or both were taken.
-use Rattle.std.proofs.Common.{◌≡◌, ℕ, ◌+◌, ◌-◌, Result, Ok, Err, refl, sym, ap, ◌∙◌, subst, arith, rules}
+use Rattle.std.proofs.Common.{◌≡◌, Err, refl, sym, subst, arith, rules}
 use Rattle.cs_ast.specs.RawStatementView.{switch_item}
 use Rattle.cs_grammar.specs.FileClasses.{SwitchParts}
 use Rattle.cs_decl_parser.specs.Answers.{Answers}

@@ -1,5 +1,5 @@
 -- Each return is the refusal of the colon, or the word with it.
-use Rattle.std.proofs.Common.{◌≡◌, ℕ, ◌+◌, ◌-◌, Result, Ok, Err, refl, sym, ap, ◌∙◌, subst, arith, rules}
+use Rattle.std.proofs.Common.{refl, sym, ◌∙◌}
 use Rattle.std.proofs.lemmas.Bool.{false≢true}
 use Rattle.cs_decl_parser.proofs.BlockSites.{default_stops, default_taken}
 use Rattle.cs_decl_parser.proofs.branches.default.Goals as goal

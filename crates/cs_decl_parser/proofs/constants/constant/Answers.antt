@@ -1,4 +1,4 @@
-use Rattle.std.proofs.Common.{drop, ◌≡◌, ℕ, ◌+◌, ◌-◌, ◌≤◌, ◌<◌, max, map, Bool, Err, List, [], ◌∷◌, ◌++◌, Option, refl, sym, ap, ◌∙◌, subst, arith, rules}
+use Rattle.std.proofs.Common.{drop, ◌≡◌, ◌-◌, Err, Option, refl, sym, ◌∙◌, subst, arith, rules}
 use Rattle.std.proofs.lemmas.Bool.{false≢true}
 use Rattle.cs_ast.specs.declared.raw.name.RawName.{RawName}
 use Rattle.cs_ast.specs.RawDeclarationView.{constant}

@@ -1,4 +1,4 @@
-use Rattle.std.proofs.Common.{◌≡◌, ℕ, ◌+◌, ◌-◌, ◌≤◌, ◌<◌, max, map, Bool, Err, List, [], ◌∷◌, ◌++◌, Option, refl, sym, ap, ◌∙◌, subst, arith, rules}
+use Rattle.std.proofs.Common.{◌≡◌, ℕ, ◌+◌, max, map, Err, List, [], ◌∷◌, ◌++◌, refl, sym, ap, ◌∙◌, subst, arith, rules}
 use Rattle.std.proofs.lemmas.Bool.{false≢true}
 use Rattle.std.proofs.lemmas.List.{map-append}
 use Rattle.cs_ast.specs.declared.token.TokenKind.TheVariants as token
@@ -12,7 +12,7 @@ use Rattle.cs_expr_parser.specs.Positions.{kind_or_end}
 use Rattle.cs_expr_parser.specs.Parts.{is_deep}
 use Rattle.cs_decl_parser.specs.declared.stop.Stop.TheVariants as stop
 use Rattle.cs_decl_parser.specs.DeclarationAnswers.{ConstantsAnswer}
-use Rattle.cs_decl_parser.proofs.RowSites.{TrailingRow, trailing_first, trailing_next, trailing_first_stops, trailing_next_stops, trailing_taken, IsRowTaken, row_is_exact}
+use Rattle.cs_decl_parser.proofs.RowSites.{TrailingRow, trailing_first, trailing_next, trailing_first_stops, trailing_next_stops, trailing_taken, row_is_exact}
 use Rattle.cs_decl_parser.proofs.ListSites.{next_stands, list_unclosed}
 use Rattle.cs_grammar.specs.FileText.{constant_text}
 use Rattle.cs_decl_parser.specs.FilePlaces.{IsConstantPlaced}

@@ -1,4 +1,4 @@
-use Rattle.std.proofs.Common.{◌≡◌, Err, refl, sym, subst, rules}
+use Rattle.std.proofs.Common.{◌≡◌, Err, sym, subst, rules}
 use Rattle.cs_decl_parser.specs.DeclarationAnswers.{DeclaratorAnswers}
 use Rattle.cs_decl_parser.proofs.DeclaratorSites.{pointed_stops}
 use Rattle.cs_decl_parser.specs.Aptness.{IsAnswerApt}

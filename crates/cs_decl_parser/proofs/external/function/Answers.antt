@@ -1,7 +1,7 @@
 -- Each return is the refusal of a part, or all were taken.
-use Rattle.std.proofs.Common.{◌≡◌, ℕ, ◌+◌, ◌-◌, Result, Ok, Err, map, refl, sym, ap, ◌∙◌, subst, arith, rules}
+use Rattle.std.proofs.Common.{◌≡◌, Err, refl, sym, ◌∙◌, subst, arith, rules}
 use Rattle.std.proofs.lemmas.Bool.{false≢true}
-use Rattle.cs_ast.specs.RawStatementView.{external, external_of}
+use Rattle.cs_ast.specs.RawStatementView.{external_of}
 use Rattle.cs_grammar.specs.DeclarationClasses.{Externals}
 use Rattle.cs_decl_parser.specs.Answers.{ExactAnswers}
 use Rattle.cs_decl_parser.proofs.ExternalSites.{external_parameters_stop, head_made, external_end_missing, external_function_taken, external_body_stops, external_definition_taken}

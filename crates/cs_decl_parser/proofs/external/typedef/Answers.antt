@@ -1,6 +1,6 @@
 -- Each return is the refusal of the type or of the names, or both were taken.
-use Rattle.std.proofs.Common.{◌≡◌, ℕ, ◌+◌, ◌-◌, Result, Ok, Err, map, refl, sym, ap, ◌∙◌, subst, arith, rules}
-use Rattle.cs_ast.specs.RawStatementView.{external, external_of}
+use Rattle.std.proofs.Common.{◌≡◌, Err, refl, sym, subst, arith, rules}
+use Rattle.cs_ast.specs.RawStatementView.{external_of}
 use Rattle.cs_grammar.specs.DeclarationClasses.{Externals}
 use Rattle.cs_decl_parser.specs.Answers.{ExactAnswers}
 use Rattle.cs_decl_parser.proofs.ExternalSites.{typedef_type_stops, typedef_names_stop, typedef_taken}

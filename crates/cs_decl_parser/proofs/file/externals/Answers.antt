@@ -1,5 +1,5 @@
 -- A part was refused, one more was taken, or all were.
-use Rattle.std.proofs.Common.{◌≡◌, List, [], Result, Ok, Err, refl, sym, ap, ◌∙◌, subst, arith, rules}
+use Rattle.std.proofs.Common.{◌≡◌, List, [], Err, sym, subst, arith, rules}
 use Rattle.cs_ast.specs.declared.raw.external.RawExternal.{RawExternal}
 use Rattle.cs_grammar.specs.TypeWords.{Names}
 use Rattle.cs_decl_parser.specs.Files.{parts_of}

@@ -1,4 +1,4 @@
-use Rattle.std.proofs.Common.{◌≡◌, ℕ, ◌+◌, ◌-◌, ◌≤◌, ◌<◌, max, map, Bool, Err, List, [], ◌∷◌, ◌++◌, Option, refl, sym, ap, ◌∙◌, subst, arith, rules}
+use Rattle.std.proofs.Common.{◌≡◌, ℕ, max, map, Err, List, [], ◌∷◌, ◌++◌, refl, sym, ap, ◌∙◌, subst, arith, rules}
 use Rattle.std.proofs.lemmas.Bool.{false≢true}
 use Rattle.std.proofs.lemmas.List.{map-append}
 use Rattle.cs_ast.specs.declared.token.TokenKind.TheVariants as token
@@ -9,9 +9,8 @@ use Rattle.cs_ast.specs.RawDeclarationView.{declared}
 use Rattle.cs_grammar.specs.Composed.{Separated}
 use Rattle.cs_grammar.specs.DeclarationClasses.{Objects}
 use Rattle.cs_grammar.proofs.DeclaredObjects.{object_row}
-use Rattle.cs_expr_parser.specs.Positions.{kind_or_end}
 use Rattle.cs_expr_parser.specs.Parts.{is_deep}
-use Rattle.cs_decl_parser.specs.Answers.{ExactAnswers, IsUnclosed}
+use Rattle.cs_decl_parser.specs.Answers.{ExactAnswers}
 use Rattle.cs_decl_parser.proofs.RowSites.{RowSoFar, row_first, row_next, row_next_stops, row_wrong, row_taken}
 use Rattle.cs_grammar.specs.FileText.{declared_text}
 use Rattle.cs_decl_parser.specs.FilePlaces.{IsDeclaredPlaced}

@@ -1,8 +1,6 @@
-use Rattle.std.proofs.Common.{drop, ◌≡◌, ℕ, ◌+◌, ◌-◌, ◌≤◌, ◌<◌, max, map, Bool, Err, List, [], ◌∷◌, ◌++◌, Option, refl, sym, ap, ◌∙◌, subst, arith, rules}
+use Rattle.std.proofs.Common.{drop, ◌≡◌, ◌+◌, ◌-◌, Err, refl, sym, ◌∙◌, subst, arith, rules}
 use Rattle.std.proofs.lemmas.Bool.{false≢true}
-use Rattle.cs_ast.specs.RawView.{written}
-use Rattle.cs_ast.specs.RawDeclarationView.{declarator, initial, declared}
-use Rattle.cs_ast.specs.RawFileHeight.{declarator_height, initial_height}
+use Rattle.cs_ast.specs.RawDeclarationView.{declared}
 use Rattle.cs_grammar.specs.DeclarationClasses.{Objects}
 use Rattle.cs_decl_parser.specs.Answers.{UnclosedAnswers}
 use Rattle.cs_decl_parser.proofs.ObjectSites.{alone_taken, alone_full, object_value_stops, object_value_taken}

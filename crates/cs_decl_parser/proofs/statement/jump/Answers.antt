@@ -1,5 +1,5 @@
 -- Each return is the refusal of the semicolon, or it was taken.
-use Rattle.std.proofs.Common.{◌≡◌, ℕ, ◌+◌, ◌-◌, Result, Ok, Err, refl, sym, ap, ◌∙◌, subst, arith, rules}
+use Rattle.std.proofs.Common.{sym, ◌∙◌}
 use Rattle.std.proofs.lemmas.Bool.{false≢true}
 use Rattle.cs_ast.specs.RawStatementView.{sentence}
 use Rattle.cs_decl_parser.proofs.RunSites.{jump_stops, jump_taken}

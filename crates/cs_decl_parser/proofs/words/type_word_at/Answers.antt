@@ -1,4 +1,4 @@
-use Rattle.std.proofs.Common.{◌≡◌, Some, refl, sym, ap, ◌∙◌}
+use Rattle.std.proofs.Common.{sym}
 use Rattle.cs_expr_parser.specs.Positions.{kind_or_end}
 use Rattle.cs_expr_parser.proofs.Standing.{keyword_is}
 use Rattle.cs_decl_parser.proofs.StuckWords.{keyword_type_word}
