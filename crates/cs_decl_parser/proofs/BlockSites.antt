@@ -1,6 +1,5 @@
 -- Each return of the parts that read blocks and `switch`, over tokens by their numbers.
-use Rattle.std.proofs.Common.{◌≡◌, ℕ, ◌+◌, ◌-◌, ◌<◌, ◌≤◌, max, ◌⊎◌, inl, inr, Bool, true, false, List, [], ◌∷◌, ◌++◌, map, Option, Some, None, length, refl, sym, ap, ◌∙◌, subst, arith, Vec, Global}
-use Rattle.std.proofs.lemmas.Bool.{false≢true}
+use Rattle.std.proofs.Common.{◌≡◌, ℕ, ◌+◌, ◌-◌, ◌≤◌, max, inl, inr, true, false, List, [], ◌∷◌, ◌++◌, length, refl, sym, ap, ◌∙◌, subst, arith, Vec, Global}
 use Rattle.cs_ast.specs.declared.place.Place.{Place}
 use Rattle.cs_ast.specs.declared.token.Token.{Token}
 use Rattle.cs_ast.specs.declared.token.TokenKind.{TokenKind}
@@ -12,9 +11,8 @@ use Rattle.cs_ast.specs.declared.raw.statement.RawStmt.{RawStmt}
 use Rattle.cs_ast.specs.declared.raw.statement.RawItem.{RawItem}
 use Rattle.cs_ast.specs.declared.raw.statement.RawSwitchItem.{RawSwitchItem}
 use Rattle.cs_ast.specs.declared.raw.statement.RawStmtKind.TheVariants as kind
-use Rattle.cs_ast.specs.RawTree.{Written}
 use Rattle.cs_ast.specs.RawView.{written}
-use Rattle.cs_ast.specs.RawStatements.{Sentence, Block, Switch, Item, Does, Items, NoItem, MoreItems, SwitchItem, Case, Default, Inside, SwitchItems, NoSwitchItem, MoreSwitchItems}
+use Rattle.cs_ast.specs.RawStatements.{Sentence, Block, Switch, Item, Items, NoItem, MoreItems, SwitchItem, Case, Default, Inside, SwitchItems, NoSwitchItem, MoreSwitchItems}
 use Rattle.cs_ast.specs.RawStatementView.{sentence, statement_of, item, items_list, switch_item, switch_list}
 use Rattle.cs_ast.specs.RawFileHeight.{item_height, items_height, switch_item_height, switch_height}
 use Rattle.cs_ast.proofs.RawStatementRows.{sentence-Block, sentence-Switch}
@@ -24,7 +22,7 @@ use Rattle.cs_grammar.specs.Text.{Kinds}
 use Rattle.cs_grammar.specs.FileFirstTokens.{begins_item, is_case, begins_switch_part}
 use Rattle.cs_grammar.specs.FileText.{items_text}
 use Rattle.cs_grammar.specs.FileClasses.{Tests, Sentences, BlockItems, BlockRows, SwitchParts, SwitchRows, SwitchBodies}
-use Rattle.cs_grammar.specs.Parsing.{Expressions, Near, Begins, BeginsLow, Took, Refused, Exactly}
+use Rattle.cs_grammar.specs.Parsing.{Expressions, Near, Took, Refused, Exactly}
 use Rattle.cs_grammar.proofs.FileTexts.{item_append}
 use Rattle.cs_grammar.proofs.FileBeginnings.{item_begins, switch_part_begins}
 use Rattle.cs_grammar.proofs.Holes.{ClosedBy, Ended, ended_law, ended_exact, exact_took}
@@ -42,8 +40,8 @@ use Rattle.cs_decl_parser.specs.declared.stop.Taken.{Taken}
 use Rattle.cs_decl_parser.specs.Nodes.{IsNode}
 use Rattle.cs_decl_parser.specs.Answers.{Stops, IsExactly, IsTaken}
 use Rattle.cs_decl_parser.specs.Blocks.{items_of, switch_items_of, AreTaken}
-use Rattle.cs_decl_parser.proofs.Standing.{spells_none, spells_more}
-use Rattle.cs_decl_parser.proofs.StatementStops.{Standing, StandingExactly, FitsAll, IsPlainStop, near_start, stops_pass, stops_plain, stops_full, pair_first_stops, pair_second_stops, pair_stands, single_stops, single_stands, no_fits, exactly_stands, closed_missing, closed_stands}
+use Rattle.cs_expr_parser.proofs.Standing.{spells_none, spells_more}
+use Rattle.cs_decl_parser.proofs.StatementStops.{Standing, IsPlainStop, near_start, stops_plain, stops_full, pair_first_stops, pair_second_stops, pair_stands, single_stops, single_stands, no_fits, exactly_stands, closed_missing, closed_stands}
 use Rattle.cs_decl_parser.proofs.StatementSites.{word_stands, mark_stands, taken_stands, exact_stands, node_taken}
 use Rattle.cs_decl_parser.proofs.Passing.{RowSoFar, row_none, row_stops, row_more, row_exactly, pass_stops, pass_stands, begins_near}
 

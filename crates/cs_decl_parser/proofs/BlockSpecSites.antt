@@ -1,5 +1,5 @@
 -- What stands before declarators inside a block: what each return gives. For the contracts of `block_specs` and its like.
-use Rattle.std.proofs.Common.{◌≡◌, ℕ, ◌+◌, ◌<◌, ◌≤◌, ◌⊎◌, inl, inr, Bool, true, false, if◌then◌else◌, Option, None, Result, Ok, Err, List, [], ◌∷◌, ◌++◌, length, drop, refl, sym, ap, ◌∙◌, subst, arith}
+use Rattle.std.proofs.Common.{◌≡◌, ℕ, ◌+◌, ◌≤◌, inl, inr, Bool, true, false, if◌then◌else◌, None, Err, List, [], ◌∷◌, ◌++◌, length, refl, sym, ap, ◌∙◌, subst, arith}
 use Rattle.std.proofs.lemmas.Bool.{false≢true}
 use Rattle.cs_ast.specs.declared.place.Place.{Place}
 use Rattle.cs_ast.specs.declared.token.Token.{Token}
@@ -18,7 +18,7 @@ use Rattle.cs_ast.specs.RawDeclarationView.{spec, specs, specs_list}
 use Rattle.cs_ast.specs.RawFileHeight.{specs_height}
 use Rattle.cs_grammar.specs.declared.refusal.Reason.{Reason}
 use Rattle.cs_grammar.specs.declared.type_words.TypeSoFar.{TypeSoFar}
-use Rattle.cs_grammar.specs.declared.type_words.TypeSoFar.TheVariants.{Nothing, Integers, Whole}
+use Rattle.cs_grammar.specs.declared.type_words.TypeSoFar.TheVariants.{Nothing}
 use Rattle.cs_grammar.specs.TypeWords.{Names, named_by, names_type, is_type}
 use Rattle.cs_grammar.specs.TypesSoFar.{Describes}
 use Rattle.cs_grammar.specs.Text.{Kinds, type_word_text, words_text}
@@ -29,7 +29,7 @@ use Rattle.cs_grammar.proofs.Texts.{words_append}
 use Rattle.cs_grammar.proofs.WordsOfTypes.{named_more}
 use Rattle.cs_grammar.proofs.FileBeginnings.{specs_of, plain_text}
 use Rattle.cs_grammar.proofs.TypeNames.{first_token, IsStuckAt, MayGoOn, block_specs_took, block_specs_refused, block_tag_refused, tag_word, words_split}
-use Rattle.cs_expr_parser.specs.Positions.{kinds, kind_or_end, name_of}
+use Rattle.cs_expr_parser.specs.Positions.{kind_or_end, name_of}
 use Rattle.cs_expr_parser.specs.Parts.{Spells, IsRefused, is_deep}
 use Rattle.cs_expr_parser.specs.Words.{first_of_word, IsStuck, names_some, word_of_tag, IsTagMissing}
 use Rattle.cs_decl_parser.specs.declared.source.Scope.TheVariants.{Block}
@@ -38,11 +38,11 @@ use Rattle.cs_decl_parser.specs.declared.stop.Stop.{Stop}
 use Rattle.cs_decl_parser.specs.declared.stop.Stop.TheVariants as stop
 use Rattle.cs_decl_parser.specs.declared.stop.Taken.{Taken}
 use Rattle.cs_decl_parser.specs.Reasons.{plain_reason}
-use Rattle.cs_decl_parser.specs.Answers.{Stops, StopsOrBrace, IsTaken, IsBraceRefused}
+use Rattle.cs_decl_parser.specs.Answers.{StopsOrBrace, IsTaken, IsBraceRefused}
 use Rattle.cs_decl_parser.specs.SpecWords.{NothingFits, IsPlainWord, IsTagBraced, BlockTagStops, BlockWordAnswer, tag_keyword}
-use Rattle.cs_decl_parser.proofs.Standing.{spells_one, spells_none, spells_more, spells_as}
+use Rattle.cs_expr_parser.proofs.Standing.{spells_one, spells_none, spells_more, spells_as}
 use Rattle.cs_decl_parser.proofs.StatementStops.{plain_flat}
-use Rattle.cs_decl_parser.proofs.StuckWords.{some_type, nothing_named, tag_some}
+use Rattle.cs_expr_parser.proofs.SitesOfWords.{some_type, nothing_named}
 
 -- the words so far
 pub record WordsSoFar (names : Names) (tokens : List Token) (from next : ℕ) (so_far : TypeSoFar) (items : List SpecWord) : Type 0 where

@@ -1,5 +1,5 @@
 -- Words of pointers, names and declarators: what each return gives. For the contracts of the parts that read declarators.
-use Rattle.std.proofs.Common.{◌≡◌, ℕ, zero, suc, ◌+◌, ◌-◌, ◌==◌, ◌<◌, ◌≤◌, max, ◌⊎◌, inl, inr, Bool, true, false, ◌&&◌, if◌then◌else◌, IsTrue, map, Option, Some, None, List, [], ◌∷◌, ◌++◌, Result, Ok, Err, length, drop, refl, sym, ap, ◌∙◌, subst, arith, append_assoc, append-nil}
+use Rattle.std.proofs.Common.{◌≡◌, ℕ, zero, suc, ◌+◌, ◌<◌, ◌≤◌, max, inl, inr, Bool, true, false, ◌&&◌, IsTrue, Option, Some, None, List, [], ◌∷◌, ◌++◌, Err, length, refl, sym, ap, ◌∙◌, subst, arith}
 use Rattle.std.specs.Option.{option_map}
 use Rattle.std.proofs.lemmas.Bool.{false≢true, cases_lt, eqb-true}
 use Rattle.std.proofs.lemmas.List.{map-append}
@@ -22,23 +22,21 @@ use Rattle.cs_grammar.specs.declared.refusal.Reason.{Reason}
 use Rattle.cs_grammar.specs.TypeWords.{Names, is_pointer}
 use Rattle.cs_grammar.specs.Text.{Kinds, pointers_text, pointer_word_text}
 use Rattle.cs_grammar.specs.FileText.{brackets_text, declarator_text}
-use Rattle.cs_grammar.specs.Parsing.{Class, Near, Begins, IsOver, Took, Refused, Exactly}
-use Rattle.cs_grammar.specs.Composed.{ClosedSome, Behind, Separated}
-use Rattle.cs_grammar.specs.DeclarationClasses.{Bounds, Brackets, Declarators, HasNoBracket}
-use Rattle.cs_grammar.specs.FilePhrases.{IsFree}
+use Rattle.cs_grammar.specs.Parsing.{Took, Refused}
+use Rattle.cs_grammar.specs.Composed.{ClosedSome, Separated}
+use Rattle.cs_grammar.specs.DeclarationClasses.{Bounds, Brackets}
 use Rattle.cs_grammar.proofs.Texts.{pointers_append}
-use Rattle.cs_grammar.proofs.Holes.{Lawful, Tail, splits}
 use Rattle.cs_grammar.proofs.Tails.{first_or, none_refused, Least}
-use Rattle.cs_grammar.proofs.Pairs.{Single, HasPlace}
-use Rattle.cs_grammar.proofs.Rows.{Separates, SoFar, before_commas}
-use Rattle.cs_grammar.proofs.Optional.{some_least, some_law}
+use Rattle.cs_grammar.proofs.Pairs.{Single}
+use Rattle.cs_grammar.proofs.Rows.{Separates}
+use Rattle.cs_grammar.proofs.Optional.{some_least}
 use Rattle.cs_grammar.proofs.StatementParts.{nought, expression_height}
 use Rattle.cs_grammar.proofs.DeclaredObjects.{semicolon_differs}
 use Rattle.cs_grammar.proofs.FreshNames.{fresh, fresh_free}
-use Rattle.cs_grammar.proofs.Declarators.{BracketsSoFar, brackets_none, brackets_more, brackets_refused, brackets_end, brackets_full, brackets_took, brackets_law, declarator_of, declarator_single, declarators_law, declarators_least, IsNoName, name_missing, bound_refused, bound_exact}
-use Rattle.cs_expr_parser.specs.Positions.{kinds, kind_or_end}
-use Rattle.cs_expr_parser.specs.Parts.{Spells, IsRefused, is_deep}
-use Rattle.cs_decl_parser.proofs.Standing.{spells_one, spells_none, spells_more, spells_as}
+use Rattle.cs_grammar.proofs.Declarators.{BracketsSoFar, brackets_none, brackets_more, brackets_refused, brackets_end, brackets_full, brackets_took, brackets_law, declarator_of, declarator_single, declarators_law, declarators_least, name_missing, bound_refused, bound_exact}
+use Rattle.cs_expr_parser.specs.Positions.{kind_or_end}
+use Rattle.cs_expr_parser.specs.Parts.{Spells, IsRefused}
+use Rattle.cs_expr_parser.proofs.Standing.{spells_one, spells_none, spells_more, spells_as}
 use Rattle.cs_decl_parser.specs.declared.stop.Stop.{Stop}
 use Rattle.cs_decl_parser.specs.declared.stop.Stop.TheVariants as stop
 use Rattle.cs_decl_parser.specs.declared.stop.Taken.{Taken}
@@ -46,9 +44,9 @@ use Rattle.cs_decl_parser.specs.declared.declarator.Declares.{Declares}
 use Rattle.cs_decl_parser.specs.declared.declarator.Declares.TheVariants as declaring
 use Rattle.cs_decl_parser.specs.declared.declarator.Pointed.{Pointed}
 use Rattle.cs_decl_parser.specs.Answers.{Stops, IsTaken, IsExactly}
-use Rattle.cs_decl_parser.specs.DeclarationAnswers.{IsPointerWord, ArePointers, IsNameAt, IsNameFor, RefusesBehind, MayLackFor, DeclaratorsFor, BracketsFor, has_no_room, is_bracket, is_full, IsPointed, IsNameMissing, IsDeclaratorTaken, DeclaratorAnswers, PointedAnswers, BoundsAnswer}
+use Rattle.cs_decl_parser.specs.DeclarationAnswers.{IsPointerWord, ArePointers, IsNameAt, IsNameFor, RefusesBehind, MayLackFor, DeclaratorsFor, BracketsFor, has_no_room, is_bracket, is_full, IsPointed, IsNameMissing, IsDeclaratorTaken, PointedAnswers}
 use Rattle.cs_decl_parser.proofs.RowSites.{highest_more, RowSoFar, row_wrong}
-use Rattle.cs_decl_parser.proofs.StatementStops.{stops_in, stops_pass, front_of, single_stops, no_fits}
+use Rattle.cs_decl_parser.proofs.StatementStops.{stops_in, single_stops, no_fits}
 use Rattle.cs_grammar.proofs.Pairs.{single_took}
 
 -- the words of pointers so far

@@ -1,5 +1,5 @@
 -- Expressions as parts of declarations and statements: what each return gives. For the contracts of `expression` and its like.
-use Rattle.std.proofs.Common.{◌≡◌, ℕ, ◌+◌, ◌<◌, ◌≤◌, ◌⊎◌, inl, inr, Bool, true, false, IsTrue, Option, Some, None, List, [], ◌∷◌, ◌++◌, length, drop, refl, sym, ap, ◌∙◌, subst, arith}
+use Rattle.std.proofs.Common.{◌≡◌, ℕ, ◌+◌, ◌≤◌, inl, inr, false, IsTrue, Option, Some, None, List, [], ◌∷◌, ◌++◌, refl, sym, ap, ◌∙◌, subst, arith}
 use Rattle.std.proofs.lemmas.Bool.{false≢true}
 use Rattle.cs_ast.specs.declared.place.Place.{Place}
 use Rattle.cs_ast.specs.declared.token.Token.{Token}
@@ -17,25 +17,23 @@ use Rattle.cs_grammar.specs.declared.refusal.SyntaxRefusal.TheVariants as refusa
 use Rattle.cs_grammar.specs.TypeWords.{Names}
 use Rattle.cs_grammar.specs.Text.{Kinds, text}
 use Rattle.cs_grammar.specs.Phrases.{IsPhrase}
-use Rattle.cs_grammar.specs.Parsing.{Class, Expressions, Near, Took, Refused, Exactly}
+use Rattle.cs_grammar.specs.Parsing.{Expressions, Near, Took, Refused, Exactly}
 use Rattle.cs_grammar.specs.Composed.{ClosedSome}
 use Rattle.cs_grammar.specs.FileClasses.{Tests}
 use Rattle.cs_grammar.proofs.Levels.{text_law}
-use Rattle.cs_grammar.proofs.Holes.{Lawful, Tail, ClosedBy, closed_law, closed_refused, closed_wrong, closed_exact, tail_refused}
-use Rattle.cs_grammar.proofs.Tails.{first_or, Least, none_refused}
+use Rattle.cs_grammar.proofs.Holes.{Tail, closed_law, closed_refused, closed_wrong, closed_exact, tail_refused}
+use Rattle.cs_grammar.proofs.Tails.{first_or, none_refused}
 use Rattle.std.specs.Option.{option_map}
 use Rattle.cs_ast.specs.RawFileHeight.{height_of_some}
 use Rattle.cs_grammar.proofs.Sequences.{behind_tail, closed_least}
 use Rattle.cs_grammar.proofs.StatementParts.{expression_least}
 use Rattle.cs_grammar.proofs.Optional.{Closes, IsUnclosed, no_close, some_none}
-use Rattle.cs_expr_parser.specs.Positions.{kinds, kind_or_end}
+use Rattle.cs_expr_parser.specs.Positions.{kind_or_end}
 use Rattle.cs_expr_parser.specs.Parts.{Spells, IsRefused, is_deep}
-use Rattle.cs_expr_parser.specs.Expression.{level_asked, IsRefusal, IsRefusedAt}
+use Rattle.cs_expr_parser.specs.Expression.{IsRefusal, IsRefusedAt}
 use Rattle.cs_expr_parser.specs.Expression.{IsTaken as IsPhraseTaken}
-use Rattle.cs_expr_parser.specs.declared.answer.ExprLevel.{ExprLevel}
-use Rattle.cs_expr_parser.specs.declared.answer.ExprLevel.TheVariants.{Expr, Assign, Cond}
 use Rattle.cs_expr_parser.specs.declared.answer.Phrase.{Phrase}
-use Rattle.cs_decl_parser.proofs.Standing.{spells_one, spells_none, spells_more, spells_as}
+use Rattle.cs_expr_parser.proofs.Standing.{spells_one, spells_more}
 use Rattle.cs_decl_parser.specs.declared.stop.Stop.{Stop}
 use Rattle.cs_decl_parser.specs.declared.stop.Stop.TheVariants as stop
 use Rattle.cs_decl_parser.specs.declared.stop.Taken.{Taken}
@@ -45,6 +43,9 @@ use Rattle.cs_decl_parser.specs.Answers.{Stops, IsExactly, IsUnclosed as IsUnclo
 use Rattle.cs_decl_parser.specs.DeclarationAnswers.{ClosedExpressions, MayLackFor}
 use Rattle.cs_decl_parser.specs.declared.declarator.Declares.{Declares}
 use Rattle.cs_decl_parser.specs.declared.declarator.Declares.TheVariants as declaring
+use Rattle.cs_decl_parser.specs.declared.source.Scope.TheVariants as scope
+use Rattle.cs_decl_parser.specs.Aptness.{IsApt}
+use Rattle.cs_decl_parser.proofs.AptReasons.{expression_apt}
 use Rattle.cs_decl_parser.proofs.StatementStops.{stops_in, stops_pass, front_of, near_start}
 
 -- what the parser of expressions took
@@ -63,12 +64,21 @@ phrase_taken names level room tokens from phrase taken is t = record {
 refused_expression : (names : Names) (level room : ℕ) (tokens : List Token) (from at : ℕ) (reason : Reason) → IsRefusedAt names level room tokens from at reason → IsRefused (Expressions names level) room tokens from at reason
 refused_expression names level room tokens from at reason r = record { front = r.front; spelled = r.spelled; refused = r.refused }
 
+refused_apt : (names : Names) (level room : ℕ) (tokens : List Token) (from at : ℕ) (reason : Reason) → IsRefusedAt names level room tokens from at reason → IsApt scope.Block (kind_or_end tokens at) reason
+refused_apt names level room tokens from at reason r = expression_apt names level r.front tokens at reason r.why
+
+-- the token behind it, if nothing else goes on with that
+pub phrase_apt : (names : Names) (level room : ℕ) (tokens : List Token) (from : ℕ) (phrase : Phrase) (taken : Unclosed RawExpr) → IsPhraseOf phrase taken → IsPhraseTaken names level room tokens from phrase → IsApt scope.Block (kind_or_end tokens taken.next) taken.otherwise
+phrase_apt names level room tokens from phrase taken is t =
+    subst (λ (n : ℕ). IsApt scope.Block (kind_or_end tokens n) taken.otherwise) (sym is.2)
+    (subst (λ (r : Reason). IsApt scope.Block (kind_or_end tokens phrase.next) r) (sym is.3) (expression_apt names level (text (written phrase.tree) []) tokens phrase.next phrase.otherwise t.otherwise))
+
 -- what it refused
 pub phrase_stops : (names : Names) (level room : ℕ) (tokens : List Token) (end : Place) (from : ℕ) (r : SyntaxRefusal) → IsRefusal names level room tokens end from r → Stops (Expressions names level) room tokens end from (stop.Expression r)
 phrase_stops names level room tokens end from refusal.Memory r = tt
-phrase_stops names level room tokens end from (refusal.Syntax place) r = (r.0, r.1, r.2, refused_expression names level room tokens from r.0 r.1 r.3)
-phrase_stops names level room tokens end from (refusal.LeftOut place word) r = (r.0, r.1, r.2, refused_expression names level room tokens from r.0 r.1 r.3)
-phrase_stops names level room tokens end from (refusal.TooDeep place) r = (r.0, r.1, r.2, refused_expression names level room tokens from r.0 r.1 r.3)
+phrase_stops names level room tokens end from (refusal.Syntax place) r = (r.0, r.1, (r.2, refused_apt names level room tokens from r.0 r.1 r.3), refused_expression names level room tokens from r.0 r.1 r.3)
+phrase_stops names level room tokens end from (refusal.LeftOut place word) r = (r.0, r.1, (r.2, refused_apt names level room tokens from r.0 r.1 r.3), refused_expression names level room tokens from r.0 r.1 r.3)
+phrase_stops names level room tokens end from (refusal.TooDeep place) r = (r.0, r.1, (r.2, refused_apt names level room tokens from r.0 r.1 r.3), refused_expression names level room tokens from r.0 r.1 r.3)
 
 -- the marks that close expressions of each level
 pub mark_closes : (names : Names) (level : ℕ) (m : Mark) → IsTrue (closes m) → Closes names level (token.Mark m)

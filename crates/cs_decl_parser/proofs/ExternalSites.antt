@@ -1,7 +1,7 @@
 -- Each return of the parts that read parts of files, over tokens by their numbers.
-use Rattle.std.proofs.Common.{◌≡◌, ℕ, Err, ◌+◌, ◌<◌, ◌≤◌, max, inl, inr, Bool, true, false, IsTrue, List, [], ◌∷◌, ◌++◌, map, Option, Some, None, length, drop, refl, sym, ap, ◌∙◌, subst, arith, append_assoc, Vec, Global}
+use Rattle.std.proofs.Common.{◌≡◌, ℕ, Err, ◌+◌, ◌<◌, ◌≤◌, max, inl, inr, Bool, false, IsTrue, List, [], ◌∷◌, ◌++◌, map, None, length, drop, refl, sym, ap, ◌∙◌, subst, arith, append_assoc, Vec, Global}
 use Rattle.std.proofs.lemmas.Bool.{false≢true, cases_lt}
-use Rattle.std.proofs.lemmas.List.{append_cancel_right, length-append}
+use Rattle.std.proofs.lemmas.List.{append_cancel_right}
 use Rattle.cs_ast.specs.declared.place.Place.{Place}
 use Rattle.cs_ast.specs.declared.token.Token.{Token}
 use Rattle.cs_ast.specs.declared.token.TokenKind.{TokenKind}
@@ -18,20 +18,19 @@ use Rattle.cs_ast.specs.declared.raw.written_type.PointerWord.TheVariants as poi
 use Rattle.cs_ast.specs.declared.raw.declaration.RawFunction.{RawFunction}
 use Rattle.cs_ast.specs.declared.raw.external.RawExternal.{RawExternal}
 use Rattle.cs_ast.specs.declared.raw.external.RawExternalKind.{RawExternalKind}
-use Rattle.cs_ast.specs.RawDeclarations.{Specs, Declarator, Declared, Parameters, Head}
+use Rattle.cs_ast.specs.RawDeclarations.{Specs, Declarator, Declared, Head}
 use Rattle.cs_ast.specs.RawDeclarationView.{specs, declarator, declared, parameters, head as head_view}
 use Rattle.cs_ast.specs.RawStatements.{Items, External, Typedef}
 use Rattle.cs_ast.specs.RawStatementView.{external_of, external}
 use Rattle.cs_ast.specs.RawFileHeight.{head_height, external_height}
-use Rattle.cs_grammar.specs.declared.refusal.Reason.{Reason}
 use Rattle.cs_grammar.specs.declared.refusal.SyntaxRefusal.TheVariants as refusal
 use Rattle.cs_grammar.specs.TypeWords.{Names, is_pointer}
 use Rattle.cs_grammar.specs.Text.{Kinds, pointers_text}
 use Rattle.cs_grammar.specs.FileText.{declarator_text, declared_text, with_commas, specs_text, head_text, items_text, external_text}
-use Rattle.cs_grammar.specs.FilePhrases.{AreAll, IsSomeList, IsFree, AreNamed, IsDeclarator, IsDeclared}
+use Rattle.cs_grammar.specs.FilePhrases.{AreAll, IsSomeList, IsFree, AreNamed, IsDeclarator}
 use Rattle.cs_grammar.specs.FileClasses.{BlockRows}
-use Rattle.cs_grammar.specs.FileParts.{ExternalRest, no_name, objects, function, definition, rest_text, ExternalRests, external_from, end_text, FunctionEnds}
-use Rattle.cs_grammar.specs.DeclarationClasses.{ends_specs, Objects, FileSpecs, ObjectDeclarators, ParameterLists, Heads, Externals}
+use Rattle.cs_grammar.specs.FileParts.{ExternalRest, no_name, objects, function, definition, rest_text, ExternalRests, external_from, FunctionEnds}
+use Rattle.cs_grammar.specs.DeclarationClasses.{Objects, FileSpecs, ObjectDeclarators, ParameterLists, Heads, Externals}
 use Rattle.cs_grammar.specs.Parsing.{Class, Near, Took, Refused, Exactly}
 use Rattle.cs_grammar.specs.Composed.{Sequence, Separated, Behind}
 use Rattle.cs_grammar.proofs.Texts.{pointers_append}
@@ -40,15 +39,15 @@ use Rattle.cs_grammar.proofs.Tails.{first_or}
 use Rattle.cs_grammar.proofs.Sequences.{sequence_law, sequence_least, first_refused, second_wrong, behind_tail, then_refused, then_took, took_exact}
 use Rattle.cs_grammar.proofs.Pairs.{Single, single_refused, single_took}
 use Rattle.cs_grammar.proofs.Statements.{open_parenthesis, open_brace, close_brace, semicolon}
-use Rattle.cs_grammar.proofs.BlockItems.{Starts, with_star, with_name, pointers_start, objects_start, object_list_law}
+use Rattle.cs_grammar.proofs.BlockItems.{Starts, with_star, with_name, pointers_start, objects_start}
 use Rattle.cs_grammar.proofs.DeclaredObjects.{object_row}
 use Rattle.cs_grammar.proofs.Bodies.{file_specs_law}
 use Rattle.cs_grammar.proofs.HeadRules.{head_of, head_single, heads_law, parameter_lists_law, parameter_lists_least}
-use Rattle.cs_grammar.proofs.FileRules.{external_spelled, external_joins, rests_law, rests_least, typedef_pair, rest_no_name, heads_refused, function_of, ends_law, end_wrong}
+use Rattle.cs_grammar.proofs.FileRules.{external_spelled, external_joins, rests_law, rests_least, typedef_pair, rest_no_name, heads_refused, end_wrong}
 use Rattle.cs_grammar.proofs.DeclarationSites.{TypedParts, file_type_refused, file_rest_refused, file_part_took, function_refused, function_took, body_refused, definition_took, external_exact}
 use Rattle.cs_grammar.proofs.ExternalSites.{external_refused, external_took, NoFunction, no_function_pointers, no_function_name, objects_refused, objects_took}
 use Rattle.cs_expr_parser.specs.Positions.{kinds, kind_or_end}
-use Rattle.cs_expr_parser.specs.Parts.{Spells, IsRefused, is_deep}
+use Rattle.cs_expr_parser.specs.Parts.{Spells, is_deep}
 use Rattle.cs_decl_parser.specs.declared.source.Scope.TheVariants as scope
 use Rattle.cs_decl_parser.specs.declared.stop.Stop.{Stop}
 use Rattle.cs_decl_parser.specs.declared.stop.Stop.TheVariants as stop
@@ -58,11 +57,12 @@ use Rattle.cs_decl_parser.specs.declared.declarator.Pointed.{Pointed}
 use Rattle.cs_decl_parser.specs.Answers.{Stops, IsExactly, IsTaken, StopsOrBrace}
 use Rattle.cs_decl_parser.specs.Blocks.{items_of, AreTaken}
 use Rattle.cs_decl_parser.specs.FileAnswers.{IsTypeTaken}
-use Rattle.cs_decl_parser.specs.DeclarationAnswers.{DeclaratorsFor, ArePointers, IsPointed, IsNameMissing, PointedAnswers}
+use Rattle.cs_decl_parser.specs.DeclarationAnswers.{DeclaratorsFor, ArePointers, IsPointed, PointedAnswers}
 use Rattle.cs_decl_parser.proofs.RowSites.{row_first_stops}
 use Rattle.cs_decl_parser.proofs.DeclaratorSites.{pointed_stops}
 use Rattle.cs_decl_parser.proofs.ObjectSites.{object_stops}
-use Rattle.cs_decl_parser.proofs.Standing.{kinds_first, spells_none, spells_one, spells_more, spells_as, refused_number}
+use Rattle.cs_expr_parser.proofs.Standing.{kinds_first, spells_none, spells_one, spells_more, spells_as}
+use Rattle.cs_expr_parser.proofs.Stopping.{refused_number}
 use Rattle.cs_decl_parser.proofs.StatementStops.{StandingExactly, IsPlainStop, stops_in, stops_pass, stops_plain, front_of, first_front, single_stops, no_fits}
 
 type_lift : (names : Names) (tokens : List Token) (from : ℕ) → (kind_or_end tokens from ≡ token.Keyword keyword.Typedef → ⊥) → (front : Kinds) (at : ℕ) (deep : Bool) → Spells tokens from at (λ rest. front ++ rest) → Refused (TypedParts names) 199 front (kind_or_end tokens at) deep → Refused (Externals names) 200 front (kind_or_end tokens at) deep

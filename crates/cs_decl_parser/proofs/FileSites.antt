@@ -1,12 +1,10 @@
 -- Each return of the parser of files, over tokens by their numbers.
-use Rattle.std.proofs.Common.{◌≡◌, ℕ, suc, get_or, ◌+◌, ◌<◌, ◌≤◌, inl, inr, Bool, true, false, List, [], ◌∷◌, ◌++◌, map, length, drop, take, refl, sym, ap, ◌∙◌, subst, arith, append_assoc, append-nil, Option, Some, None, slice_get, Vec, Global}
-use Rattle.std.proofs.lemmas.Bool.{false≢true, cases_lt}
-use Rattle.std.proofs.lemmas.Option.{slice_get_within, get_or_from_slice_get, slice_get-get_or}
+use Rattle.std.proofs.Common.{◌≡◌, ℕ, suc, get_or, ◌<◌, ◌≤◌, List, [], ◌∷◌, ◌++◌, map, length, drop, refl, sym, ap, ◌∙◌, subst, arith, append_assoc, Some, None, slice_get}
+use Rattle.std.proofs.lemmas.Option.{slice_get_within, get_or_from_slice_get}
 use Rattle.std.proofs.Math.Seq.{drop-cons}
 use Rattle.std.proofs.Math.ListN.{drop_of_length-le}
 use Rattle.cs_ast.specs.declared.place.Place.{Place}
 use Rattle.cs_ast.specs.declared.token.Token.{Token}
-use Rattle.cs_ast.specs.declared.token.TokenKind.{TokenKind}
 use Rattle.cs_ast.specs.declared.raw.declaration.RawDeclarator.{RawDeclarator}
 use Rattle.cs_ast.specs.declared.raw.external.RawExternal.{RawExternal}
 use Rattle.cs_ast.specs.RawDeclarationView.{declarator}
@@ -18,22 +16,28 @@ use Rattle.cs_grammar.specs.declared.refusal.SyntaxRefusal.{SyntaxRefusal}
 use Rattle.cs_grammar.specs.declared.refusal.SyntaxRefusal.TheVariants as refusal
 use Rattle.cs_grammar.specs.TypeWords.{Names}
 use Rattle.cs_grammar.specs.Text.{Kinds}
-use Rattle.cs_grammar.specs.FileText.{externals_text, external_text, file_text}
-use Rattle.cs_grammar.specs.FilePhrases.{IsFile, with_name, with_names, names_behind, BeginsLowFile}
+use Rattle.cs_grammar.specs.FileText.{externals_text, external_text}
+use Rattle.cs_grammar.specs.FilePhrases.{with_name, with_names, names_behind}
 use Rattle.cs_grammar.specs.DeclarationClasses.{Externals}
-use Rattle.cs_grammar.specs.Parsing.{Refused, Exactly}
 use Rattle.cs_grammar.proofs.FileTexts.{externals_append}
-use Rattle.cs_grammar.proofs.FileRules.{FileSoFar, file_none, file_more, FileRefused, file_refused, file_unfinished, file_took}
-use Rattle.cs_expr_parser.specs.Positions.{kinds, first_kind, kind_or_end}
+use Rattle.cs_grammar.proofs.FileRules.{FileSoFar, file_none, file_more, file_refused, file_unfinished, file_took}
+use Rattle.cs_expr_parser.specs.Positions.{kinds, kind_or_end}
 use Rattle.cs_expr_parser.specs.Parts.{Spells, IsRefused, is_deep}
 use Rattle.cs_expr_parser.specs.Expression.{first_place, place_or_end, IsRefusalFor}
 use Rattle.cs_decl_parser.specs.declared.stop.Stop.{Stop}
 use Rattle.cs_decl_parser.specs.declared.stop.Stop.TheVariants as stop
 use Rattle.cs_decl_parser.specs.declared.stop.Taken.{Taken}
 use Rattle.cs_decl_parser.specs.Answers.{Stops, IsExactly}
-use Rattle.cs_decl_parser.specs.Files.{parts_of, IsTheFile, IsFileRefusedAt, spelling_here, IsRefusalOf, IsRefusalHere, IsFileRefusal}
+use Rattle.cs_decl_parser.specs.Files.{parts_of, IsTheFile, IsFileRefusedAt, IsRefusalOf, IsRefusalHere, IsFileRefusal}
 use Rattle.cs_decl_parser.specs.FileStops.{FileStops}
-use Rattle.cs_decl_parser.proofs.Standing.{spells_none, spells_more, spells_as, refused_number}
+use Rattle.cs_decl_parser.specs.declared.source.Scope.TheVariants as scope
+use Rattle.cs_decl_parser.specs.Aptness.{IsApt, IsStopApt}
+use Rattle.cs_decl_parser.specs.FileAnswers.{BeginsBody, IsStopInBody}
+use Rattle.cs_decl_parser.proofs.AptReasons.{apt_in}
+use Rattle.cs_decl_parser.proofs.FileReasonsHere.{reason_of_kind, reason_inside, body_begins}
+use Rattle.cs_grammar.specs.Spelling.{left_out_spelling}
+use Rattle.cs_expr_parser.proofs.Standing.{kind_of_some, past_end, spells_none, spells_more, spells_as}
+use Rattle.cs_expr_parser.proofs.Stopping.{refused_number}
 
 -- so many parts of a file were taken, behind which these are the typedef names
 pub record PartsSoFar (names : Names) (tokens : List Token) (done : List External) (next : ℕ) : Type 0 where
@@ -65,8 +69,8 @@ parts_more names later tokens done all next taken s t n e =
     subst (λ (m : Names). PartsSoFar m tokens (parts_of all) taken.next) (sym n) (subst (λ (x : List External). PartsSoFar (names_behind names (external taken.tree)) tokens x taken.next) (sym list) more)
 
 -- a part of the file was refused
-part_refused : (names : Names) (tokens : List Token) (done : List External) (next at : ℕ) (reason : Reason) → next < length tokens → PartsSoFar names tokens done next → IsRefused (Externals names) 200 tokens next at reason → IsFileRefusedAt tokens at reason
-part_refused names tokens done next at reason some s r =
+part_refused : (names : Names) (tokens : List Token) (done : List External) (next at : ℕ) (reason : Reason) → next < length tokens → PartsSoFar names tokens done next → IsRefused (Externals names) 200 tokens next at reason → IsApt scope.File (kind_or_end tokens at) reason → (BeginsBody names tokens next at → IsApt scope.Block (kind_or_end tokens at) reason) → IsFileRefusedAt tokens at reason
+part_refused names tokens done next at reason some s r apt body =
     let f = file_refused names 200 done s.so_far r.front (kind_or_end tokens at) (is_deep reason) r.refused in
     let sp : Spells tokens 0 at (λ rest. (externals_text done [] ++ r.front) ++ rest) =
     spells_as tokens 0 at (λ rest. externals_text done (r.front ++ rest)) (λ rest. (externals_text done [] ++ r.front) ++ rest) (spells_more tokens 0 next at (externals_text done) (λ rest. r.front ++ rest) s.spelled r.spelled)
@@ -80,15 +84,17 @@ part_refused names tokens done next at reason some s r =
       flat = λ within. f.nothing;
       unfinished = λ ends file is same.
           file_unfinished names 200 done s.so_far r.front (kind_or_end tokens at) (is_deep reason) (λ none. let n = refused_number tokens next at r.front r.spelled in let l : length r.front ≡ 0 = ap length none in omega (arith, n, l, ends, some)) r.refused file is same;
+      why = λ within e. reason_of_kind (externals_text done [] ++ r.front) (kind_or_end tokens at) reason f.further f.nothing apt e;
+      inside = λ within w b. reason_inside (externals_text done [] ++ r.front) (kind_or_end tokens at) reason f.further f.nothing (body (body_begins names tokens done next at reason s.so_far r b)) w b;
     }
 
-pub file_stops : (names : Names) (tokens : List Token) (end : Place) (done : List External) (next : ℕ) → next < length tokens → PartsSoFar names tokens done next → (s : Stop) → Stops (Externals names) 200 tokens end next s → FileStops tokens end s
-file_stops names tokens end done next some s stop.Memory r = tt
-file_stops names tokens end done next some s (stop.Refused at reason) r = part_refused names tokens done next at reason some s r
-file_stops names tokens end done next some s (stop.Expression refusal.Memory) r = tt
-file_stops names tokens end done next some s (stop.Expression (refusal.Syntax place)) r = (r.0, r.1, r.2, part_refused names tokens done next r.0 r.1 some s r.3)
-file_stops names tokens end done next some s (stop.Expression (refusal.LeftOut place word)) r = (r.0, r.1, r.2, part_refused names tokens done next r.0 r.1 some s r.3)
-file_stops names tokens end done next some s (stop.Expression (refusal.TooDeep place)) r = (r.0, r.1, r.2, part_refused names tokens done next r.0 r.1 some s r.3)
+pub file_stops : (names : Names) (tokens : List Token) (end : Place) (done : List External) (next : ℕ) → next < length tokens → PartsSoFar names tokens done next → (s : Stop) → Stops (Externals names) 200 tokens end next s → IsStopApt scope.File tokens s → IsStopInBody names tokens next s → FileStops tokens end s
+file_stops names tokens end done next some s stop.Memory r apt body = tt
+file_stops names tokens end done next some s (stop.Refused at reason) r apt body = part_refused names tokens done next at reason some s r apt body
+file_stops names tokens end done next some s (stop.Expression refusal.Memory) r apt body = tt
+file_stops names tokens end done next some s (stop.Expression (refusal.Syntax place)) r apt body = (r.0, r.1, r.2, part_refused names tokens done next r.0 r.1 some s r.3 (apt_in scope.File (kind_or_end tokens r.0) r.1 r.2.1) (λ b. r.2.1))
+file_stops names tokens end done next some s (stop.Expression (refusal.LeftOut place word)) r apt body = (r.0, r.1, r.2, part_refused names tokens done next r.0 r.1 some s r.3 (apt_in scope.File (kind_or_end tokens r.0) r.1 r.2.1) (λ b. r.2.1))
+file_stops names tokens end done next some s (stop.Expression (refusal.TooDeep place)) r apt body = (r.0, r.1, r.2, part_refused names tokens done next r.0 r.1 some s r.3 (apt_in scope.File (kind_or_end tokens r.0) r.1 r.2.1) (λ b. r.2.1))
 
 -- all parts were taken
 pub file_taken : (names : Names) (tokens : List Token) (done : List External) (next : ℕ) → length tokens ≤ next → PartsSoFar names tokens done next → IsTheFile tokens done
@@ -105,7 +111,7 @@ file_taken names tokens done next all s =
 -- the answer of the parser of expressions, as that of the file
 for_here : (tokens : List Token) (end : Place) (at : ℕ) (reason : Reason) (r : SyntaxRefusal) → IsRefusalFor tokens end at reason r → IsRefusalHere tokens end at reason r
 for_here tokens end at Syntax (refusal.Syntax place) f = (f, λ within. refl)
-for_here tokens end at LeftOut (refusal.LeftOut place word) f = (f.0, refl, inr f.1)
+for_here tokens end at LeftOut (refusal.LeftOut place word) f = (f.0, refl, f.1)
 for_here tokens end at TooDeep (refusal.TooDeep place) f = (f, refl)
 for_here tokens end at Syntax refusal.Memory f = tt
 for_here tokens end at LeftOut refusal.Memory f = tt
@@ -119,22 +125,9 @@ for_here tokens end at TooDeep (refusal.LeftOut place word) f = absurd f
 
 pub expression_refusal : (tokens : List Token) (end : Place) (r : SyntaxRefusal) → FileStops tokens end (stop.Expression r) → IsFileRefusal tokens end r
 expression_refusal tokens end refusal.Memory s = tt
-expression_refusal tokens end (refusal.Syntax place) s = (s.0, s.1, for_here tokens end s.0 s.1 (refusal.Syntax place) s.2, s.3)
-expression_refusal tokens end (refusal.LeftOut place word) s = (s.0, s.1, for_here tokens end s.0 s.1 (refusal.LeftOut place word) s.2, s.3)
-expression_refusal tokens end (refusal.TooDeep place) s = (s.0, s.1, for_here tokens end s.0 s.1 (refusal.TooDeep place) s.2, s.3)
-
-kind_of_some : (tokens : List Token) (at : ℕ) (t : Token) → slice_get tokens at ≡ Some t → kind_or_end tokens at ≡ t.kind
-kind_of_some tokens at t e =
-    let h : at < length tokens = slice_get_within tokens at t e in
-    ap first_kind (drop-cons tokens at t h) ∙ ap (λ (x : Token). x.kind) (get_or_from_slice_get tokens at t t e)
-
-past_end : (tokens : List Token) (at : ℕ) → slice_get tokens at ≡ None → length tokens ≤ at
-past_end [] at e = omega arith
-past_end (t ∷ ts) at e =
-    elim (cases_lt at (length (t ∷ ts))) [
-      | inl less ↦ absurd (let s = slice_get-get_or (t ∷ ts) at t less in cc)
-      | inr more ↦ more
-    ]
+expression_refusal tokens end (refusal.Syntax place) s = (s.0, s.1, for_here tokens end s.0 s.1 (refusal.Syntax place) s.2.0, s.3)
+expression_refusal tokens end (refusal.LeftOut place word) s = (s.0, s.1, for_here tokens end s.0 s.1 (refusal.LeftOut place word) s.2.0, s.3)
+expression_refusal tokens end (refusal.TooDeep place) s = (s.0, s.1, for_here tokens end s.0 s.1 (refusal.TooDeep place) s.2.0, s.3)
 
 place_stands : (tokens : List Token) (end : Place) (at : ℕ) (t : Token) → slice_get tokens at ≡ Some t → t.place ≡ place_or_end tokens end at
 place_stands tokens end at t e =
@@ -143,7 +136,7 @@ place_stands tokens end at t e =
 
 of_here : (tokens : List Token) (end : Place) (at : ℕ) (t : Token) (reason : Reason) (r : SyntaxRefusal) → slice_get tokens at ≡ Some t → IsRefusalOf t reason r → IsRefusalHere tokens end at reason r
 of_here tokens end at t Syntax (refusal.Syntax place) e f = (f ∙ place_stands tokens end at t e, λ within. refl)
-of_here tokens end at t LeftOut (refusal.LeftOut place word) e f = (f.0 ∙ place_stands tokens end at t e, refl, inl (f.1 ∙ ap spelling_here (sym (kind_of_some tokens at t e))))
+of_here tokens end at t LeftOut (refusal.LeftOut place word) e f = (f.0 ∙ place_stands tokens end at t e, refl, f.1 ∙ ap left_out_spelling (sym (kind_of_some tokens at t e)))
 of_here tokens end at t TooDeep (refusal.TooDeep place) e f = (f ∙ place_stands tokens end at t e, refl)
 of_here tokens end at t Syntax refusal.Memory e f = tt
 of_here tokens end at t LeftOut refusal.Memory e f = tt

@@ -1,11 +1,10 @@
 -- Each return of the parts that read `for`, over tokens by their numbers.
-use Rattle.std.proofs.Common.{◌≡◌, ℕ, ◌+◌, ◌-◌, ◌<◌, ◌≤◌, max, inl, inr, Bool, true, false, List, [], ◌∷◌, ◌++◌, map, Option, Some, None, length, refl, sym, ap, ◌∙◌, subst, arith}
+use Rattle.std.proofs.Common.{◌≡◌, ℕ, ◌+◌, ◌-◌, ◌≤◌, max, inl, inr, Bool, true, false, List, [], ◌∷◌, ◌++◌, map, Option, Some, None, length, refl, sym, ap, ◌∙◌, subst, arith}
 use Rattle.std.proofs.lemmas.Bool.{false≢true}
 use Rattle.std.specs.Option.{option_map}
 use Rattle.cs_ast.specs.declared.place.Place.{Place}
 use Rattle.cs_ast.specs.declared.token.Token.{Token}
 use Rattle.cs_ast.specs.declared.token.TokenKind.{TokenKind}
-use Rattle.cs_ast.specs.declared.token.TokenKind.TheVariants as token
 use Rattle.cs_ast.specs.declared.token.Keyword.TheVariants as keyword
 use Rattle.cs_ast.specs.declared.token.Mark.TheVariants as mark
 use Rattle.cs_ast.specs.declared.raw.expression.RawExpr.{RawExpr}
@@ -24,8 +23,8 @@ use Rattle.cs_grammar.specs.FirstTokens.{begins_expression, begins_type}
 use Rattle.cs_grammar.specs.FileText.{declared_text, with_commas, some_text, declaration_text, first_text}
 use Rattle.cs_grammar.specs.FilePhrases.{IsFirst}
 use Rattle.cs_grammar.specs.FileClasses.{Firsts, Sentences}
-use Rattle.cs_grammar.specs.Parsing.{Class, Near, Refused, Exactly}
-use Rattle.cs_grammar.specs.Composed.{Sequence, Behind, ClosedSome}
+use Rattle.cs_grammar.specs.Parsing.{Class, Near, Exactly}
+use Rattle.cs_grammar.specs.Composed.{Sequence, ClosedSome}
 use Rattle.cs_grammar.proofs.Beginnings.{expression_begins, begins_one}
 use Rattle.cs_grammar.proofs.FileBeginnings.{block_specs_begin, first_passes}
 use Rattle.cs_grammar.proofs.Holes.{Lawful, tail_refused}
@@ -45,8 +44,8 @@ use Rattle.cs_decl_parser.specs.declared.loops.ForParts.{ForParts}
 use Rattle.cs_decl_parser.specs.Nodes.{IsNode}
 use Rattle.cs_decl_parser.specs.Answers.{Stops, IsExactly, IsTaken}
 use Rattle.cs_decl_parser.specs.Blocks.{Locals, local_of, Controls, control_of, first_if_any}
-use Rattle.cs_decl_parser.proofs.Standing.{spells_none, spells_more, spells_as}
-use Rattle.cs_decl_parser.proofs.StatementStops.{Standing, StandingExactly, IsPlainStop, near_start, stops_in, stops_pass, stops_plain, front_of, pair_first_stops, pair_second_stops, pair_stands}
+use Rattle.cs_expr_parser.proofs.Standing.{spells_none, spells_more}
+use Rattle.cs_decl_parser.proofs.StatementStops.{StandingExactly, IsPlainStop, near_start, stops_in, stops_pass, stops_plain, front_of, pair_first_stops, pair_second_stops, pair_stands}
 use Rattle.cs_decl_parser.proofs.StatementSites.{word_stands, mark_stands, taken_stands, exact_stands, node_taken}
 use Rattle.cs_decl_parser.proofs.Passing.{pass_stops, pass_exactly}
 use Rattle.cs_decl_parser.proofs.LocalSites.{locals_law}

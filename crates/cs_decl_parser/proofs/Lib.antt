@@ -1,4 +1,4 @@
-pub mod Standing
+pub mod SecondTokens
 pub mod StatementStops
 pub mod StatementForms
 pub mod StatementSites
@@ -25,3 +25,6 @@ pub mod PlacingStatements
 pub mod PlacingSpecs
 pub mod PlacingParameters
 pub mod PlacingFiles
+pub mod AptReasons
+pub mod InBodies
+pub mod FileReasonsHere

@@ -1,6 +1,6 @@
 -- Lists between braces, enumeration constants and initial values: what each return gives. For the contracts of `constants`,
 -- `constant`, `initial` and `items`.
-use Rattle.std.proofs.Common.{◌≡◌, ℕ, ◌+◌, ◌-◌, ◌<◌, ◌≤◌, ◌&&◌, not, max, Bool, true, false, if◌then◌else◌, map, Option, Some, None, List, [], ◌∷◌, ◌++◌, length, drop, refl, sym, ap, ◌∙◌, subst, arith}
+use Rattle.std.proofs.Common.{◌≡◌, ℕ, ◌+◌, ◌<◌, ◌≤◌, ◌&&◌, not, Bool, true, false, if◌then◌else◌, map, Some, None, List, [], ◌∷◌, length, refl, sym, ap, ◌∙◌, subst, arith}
 use Rattle.std.proofs.lemmas.Bool.{false≢true}
 use Rattle.cs_ast.specs.declared.place.Place.{Place}
 use Rattle.cs_ast.specs.declared.token.Token.{Token}
@@ -10,41 +10,38 @@ use Rattle.cs_ast.specs.declared.token.Mark.TheVariants as mark
 use Rattle.cs_ast.specs.declared.raw.declaration.RawEnumerator.{RawEnumerator}
 use Rattle.cs_ast.specs.declared.raw.declaration.RawInitial.{RawInitial}
 use Rattle.cs_ast.specs.declared.raw.expression.RawExpr.{RawExpr}
-use Rattle.cs_ast.specs.RawTree.{Written}
 use Rattle.cs_ast.specs.RawView.{written}
-use Rattle.cs_ast.specs.RawHeight.{height}
-use Rattle.cs_ast.specs.RawDeclarations.{Constant, Initial, Initials, MoreItems, NoItem, Listed, Single as One}
+use Rattle.cs_ast.specs.RawDeclarations.{Initial, MoreItems, Single as One}
 use Rattle.cs_ast.specs.RawDeclarationView.{constant, initial, initials_list}
-use Rattle.cs_ast.specs.RawFileHeight.{constant_height, initial_height, initials_height, highest_by}
 use Rattle.cs_grammar.specs.declared.refusal.Reason.{Reason}
 use Rattle.cs_grammar.specs.declared.refusal.Reason.TheVariants.{TooDeep}
 use Rattle.cs_grammar.specs.TypeWords.{Names}
 use Rattle.cs_grammar.specs.Text.{Kinds, text}
-use Rattle.cs_grammar.specs.FileText.{constant_text, initial_text, initials_text, with_commas, comma_text}
+use Rattle.cs_grammar.specs.FileText.{initial_text, comma_text}
 use Rattle.cs_grammar.specs.FirstTokens.{begins_expression}
 use Rattle.cs_grammar.specs.FilePhrases.{IsFree}
-use Rattle.cs_grammar.specs.Parsing.{Class, Expressions, Near, Took, Refused, Exactly}
+use Rattle.cs_grammar.specs.Parsing.{Class, Expressions, Took, Refused}
 use Rattle.cs_grammar.specs.Composed.{Trailing}
 use Rattle.cs_grammar.specs.DeclarationClasses.{Constants, Values}
-use Rattle.cs_grammar.proofs.Levels.{text_law}
 use Rattle.cs_grammar.proofs.Holes.{exact_took}
-use Rattle.cs_grammar.proofs.Tails.{first_or, none_refused}
+use Rattle.cs_grammar.proofs.Tails.{none_refused}
 use Rattle.cs_grammar.proofs.Pairs.{single_took}
 use Rattle.cs_grammar.proofs.Rows.{comma_token, Separates}
-use Rattle.cs_grammar.proofs.Bodies.{ConstantValues, constant_of, constant_single, constant_missing, constant_alone, constant_full, constant_value_refused, constant_value_took, constants_law, constant_row, no_constant_closes}
-use Rattle.cs_grammar.proofs.InitialValues.{items_of, items_text, items_tall, values_law, value_first, value_has, value_row, no_value_closes, value_refused, value_took, listed_of, list_single, list_full}
-use Rattle.cs_expr_parser.specs.Positions.{kinds, kind_or_end}
+use Rattle.cs_grammar.proofs.Bodies.{ConstantValues, constant_of, constant_single, constant_missing, constant_alone, constant_full, constant_value_refused, constant_value_took}
+use Rattle.cs_grammar.proofs.InitialValues.{items_of, items_text, items_tall, value_first, value_has, value_refused, value_took, listed_of, list_single, list_full}
+use Rattle.cs_expr_parser.specs.Positions.{kind_or_end}
 use Rattle.cs_expr_parser.specs.Parts.{Spells, IsRefused, is_deep}
 use Rattle.cs_decl_parser.specs.declared.source.Scope.{Scope}
 use Rattle.cs_decl_parser.specs.declared.stop.Stop.{Stop}
 use Rattle.cs_decl_parser.specs.declared.stop.Stop.TheVariants as stop
-use Rattle.cs_decl_parser.specs.declared.stop.Taken.{Taken}
 use Rattle.cs_decl_parser.specs.declared.stop.Unclosed.{Unclosed}
 use Rattle.cs_decl_parser.specs.Reasons.{plain_reason}
-use Rattle.cs_decl_parser.specs.Answers.{Stops, IsExactly, IsUnclosed}
+use Rattle.cs_decl_parser.specs.Answers.{Stops, IsUnclosed}
 use Rattle.cs_decl_parser.specs.DeclarationAnswers.{IsNameAt, IsConstantOf, goes_on, is_comma, is_closing_brace, is_designator}
-use Rattle.cs_decl_parser.proofs.Standing.{spells_one, spells_none, spells_more, spells_as, refused_here}
-use Rattle.cs_decl_parser.proofs.StatementStops.{stops_in, stops_pass, stops_plain, plain_flat, front_of, single_stops, no_fits}
+use Rattle.cs_expr_parser.proofs.Standing.{spells_one, spells_none, spells_more, spells_as}
+use Rattle.cs_expr_parser.proofs.Stopping.{refused_here}
+use Rattle.cs_decl_parser.proofs.StatementStops.{stops_in, stops_pass, stops_plain, plain_flat, single_stops, no_fits}
+use Rattle.cs_decl_parser.specs.Aptness.{IsApt}
 use Rattle.cs_decl_parser.proofs.RowSites.{TrailingRow, trailing_missing, IsRowTaken}
 
 abbrev pub close_brace : TokenKind
@@ -83,6 +80,11 @@ pub list_unclosed : (D : Class) (room : ℕ) → (s : Separates D close_brace) �
 list_unclosed D room s none tokens from done last next reason tall r true stands ends other = absurd (other (brace_behind (kind_or_end tokens next) (kind_or_end tokens (next + 1)) ends (stands.0 refl)))
 list_unclosed D room s none tokens from done last next reason tall r false stands ends other =
     trailing_missing D close_brace room s none tokens from done last next reason tall r (λ k. false≢true (stands.1 k)) other
+
+-- the token that doesn't close the list is the one behind its last part
+pub unclosed_apt : (scope : Scope) (tokens : List Token) (next : ℕ) (reason : Reason) (comma : Bool) → (comma ≡ true → kind_or_end tokens next ≡ comma_token) → goes_on (kind_or_end tokens next) (kind_or_end tokens (next + 1)) ≡ false → (kind_or_end tokens (if comma then next + 1 else next) ≡ close_brace → ⊥) → IsApt scope (kind_or_end tokens next) reason → IsApt scope (kind_or_end tokens (if comma then next + 1 else next)) reason
+unclosed_apt scope tokens next reason true stands ends other a = absurd (other (brace_behind (kind_or_end tokens next) (kind_or_end tokens (next + 1)) ends (stands refl)))
+unclosed_apt scope tokens next reason false stands ends other a = a
 
 -- what was taken of a class, in other words
 pub unclosed_as : {A : Type 0} (C : Class) (view : A → C.Tree) (room : ℕ) (tokens : List Token) (from : ℕ) (tree : C.Tree) (tall next : ℕ) (deep : Bool) (taken : Unclosed A) → tall ≡ C.tall tree → Spells tokens from next (C.spell tree) → Took C room tree (kind_or_end tokens next) deep → view taken.tree ≡ tree → taken.height ≡ tall → taken.next ≡ next → is_deep taken.otherwise ≡ deep → IsUnclosed C view room tokens from taken

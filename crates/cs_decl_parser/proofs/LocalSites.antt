@@ -7,33 +7,29 @@ use Rattle.cs_ast.specs.declared.token.TokenKind.{TokenKind}
 use Rattle.cs_ast.specs.declared.token.TokenKind.TheVariants as token
 use Rattle.cs_ast.specs.declared.token.Keyword.{Keyword}
 use Rattle.cs_ast.specs.declared.token.Keyword.TheVariants as keyword
-use Rattle.cs_ast.specs.declared.token.Mark.{Mark}
-use Rattle.cs_ast.specs.declared.token.Mark.TheVariants as mark
 use Rattle.cs_ast.specs.declared.raw.declaration.RawInit.{RawInit}
 use Rattle.cs_ast.specs.declared.raw.declaration.RawSpecs.{RawSpecs}
 use Rattle.cs_ast.specs.declared.raw.statement.RawStmt.{RawStmt}
 use Rattle.cs_ast.specs.declared.raw.statement.RawItem.{RawItem}
 use Rattle.cs_ast.specs.RawDeclarations.{Specs, Declared}
 use Rattle.cs_ast.specs.RawDeclarationView.{specs, declared}
-use Rattle.cs_ast.specs.RawStatements.{Sentence, Nothing, Label, Item, Declares, Does}
+use Rattle.cs_ast.specs.RawStatements.{Nothing, Label, Item, Declares, Does}
 use Rattle.cs_ast.specs.RawStatementView.{statement_of, item}
 use Rattle.cs_ast.specs.RawFileHeight.{declaration_height, item_height}
-use Rattle.cs_grammar.specs.declared.refusal.Reason.{Reason}
 use Rattle.cs_grammar.specs.declared.refusal.Reason.TheVariants.{TooDeep}
 use Rattle.cs_grammar.specs.declared.refusal.SyntaxRefusal.TheVariants as refusal
 use Rattle.cs_grammar.specs.TypeWords.{Names}
 use Rattle.cs_grammar.specs.Text.{Kinds}
 use Rattle.cs_grammar.specs.FirstTokens.{begins_type, keyword_begins_type}
-use Rattle.cs_grammar.specs.FileFirstTokens.{begins_sentence, begins_item}
-use Rattle.cs_grammar.specs.FileText.{declared_text, with_commas, specs_text, declaration_text, sentence_text}
-use Rattle.cs_grammar.specs.FilePhrases.{AreAll, IsSomeList, IsDeclared, AreBlockSpecs}
+use Rattle.cs_grammar.specs.FileFirstTokens.{begins_sentence}
+use Rattle.cs_grammar.specs.FileText.{declared_text, with_commas, specs_text, declaration_text}
 use Rattle.cs_grammar.specs.FileClasses.{Sentences, BlockItems}
 use Rattle.cs_grammar.specs.DeclarationClasses.{Objects, BlockSpecs}
-use Rattle.cs_grammar.specs.Parsing.{Class, Near, BeginsLow, Took, Refused, Exactly}
+use Rattle.cs_grammar.specs.Parsing.{Near, BeginsLow, Took, Refused, Exactly}
 use Rattle.cs_grammar.specs.Composed.{Separated}
-use Rattle.cs_grammar.proofs.FileBeginnings.{specs_of, plain_text, plain_are, block_specs_begin, some_first, first_passes}
+use Rattle.cs_grammar.proofs.FileBeginnings.{specs_of, plain_text, plain_are, block_specs_begin, some_first}
 use Rattle.cs_grammar.proofs.Holes.{Lawful, tail_refused, exact_took}
-use Rattle.cs_grammar.proofs.Tails.{first_or, near_other, Production, full_refused}
+use Rattle.cs_grammar.proofs.Tails.{first_or, Production, full_refused}
 use Rattle.cs_grammar.proofs.Sequences.{second_wrong, took_exact}
 use Rattle.cs_grammar.proofs.Pairs.{Single, single_took}
 use Rattle.cs_grammar.proofs.Statements.{open_brace, semicolon, colon}
@@ -43,7 +39,7 @@ use Rattle.cs_grammar.proofs.DeclaredObjects.{least_object, least_is}
 use Rattle.cs_grammar.proofs.BlockItems.{Starts, with_star, with_name, objects_start, block_joins, block_specs_law, plain_height, block_specs_height, BlockDeclarations, object_list_law, object_list_least, IsDeclaration, declares_single, declares_invert, IsStatement, does_single}
 use Rattle.cs_grammar.proofs.ItemSites.{type_example, item_low, declaration_fits, declares_took, does_took}
 use Rattle.cs_grammar.proofs.DeclarationSites.{block_type_refused, block_objects_refused, block_declaration_took}
-use Rattle.cs_expr_parser.specs.Positions.{kinds, kind_or_end}
+use Rattle.cs_expr_parser.specs.Positions.{kind_or_end}
 use Rattle.cs_expr_parser.specs.Parts.{Spells, is_deep}
 use Rattle.cs_decl_parser.specs.declared.stop.Stop.{Stop}
 use Rattle.cs_decl_parser.specs.declared.stop.Stop.TheVariants as stop
@@ -52,10 +48,11 @@ use Rattle.cs_decl_parser.specs.declared.block.DeclaredObjects.{DeclaredObjects}
 use Rattle.cs_decl_parser.specs.Answers.{Stops, IsExactly, IsTaken, StopsOrBrace}
 use Rattle.cs_decl_parser.specs.Blocks.{Locals, local_of}
 use Rattle.cs_decl_parser.specs.Forms.{is_colon, is_labelled}
-use Rattle.cs_decl_parser.proofs.Standing.{spells_none, spells_more, spells_as, refused_number, refused_here, second_front}
-use Rattle.cs_decl_parser.proofs.StatementStops.{Standing, StandingExactly, stops_in, stops_pass, stops_full, front_of, first_front, near_start, single_stops, no_fits}
+use Rattle.cs_expr_parser.proofs.Standing.{spells_none, spells_more}
+use Rattle.cs_expr_parser.proofs.Stopping.{refused_here}
+use Rattle.cs_decl_parser.proofs.SecondTokens.{second_front}
+use Rattle.cs_decl_parser.proofs.StatementStops.{Standing, stops_in, stops_pass, stops_full, front_of, first_front, near_start, single_stops, no_fits}
 use Rattle.cs_decl_parser.proofs.StatementForms.{label_name}
-use Rattle.cs_decl_parser.proofs.StatementSites.{taken_stands}
 use Rattle.cs_decl_parser.proofs.Passing.{pass_tail}
 
 abbrev pub local_single : (names : Names) → Single (Locals names) (BlockDeclarations names) 1 [] (λ part. part) (λ rest. Unit {0})

@@ -43,7 +43,7 @@ use Rattle.cs_decl_parser.specs.declared.stop.Stop.TheVariants as stop
 use Rattle.cs_decl_parser.specs.declared.stop.Taken.{Taken}
 use Rattle.cs_decl_parser.specs.Answers.{Stops, StopsOrBrace, IsTaken, IsExactly, IsBraceRefused}
 use Rattle.cs_decl_parser.specs.SpecWords.{begins_words, group}
-use Rattle.cs_decl_parser.proofs.Standing.{spells_one, spells_none, spells_more, spells_as}
+use Rattle.cs_expr_parser.proofs.Standing.{spells_one, spells_none, spells_more, spells_as}
 use Rattle.cs_decl_parser.proofs.StatementStops.{IsPlainStop, stops_in, stops_plain, stops_full, front_of, first_front, near_start, pair_first_stops}
 
 -- a typedef name names a type where it is one of these, and alone

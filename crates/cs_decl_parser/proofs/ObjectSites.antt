@@ -1,27 +1,23 @@
 -- Declared objects: what each return gives. For the contracts of `with_value`, `with_others` and their like.
-use Rattle.std.proofs.Common.{◌≡◌, ℕ, ◌+◌, ◌-◌, ◌<◌, ◌≤◌, Bool, true, false, Option, Some, None, List, [], ◌∷◌, ◌++◌, length, drop, refl, sym, ap, ◌∙◌, subst, arith}
+use Rattle.std.proofs.Common.{◌≡◌, ℕ, ◌+◌, ◌≤◌, true, false, Some, None, List, [], ◌∷◌, ◌++◌, sym, ap, ◌∙◌, subst, arith}
 use Rattle.cs_ast.specs.declared.place.Place.{Place}
 use Rattle.cs_ast.specs.declared.token.Token.{Token}
 use Rattle.cs_ast.specs.declared.token.TokenKind.{TokenKind}
-use Rattle.cs_ast.specs.declared.token.TokenKind.TheVariants as token
-use Rattle.cs_ast.specs.declared.token.Mark.TheVariants as mark
 use Rattle.cs_ast.specs.declared.raw.declaration.RawDeclarator.{RawDeclarator}
 use Rattle.cs_ast.specs.declared.raw.declaration.RawInit.{RawInit}
 use Rattle.cs_ast.specs.declared.raw.declaration.RawInitial.{RawInitial}
-use Rattle.cs_ast.specs.RawDeclarations.{Declarator, Initial, Declared}
+use Rattle.cs_ast.specs.RawDeclarations.{Declarator}
 use Rattle.cs_ast.specs.RawDeclarationView.{declarator, initial, declared}
-use Rattle.cs_ast.specs.RawFileHeight.{declarator_height, initial_height, declared_height}
-use Rattle.cs_grammar.specs.declared.refusal.Reason.{Reason}
+use Rattle.cs_ast.specs.RawFileHeight.{declared_height}
 use Rattle.cs_grammar.specs.declared.refusal.Reason.TheVariants.{TooDeep}
 use Rattle.cs_grammar.specs.TypeWords.{Names}
-use Rattle.cs_grammar.specs.Text.{Kinds}
-use Rattle.cs_grammar.specs.FileText.{declarator_text, initial_text, declared_text}
-use Rattle.cs_grammar.specs.Parsing.{Class, Took, Refused}
+use Rattle.cs_grammar.specs.FileText.{declarator_text, initial_text}
+use Rattle.cs_grammar.specs.Parsing.{Took}
 use Rattle.cs_grammar.specs.DeclarationClasses.{ObjectDeclarators, Objects, Values}
 use Rattle.cs_grammar.specs.FilePhrases.{IsFree}
 use Rattle.cs_grammar.proofs.Declarators.{declarators_law}
 use Rattle.cs_grammar.proofs.DeclaredObjects.{equal_token, declared_of, declared_refused, declared_alone, declared_full, declared_value_refused, declared_value_took}
-use Rattle.cs_expr_parser.specs.Positions.{kinds, kind_or_end}
+use Rattle.cs_expr_parser.specs.Positions.{kind_or_end}
 use Rattle.cs_expr_parser.specs.Parts.{Spells, is_deep}
 use Rattle.cs_decl_parser.specs.declared.source.Scope.{Scope}
 use Rattle.cs_decl_parser.specs.declared.stop.Stop.{Stop}
@@ -29,9 +25,9 @@ use Rattle.cs_decl_parser.specs.declared.stop.Taken.{Taken}
 use Rattle.cs_decl_parser.specs.declared.stop.Unclosed.{Unclosed}
 use Rattle.cs_decl_parser.specs.declared.declarator.Declares.TheVariants as declaring
 use Rattle.cs_decl_parser.specs.Reasons.{plain_reason}
-use Rattle.cs_decl_parser.specs.Answers.{Stops, IsTaken, IsUnclosed}
+use Rattle.cs_decl_parser.specs.Answers.{Stops, IsUnclosed}
 use Rattle.cs_decl_parser.specs.DeclarationAnswers.{DeclaratorsFor, IsDeclaratorTaken, IsAlone}
-use Rattle.cs_decl_parser.proofs.Standing.{spells_one, spells_more, spells_as}
+use Rattle.cs_expr_parser.proofs.Standing.{spells_one, spells_more, spells_as}
 use Rattle.cs_decl_parser.proofs.StatementStops.{stops_in, stops_pass, plain_flat}
 use Rattle.cs_decl_parser.proofs.ListSites.{unclosed_as}
 

@@ -38,7 +38,8 @@ use Rattle.cs_decl_parser.specs.declared.stop.Taken.{Taken}
 use Rattle.cs_decl_parser.specs.Answers.{Stops, IsExactly}
 use Rattle.cs_decl_parser.specs.DeclarationAnswers.{IsVoidAlone}
 use Rattle.cs_decl_parser.specs.ParameterAnswers.{ParameterStops, has_name}
-use Rattle.cs_decl_parser.proofs.Standing.{stands, kinds_first, spells_one, spells_more, refused_number}
+use Rattle.cs_expr_parser.proofs.Standing.{stands, kinds_first, spells_one, spells_more}
+use Rattle.cs_expr_parser.proofs.Stopping.{refused_number}
 use Rattle.cs_decl_parser.proofs.StatementStops.{stops_pass, near_start}
 use Rattle.cs_decl_parser.proofs.RowSites.{RowSoFar, row_first, row_next, row_first_stops, row_next_stops, row_wrong}
 

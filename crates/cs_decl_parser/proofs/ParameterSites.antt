@@ -43,7 +43,8 @@ use Rattle.cs_decl_parser.specs.Answers.{Stops, IsTaken, IsBraceRefused, StopsOr
 use Rattle.cs_decl_parser.specs.DeclarationAnswers.{ArePointers, IsNameAt, ParameterNameAnswer, RefusesBehind}
 use Rattle.cs_decl_parser.specs.ParameterAnswers.{IsRefusedBehind, ParameterStops, number_past}
 use Rattle.cs_decl_parser.specs.SpecWords.{name_in}
-use Rattle.cs_decl_parser.proofs.Standing.{spells_one, spells_none, spells_more, spells_as, refused_number}
+use Rattle.cs_expr_parser.proofs.Standing.{spells_one, spells_none, spells_more, spells_as}
+use Rattle.cs_expr_parser.proofs.Stopping.{refused_number}
 use Rattle.cs_decl_parser.proofs.StatementStops.{stops_in, front_of, first_front, near_start, pair_first_stops}
 
 -- the tokens of a name, if there is one at a number

@@ -1,11 +1,11 @@
 -- Phrases of one class that are phrases of another, and rows: for the contracts of the parts that read blocks.
-use Rattle.std.proofs.Common.{◌≡◌, ℕ, ◌+◌, ◌≤◌, max, inl, inr, Bool, true, false, List, [], ◌∷◌, ◌++◌, length, drop, refl, sym, ap, ◌∙◌, subst, arith}
+use Rattle.std.proofs.Common.{◌≡◌, ℕ, ◌≤◌, max, inl, inr, Bool, false, List, [], ◌∷◌, ◌++◌, length, drop, refl, sym, ap, ◌∙◌, arith}
 use Rattle.std.proofs.lemmas.Bool.{false≢true}
 use Rattle.cs_ast.specs.declared.place.Place.{Place}
 use Rattle.cs_ast.specs.declared.token.Token.{Token}
 use Rattle.cs_ast.specs.declared.token.TokenKind.{TokenKind}
 use Rattle.cs_grammar.specs.Text.{Kinds}
-use Rattle.cs_grammar.specs.Parsing.{Class, Near, Took, Refused, Exactly}
+use Rattle.cs_grammar.specs.Parsing.{Class, Near, Exactly}
 use Rattle.cs_grammar.proofs.Beginnings.{BeginsWith}
 use Rattle.cs_grammar.proofs.Holes.{Lawful, splits, Tail, tail_refused, tail_took}
 use Rattle.cs_grammar.proofs.Tails.{near_other, tail_as, Production}
@@ -16,7 +16,7 @@ use Rattle.cs_expr_parser.specs.Positions.{kinds, kind_or_end}
 use Rattle.cs_expr_parser.specs.Parts.{Spells}
 use Rattle.cs_decl_parser.specs.declared.stop.Stop.{Stop}
 use Rattle.cs_decl_parser.specs.Answers.{Stops}
-use Rattle.cs_decl_parser.proofs.Standing.{kinds_first, spells_none, spells_more, spells_as}
+use Rattle.cs_expr_parser.proofs.Standing.{kinds_first, spells_none, spells_more, spells_as}
 use Rattle.cs_decl_parser.proofs.StatementStops.{Standing, StandingExactly, FitsAll, near_start, stops_in, stops_pass}
 
 pub pass_tail : (C D : Class) (build : D.Tree → C.Tree) (Fit : Kinds → Type 0) (room : ℕ) → Production C D 0 [] build Fit → Tail C D room room [] build Fit

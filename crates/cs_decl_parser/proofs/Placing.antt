@@ -24,7 +24,8 @@ use Rattle.cs_expr_parser.specs.Positions.{kind_or_end}
 use Rattle.cs_grammar.specs.Places.{StandsAt}
 use Rattle.cs_expr_parser.specs.Parts.{Spells}
 use Rattle.cs_decl_parser.specs.FilePlaces.{past, AreInRow, AreSideBySide, IsSomePlaced, AreBracketsPlaced, IsInitialPlaced, AreInitialsPlaced}
-use Rattle.cs_decl_parser.proofs.Standing.{refused_number, spells_as, spells_one, spells_more}
+use Rattle.cs_expr_parser.proofs.Standing.{spells_as, spells_one, spells_more}
+use Rattle.cs_expr_parser.proofs.Stopping.{refused_number}
 
 -- a text is the same whatever stands behind it
 abbrev pub IsFramed : (Kinds → Kinds) → Type 0

@@ -1,5 +1,5 @@
 -- The places of a parameter, from those of its parts: for the clauses on places of the parts that read parameters.
-use Rattle.std.proofs.Common.{ℕ, List, Option, drop, ap, ◌∙◌}
+use Rattle.std.proofs.Common.{ℕ, List, drop, ap, ◌∙◌}
 use Rattle.std.specs.Option.{option_map}
 use Rattle.cs_ast.specs.declared.token.Token.{Token}
 use Rattle.cs_ast.specs.declared.raw.name.RawName.{RawName}
@@ -12,7 +12,7 @@ use Rattle.cs_grammar.proofs.Texts.{pointers_append}
 use Rattle.cs_grammar.proofs.FileTexts.{name_append, specs_append, parameter_append}
 use Rattle.cs_expr_parser.specs.Parts.{Spells}
 use Rattle.cs_decl_parser.specs.FilePlaces.{IsNamePlaced, AreBracketsPlaced, HasSpecPlaces, IsParameterPlaced}
-use Rattle.cs_decl_parser.proofs.Standing.{spells_more}
+use Rattle.cs_expr_parser.proofs.Standing.{spells_more}
 use Rattle.cs_decl_parser.proofs.Placing.{IsFramed, behind_text}
 
 pub parameter_framed : (p : RawParameter) → IsFramed (parameter_text (parameter p))

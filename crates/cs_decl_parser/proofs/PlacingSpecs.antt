@@ -40,8 +40,9 @@ use Rattle.cs_decl_parser.specs.SpecWords.{name_in, tag_keyword}
 use Rattle.cs_decl_parser.specs.FilePlaces.{past, before_tag, tag_place, in_body, AreSideBySide, AreInRow, IsNamePlaced, IsSpecPlaced, AreSpecsPlaced, AreMembersPlaced, IsConstantPlaced, AreDeclaratorsPlaced}
 use Rattle.cs_decl_parser.specs.SpecPlaces.{place_in, settles, IsWordPlaced, IsWordThere, group_text, AreGroupsPlaced}
 use Rattle.cs_decl_parser.proofs.Placing.{IsFramed, one_behind, past_text, past_both, behind_text, SidePlaced, side_begun, side_goes_on}
-use Rattle.cs_decl_parser.proofs.Standing.{refused_number, spells_as}
-use Rattle.cs_decl_parser.proofs.StuckWords.{nothing_named}
+use Rattle.cs_expr_parser.proofs.Standing.{spells_as}
+use Rattle.cs_expr_parser.proofs.Stopping.{refused_number}
+use Rattle.cs_expr_parser.proofs.SitesOfWords.{nothing_named}
 use Rattle.cs_decl_parser.proofs.BlockSpecSites.{WordsSoFar}
 
 -- the place of the token with a number

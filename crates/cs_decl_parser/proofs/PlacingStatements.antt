@@ -1,5 +1,5 @@
 -- The places of statements, over tokens by their numbers and over plain variables: for the clauses on places of the parts that read them.
-use Rattle.std.proofs.Common.{◌≡◌, ℕ, ◌+◌, ◌⊎◌, inl, inr, List, [], ◌∷◌, ◌++◌, Option, Some, None, length, drop, refl, sym, ap, ◌∙◌, subst, arith, Vec, Box, Global}
+use Rattle.std.proofs.Common.{◌≡◌, ℕ, ◌+◌, ◌⊎◌, inl, inr, List, [], ◌∷◌, ◌++◌, Option, length, drop, refl, sym, ap, ◌∙◌, subst, arith, Vec, Box, Global}
 use Rattle.std.proofs.lemmas.List.{drop-drop, length-append}
 use mathlib.Core.Former.{Count}
 use Rattle.cs_ast.specs.declared.place.Place.{Place}
@@ -15,7 +15,6 @@ use Rattle.cs_ast.specs.declared.raw.statement.RawStmtKind.{RawStmtKind}
 use Rattle.cs_ast.specs.declared.raw.statement.RawStmtKind.TheVariants as kind
 use Rattle.cs_ast.specs.declared.raw.statement.RawItem.{RawItem}
 use Rattle.cs_ast.specs.declared.raw.statement.RawSwitchItem.{RawSwitchItem}
-use Rattle.cs_ast.specs.declared.raw.statement.RawFirst.{RawFirst}
 use Rattle.cs_ast.specs.declared.raw.declaration.RawSpecs.{RawSpecs}
 use Rattle.cs_ast.specs.declared.raw.declaration.RawInit.{RawInit}
 use Rattle.cs_ast.specs.RawTree.{Written}
@@ -32,10 +31,11 @@ use Rattle.cs_grammar.proofs.FileTexts.{specs_append, optional_append, first_app
 use Rattle.cs_expr_parser.specs.Parts.{Spells}
 use Rattle.cs_decl_parser.specs.declared.loops.ForParts.{ForParts}
 use Rattle.cs_decl_parser.specs.Forms.{IsJump}
-use Rattle.cs_decl_parser.specs.FilePlaces.{past, past_first, past_test, IsSomePlaced, IsFirstPlaced, IsStatementPlaced, ArePartsPlaced, IsItemPlaced, AreItemsPlaced, IsSwitchItemPlaced, AreSwitchItemsPlaced, HasSpecPlaces, AreObjectsPlaced, IsDeclarationPlaced}
+use Rattle.cs_decl_parser.specs.FilePlaces.{past, past_first, past_test, IsSomePlaced, IsFirstPlaced, ArePartsPlaced, IsItemPlaced, AreItemsPlaced, IsSwitchItemPlaced, AreSwitchItemsPlaced, HasSpecPlaces, AreObjectsPlaced, IsDeclarationPlaced}
 use Rattle.cs_decl_parser.specs.StatementPlaces.{HasStatementPlaces, AreItemsBeside, AreSwitchItemsBeside, AreForPartsPlaced, IsMadeOf, IsLabelOf, IsTestedOf, IsChoiceOf, IsDoneOf, IsLoopOf}
 use Rattle.cs_decl_parser.specs.Blocks.{Controls, control_of}
-use Rattle.cs_decl_parser.proofs.Standing.{refused_number, spells_as}
+use Rattle.cs_expr_parser.proofs.Standing.{spells_as}
+use Rattle.cs_expr_parser.proofs.Stopping.{refused_number}
 use Rattle.cs_decl_parser.proofs.ForSites.{controls_law}
 use Rattle.cs_decl_parser.proofs.Placing.{IsFramed, one_behind, past_text, behind_text, behind_text_and_one, SidePlaced, side_begun, side_goes_on}
 

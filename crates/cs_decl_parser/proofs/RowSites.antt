@@ -1,6 +1,6 @@
 -- Rows of phrases with commas between them, by the numbers of tokens: what each return of their loops gives. For the contracts of
 -- `declarators`, `with_others` and `parameter_list`, and of the lists that may end with a comma.
-use Rattle.std.proofs.Common.{◌≡◌, ℕ, ◌+◌, ◌<◌, ◌≤◌, max, Bool, true, false, if◌then◌else◌, List, [], ◌∷◌, ◌++◌, length, drop, refl, sym, ap, ◌∙◌, subst, arith, append_assoc}
+use Rattle.std.proofs.Common.{◌≡◌, ℕ, ◌+◌, ◌≤◌, max, Bool, true, false, if◌then◌else◌, List, [], ◌∷◌, ◌++◌, length, refl, sym, ap, ◌∙◌, subst, arith, append_assoc}
 use Rattle.std.proofs.lemmas.Grind.{common_steps}
 use Rattle.std.specs.Ordering.{ord_max, nat_cmp}
 use Rattle.cs_ast.specs.declared.place.Place.{Place}
@@ -10,19 +10,20 @@ use Rattle.cs_ast.specs.declared.token.TokenKind.TheVariants as token
 use Rattle.cs_ast.specs.RawFileHeight.{highest_by}
 use Rattle.cs_grammar.specs.declared.refusal.Reason.{Reason}
 use Rattle.cs_grammar.specs.Text.{Kinds}
-use Rattle.cs_grammar.specs.FileText.{with_commas, each_behind_comma, comma_text}
-use Rattle.cs_grammar.specs.Parsing.{Class, Near, Took, Refused, Exactly}
+use Rattle.cs_grammar.specs.FileText.{with_commas, each_behind_comma}
+use Rattle.cs_grammar.specs.Parsing.{Class, Took, Exactly}
 use Rattle.cs_grammar.specs.Composed.{Separated, Trailing}
 use Rattle.cs_grammar.proofs.Holes.{Lawful, splits}
-use Rattle.cs_grammar.proofs.Rows.{comma_token, Separates, separated_law, SoFar, before_commas, before_more, before_append, so_far_none, so_far_more, so_far_refused, so_far_wrong, so_far_exact}
-use Rattle.cs_grammar.proofs.TrailingRows.{TrailingSoFar, CommaSoFar, NoneCloses, NotClosed, Opens, trailing_law, trailing_start, trailing_refused, trailing_wrong, trailing_comma, trailing_exact, comma_exact, comma_more, comma_refused, opens_not_closed}
-use Rattle.cs_expr_parser.specs.Positions.{kinds, kind_or_end}
+use Rattle.cs_grammar.proofs.Rows.{comma_token, Separates, SoFar, before_commas, before_more, before_append, so_far_none, so_far_more, so_far_refused, so_far_wrong, so_far_exact}
+use Rattle.cs_grammar.proofs.TrailingRows.{TrailingSoFar, CommaSoFar, NoneCloses, NotClosed, Opens, trailing_start, trailing_refused, trailing_wrong, trailing_comma, trailing_exact, comma_exact, comma_more, comma_refused, opens_not_closed}
+use Rattle.cs_expr_parser.specs.Positions.{kind_or_end}
 use Rattle.cs_expr_parser.specs.Parts.{Spells, IsRefused, is_deep}
-use Rattle.cs_decl_parser.proofs.Standing.{spells_one, spells_none, spells_more, spells_as, refused_here}
+use Rattle.cs_expr_parser.proofs.Standing.{spells_one, spells_none, spells_more, spells_as}
+use Rattle.cs_expr_parser.proofs.Stopping.{refused_here}
 use Rattle.cs_decl_parser.specs.declared.stop.Stop.{Stop}
 use Rattle.cs_decl_parser.specs.declared.stop.Taken.{Taken}
 use Rattle.cs_decl_parser.specs.Answers.{Stops, IsExactly}
-use Rattle.cs_decl_parser.proofs.StatementStops.{stops_in, stops_pass, front_of}
+use Rattle.cs_decl_parser.proofs.StatementStops.{stops_in, stops_pass}
 
 -- the greater of two heights
 pub max_is : (a b : ℕ) → ord_max nat_cmp a b ≡ max a b

@@ -1,5 +1,5 @@
 -- Each return of the parts that read expression statements and jumps, over tokens by their numbers.
-use Rattle.std.proofs.Common.{◌≡◌, ℕ, ◌+◌, ◌-◌, ◌<◌, ◌≤◌, ◌⊎◌, inl, inr, Bool, true, false, List, [], ◌∷◌, ◌++◌, Some, length, refl, sym, ap, ◌∙◌, subst, arith}
+use Rattle.std.proofs.Common.{◌≡◌, ℕ, ◌+◌, ◌-◌, ◌<◌, ◌≤◌, ◌⊎◌, inl, inr, Bool, true, false, List, [], ◌∷◌, ◌++◌, length, refl, sym, ap, ◌∙◌, subst, arith}
 use Rattle.std.proofs.lemmas.Bool.{false≢true, cases_lt, not_from_false}
 use Rattle.cs_ast.specs.declared.place.Place.{Place}
 use Rattle.cs_ast.specs.declared.token.Token.{Token}
@@ -13,7 +13,6 @@ use Rattle.cs_ast.specs.declared.raw.expression.RawExpr.{RawExpr}
 use Rattle.cs_ast.specs.declared.raw.statement.RawStmt.{RawStmt}
 use Rattle.cs_ast.specs.RawTree.{Named, Written}
 use Rattle.cs_ast.specs.RawView.{written}
-use Rattle.cs_ast.specs.RawHeight.{height}
 use Rattle.cs_ast.specs.RawStatements.{Sentence, Runs, Continue, Break}
 use Rattle.cs_ast.specs.RawStatementView.{statement_of}
 use Rattle.cs_grammar.specs.TypeWords.{Names, is_among}
@@ -22,13 +21,13 @@ use Rattle.cs_grammar.specs.Phrases.{IsPhrase}
 use Rattle.cs_grammar.specs.FirstTokens.{begins_expression, opens_expression, is_sizeof}
 use Rattle.cs_grammar.specs.FileFirstTokens.{begins_sentence, mark_begins_sentence, keyword_begins_sentence}
 use Rattle.cs_grammar.specs.FileClasses.{Sentences}
-use Rattle.cs_grammar.specs.Parsing.{Class, Expressions, Near, Begins, BeginsLow, Took, Refused, Exactly}
+use Rattle.cs_grammar.specs.Parsing.{Class, Expressions, Near, Begins, BeginsLow, Refused}
 use Rattle.cs_grammar.proofs.Texts.{text_append}
 use Rattle.cs_grammar.proofs.FileBeginnings.{expression_sentence}
 use Rattle.cs_grammar.proofs.Holes.{ClosedBy, Ended, ended_law, ended_exact, exact_took}
 use Rattle.cs_grammar.proofs.Tails.{first_or, near_other}
 use Rattle.cs_grammar.proofs.Pairs.{single_refused}
-use Rattle.cs_grammar.proofs.Statements.{semicolon, colon, word, runs_first, name_colon, begins_other_sentence, IsRun}
+use Rattle.cs_grammar.proofs.Statements.{semicolon, colon, runs_first, name_colon, begins_other_sentence, IsRun}
 use Rattle.cs_grammar.proofs.StatementParts.{expression_height, runs_single, continue_single, break_single}
 use Rattle.cs_grammar.proofs.StatementFirsts.{expression_example, sentence_not, begins_low, sentence_low, no_other}
 use Rattle.cs_expr_parser.specs.Positions.{kind_or_end}
@@ -40,8 +39,10 @@ use Rattle.cs_decl_parser.specs.declared.stop.Taken.{Taken}
 use Rattle.cs_decl_parser.specs.Nodes.{IsNode}
 use Rattle.cs_decl_parser.specs.Forms.{form_of, IsJump}
 use Rattle.cs_decl_parser.specs.Answers.{Stops, IsExactly, IsTaken}
-use Rattle.cs_decl_parser.proofs.Standing.{spells_none, refused_here, second_front}
-use Rattle.cs_decl_parser.proofs.StatementStops.{Standing, StandingExactly, IsPlainStop, stops_pass, first_front, near_start, single_stops, single_stands, no_fits, exactly_stands, closed_missing, closed_stands}
+use Rattle.cs_expr_parser.proofs.Standing.{spells_none}
+use Rattle.cs_expr_parser.proofs.Stopping.{refused_here}
+use Rattle.cs_decl_parser.proofs.SecondTokens.{second_front}
+use Rattle.cs_decl_parser.proofs.StatementStops.{Standing, IsPlainStop, stops_pass, first_front, near_start, single_stops, single_stands, no_fits, exactly_stands, closed_missing, closed_stands}
 use Rattle.cs_decl_parser.proofs.StatementForms.{run_name, no_colon}
 use Rattle.cs_decl_parser.proofs.StatementSites.{word_stands, exact_stands, node_taken, told_form}
 

@@ -47,9 +47,10 @@ use Rattle.cs_decl_parser.specs.Reasons.{plain_reason}
 use Rattle.cs_decl_parser.specs.Answers.{Stops, StopsOrBrace, IsTaken, IsExactly, IsBraceRefused}
 use Rattle.cs_decl_parser.specs.SpecWords.{NothingFits, HasNoTag, IsPlainWord, PlainAnswer, IsSpecTaken, IsElementRefused, IsEnumFull, ElementStops, SpecAnswer, IsStatic, IsToldByTokens, tag_keyword, IsOpened, IsSpecOf, IsTagKeyword, IsTagged, enum_of, name_in, number_behind}
 use Rattle.cs_decl_parser.specs.DeclarationAnswers.{IsNameAt}
-use Rattle.cs_decl_parser.proofs.Standing.{spells_one, spells_none, spells_more, spells_as}
+use Rattle.cs_expr_parser.proofs.Standing.{spells_one, spells_none, spells_more, spells_as}
 use Rattle.cs_decl_parser.proofs.StatementStops.{plain_flat}
-use Rattle.cs_decl_parser.proofs.StuckWords.{some_type, nothing_named, fresh_nothing, tag_unfit, tag_some, tag_spelled, tag_taken}
+use Rattle.cs_expr_parser.proofs.SitesOfWords.{some_type, nothing_named}
+use Rattle.cs_decl_parser.proofs.StuckWords.{fresh_nothing, tag_unfit, tag_some, tag_spelled, tag_taken}
 use Rattle.cs_decl_parser.proofs.BlockSpecSites.{stuck_at}
 
 -- the words so far

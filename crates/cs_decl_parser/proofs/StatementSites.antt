@@ -1,6 +1,5 @@
 -- Each return of the parts that read statements, over tokens by their numbers.
 use Rattle.std.proofs.Common.{◌≡◌, ℕ, ◌+◌, ◌-◌, ◌<◌, ◌≤◌, max, Bool, true, false, List, [], ◌∷◌, ◌++◌, Option, Some, None, length, refl, sym, ap, ◌∙◌, subst, arith}
-use Rattle.std.proofs.lemmas.Bool.{false≢true}
 use Rattle.std.specs.Option.{option_map}
 use Rattle.cs_ast.specs.declared.place.Place.{Place}
 use Rattle.cs_ast.specs.declared.token.Token.{Token}
@@ -12,27 +11,24 @@ use Rattle.cs_ast.specs.declared.token.Mark.{Mark}
 use Rattle.cs_ast.specs.declared.token.Mark.TheVariants as mark
 use Rattle.cs_ast.specs.declared.raw.expression.RawExpr.{RawExpr}
 use Rattle.cs_ast.specs.declared.raw.statement.RawStmt.{RawStmt}
-use Rattle.cs_ast.specs.RawTree.{Written}
 use Rattle.cs_ast.specs.RawView.{written}
-use Rattle.cs_ast.specs.RawStatements.{Sentence, Block, Nothing, Runs, If, IfElse, While, Do, For, Switch, Goto, Continue, Break, Return, Label}
+use Rattle.cs_ast.specs.RawStatements.{Sentence, Nothing, If, IfElse, While, Do, Goto, Return, Label}
 use Rattle.cs_ast.specs.RawStatementView.{statement_of}
-use Rattle.cs_ast.specs.RawFileHeight.{height_of_some, sentence_height}
+use Rattle.cs_ast.specs.RawFileHeight.{sentence_height}
 use Rattle.cs_grammar.specs.declared.refusal.Reason.TheVariants.{TooDeep}
-use Rattle.cs_grammar.specs.TypeWords.{Names, is_among}
-use Rattle.cs_grammar.specs.Text.{Kinds}
+use Rattle.cs_grammar.specs.TypeWords.{Names}
 use Rattle.cs_grammar.specs.FileText.{sentence_text}
-use Rattle.cs_grammar.specs.FileClasses.{Tests, Sentences, Branches, SwitchBodies}
-use Rattle.cs_grammar.specs.Parsing.{Class, Took, Refused, Exactly}
+use Rattle.cs_grammar.specs.FileClasses.{Tests, Sentences, Branches}
+use Rattle.cs_grammar.specs.Parsing.{Class, Took}
 use Rattle.cs_grammar.specs.Composed.{ClosedSome}
 use Rattle.cs_grammar.proofs.FileTexts.{sentence_append}
-use Rattle.cs_grammar.proofs.Holes.{ClosedBy, Ended, AnyName, ended_law, ended_exact, name_law, name_exact, name_refused, exact_took}
-use Rattle.cs_grammar.proofs.Statements.{open_parenthesis, close_parenthesis, semicolon, colon, word}
-use Rattle.cs_grammar.proofs.StatementParts.{sentences_law, tests_law, while_pair, if_pair, do_pair, nothing_single, goto_single, continue_single, break_single, return_single, label_single}
+use Rattle.cs_grammar.proofs.Holes.{ClosedBy, Ended, AnyName, ended_exact, name_law, name_exact, name_refused, exact_took}
+use Rattle.cs_grammar.proofs.Statements.{semicolon, colon, word}
+use Rattle.cs_grammar.proofs.StatementParts.{sentences_law, tests_law, while_pair, if_pair, do_pair, nothing_single, goto_single, return_single, label_single}
 use Rattle.cs_grammar.proofs.StatementSites.{branch_refused, branch_alone, branch_other_refused, branch_other_took}
 use Rattle.cs_grammar.proofs.StatementFirsts.{lone_refused}
 use Rattle.cs_expr_parser.specs.Positions.{kind_or_end}
 use Rattle.cs_expr_parser.specs.Parts.{Spells}
-use Rattle.cs_decl_parser.specs.declared.source.Scope.{Scope}
 use Rattle.cs_decl_parser.specs.declared.source.Scope.TheVariants as scope
 use Rattle.cs_decl_parser.specs.declared.form.Form.{Form}
 use Rattle.cs_decl_parser.specs.declared.form.Form.TheVariants as form
@@ -40,10 +36,10 @@ use Rattle.cs_decl_parser.specs.declared.stop.Stop.{Stop}
 use Rattle.cs_decl_parser.specs.declared.stop.Stop.TheVariants as stop
 use Rattle.cs_decl_parser.specs.declared.stop.Taken.{Taken}
 use Rattle.cs_decl_parser.specs.Nodes.{IsNode}
-use Rattle.cs_decl_parser.specs.Forms.{least, form_of, is_labelled, IsJump}
+use Rattle.cs_decl_parser.specs.Forms.{least, form_of, is_labelled}
 use Rattle.cs_decl_parser.specs.Answers.{Stops, IsExactly, IsTaken}
-use Rattle.cs_decl_parser.proofs.Standing.{spells_one, spells_none, spells_more, spells_as}
-use Rattle.cs_decl_parser.proofs.StatementStops.{Standing, StandingExactly, IsPlainStop, stops_in, stops_pass, stops_plain, stops_full, front_of, pair_first_stops, pair_second_stops, pair_stands, single_stops, single_stands, no_fits, exactly_stands, closed_stops, closed_missing, closed_stands}
+use Rattle.cs_expr_parser.proofs.Standing.{spells_one, spells_none, spells_more, spells_as}
+use Rattle.cs_decl_parser.proofs.StatementStops.{Standing, StandingExactly, IsPlainStop, stops_in, stops_pass, stops_plain, stops_full, pair_first_stops, pair_second_stops, pair_stands, single_stops, single_stands, no_fits, exactly_stands, closed_stops, closed_missing, closed_stands}
 use Rattle.cs_decl_parser.proofs.StatementForms.{Tells, form_tells, form_full, label_name, no_colon}
 
 -- a word stands there

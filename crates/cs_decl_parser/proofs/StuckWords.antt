@@ -1,96 +1,41 @@
 -- Words of a type behind which a token's word doesn't fit: for the contracts of the parts that read what stands before declarators.
-use Rattle.std.proofs.Common.{◌≡◌, ℕ, ◌+◌, ◌<◌, ◌≤◌, ◌⊎◌, inl, inr, Bool, true, false, ◌&&◌, if◌then◌else◌, IsTrue, List, [], ◌∷◌, ◌++◌, Option, Some, None, Result, Ok, Err, length, drop, refl, sym, ap, ◌∙◌, subst, arith, append_assoc, append-nil}
+use Rattle.std.proofs.Common.{◌≡◌, ℕ, ◌+◌, inl, inr, Bool, true, false, if◌then◌else◌, List, [], ◌∷◌, ◌++◌, Option, Some, None, Result, Ok, Err, refl, sym, ap, ◌∙◌, subst, arith}
 use Rattle.std.specs.Option.{option_map}
-use Rattle.std.specs.List.{list_all}
-use Rattle.std.proofs.lemmas.List.Folds.{list_all-append}
-use Rattle.std.proofs.lemmas.Bool.{false≢true, both_ways, and_left, and_right, and_from}
-use Rattle.cs_grammar.specs.declared.type_words.IntegerWords.{IntegerWords}
-use Rattle.cs_ast.specs.declared.place.Place.{Place}
+use Rattle.std.proofs.lemmas.Bool.{false≢true}
 use Rattle.cs_ast.specs.declared.token.Token.{Token}
 use Rattle.cs_ast.specs.declared.token.TokenKind.{TokenKind}
 use Rattle.cs_ast.specs.declared.token.TokenKind.TheVariants as token
 use Rattle.cs_ast.specs.declared.token.Keyword.{Keyword}
 use Rattle.cs_ast.specs.declared.token.Keyword.TheVariants as keyword
 use Rattle.cs_ast.specs.declared.token.Mark.TheVariants as mark
-use Rattle.cs_ast.specs.declared.raw.declaration.SpecWord.{SpecWord}
 use Rattle.cs_ast.specs.declared.raw.declaration.SpecWord.TheVariants as words
-use Rattle.cs_ast.specs.declared.raw.name.RawName.{RawName}
 use Rattle.cs_ast.specs.declared.raw.written_type.TypeWord.{TypeWord}
 use Rattle.cs_ast.specs.declared.raw.written_type.TypeWord.TheVariants as word
 use Rattle.cs_ast.specs.declared.raw.written_type.IntegerWord.{IntegerWord}
 use Rattle.cs_ast.specs.declared.raw.written_type.IntegerWord.TheVariants.{Char, Short, Int, Long, Signed, Unsigned}
-use Rattle.cs_ast.specs.RawDeclarations.{Spec, Plain}
+use Rattle.cs_ast.specs.RawDeclarations.{Plain}
 use Rattle.cs_grammar.specs.declared.type_words.TypeSoFar.{TypeSoFar}
 use Rattle.cs_grammar.specs.declared.type_words.TypeSoFar.TheVariants.{Nothing, Integers, Whole}
-use Rattle.cs_grammar.specs.TypeWords.{Names, is_among, is_const, is_integer_word, named_by, names_type, is_type, fit_together, word_of}
-use Rattle.cs_grammar.specs.TypesSoFar.{Describes, AreIntegers, is_whole, is_known, IsExtended}
+use Rattle.cs_grammar.specs.TypeWords.{Names, named_by, is_type, word_of}
+use Rattle.cs_grammar.specs.TypesSoFar.{Describes, is_known, IsExtended}
 use Rattle.cs_grammar.specs.Text.{Kinds, type_word_text, integer_word_text}
 use Rattle.cs_grammar.specs.Parsing.{Near}
 use Rattle.cs_grammar.specs.DeclarationClasses.{IsQuiet, HasNoOpenBrace}
 use Rattle.cs_grammar.proofs.WordsOfTypes.{named_more}
 use Rattle.cs_grammar.proofs.TypeNames.{same_word}
-use Rattle.cs_expr_parser.specs.Positions.{kinds, kind_or_end, keyword_of}
+use Rattle.cs_expr_parser.specs.Positions.{kind_or_end}
 use Rattle.cs_expr_parser.specs.Parts.{Spells}
-use Rattle.cs_expr_parser.specs.Words.{first_of_word, IsStuck, IsUnusable, NoWord, names_some, has_tag, word_of_tag}
+use Rattle.cs_expr_parser.specs.Words.{first_of_word, IsUnusable, names_some, has_tag, word_of_tag}
 use Rattle.cs_decl_parser.specs.declared.specs.NextWord.{NextWord}
 use Rattle.cs_grammar.specs.declared.refusal.Reason.{Reason}
 use Rattle.cs_expr_parser.specs.Parts.{is_deep}
-use Rattle.cs_expr_parser.specs.Words.{IsTagMissing}
 use Rattle.cs_expr_parser.specs.Positions.{name_of}
 use Rattle.cs_decl_parser.specs.declared.stop.Stop.{Stop}
 use Rattle.cs_decl_parser.specs.declared.stop.Stop.TheVariants as stop
 use Rattle.cs_decl_parser.specs.DeclarationAnswers.{IsNameAt, RefusesBehind}
-use Rattle.cs_decl_parser.specs.SpecWords.{PlainAnswer, BlockTagAnswer, BlockTagStops, BlockWordAnswer, IsTagKeyword, IsTagBraced, IsTypeWord, HasNoTag, IsPlainWord, NothingFits, tag_keyword, IsTagged, word_of_keyword}
-use Rattle.cs_decl_parser.proofs.Standing.{spells_one, spells_more, spells_as}
-
--- words of a type and another word that names a type, or a name that is none, name no type
-whole_joins : (names : Names) (first : TypeWord) (others : List TypeWord) (one : TypeWord) (more : List TypeWord) → is_integer_word one ≡ false → names_type names ((first ∷ others) ++ one ∷ more) ≡ false
-whole_joins names word.Const others one more i = and_left false (fit_together ((word.Const ∷ others) ++ one ∷ more)) refl
-whole_joins names (word.Integer k) others one more i =
-    and_left (list_all is_integer_word ((word.Integer k ∷ others) ++ one ∷ more)) (fit_together ((word.Integer k ∷ others) ++ one ∷ more))
-    (list_all-append is_integer_word (word.Integer k ∷ others) (one ∷ more)
-    ∙ and_right (list_all is_integer_word (word.Integer k ∷ others)) (is_integer_word one && list_all is_integer_word more) (and_left (is_integer_word one) (list_all is_integer_word more) i))
-whole_joins names word.Void [] one more i = refl
-whole_joins names word.Void (o ∷ os) one more i = refl
-whole_joins names (word.Typedef name) [] one more i = refl
-whole_joins names (word.Typedef name) (o ∷ os) one more i = refl
-whole_joins names (word.Struct tag) [] one more i = refl
-whole_joins names (word.Struct tag) (o ∷ os) one more i = refl
-whole_joins names (word.Enum tag) [] one more i = refl
-whole_joins names (word.Enum tag) (o ∷ os) one more i = refl
-
-unknown_alone : (names : Names) (name : List ℕ) (more : List TypeWord) → is_among names name ≡ false → names_type names (word.Typedef name ∷ more) ≡ false
-unknown_alone names name [] k = k
-unknown_alone names name (m ∷ more) k = refl
-
--- an unknown name makes no type
-unknown_name : (names : Names) (name : List ℕ) (ws more : List TypeWord) → is_among names name ≡ false → names_type names (ws ++ word.Typedef name ∷ more) ≡ false
-unknown_name names name [] more k = unknown_alone names name more k
-unknown_name names name (w ∷ ws) more k = whole_joins names w ws (word.Typedef name) more refl
-
-type_of_more : (names : Names) (ws : List TypeWord) (one : TypeWord) (more : List TypeWord) → (named_by (one ∷ more) ≡ one ∷ named_by more) → is_type names (ws ++ one ∷ more) ≡ names_type names (named_by ws ++ one ∷ named_by more)
-type_of_more names ws one more n = ap (names_type names) (named_more ws (one ∷ more) ∙ ap (λ (x : List TypeWord). named_by ws ++ x) n)
-
--- where the words name a type, no other whole type joins them
-named_joins : (names : Names) (so_far : TypeSoFar) (ws : List TypeWord) (one : TypeWord) (more : List TypeWord) → names_some so_far ≡ true → Describes names so_far ws → is_integer_word one ≡ false → named_by (one ∷ more) ≡ one ∷ named_by more → is_type names (ws ++ one ∷ more) ≡ false
-named_joins names Nothing ws one more s d i n = absurd (false≢true s)
-named_joins names (Integers all) ws one more s (first, others, named, are) i n =
-    type_of_more names ws one more n ∙ ap (λ (x : List TypeWord). names_type names (x ++ one ∷ named_by more)) named ∙ whole_joins names first others one (named_by more) i
-named_joins names Whole ws one more s (only, named, whole) i n =
-    type_of_more names ws one more n ∙ ap (λ (x : List TypeWord). names_type names (x ++ one ∷ named_by more)) named ∙ whole_joins names only [] one (named_by more) i
-
--- a word that can't be used makes no type with these
-unusable : (names : Names) (so_far : TypeSoFar) (ws : List TypeWord) (one : TypeWord) (more : List TypeWord) → Describes names so_far ws → IsUnusable names so_far one → is_type names (ws ++ one ∷ more) ≡ false
-unusable names so_far ws (word.Typedef name) more d u = type_of_more names ws (word.Typedef name) more refl ∙ unknown_name names name (named_by ws) (named_by more) u
-unusable names so_far ws (word.Struct tag) more d u = named_joins names so_far ws (word.Struct tag) more u d refl refl
-unusable names so_far ws (word.Enum tag) more d u = named_joins names so_far ws (word.Enum tag) more u d refl refl
-unusable names so_far ws word.Const more d u = absurd u
-unusable names so_far ws word.Void more d u = absurd u
-unusable names so_far ws (word.Integer k) more d u = absurd u
-
--- where no word stands, the words are stuck
-pub no_word_stuck : (names : Names) (so_far : TypeSoFar) (ws : List TypeWord) (next : TokenKind) → Describes names so_far ws → NoWord names so_far next → IsStuck names ws next
-no_word_stuck names so_far ws next d n one more e = unusable names so_far ws one more d (n one e)
+use Rattle.cs_decl_parser.specs.SpecWords.{PlainAnswer, BlockTagAnswer, BlockTagStops, BlockWordAnswer, IsTagKeyword, IsTypeWord, HasNoTag, IsPlainWord, NothingFits, tag_keyword, IsTagged, word_of_keyword}
+use Rattle.cs_expr_parser.proofs.Standing.{spells_one, spells_more, spells_as}
+use Rattle.cs_expr_parser.proofs.WordsBegun.{no_word_stuck}
 
 -- a word with a tag begins with `struct` or `enum`
 no_tag : (next : TokenKind) → HasNoTag next → (one : TypeWord) → first_of_word one ≡ next → has_tag one ≡ true → ⊥
@@ -212,40 +157,6 @@ keyword_word names other = integer_word names other (word_of other) refl refl
 pub keyword_type_word : (names : Names) (next : TokenKind) (k : Keyword) (found : Option TypeWord) → next ≡ token.Keyword k → found ≡ word_of_keyword k → IsTypeWord names next found
 keyword_type_word names next k found e is =
     subst (λ (x : TokenKind). IsTypeWord names x found) (sym e) (subst (IsTypeWord names (token.Keyword k)) (sym is) (keyword_word names k))
-
-pub keyword_is : (kind : TokenKind) (k : Keyword) → keyword_of kind ≡ Some k → kind ≡ token.Keyword k
-keyword_is (token.Keyword j) k e = cc
-keyword_is _ k e = absurd cc
-
--- words that name something are those of a type
-integers_named : (names : Names) (all : IntegerWords) (first : TypeWord) (others : List TypeWord) → AreIntegers all first others → names_type names (first ∷ others) ≡ true
-integers_named names all (word.Integer k) others a =
-    let c = a.counts in
-    let f : fit_together (word.Integer k ∷ others) ≡ true = rw (sym c.char, sym c.short, sym c.int, sym c.long, sym c.signed, sym c.unsigned) a.fitting in
-    and_from (list_all is_integer_word (word.Integer k ∷ others)) (fit_together (word.Integer k ∷ others)) a.integers f
-integers_named names all word.Const others a = absurd (let i = a.integers in cc)
-integers_named names all word.Void others a = absurd (let i = a.integers in cc)
-integers_named names all (word.Typedef name) others a = absurd (let i = a.integers in cc)
-integers_named names all (word.Struct tag) others a = absurd (let i = a.integers in cc)
-integers_named names all (word.Enum tag) others a = absurd (let i = a.integers in cc)
-
-whole_named : (names : Names) (only : TypeWord) → is_whole names only ≡ true → names_type names (only ∷ []) ≡ true
-whole_named names word.Void w = refl
-whole_named names (word.Typedef name) w = w
-whole_named names (word.Struct tag) w = refl
-whole_named names (word.Enum tag) w = refl
-whole_named names word.Const w = absurd cc
-whole_named names (word.Integer k) w = absurd cc
-
-pub some_type : (names : Names) (so_far : TypeSoFar) (words : List TypeWord) → Describes names so_far words → names_some so_far ≡ true → is_type names words ≡ true
-some_type names Nothing words d some = absurd cc
-some_type names (Integers all) words (first, others, named, are) some = ap (names_type names) named ∙ integers_named names all first others are
-some_type names Whole words (only, named, whole) some = ap (names_type names) named ∙ whole_named names only whole
-
-pub nothing_named : (names : Names) (so_far : TypeSoFar) (ws : List TypeWord) → Describes names so_far ws → names_some so_far ≡ false → named_by ws ≡ []
-nothing_named names Nothing ws d none = d
-nothing_named names (Integers all) ws d none = absurd cc
-nothing_named names Whole ws d none = absurd cc
 
 pub fresh_nothing : (so_far : TypeSoFar) → names_some so_far ≡ false → so_far ≡ Nothing
 fresh_nothing Nothing none = refl

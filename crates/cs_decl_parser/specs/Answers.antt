@@ -1,5 +1,5 @@
 -- What the parts of the parser answer to one another: a phrase of a class, or a token with which none goes on that is low enough.
-use Rattle.std.specs.Prelude.{◌≡◌, ℕ, ◌<◌, ◌⊎◌, Bool, true, false, List, ◌∷◌, Result, Ok, Err}
+use Rattle.std.specs.Prelude.{◌≡◌, ℕ, ◌⊎◌, Bool, true, false, List, Result, Ok, Err}
 use Rattle.cs_ast.specs.declared.place.Place.{Place}
 use Rattle.cs_ast.specs.declared.token.Token.{Token}
 use Rattle.cs_ast.specs.declared.token.Mark.{Mark}
@@ -10,7 +10,7 @@ use Rattle.cs_grammar.specs.declared.refusal.SyntaxRefusal.TheVariants as refusa
 use Rattle.cs_grammar.specs.Parsing.{Class, Took, Exactly}
 use Rattle.cs_expr_parser.specs.Positions.{kind_or_end}
 use Rattle.cs_expr_parser.specs.Parts.{Spells, IsRefused, is_deep}
-use Rattle.cs_expr_parser.specs.Expression.{IsRefusalFor}
+use Rattle.cs_decl_parser.specs.Aptness.{IsExpressionRefusal}
 use Rattle.cs_decl_parser.specs.declared.stop.Stop.{Stop}
 use Rattle.cs_decl_parser.specs.declared.stop.Stop.TheVariants as stop
 use Rattle.cs_decl_parser.specs.declared.stop.Taken.{Taken}
@@ -21,7 +21,7 @@ abbrev pub Stops : Class → ℕ → List Token → Place → ℕ → Stop → T
 Stops C room tokens end from stop.Memory = Unit {0}
 Stops C room tokens end from (stop.Refused at reason) = IsRefused C room tokens from at reason
 Stops C room tokens end from (stop.Expression refusal.Memory) = Unit {0}
-Stops C room tokens end from (stop.Expression other) = (at : ℕ) × (reason : Reason) × IsRefusalFor tokens end at reason other × IsRefused C room tokens from at reason
+Stops C room tokens end from (stop.Expression other) = (at : ℕ) × (reason : Reason) × IsExpressionRefusal tokens end at reason other × IsRefused C room tokens from at reason
 
 -- a phrase of the class was taken, which is told by its tokens, whatever stands behind it
 pub record IsExactly {A : Type 0} (C : Class) (view : A → C.Tree) (room : ℕ) (tokens : List Token) (from : ℕ) (taken : Taken A) : Type 0 where

@@ -1,5 +1,5 @@
 -- What the parts that read blocks answer, and the classes of their phrases that the grammar has no name for.
-use Rattle.std.specs.Prelude.{◌≡◌, ℕ, max, List, map, Option, Some, None, Result, Ok, Err, Vec}
+use Rattle.std.specs.Prelude.{◌≡◌, ℕ, List, map, Option, Some, None, Result, Ok, Err, Vec}
 use Rattle.std.specs.declared.alloc.Global.{Global}
 use Rattle.std.specs.Option.{option_map}
 use Rattle.cs_ast.specs.declared.place.Place.{Place}

@@ -11,27 +11,23 @@ use Rattle.cs_ast.specs.declared.raw.name.RawName.{RawName}
 use Rattle.cs_ast.specs.declared.raw.written_type.PointerWord.{PointerWord}
 use Rattle.cs_ast.specs.declared.raw.written_type.PointerWord.TheVariants as pointer
 use Rattle.cs_ast.specs.declared.raw.declaration.RawEnumerator.{RawEnumerator}
-use Rattle.cs_ast.specs.declared.raw.declaration.RawInitial.{RawInitial}
 use Rattle.cs_ast.specs.declared.raw.declaration.RawInit.{RawInit}
-use Rattle.cs_ast.specs.declared.raw.declaration.RawParameter.{RawParameter}
-use Rattle.cs_ast.specs.declared.raw.declaration.RawParameters.{RawParameters}
 use Rattle.cs_ast.specs.declared.raw.expression.RawExpr.{RawExpr}
 use Rattle.cs_ast.specs.RawTree.{Written}
 use Rattle.cs_ast.specs.RawView.{written}
-use Rattle.cs_ast.specs.RawDeclarations.{Declarator, Constant}
-use Rattle.cs_ast.specs.RawDeclarationView.{bounds_of, declarator, constant, initial, declared, parameter, parameters}
+use Rattle.cs_ast.specs.RawDeclarations.{Constant}
+use Rattle.cs_ast.specs.RawDeclarationView.{declarator, constant, declared}
 use Rattle.cs_grammar.specs.declared.refusal.Reason.{Reason}
 use Rattle.cs_grammar.specs.TypeWords.{Names, is_pointer}
-use Rattle.cs_grammar.specs.Text.{Kinds, text, pointers_text}
+use Rattle.cs_grammar.specs.Text.{text, pointers_text}
 use Rattle.cs_grammar.specs.Phrases.{IsPhrase}
 use Rattle.cs_ast.specs.RawHeight.{height}
 use Rattle.cs_grammar.specs.FileText.{name_text}
 use Rattle.cs_grammar.specs.FilePhrases.{IsFree}
 use Rattle.cs_grammar.specs.Parsing.{Class}
 use Rattle.cs_grammar.specs.Levels.{CHOICE}
-use Rattle.cs_grammar.specs.Composed.{ClosedSome, Separated, Trailing}
-use Rattle.cs_grammar.specs.FileClasses.{Tests}
-use Rattle.cs_grammar.specs.DeclarationClasses.{Brackets, Declarators, Constants, Values, Objects, ParameterClass, ParameterRows, ParameterLists}
+use Rattle.cs_grammar.specs.Composed.{ClosedSome, Trailing}
+use Rattle.cs_grammar.specs.DeclarationClasses.{Brackets, Declarators, Constants}
 use Rattle.cs_expr_parser.specs.Positions.{kind_or_end}
 use Rattle.cs_expr_parser.specs.Parts.{Spells, is_deep}
 use Rattle.cs_decl_parser.specs.declared.stop.Stop.{Stop}
@@ -40,14 +36,12 @@ use Rattle.cs_decl_parser.specs.declared.stop.Taken.{Taken}
 use Rattle.cs_decl_parser.specs.declared.declarator.Declares.{Declares}
 use Rattle.cs_decl_parser.specs.declared.declarator.Declares.TheVariants as declaring
 use Rattle.cs_decl_parser.specs.declared.declarator.Pointed.{Pointed}
-use Rattle.cs_decl_parser.specs.declared.stop.Unclosed.{Unclosed}
 use Rattle.cs_decl_parser.specs.declared.constants.ConstantList.{ConstantList}
 use Rattle.cs_expr_parser.specs.declared.answer.ExprLevel.{ExprLevel}
 use Rattle.cs_expr_parser.specs.Expression.{level_asked}
-use Rattle.cs_grammar.specs.Parsing.{Expressions}
 use Rattle.cs_ast.specs.declared.token.Mark.{Mark}
 use Rattle.std.specs.Option.{option_map}
-use Rattle.cs_decl_parser.specs.Answers.{Stops, IsTaken, IsUnclosed, ExactAnswers, Answers, UnclosedAnswers}
+use Rattle.cs_decl_parser.specs.Answers.{Stops, IsTaken, ExactAnswers}
 
 -- the word of pointers that a token is; `const` is one behind a star alone
 abbrev pub IsPointerWord : Bool → TokenKind → Option PointerWord → Type 0

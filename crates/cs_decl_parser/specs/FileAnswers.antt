@@ -1,14 +1,23 @@
 -- What the parts that read parts of files answer.
-use Rattle.std.specs.Prelude.{◌≡◌, ℕ, false, List}
+use Rattle.std.specs.Prelude.{◌≡◌, ℕ, false, List, ◌∷◌, ◌++◌, Result, Ok, Err}
 use Rattle.cs_ast.specs.declared.token.Token.{Token}
 use Rattle.cs_ast.specs.declared.token.TokenKind.TheVariants as token
 use Rattle.cs_ast.specs.declared.token.Keyword.TheVariants as keyword
+use Rattle.cs_ast.specs.declared.token.Mark.TheVariants as mark
 use Rattle.cs_ast.specs.declared.raw.declaration.RawSpecs.{RawSpecs}
-use Rattle.cs_ast.specs.RawDeclarations.{Parameters, Head}
+use Rattle.cs_ast.specs.RawDeclarations.{Specs, Parameters, Head}
 use Rattle.cs_ast.specs.RawDeclarationView.{specs}
 use Rattle.cs_grammar.specs.TypeWords.{Names}
+use Rattle.cs_grammar.specs.Text.{Kinds}
+use Rattle.cs_grammar.specs.FileText.{specs_text, head_text}
+use Rattle.cs_grammar.specs.FilePhrases.{AreSpecs, IsHead}
 use Rattle.cs_grammar.specs.DeclarationClasses.{FileSpecs}
 use Rattle.cs_expr_parser.specs.Positions.{kind_or_end}
+use Rattle.cs_expr_parser.specs.Parts.{Spells}
+use Rattle.cs_decl_parser.specs.declared.source.Scope.TheVariants.{Block}
+use Rattle.cs_decl_parser.specs.declared.stop.Stop.{Stop}
+use Rattle.cs_decl_parser.specs.declared.stop.Stop.TheVariants as stop
+use Rattle.cs_decl_parser.specs.Aptness.{IsApt}
 use Rattle.cs_decl_parser.specs.declared.declarator.Pointed.{Pointed}
 use Rattle.cs_decl_parser.specs.declared.stop.Taken.{Taken}
 use Rattle.cs_decl_parser.specs.Answers.{IsTaken}
@@ -21,3 +30,21 @@ pub record IsTypeTaken (names : Names) (tokens : List Token) (from : ℕ) (type 
 -- the head of a function is made of its pointers, its name and its parameters
 abbrev pub IsHeadOf : Pointed → Parameters → Head → Type 0
 IsHeadOf pointed parameters head = head ≡ record { pointers = pointed.pointers.items; name = pointed.name.name; parameters = parameters }
+
+-- the tokens from one number to another begin the definition of a function, and the brace that opens its body stands among them
+pub record BeginsBody (names : Names) (tokens : List Token) (from at : ℕ) : Type 0 where
+  pub type : Specs
+  pub head : Head
+  pub inside : Kinds
+  pub is_type : AreSpecs names type
+  pub is_head : IsHead names head
+  pub spelled : Spells tokens from at (λ rest. specs_text type (head_text head (token.Mark mark.OpenBrace ∷ (inside ++ rest))))
+
+-- a token that is refused in the body of a function is refused for a reason that it may have in blocks
+abbrev pub IsStopInBody : Names → List Token → ℕ → Stop → Type 0
+IsStopInBody names tokens from (stop.Refused at reason) = BeginsBody names tokens from at → IsApt Block (kind_or_end tokens at) reason
+IsStopInBody names tokens from other = Unit {0}
+
+abbrev pub IsBodyApt : {A : Type 0} → Names → List Token → ℕ → Result A Stop → Type 0
+IsBodyApt names tokens from (Ok taken) = Unit {0}
+IsBodyApt names tokens from (Err stop) = IsStopInBody names tokens from stop

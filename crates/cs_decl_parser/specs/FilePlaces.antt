@@ -1,12 +1,11 @@
 -- That declarations, statements and the parts of a file have the places of their tokens. Each definition takes the tokens that begin
 -- with what it speaks of.
-use Rattle.std.specs.Prelude.{◌≡◌, ℕ, suc, ◌+◌, List, [], ◌∷◌, drop, length, map, Option, Some, None, slice_get, if◌then◌else◌}
+use Rattle.std.specs.Prelude.{◌≡◌, ℕ, suc, ◌+◌, List, [], ◌∷◌, drop, length, map, Option, Some, None, slice_get}
 use Rattle.std.specs.Option.{option_map, option_and_then}
 use Rattle.cs_ast.specs.declared.place.Place.{Place}
 use Rattle.cs_ast.specs.declared.token.Token.{Token}
 use Rattle.cs_ast.specs.declared.raw.name.RawName.{RawName}
 use Rattle.cs_ast.specs.declared.raw.expression.RawExpr.{RawExpr}
-use Rattle.cs_ast.specs.declared.raw.written_type.PointerWord.{PointerWord}
 use Rattle.cs_ast.specs.declared.raw.written_type.TypeWord.TheVariants as word
 use Rattle.cs_ast.specs.declared.raw.declaration.RawSpecs.{RawSpecs}
 use Rattle.cs_ast.specs.declared.raw.declaration.SpecWord as words
@@ -21,7 +20,6 @@ use Rattle.cs_ast.specs.declared.raw.declaration.RawParameter.{RawParameter}
 use Rattle.cs_ast.specs.declared.raw.declaration.RawParameters.{RawParameters}
 use Rattle.cs_ast.specs.declared.raw.declaration.RawParameters.TheVariants as parameter_lists
 use Rattle.cs_ast.specs.declared.raw.declaration.RawFunction.{RawFunction}
-use Rattle.cs_ast.specs.declared.raw.statement.RawStmt.{RawStmt}
 use Rattle.cs_ast.specs.declared.raw.statement.RawStmtKind as kinds
 use Rattle.cs_ast.specs.declared.raw.statement.RawStmtKind.{RawStmtKind}
 use Rattle.cs_ast.specs.declared.raw.statement.RawStmtKind.TheVariants as kind
@@ -36,11 +34,11 @@ use Rattle.cs_ast.specs.declared.raw.external.RawExternalKind.TheVariants as ext
 use Rattle.cs_ast.specs.declared.raw.external.RawExternal.{RawExternal}
 use Rattle.cs_ast.specs.RawView.{written}
 use Rattle.cs_ast.specs.RawDeclarationView.{spec, specs_row, specs, declarator, constant, initial, declared, parameter, head}
-use Rattle.cs_ast.specs.RawDeclarations.{Spec, Static, Plain, StructBody, EnumBody, Specs, NoSpec, MoreSpecs}
+use Rattle.cs_ast.specs.RawDeclarations.{Static, Plain, StructBody, EnumBody, Specs, NoSpec, MoreSpecs}
 use Rattle.cs_ast.specs.RawStatementView.{first_of, sentence, item, switch_item, items_list, external}
 use Rattle.cs_grammar.specs.Text.{Kinds, pointers_text}
 use Rattle.cs_grammar.specs.FileText.{name_text, brackets_text, declarator_text, constant_text, spec_text, specs_text, initial_text, declared_text, head_text, parameter_text, some_text, first_text, test_text, sentence_text, item_text, items_text, switch_item_text, external_text, with_commas}
-use Rattle.cs_grammar.specs.Places.{HasPlaces, StandsAt, behind}
+use Rattle.cs_grammar.specs.Places.{HasPlaces, StandsAt}
 
 -- the tokens behind a text
 abbrev pub past : (Kinds → Kinds) → List Token → List Token

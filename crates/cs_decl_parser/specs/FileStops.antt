@@ -6,7 +6,7 @@ use Rattle.cs_ast.specs.declared.token.Token.{Token}
 use Rattle.cs_ast.specs.declared.raw.external.RawExternal.{RawExternal}
 use Rattle.cs_grammar.specs.declared.refusal.Reason.{Reason}
 use Rattle.cs_grammar.specs.declared.refusal.SyntaxRefusal.TheVariants as refusal
-use Rattle.cs_expr_parser.specs.Expression.{IsRefusalFor}
+use Rattle.cs_decl_parser.specs.Aptness.{IsExpressionRefusal}
 use Rattle.cs_decl_parser.specs.declared.stop.Stop.{Stop}
 use Rattle.cs_decl_parser.specs.declared.stop.Stop.TheVariants as stop
 use Rattle.cs_decl_parser.specs.Files.{parts_of, IsTheFile, IsFileRefusedAt}
@@ -16,7 +16,7 @@ abbrev pub FileStops : List Token → Place → Stop → Type 0
 FileStops tokens end stop.Memory = Unit {0}
 FileStops tokens end (stop.Refused at reason) = IsFileRefusedAt tokens at reason
 FileStops tokens end (stop.Expression refusal.Memory) = Unit {0}
-FileStops tokens end (stop.Expression other) = (at : ℕ) × (reason : Reason) × IsRefusalFor tokens end at reason other × IsFileRefusedAt tokens at reason
+FileStops tokens end (stop.Expression other) = (at : ℕ) × (reason : Reason) × IsExpressionRefusal tokens end at reason other × IsFileRefusedAt tokens at reason
 
 -- the parts of the file that the tokens are, or a token is refused
 abbrev pub FileAnswer : List Token → Place → Result (Vec RawExternal Global) Stop → Type 0

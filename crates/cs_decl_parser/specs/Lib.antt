@@ -1,4 +1,5 @@
 pub mod Reasons
+pub mod Aptness
 pub mod Bounds
 pub mod Forms
 pub mod Nodes

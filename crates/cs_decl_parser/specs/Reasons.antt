@@ -10,7 +10,7 @@ use Rattle.cs_grammar.specs.declared.refusal.Reason.TheVariants.{Syntax, LeftOut
 use Rattle.cs_decl_parser.specs.declared.stop.Stop.{Stop}
 use Rattle.cs_decl_parser.specs.declared.stop.Stop.TheVariants as stop
 use Rattle.cs_decl_parser.specs.declared.source.Scope.{Scope}
-use Rattle.cs_decl_parser.specs.declared.source.Scope.TheVariants.{File, Block}
+use Rattle.cs_decl_parser.specs.declared.source.Scope.TheVariants.{Block}
 
 -- the token is a word or mark that is left out wherever it stands in this scope; `static` and `typedef` are so in blocks
 abbrev pub is_left_out : Scope → TokenKind → Bool

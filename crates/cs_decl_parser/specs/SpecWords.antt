@@ -10,38 +10,36 @@ use Rattle.cs_ast.specs.declared.token.Keyword.TheVariants as keyword
 use Rattle.cs_ast.specs.declared.token.Mark.TheVariants as mark
 use Rattle.cs_ast.specs.declared.raw.declaration.RawMember.{RawMember}
 use Rattle.cs_ast.specs.declared.raw.declaration.RawSpecs.{RawSpecs}
-use Rattle.cs_ast.specs.declared.raw.declaration.SpecWord.{SpecWord}
 use Rattle.cs_ast.specs.declared.raw.declaration.SpecWord.TheVariants as words
 use Rattle.cs_ast.specs.declared.raw.name.RawName.{RawName}
 use Rattle.cs_ast.specs.declared.raw.written_type.TypeWord.{TypeWord}
 use Rattle.cs_ast.specs.declared.raw.written_type.TypeWord.TheVariants as word
-use Rattle.cs_ast.specs.RawDeclarations.{Declarator, Constant, EnumBody, Spec, Plain, Static, Specs, NoSpec, MoreSpecs}
-use Rattle.cs_ast.specs.RawDeclarationView.{spec, specs, declarator, members_list}
+use Rattle.cs_ast.specs.RawDeclarations.{Declarator, Constant, EnumBody, Spec, Plain, Specs, NoSpec, MoreSpecs}
+use Rattle.cs_ast.specs.RawDeclarationView.{spec, specs, declarator}
 use Rattle.cs_ast.specs.RawFileHeight.{spec_height}
 use Rattle.cs_grammar.specs.declared.refusal.Reason.{Reason}
-use Rattle.cs_grammar.specs.declared.refusal.Reason.TheVariants.{TooDeep}
 use Rattle.cs_grammar.specs.declared.refusal.SyntaxRefusal.TheVariants as refusal
 use Rattle.cs_grammar.specs.declared.type_words.TypeSoFar.{TypeSoFar}
-use Rattle.cs_grammar.specs.declared.type_words.TypeSoFar.TheVariants.{Nothing, Integers, Whole}
+use Rattle.cs_grammar.specs.declared.type_words.TypeSoFar.TheVariants.{Nothing, Whole}
 use Rattle.cs_grammar.specs.TypeWords.{Names, word_of}
 use Rattle.cs_grammar.specs.TypesSoFar.{Describes, is_known}
 use Rattle.cs_grammar.specs.FirstTokens.{begins_type}
 use Rattle.cs_grammar.specs.Text.{Kinds, type_word_text}
 use Rattle.cs_grammar.specs.FileText.{name_text, spec_text}
 use Rattle.cs_grammar.specs.FilePhrases.{HasBody, words_of}
-use Rattle.cs_grammar.specs.Parsing.{Class, Near, Refused}
-use Rattle.cs_grammar.specs.DeclarationClasses.{IsQuiet, SpecElements, FileSpecs, BlockSpecs, MemberGroups, MemberRows}
+use Rattle.cs_grammar.specs.Parsing.{Near, Refused}
+use Rattle.cs_grammar.specs.DeclarationClasses.{IsQuiet, SpecElements, FileSpecs, BlockSpecs}
 use Rattle.cs_expr_parser.specs.Positions.{kind_or_end}
 use Rattle.cs_expr_parser.specs.Parts.{Spells, is_deep}
-use Rattle.cs_expr_parser.specs.Expression.{IsRefusalFor}
+use Rattle.cs_decl_parser.specs.Aptness.{IsExpressionRefusal}
 use Rattle.cs_expr_parser.specs.Words.{first_of_word, has_tag, IsStuck, names_some, word_of_tag, IsTagMissing}
 use Rattle.cs_decl_parser.specs.declared.source.Scope.{Scope}
-use Rattle.cs_decl_parser.specs.declared.source.Scope.TheVariants.{File, Block}
+use Rattle.cs_decl_parser.specs.declared.source.Scope.TheVariants.{File}
 use Rattle.cs_decl_parser.specs.declared.stop.Stop.{Stop}
 use Rattle.cs_decl_parser.specs.declared.stop.Stop.TheVariants as stop
 use Rattle.cs_decl_parser.specs.declared.stop.Taken.{Taken}
 use Rattle.cs_decl_parser.specs.declared.specs.NextWord.{NextWord}
-use Rattle.cs_decl_parser.specs.Answers.{Stops, IsExactly, ExactAnswers, BraceAnswers}
+use Rattle.cs_decl_parser.specs.Answers.{BraceAnswers}
 
 -- the token begins what stands before declarators in this scope
 abbrev pub begins_words : Scope → Names → TokenKind → Bool
@@ -147,7 +145,7 @@ abbrev pub ElementStops : Names → ℕ → List Token → Place → ℕ → Sto
 ElementStops names room tokens end at stop.Memory = Unit {0}
 ElementStops names room tokens end at (stop.Refused refused reason) = IsElementRefused names room tokens at refused reason ⊎ IsEnumFull room tokens at refused reason
 ElementStops names room tokens end at (stop.Expression refusal.Memory) = Unit {0}
-ElementStops names room tokens end at (stop.Expression other) = (refused : ℕ) × (reason : Reason) × IsRefusalFor tokens end refused reason other × IsElementRefused names room tokens at refused reason
+ElementStops names room tokens end at (stop.Expression other) = (refused : ℕ) × (reason : Reason) × IsExpressionRefusal tokens end refused reason other × IsElementRefused names room tokens at refused reason
 
 -- a type with `struct` or `enum`, where the words before it name nothing
 abbrev pub ElementAnswer : Names → ℕ → List Token → Place → ℕ → Result NextWord Stop → Type 0

@@ -1,7 +1,6 @@
 -- That statements have the places of their tokens where their parts have: for the contracts of the nodes. Each list of tokens begins with
 -- the statement.
 use Rattle.std.specs.Prelude.{List, drop}
-use Rattle.std.specs.Option.{option_map}
 use Rattle.cs_ast.specs.declared.place.Place.{Place}
 use Rattle.cs_ast.specs.declared.token.Token.{Token}
 use Rattle.cs_ast.specs.declared.raw.expression.RawExpr.{RawExpr}

@@ -11,6 +11,7 @@ ghost use Rattle.cs_decl_parser.specs.Blocks.{Locals, local_of, ItemsAnswers};
 ghost use Rattle.cs_decl_parser.specs.Bounds.{IsBounded, IsRowBounded};
 ghost use Rattle.cs_decl_parser.specs.FilePlaces.{IsDeclarationPlaced, IsItemPlaced};
 ghost use Rattle.cs_decl_parser.specs.StatementPlaces.{HasStatementPlaces, AreItemsBeside};
+ghost use Rattle.cs_decl_parser.specs.Aptness.{IsAnswerApt};
 
 use crate::block_specs::block_specs;
 use crate::form::is_label;
@@ -34,6 +35,7 @@ pub fn block(alloc: Global, source: &Source, from: usize, room: u32) -> Result<T
     ensures bounds { IsBounded room source.now.tokens.now from result }
     ensures parsed { Answers (Sentences source.now.names.now) statement_of room source.now.tokens.now source.now.end from result }
     ensures placed { IfOk result (λ taken. HasStatementPlaces taken.tree (drop from source.now.tokens.now)) }
+    ensures apt { IsAnswerApt Scope.Block source.now.tokens.now result }
 {
     let items = items(alloc, source, from + 1, room - 1)?;
     let kind = RawStmtKind::Block(items.tree);
@@ -56,6 +58,7 @@ pub fn items(
     ensures parsed { ItemsAnswers source.now.names.now room source.now.tokens.now source.now.end from result }
     ensures placed { IfOk result (λ taken. AreItemsBeside taken.tree.items (drop from source.now.tokens.now)) }
     ensures closing { IfOk result (λ taken. taken.next < length source.now.tokens.now) }
+    ensures apt { IsAnswerApt Scope.Block source.now.tokens.now result }
 {
     let mut list = Vec::new(alloc);
     let mut height: u32 = 0;
@@ -81,6 +84,7 @@ pub fn item(alloc: Global, source: &Source, from: usize, room: u32) -> Result<Ta
     ensures bounds { IsBounded room source.now.tokens.now from result }
     ensures parsed { Answers (BlockItems source.now.names.now) item_of room source.now.tokens.now source.now.end from result }
     ensures placed { IfOk result (λ taken. IsItemPlaced taken.tree (drop from source.now.tokens.now)) }
+    ensures apt { IsAnswerApt Scope.Block source.now.tokens.now result }
 {
     if begins_type(source, from) && !is_label(source, from) {
         let declared = declaration(alloc, source, from, room)?;
@@ -118,6 +122,7 @@ pub fn declaration(
     ensures bounds { IsBounded room source.now.tokens.now from result }
     ensures parsed { ExactAnswers (Locals source.now.names.now) local_of room source.now.tokens.now source.now.end from result }
     ensures placed { IfOk result (λ taken. IsDeclarationPlaced taken.tree.specs taken.tree.objects.items (drop from source.now.tokens.now)) }
+    ensures apt { IsAnswerApt Scope.Block source.now.tokens.now result }
 {
     if room < 2 {
         return Err(refuse_deep(from));

@@ -6,6 +6,7 @@ ghost use Rattle.cs_decl_parser.specs.Bounds.{IsBounded, IsNextBounded, IsWordBo
 ghost use Rattle.cs_decl_parser.specs.DeclarationAnswers.{RefusesBehind};
 ghost use Rattle.cs_decl_parser.specs.SpecWords.{IsTagKeyword, BlockTagAnswer, BlockWordAnswer, BlockSpecsAnswer};
 ghost use Rattle.cs_decl_parser.specs.SpecPlaces.{IsWordPlaced, IsWordThere};
+ghost use Rattle.cs_decl_parser.specs.Aptness.{IsStopApt, IsAnswerApt};
 
 use crate::names::any_name_at;
 use crate::source::{Scope, Source, is_mark, refuse, refuse_but};
@@ -29,6 +30,7 @@ pub fn block_specs(
     ensures bounds { IsBounded room source.now.tokens.now from result }
     ensures parsed { BlockSpecsAnswer source.now.names.now room source.now.tokens.now source.now.end from result }
     ensures placed { IfOk result (λ taken. HasSpecPlaces taken.tree (drop from source.now.tokens.now)) }
+    ensures apt { IsAnswerApt Scope.Block source.now.tokens.now result }
 {
     let mut words = Vec::new(alloc);
     let mut tag = None;
@@ -57,6 +59,7 @@ fn block_word_at(source: &Source, at: usize, so_far: TypeSoFar) -> Result<Option
     ensures bounds { IsWordBounded 1 source.now.tokens.now at result }
     ensures word { BlockWordAnswer source.now.names.now source.now.tokens.now at so_far result }
     ensures placed { IfOk result (IsWordThere source.now.tokens.now at so_far) }
+    ensures apt { IsAnswerApt Scope.Block source.now.tokens.now result }
 {
     if !begins_tagged(source, at) {
         return plain_word(source, at, so_far);
@@ -76,6 +79,7 @@ fn tag_at(source: &Source, at: usize) -> Result<NextWord, Stop>
     ensures bounds { IsNextBounded 1 source.now.tokens.now at result }
     ensures tag { BlockTagAnswer source.now.names.now source.now.tokens.now at result }
     ensures placed { IfOk result (IsWordPlaced source.now.tokens.now at) }
+    ensures apt { IsAnswerApt Scope.Block source.now.tokens.now result }
 {
     let Some(tag) = any_name_at(source, at + 1)? else {
         return Err(refuse_body(source, at + 1));
@@ -88,7 +92,8 @@ fn tag_at(source: &Source, at: usize) -> Result<NextWord, Stop>
 
 /// The refusal of what stands at a number, where bodies are left out.
 fn refuse_body(source: &Source, at: usize) -> Stop
-    ensures { RefusesBehind at false result }
+    ensures plain { RefusesBehind at false result }
+    ensures apt { IsStopApt Scope.Block source.now.tokens.now result }
 {
     refuse_but(source, at, Scope::Block, Mark::OpenBrace)
 }

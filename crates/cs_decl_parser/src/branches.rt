@@ -10,6 +10,7 @@ ghost use Rattle.cs_decl_parser.specs.Blocks.{switch_items_of};
 ghost use Rattle.cs_decl_parser.specs.Bounds.{IsBounded};
 ghost use Rattle.cs_decl_parser.specs.FilePlaces.{IsSwitchItemPlaced};
 ghost use Rattle.cs_decl_parser.specs.StatementPlaces.{HasStatementPlaces, AreSwitchItemsBeside};
+ghost use Rattle.cs_decl_parser.specs.Aptness.{IsAnswerApt};
 
 use crate::block::item;
 use crate::expression::{closed, parenthesised};
@@ -37,6 +38,7 @@ pub fn if_statement(
     ensures bounds { IsBounded room source.now.tokens.now from result }
     ensures parsed { Answers (Sentences source.now.names.now) statement_of room source.now.tokens.now source.now.end from result }
     ensures placed { IfOk result (λ taken. HasStatementPlaces taken.tree (drop from source.now.tokens.now)) }
+    ensures apt { IsAnswerApt Scope.Block source.now.tokens.now result }
 {
     let place = place_at(source, from);
     let test = parenthesised(alloc, source, from + 1, room - 1)?;
@@ -65,6 +67,7 @@ pub fn switch_statement(
     ensures bounds { IsBounded room source.now.tokens.now from result }
     ensures parsed { Answers (Sentences source.now.names.now) statement_of room source.now.tokens.now source.now.end from result }
     ensures placed { IfOk result (λ taken. HasStatementPlaces taken.tree (drop from source.now.tokens.now)) }
+    ensures apt { IsAnswerApt Scope.Block source.now.tokens.now result }
 {
     let value = parenthesised(alloc, source, from + 1, room - 1)?;
     if !is_mark(source, value.next, Mark::OpenBrace) {
@@ -89,6 +92,7 @@ fn switch_items(
     ensures bounds { IsBounded room source.now.tokens.now from result }
     ensures parsed { ExactAnswers (SwitchRows source.now.names.now) switch_items_of room source.now.tokens.now source.now.end from result }
     ensures placed { IfOk result (λ taken. AreSwitchItemsBeside taken.tree.items (drop from source.now.tokens.now)) }
+    ensures apt { IsAnswerApt Scope.Block source.now.tokens.now result }
 {
     let mut list = Vec::new(alloc);
     let mut height: u32 = 0;
@@ -119,6 +123,7 @@ fn switch_item(
     ensures bounds { IsBounded room source.now.tokens.now from result }
     ensures parsed { Answers (SwitchParts source.now.names.now) switch_item_of room source.now.tokens.now source.now.end from result }
     ensures placed { IfOk result (λ taken. IsSwitchItemPlaced taken.tree (drop from source.now.tokens.now)) }
+    ensures apt { IsAnswerApt Scope.Block source.now.tokens.now result }
 {
     if is_keyword(source, from, Keyword::Case) {
         return case(alloc, source, from, room);
@@ -147,6 +152,7 @@ fn case(
     ensures bounds { IsBounded room source.now.tokens.now from result }
     ensures parsed { Answers (SwitchParts source.now.names.now) switch_item_of room source.now.tokens.now source.now.end from result }
     ensures placed { IfOk result (λ taken. IsSwitchItemPlaced taken.tree (drop from source.now.tokens.now)) }
+    ensures apt { IsAnswerApt Scope.Block source.now.tokens.now result }
 {
     if room == 0 {
         return Err(refuse_deep(from));
@@ -167,6 +173,7 @@ fn default(source: &Source, from: usize) -> Result<Taken<RawSwitchItem>, Stop>
     ensures bounds { IsBounded 0 source.now.tokens.now from result }
     ensures parsed { (room : ℕ) → Answers (SwitchParts source.now.names.now) switch_item_of room source.now.tokens.now source.now.end from result }
     ensures placed { IfOk result (λ taken. IsSwitchItemPlaced taken.tree (drop from source.now.tokens.now)) }
+    ensures apt { IsAnswerApt Scope.Block source.now.tokens.now result }
 {
     if !is_mark(source, from + 1, Mark::Colon) {
         return Err(refuse(source, from + 1, Scope::Block));

@@ -12,6 +12,7 @@ ghost use Rattle.cs_decl_parser.specs.Answers.{UnclosedAnswers};
 ghost use Rattle.cs_decl_parser.specs.DeclarationAnswers.{ConstantsAnswer, goes_on as list_goes_on, IsConstantOf};
 ghost use Rattle.cs_decl_parser.specs.Bounds.{IsBounded, IsUnclosedBounded};
 ghost use Rattle.cs_decl_parser.specs.FilePlaces.{AreInRow, IsSomePlaced, IsConstantPlaced};
+ghost use Rattle.cs_decl_parser.specs.Aptness.{IsAnswerApt, IsUnclosedApt};
 
 use crate::expression::expression;
 use crate::names::free_name_at;
@@ -46,6 +47,7 @@ pub fn constants(
     ensures bounds { IsBounded room source.now.tokens.now from result }
     ensures parsed { ConstantsAnswer source.now.names.now room source.now.tokens.now source.now.end from result }
     ensures placed { IfOk result (λ taken. AreInRow IsConstantPlaced (λ e. constant_text (constant_of e)) taken.tree.list.items (drop from source.now.tokens.now)) }
+    ensures apt { IsAnswerApt Scope.File source.now.tokens.now result }
 {
     let mut list = Vec::new(alloc);
     let mut last = constant(alloc, source, from, room)?;
@@ -99,6 +101,7 @@ fn constant(
     ensures bounds { IsUnclosedBounded room source.now.tokens.now from result }
     ensures parsed { UnclosedAnswers (Constants source.now.names.now) constant_of room source.now.tokens.now source.now.end from result }
     ensures placed { IfOk result (λ taken. IsConstantPlaced taken.tree (drop from source.now.tokens.now)) }
+    ensures apt { IsUnclosedApt Scope.File source.now.tokens.now result }
 {
     let Some(name) = free_name_at(source, from)? else {
         return Err(refuse(source, from, Scope::File));

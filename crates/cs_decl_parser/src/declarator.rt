@@ -11,6 +11,7 @@ ghost use Rattle.cs_decl_parser.specs.Answers.{ExactAnswers};
 ghost use Rattle.cs_decl_parser.specs.Bounds.{IsBounded, IsRowBounded};
 ghost use Rattle.cs_decl_parser.specs.DeclarationAnswers.{has_no_room, is_full, IsNameAt, IsNameFor, IsPointed, PointedAnswers, DeclaratorAnswers, DeclaratorsFor, BoundAnswer, BoundsAnswer, RefusesBehind};
 ghost use Rattle.cs_decl_parser.specs.FilePlaces.{past, IsSomePlaced, IsNamePlaced, AreBracketsPlaced, IsDeclaratorPlaced, AreDeclaratorsPlaced};
+ghost use Rattle.cs_decl_parser.specs.Aptness.{IsStopApt, IsAnswerApt};
 
 use crate::expression::{closed, closed_if_any};
 use crate::names::{any_name_at, free_name_at};
@@ -57,6 +58,7 @@ pub fn declarator(
     ensures some { IfOk result (λ taken. 1 ≤ taken.height) }
     ensures parsed { DeclaratorAnswers declares source.now.names.now room source.now.tokens.now source.now.end from result }
     ensures placed { IfOk result (λ taken. IsDeclaratorPlaced taken.tree (drop from source.now.tokens.now)) }
+    ensures apt { IsAnswerApt scope source.now.tokens.now result }
 {
     let pointed = pointed_name(alloc, source, scope, from, declares)?;
     let taken = with_bounds(alloc, source, pointed, room, declares)?;
@@ -76,6 +78,7 @@ pub fn pointed_name(
     ensures bounds { IsBounded 1 source.now.tokens.now from result }
     ensures parsed { PointedAnswers declares source.now.names.now source.now.tokens.now from result }
     ensures placed { IfOk result (λ taken. StandsAt taken.tree.name.place (past (pointers_text taken.tree.pointers.items) (drop from source.now.tokens.now))) }
+    ensures apt { IsAnswerApt scope source.now.tokens.now result }
 {
     let pointers = stars(alloc, source, from)?;
     let Some(name) = name_at(source, pointers.next, declares)? else {
@@ -119,6 +122,7 @@ pub fn with_bounds(
     ensures some { IfOk result (λ taken. 1 ≤ taken.height) }
     ensures parsed { (from : ℕ) → IsPointed declares source.now.names.now source.now.tokens.now from pointed → DeclaratorAnswers declares source.now.names.now room source.now.tokens.now source.now.end from result }
     ensures placed { (from : ℕ) → IsPointed declares source.now.names.now source.now.tokens.now from pointed → StandsAt pointed.tree.name.place (past (pointers_text pointed.tree.pointers.items) (drop from source.now.tokens.now)) → IfOk result (λ taken. IsDeclaratorPlaced taken.tree (drop from source.now.tokens.now)) }
+    ensures apt { IsAnswerApt Scope.Block source.now.tokens.now result }
 {
     let bounds = bounds(alloc, source, pointed.next, room - 1, declares)?;
     Ok(Taken {
@@ -147,6 +151,7 @@ pub fn bounds(
     ensures bounds { IsRowBounded room source.now.tokens.now from result }
     ensures parsed { BoundsAnswer declares source.now.names.now (λ bounds. bounds_of bounds.items) room source.now.tokens.now source.now.end from result }
     ensures placed { IfOk result (λ taken. AreBracketsPlaced taken.tree.items (drop from source.now.tokens.now)) }
+    ensures apt { IsAnswerApt Scope.Block source.now.tokens.now result }
 {
     let mut list = Vec::new(alloc);
     let mut height = 0;
@@ -197,6 +202,7 @@ fn bound(
     ensures bounds { IsBounded room source.now.tokens.now at result }
     ensures parsed { BoundAnswer declares source.now.names.now room source.now.tokens.now source.now.end (at + 1) result }
     ensures placed { IfOk result (λ taken. IsSomePlaced taken.tree (drop (at + 1) source.now.tokens.now)) }
+    ensures apt { IsAnswerApt Scope.Block source.now.tokens.now result }
 {
     let (level, closing) = (ExprLevel::Cond, Mark::CloseBracket);
     match declares {
@@ -229,6 +235,7 @@ pub fn declarators(
     ensures bounds { IsBounded room source.now.tokens.now from result }
     ensures parsed { ExactAnswers (Separated (DeclaratorsFor declares source.now.names.now) (token.Mark mark.Semicolon)) (λ list. map declarator_of list.items) room source.now.tokens.now source.now.end from result }
     ensures placed { IfOk result (λ taken. AreDeclaratorsPlaced taken.tree.items (drop from source.now.tokens.now)) }
+    ensures apt { IsAnswerApt Scope.File source.now.tokens.now result }
 {
     let scope = Scope::File;
     let mut list = Vec::new(alloc);
@@ -254,7 +261,8 @@ pub fn declarators(
 /// The refusal of the token behind a declarator, at a number.
 fn refuse_behind(source: &Source, at: usize, room: u32, declares: Declares) -> Stop
     requires some { 1 ≤ room }
-    ensures { (inner : ℕ) → room ≡ 1 + inner → RefusesBehind at (is_full declares inner (kind_or_end source.now.tokens.now at)) result }
+    ensures is { (inner : ℕ) → room ≡ 1 + inner → RefusesBehind at (is_full declares inner (kind_or_end source.now.tokens.now at)) result }
+    ensures apt { IsStopApt Scope.File source.now.tokens.now result }
 {
     if lacks_room(declares, room - 1) && is_mark(source, at, Mark::OpenBracket) {
         return refuse_deep(at);

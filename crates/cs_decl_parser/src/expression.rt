@@ -9,6 +9,7 @@ ghost use Rattle.cs_decl_parser.specs.Answers.{ExactAnswers, UnclosedAnswers, cl
 ghost use Rattle.cs_decl_parser.specs.DeclarationAnswers.{ClosedAnswer, ClosedIfAnyAnswer};
 ghost use Rattle.cs_decl_parser.specs.FilePlaces.{IsSomePlaced};
 ghost use Rattle.cs_decl_parser.specs.Bounds.{IsBounded, IsUnclosedBounded, IsPhraseOf};
+ghost use Rattle.cs_decl_parser.specs.Aptness.{IsAnswerApt, IsUnclosedApt};
 
 use crate::source::{Scope, Source, is_mark, refuse};
 use crate::stop::{Stop, Taken, Unclosed};
@@ -31,6 +32,7 @@ pub fn expression(
     ensures some { IfOk result (λ taken. 1 ≤ taken.height) }
     ensures parsed { UnclosedAnswers (Expressions source.now.names.now (level_asked level)) written room source.now.tokens.now source.now.end from result }
     ensures placed { IfOk result (λ taken. HasPlaces taken.tree (drop from source.now.tokens.now)) }
+    ensures apt { IsUnclosedApt Scope.Block source.now.tokens.now result }
 {
     let (tokens, end, names) = (source.tokens, source.end, source.names);
     match parse_expression(alloc, tokens, end, from, names, room, level) {
@@ -66,6 +68,7 @@ pub fn closed(
     ensures some { IfOk result (λ taken. 1 ≤ taken.height) }
     ensures parsed { ClosedAnswer source.now.names.now level closing room source.now.tokens.now source.now.end from result }
     ensures placed { IfOk result (λ taken. HasPlaces taken.tree (drop from source.now.tokens.now)) }
+    ensures apt { IsAnswerApt Scope.Block source.now.tokens.now result }
 {
     let inner = expression(alloc, source, from, room, level)?;
     if !is_mark(source, inner.next, closing) {
@@ -93,6 +96,7 @@ pub fn closed_if_any(
     ensures bounds { IsBounded room source.now.tokens.now from result }
     ensures parsed { ClosedIfAnyAnswer source.now.names.now level closing room source.now.tokens.now source.now.end from result }
     ensures placed { IfOk result (λ taken. IsSomePlaced taken.tree (drop from source.now.tokens.now)) }
+    ensures apt { IsAnswerApt Scope.Block source.now.tokens.now result }
 {
     if is_mark(source, from, closing) {
         return Ok(Taken {
@@ -122,6 +126,7 @@ pub fn parenthesised(
     ensures bounds { IsBounded room source.now.tokens.now from result }
     ensures parsed { ExactAnswers (Tests source.now.names.now) written room source.now.tokens.now source.now.end from result }
     ensures placed { IfOk result (λ taken. HasPlaces taken.tree (drop (from + 1) source.now.tokens.now)) }
+    ensures apt { IsAnswerApt Scope.Block source.now.tokens.now result }
 {
     if !is_mark(source, from, Mark::OpenParenthesis) {
         return Err(refuse(source, from, Scope::Block));

@@ -11,9 +11,10 @@ ghost use Rattle.cs_decl_parser.specs.declared.declarator.Declares.TheVariants a
 ghost use Rattle.cs_decl_parser.specs.Answers.{ExactAnswers};
 ghost use Rattle.cs_decl_parser.specs.Bounds.{IsBounded, IsOf};
 ghost use Rattle.cs_decl_parser.specs.DeclarationAnswers.{IsPointed};
-ghost use Rattle.cs_decl_parser.specs.FileAnswers.{IsHeadOf, IsTypeTaken};
+ghost use Rattle.cs_decl_parser.specs.FileAnswers.{IsHeadOf, IsTypeTaken, IsBodyApt};
 ghost use Rattle.cs_decl_parser.specs.FilePlaces.{IsExternalInside, IsExternalPlaced};
 ghost use Rattle.cs_decl_parser.specs.ExternalPlaces.{IsTypePlaced, IsPointedPlaced, IsHeadBuilt};
+ghost use Rattle.cs_decl_parser.specs.Aptness.{IsAnswerApt};
 
 use crate::block::items;
 use crate::declarator::{Declares, Pointed, declarators, pointed_name, with_bounds};
@@ -37,6 +38,8 @@ pub fn external(alloc: Global, source: &Source, from: usize) -> Result<Taken<Raw
     ensures bounds { IsBounded 200 source.now.tokens.now from result }
     ensures parsed { ExactAnswers (Externals source.now.names.now) external_view 200 source.now.tokens.now source.now.end from result }
     ensures placed { IfOk result (λ taken. IsExternalPlaced taken.tree (drop from source.now.tokens.now)) }
+    ensures apt { IsAnswerApt Scope.File source.now.tokens.now result }
+    ensures inside { IsBodyApt source.now.names.now source.now.tokens.now from result }
 {
     let taken = if is_keyword(source, from, Keyword::Typedef) {
         typedef(alloc, source, from)?
@@ -61,6 +64,8 @@ fn typedef(alloc: Global, source: &Source, from: usize) -> Result<Taken<RawExter
     ensures bounds { IsBounded 200 source.now.tokens.now from result }
     ensures parsed { ExactAnswers (Externals source.now.names.now) external_of 200 source.now.tokens.now source.now.end from result }
     ensures placed { IfOk result (λ taken. IsExternalInside taken.tree (drop from source.now.tokens.now)) }
+    ensures apt { IsAnswerApt Scope.File source.now.tokens.now result }
+    ensures inside { IsBodyApt source.now.names.now source.now.tokens.now from result }
 {
     let specs = specs(alloc, source, from + 1, MOST - 1)?;
     let names = declarators(alloc, source, specs.next, MOST - 1, Declares::Names)?;
@@ -79,6 +84,8 @@ fn declared(alloc: Global, source: &Source, from: usize) -> Result<Taken<RawExte
     ensures bounds { IsBounded 200 source.now.tokens.now from result }
     ensures parsed { ExactAnswers (Externals source.now.names.now) external_of 200 source.now.tokens.now source.now.end from result }
     ensures placed { IfOk result (λ taken. IsExternalInside taken.tree (drop from source.now.tokens.now)) }
+    ensures apt { IsAnswerApt Scope.File source.now.tokens.now result }
+    ensures inside { IsBodyApt source.now.names.now source.now.tokens.now from result }
 {
     let scope = Scope::File;
     let specs = specs(alloc, source, from, MOST - 1)?;
@@ -110,6 +117,8 @@ fn objects(
     ensures bounds { IsBounded 200 source.now.tokens.now pointed.next result }
     ensures parsed { (from : ℕ) → IsTypeTaken source.now.names.now source.now.tokens.now from specs → IsPointed declaring.Names source.now.names.now source.now.tokens.now specs.next pointed → ExactAnswers (Externals source.now.names.now) external_of 200 source.now.tokens.now source.now.end from result }
     ensures placed { (from : ℕ) → IsTypePlaced source.now.names.now source.now.tokens.now from specs → IsPointedPlaced source.now.names.now source.now.tokens.now specs.next pointed → IfOk result (λ taken. IsExternalInside taken.tree (drop from source.now.tokens.now)) }
+    ensures apt { IsAnswerApt Scope.File source.now.tokens.now result }
+    ensures inside { (from : ℕ) → IsTypeTaken source.now.names.now source.now.tokens.now from specs → IsPointed declaring.Names source.now.names.now source.now.tokens.now specs.next pointed → IsBodyApt source.now.names.now source.now.tokens.now from result }
 {
     let scope = Scope::File;
     let declarator = with_bounds(alloc, source, pointed, MOST - 1, Declares::Names)?;
@@ -136,6 +145,8 @@ fn function(
     ensures bounds { IsBounded 200 source.now.tokens.now pointed.next result }
     ensures parsed { (from : ℕ) → IsTypeTaken source.now.names.now source.now.tokens.now from specs → IsPointed declaring.Names source.now.names.now source.now.tokens.now specs.next pointed → ExactAnswers (Externals source.now.names.now) external_of 200 source.now.tokens.now source.now.end from result }
     ensures placed { (from : ℕ) → IsTypePlaced source.now.names.now source.now.tokens.now from specs → IsPointedPlaced source.now.names.now source.now.tokens.now specs.next pointed → IfOk result (λ taken. IsExternalInside taken.tree (drop from source.now.tokens.now)) }
+    ensures apt { IsAnswerApt Scope.File source.now.tokens.now result }
+    ensures inside { (from : ℕ) → IsTypeTaken source.now.names.now source.now.tokens.now from specs → IsPointed declaring.Names source.now.names.now source.now.tokens.now specs.next pointed → IsBodyApt source.now.names.now source.now.tokens.now from result }
 {
     let parameters = parameters(alloc, source, pointed.next + 1, MOST - 2)?;
     let head = head(pointed.tree, parameters);

@@ -4,7 +4,7 @@ ghost use Rattle.std.specs.Result.{IfErr};
 ghost use Rattle.cs_ast.specs.RawDeclarationView.{declarator as declarator_of};
 ghost use Rattle.cs_ast.specs.RawStatementView.{external as external_view};
 ghost use Rattle.cs_grammar.specs.FilePhrases.{names_behind, with_names};
-ghost use Rattle.cs_decl_parser.specs.Files.{parts_of, spelling_here, IsTheFile, IsRefusalOf, IsFileRefusal};
+ghost use Rattle.cs_decl_parser.specs.Files.{parts_of, IsTheFile, IsRefusalOf, IsFileRefusal};
 ghost use Rattle.cs_decl_parser.specs.FileStops.{FileStops, FileAnswer};
 ghost use Rattle.cs_decl_parser.specs.FilePlaces.{AreFilePlaced};
 
@@ -13,7 +13,7 @@ use crate::source::Source;
 use crate::stop::Stop;
 use cs_ast::raw::declaration::RawDeclarator;
 use cs_ast::raw::external::{RawExternal, RawExternalKind, Tree};
-use cs_ast::{Mark, Place, Token, TokenKind};
+use cs_ast::{Place, Token};
 use cs_grammar::{Reason, SyntaxRefusal, TypedefNames, left_out_text};
 use cs_names::Name;
 use std::alloc::{AllocError, Global};
@@ -96,22 +96,9 @@ fn refusal_of(alloc: Global, token: &Token, reason: Reason) -> SyntaxRefusal
     match reason {
         Reason::Syntax => SyntaxRefusal::Syntax(token.place),
         Reason::TooDeep => SyntaxRefusal::TooDeep(token.place),
-        Reason::LeftOut => match Name::from_slice(alloc, left_out_here(&token.kind)) {
+        Reason::LeftOut => match Name::from_slice(alloc, left_out_text(&token.kind)) {
             Ok(word) => SyntaxRefusal::LeftOut(token.place, word),
             Err(_) => SyntaxRefusal::Memory,
         },
-    }
-}
-
-/// The spelling of a word or mark that is left out somewhere in a file.
-fn left_out_here(kind: &TokenKind) -> &'static [u8]
-    ensures { result.now ≡ spelling_here kind.now }
-{
-    match kind {
-        TokenKind::Mark(Mark::OpenParenthesis) => b"(",
-        TokenKind::Mark(Mark::OpenBracket) => b"[",
-        TokenKind::Mark(Mark::Dot) => b".",
-        TokenKind::Mark(Mark::Colon) => b":",
-        _ => left_out_text(kind),
     }
 }

@@ -9,6 +9,7 @@ ghost use Rattle.cs_decl_parser.specs.Answers.{UnclosedAnswers};
 ghost use Rattle.cs_decl_parser.specs.DeclarationAnswers.{is_designator};
 ghost use Rattle.cs_decl_parser.specs.Bounds.{IsUnclosedBounded};
 ghost use Rattle.cs_decl_parser.specs.FilePlaces.{IsInitialPlaced};
+ghost use Rattle.cs_decl_parser.specs.Aptness.{IsUnclosedApt};
 
 use crate::constants::{closing_at, goes_on};
 use crate::expression::expression;
@@ -35,6 +36,7 @@ pub fn initial(
     ensures bounds { IsUnclosedBounded room source.now.tokens.now from result }
     ensures parsed { UnclosedAnswers (Values source.now.names.now) initial_of room source.now.tokens.now source.now.end from result }
     ensures placed { IfOk result (λ taken. IsInitialPlaced taken.tree (drop from source.now.tokens.now)) }
+    ensures apt { IsUnclosedApt scope source.now.tokens.now result }
 {
     if is_mark(source, from, Mark::OpenBrace) {
         return items(alloc, source, scope, from, room);
@@ -73,6 +75,7 @@ fn items(
     ensures bounds { IsUnclosedBounded room source.now.tokens.now from result }
     ensures parsed { UnclosedAnswers (Values source.now.names.now) initial_of room source.now.tokens.now source.now.end from result }
     ensures placed { IfOk result (λ taken. IsInitialPlaced taken.tree (drop from source.now.tokens.now)) }
+    ensures apt { IsUnclosedApt scope source.now.tokens.now result }
 {
     if room < 2 {
         return Err(refuse_deep(from));

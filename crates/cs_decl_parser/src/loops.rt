@@ -13,6 +13,7 @@ ghost use Rattle.cs_decl_parser.specs.Blocks.{Controls, control_of, first_if_any
 ghost use Rattle.cs_decl_parser.specs.Bounds.{IsBounded};
 ghost use Rattle.cs_decl_parser.specs.FilePlaces.{IsSomePlaced, IsFirstPlaced};
 ghost use Rattle.cs_decl_parser.specs.StatementPlaces.{HasStatementPlaces, AreForPartsPlaced};
+ghost use Rattle.cs_decl_parser.specs.Aptness.{IsAnswerApt};
 
 use crate::block::declaration;
 use crate::expression::{closed_if_any, parenthesised};
@@ -41,6 +42,7 @@ pub fn while_statement(
     ensures bounds { IsBounded room source.now.tokens.now from result }
     ensures parsed { Answers (Sentences source.now.names.now) statement_of room source.now.tokens.now source.now.end from result }
     ensures placed { IfOk result (λ taken. HasStatementPlaces taken.tree (drop from source.now.tokens.now)) }
+    ensures apt { IsAnswerApt Scope.Block source.now.tokens.now result }
 {
     let place = place_at(source, from);
     let test = parenthesised(alloc, source, from + 1, room - 1)?;
@@ -64,6 +66,7 @@ pub fn do_statement(
     ensures bounds { IsBounded room source.now.tokens.now from result }
     ensures parsed { Answers (Sentences source.now.names.now) statement_of room source.now.tokens.now source.now.end from result }
     ensures placed { IfOk result (λ taken. HasStatementPlaces taken.tree (drop from source.now.tokens.now)) }
+    ensures apt { IsAnswerApt Scope.Block source.now.tokens.now result }
 {
     let place = place_at(source, from);
     let body = statement(alloc, source, from + 1, room - 1)?;
@@ -102,6 +105,7 @@ pub fn for_statement(
     ensures bounds { IsBounded room source.now.tokens.now from result }
     ensures parsed { Answers (Sentences source.now.names.now) statement_of room source.now.tokens.now source.now.end from result }
     ensures placed { IfOk result (λ taken. HasStatementPlaces taken.tree (drop from source.now.tokens.now)) }
+    ensures apt { IsAnswerApt Scope.Block source.now.tokens.now result }
 {
     let place = place_at(source, from);
     let control = control(alloc, source, from + 1, room - 1)?;
@@ -117,6 +121,7 @@ fn control(alloc: Global, source: &Source, from: usize, room: u32) -> Result<Tak
     ensures bounds { IsBounded room source.now.tokens.now from result }
     ensures parsed { ExactAnswers (Controls source.now.names.now) control_of room source.now.tokens.now source.now.end from result }
     ensures placed { IfOk result (λ taken. AreForPartsPlaced taken.tree (drop (from + 1) source.now.tokens.now)) }
+    ensures apt { IsAnswerApt Scope.Block source.now.tokens.now result }
 {
     if !is_mark(source, from, Mark::OpenParenthesis) {
         return Err(refuse(source, from, Scope::Block));
@@ -155,6 +160,7 @@ fn first_part(
     ensures bounds { IsBounded room source.now.tokens.now from result }
     ensures parsed { ExactAnswers (Firsts source.now.names.now) first_of room source.now.tokens.now source.now.end from result }
     ensures placed { IfOk result (λ taken. IsFirstPlaced taken.tree (drop from source.now.tokens.now)) }
+    ensures apt { IsAnswerApt Scope.Block source.now.tokens.now result }
 {
     if begins_type(source, from) {
         let declared = declaration(alloc, source, from, room)?;

@@ -6,6 +6,7 @@ ghost use Rattle.cs_decl_parser.specs.Answers.{ExactAnswers};
 ghost use Rattle.cs_decl_parser.specs.SpecWords.{group};
 ghost use Rattle.cs_decl_parser.specs.Bounds.{IsBounded};
 ghost use Rattle.cs_decl_parser.specs.SpecPlaces.{IsGroupPlaced, AreGroupsPlaced};
+ghost use Rattle.cs_decl_parser.specs.Aptness.{IsAnswerApt};
 
 use crate::declarator::{Declares, declarators};
 use crate::source::{Scope, Source, is_mark, refuse, refuse_deep};
@@ -28,6 +29,7 @@ pub fn members(
     ensures bounds { IsBounded room source.now.tokens.now from result }
     ensures parsed { ExactAnswers (MemberRows source.now.names.now) (λ list. members_list list.items) room source.now.tokens.now source.now.end from result }
     ensures placed { IfOk result (λ taken. AreGroupsPlaced taken.tree.items (drop from source.now.tokens.now)) }
+    ensures apt { IsAnswerApt Scope.File source.now.tokens.now result }
 {
     let mut list = Vec::new(alloc);
     let mut height = 0;
@@ -53,6 +55,7 @@ fn member(alloc: Global, source: &Source, from: usize, room: u32) -> Result<Take
     ensures bounds { IsBounded room source.now.tokens.now from result }
     ensures parsed { ExactAnswers (MemberGroups source.now.names.now) group room source.now.tokens.now source.now.end from result }
     ensures placed { IfOk result (λ taken. IsGroupPlaced taken.tree (drop from source.now.tokens.now)) }
+    ensures apt { IsAnswerApt Scope.File source.now.tokens.now result }
 {
     let scope = Scope::File;
     if !begins_specs(source, from) {

@@ -11,6 +11,8 @@ ghost use Rattle.cs_decl_parser.specs.Answers.{IsUnclosed, ExactAnswers, Unclose
 ghost use Rattle.cs_decl_parser.specs.DeclarationAnswers.{IsDeclaratorTaken, IsAlone};
 ghost use Rattle.cs_decl_parser.specs.Bounds.{IsBounded, IsUnclosedBounded, IsUnclosedRowBounded};
 ghost use Rattle.cs_decl_parser.specs.FilePlaces.{IsDeclaratorPlaced, IsDeclaredPlaced, AreObjectsPlaced};
+ghost use Rattle.cs_expr_parser.specs.Positions.{kind_or_end};
+ghost use Rattle.cs_decl_parser.specs.Aptness.{IsApt, IsAnswerApt, IsUnclosedApt};
 
 use crate::declarator::{Declares, declarator};
 use crate::initial::initial;
@@ -35,6 +37,7 @@ pub fn objects(
     ensures bounds { IsBounded room source.now.tokens.now from result }
     ensures parsed { ExactAnswers (Separated (Objects source.now.names.now) (token.Mark mark.Semicolon)) (λ list. map declared list.items) room source.now.tokens.now source.now.end from result }
     ensures placed { IfOk result (λ taken. AreObjectsPlaced taken.tree.items (drop from source.now.tokens.now)) }
+    ensures apt { IsAnswerApt scope source.now.tokens.now result }
 {
     let first = object(alloc, source, scope, from, room)?;
     let all = with_others(alloc, source, scope, first, room)?;
@@ -53,9 +56,11 @@ pub fn with_others(
     requires few { length source.now.tokens.now < 2 ^ 32 }
     requires some { 1 ≤ room }
     requires low { first.height ≤ room }
+    requires apt { IsApt scope (kind_or_end source.now.tokens.now first.next) first.otherwise }
     ensures bounds { IsBounded room source.now.tokens.now first.next result }
     ensures parsed { (from : ℕ) → IsUnclosed (Objects source.now.names.now) declared room source.now.tokens.now from first → ExactAnswers (Separated (Objects source.now.names.now) (token.Mark mark.Semicolon)) (λ list. map declared list.items) room source.now.tokens.now source.now.end from result }
     ensures placed { (from : ℕ) → IsUnclosed (Objects source.now.names.now) declared room source.now.tokens.now from first → IsDeclaredPlaced first.tree (drop from source.now.tokens.now) → IfOk result (λ taken. AreObjectsPlaced taken.tree.items (drop from source.now.tokens.now)) }
+    ensures apt { IsAnswerApt scope source.now.tokens.now result }
 {
     let mut list = Vec::new(alloc);
     let mut height = first.height;
@@ -90,6 +95,7 @@ fn object(
     ensures bounds { IsUnclosedBounded room source.now.tokens.now from result }
     ensures parsed { UnclosedAnswers (Objects source.now.names.now) declared room source.now.tokens.now source.now.end from result }
     ensures placed { IfOk result (λ taken. IsDeclaredPlaced taken.tree (drop from source.now.tokens.now)) }
+    ensures apt { IsUnclosedApt scope source.now.tokens.now result }
 {
     let declarator = declarator(alloc, source, scope, from, room, Declares::Names)?;
     let object = with_value(alloc, source, scope, declarator, room)?;
@@ -111,6 +117,7 @@ pub fn with_value(
     ensures bounds { IsUnclosedRowBounded room source.now.tokens.now declarator.next result }
     ensures parsed { (from : ℕ) → IsDeclaratorTaken declaring.Names source.now.names.now room source.now.tokens.now from declarator → UnclosedAnswers (Objects source.now.names.now) declared room source.now.tokens.now source.now.end from result }
     ensures placed { (from : ℕ) → IsDeclaratorTaken declaring.Names source.now.names.now room source.now.tokens.now from declarator → IsDeclaratorPlaced declarator.tree (drop from source.now.tokens.now) → IfOk result (λ taken. IsDeclaredPlaced taken.tree (drop from source.now.tokens.now)) }
+    ensures apt { IsUnclosedApt scope source.now.tokens.now result }
 {
     let at = declarator.next;
     if !is_mark(source, at, Mark::Equal) {

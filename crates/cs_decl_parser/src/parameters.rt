@@ -11,6 +11,7 @@ ghost use Rattle.cs_decl_parser.specs.ParameterAnswers.{ParameterAnswer, number_
 ghost use Rattle.cs_decl_parser.specs.SpecWords.{name_in};
 ghost use Rattle.cs_decl_parser.specs.Bounds.{IsBounded, IsRowBounded};
 ghost use Rattle.cs_decl_parser.specs.FilePlaces.{AreInRow, IsNamePlaced, IsParameterPlaced, AreParametersPlaced};
+ghost use Rattle.cs_decl_parser.specs.Aptness.{IsAnswerApt};
 
 use crate::declarator::{Declares, bounds};
 use crate::names::free_name_at;
@@ -36,6 +37,7 @@ pub fn parameters(
     ensures bounds { IsBounded room source.now.tokens.now from result }
     ensures parsed { ExactAnswers (ParameterLists source.now.names.now) parameters_of room source.now.tokens.now source.now.end from result }
     ensures placed { IfOk result (λ taken. AreParametersPlaced taken.tree (drop from source.now.tokens.now)) }
+    ensures apt { IsAnswerApt Scope.File source.now.tokens.now result }
 {
     if is_mark(source, from, Mark::CloseParenthesis) {
         return Ok(Taken {
@@ -82,6 +84,7 @@ fn parameter_list(
     ensures bounds { IsBounded room source.now.tokens.now from result }
     ensures parsed { ExactAnswers (ParameterRows source.now.names.now) (λ list. map parameter_of list.items) room source.now.tokens.now source.now.end from result }
     ensures placed { IfOk result (λ taken. AreInRow IsParameterPlaced (λ p. parameter_text (parameter_of p)) taken.tree.items (drop from source.now.tokens.now)) }
+    ensures apt { IsAnswerApt Scope.File source.now.tokens.now result }
 {
     let mut list = Vec::new(alloc);
     let mut last = parameter(alloc, source, from, room)?;
@@ -115,6 +118,7 @@ fn parameter(
     ensures bounds { IsBounded room source.now.tokens.now from result }
     ensures parsed { ParameterAnswer source.now.names.now room source.now.tokens.now source.now.end from result }
     ensures placed { IfOk result (λ taken. IsParameterPlaced taken.tree (drop from source.now.tokens.now)) }
+    ensures apt { IsAnswerApt Scope.File source.now.tokens.now result }
 {
     let specs = specs(alloc, source, from, room - 1)?;
     let pointers = stars(alloc, source, specs.next)?;
@@ -140,6 +144,7 @@ fn parameter_name(source: &Source, at: usize) -> Result<Taken<Option<RawName>>, 
     ensures bounds { IsRowBounded 0 source.now.tokens.now at result }
     ensures name { ParameterNameAnswer source.now.names.now source.now.tokens.now at result }
     ensures placed { IfOk result (λ taken. IsNamePlaced taken.tree (drop at source.now.tokens.now)) }
+    ensures apt { IsAnswerApt Scope.File source.now.tokens.now result }
 {
     if is_mark(source, at, Mark::OpenParenthesis) {
         return Err(refuse_but(source, at, Scope::File, Mark::OpenParenthesis));

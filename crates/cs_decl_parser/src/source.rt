@@ -1,17 +1,20 @@
 //! Tokens by their numbers, and why they are refused.
-ghost use Rattle.std.specs.Prelude.{◌≡◌, ◌<◌, ◌↔◌, length, drop, false, IsSome, IsTrue};
+ghost use Rattle.std.specs.Prelude.{◌≡◌, ◌<◌, ◌↔◌, List, length, drop, false, IsSome, IsTrue};
 ghost use Rattle.std.specs.Option.{option_copied};
+ghost use Rattle.cs_ast.specs.declared.token.Token.{Token as Lexed};
 ghost use Rattle.cs_ast.specs.declared.token.TokenKind.TheVariants as token;
-ghost use Rattle.cs_grammar.specs.FirstTokens.{begins_type as starts_type, keyword_begins_type};
+ghost use Rattle.cs_grammar.specs.FirstTokens.{begins_type as starts_type};
 ghost use Rattle.cs_grammar.specs.Places.{StandsAt};
-ghost use Rattle.cs_expr_parser.specs.Positions.{kind_or_end, mark_of as mark_of_kind, keyword_of as keyword_of_kind, name_of as name_of_kind};
+ghost use Rattle.cs_expr_parser.specs.Positions.{kind_or_end, mark_of, keyword_of, name_of};
 ghost use Rattle.cs_grammar.specs.declared.refusal.Reason.TheVariants.{TooDeep};
 ghost use Rattle.cs_decl_parser.specs.declared.stop.Stop.TheVariants as stop;
+ghost use Rattle.cs_decl_parser.specs.Aptness.{may_be_out, IsApt, IsStopApt};
 ghost use Rattle.cs_decl_parser.specs.DeclarationAnswers.{RefusesBehind};
 ghost use Rattle.cs_decl_parser.specs.Reasons.{is_left_out as left_out, plain_reason, RefusesBut};
 
 use crate::stop::Stop;
 use cs_ast::{Keyword, Mark, Place, Token, TokenKind};
+use cs_expr_parser as tokens;
 use cs_grammar::{Reason, TypedefNames};
 use cs_names::Name;
 
@@ -31,24 +34,11 @@ pub enum Scope {
 }
 
 /// The mark that stands at a number, if one does.
-#[tactic(auto, using(std::proofs::lemmas::Option::slice_get_within))]
 pub fn mark_at(source: &Source, at: usize) -> Option<Mark>
-    ensures mark { result ≡ mark_of_kind (kind_or_end source.now.tokens.now at) }
+    ensures mark { result ≡ mark_of (kind_or_end source.now.tokens.now at) }
     ensures within { IsSome result → at < length source.now.tokens.now }
 {
-    match source.tokens.get(at) {
-        Some(token) => mark_of(&token.kind),
-        None => None,
-    }
-}
-
-fn mark_of(kind: &TokenKind) -> Option<Mark>
-    ensures { result ≡ mark_of_kind kind.now }
-{
-    match kind {
-        TokenKind::Mark(mark) => Some(*mark),
-        _ => None,
-    }
+    tokens::mark_at(source.tokens, at)
 }
 
 /// Whether this mark stands at a number.
@@ -56,28 +46,15 @@ pub fn is_mark(source: &Source, at: usize, mark: Mark) -> bool
     ensures mark { IsTrue result ↔ (kind_or_end source.now.tokens.now at ≡ token.Mark mark) }
     ensures within { IsTrue result → at < length source.now.tokens.now }
 {
-    mark_at(source, at) == Some(mark)
+    tokens::is_mark(source.tokens, at, mark)
 }
 
 /// The keyword that stands at a number, if one does.
-#[tactic(auto, using(std::proofs::lemmas::Option::slice_get_within))]
 pub fn keyword_at(source: &Source, at: usize) -> Option<Keyword>
-    ensures keyword { result ≡ keyword_of_kind (kind_or_end source.now.tokens.now at) }
+    ensures keyword { result ≡ keyword_of (kind_or_end source.now.tokens.now at) }
     ensures within { IsSome result → at < length source.now.tokens.now }
 {
-    match source.tokens.get(at) {
-        Some(token) => keyword_of(&token.kind),
-        None => None,
-    }
-}
-
-fn keyword_of(kind: &TokenKind) -> Option<Keyword>
-    ensures { result ≡ keyword_of_kind kind.now }
-{
-    match kind {
-        TokenKind::Keyword(keyword) => Some(*keyword),
-        _ => None,
-    }
+    tokens::keyword_at(source.tokens, at)
 }
 
 /// Whether this keyword stands at a number.
@@ -89,55 +66,18 @@ pub fn is_keyword(source: &Source, at: usize, keyword: Keyword) -> bool
 }
 
 /// The name that stands at a number, if one does.
-#[tactic(auto, using(std::proofs::lemmas::Option::slice_get_within))]
 pub fn name_at<'a>(source: &Source<'a>, at: usize) -> Option<&'a Name>
-    ensures name { option_copied result ≡ name_of_kind (kind_or_end source.now.tokens.now at) }
+    ensures name { option_copied result ≡ name_of (kind_or_end source.now.tokens.now at) }
     ensures within { IsSome result → at < length source.now.tokens.now }
 {
-    match source.tokens.get(at) {
-        Some(token) => name_of(&token.kind),
-        None => None,
-    }
-}
-
-fn name_of(kind: &TokenKind) -> Option<&Name>
-    ensures { option_copied result ≡ name_of_kind kind.now }
-{
-    match kind {
-        TokenKind::Name(name) => Some(name),
-        _ => None,
-    }
+    tokens::name_at(source.tokens, at)
 }
 
 /// Whether a type without `static` may begin with the token at a number.
 pub fn begins_type(source: &Source, at: usize) -> bool
     ensures { result ≡ starts_type source.now.names.now (kind_or_end source.now.tokens.now at) }
 {
-    match source.tokens.get(at) {
-        Some(token) => is_type_start(&token.kind, source.names),
-        None => false,
-    }
-}
-
-fn is_type_start(kind: &TokenKind, names: &TypedefNames) -> bool
-    ensures { result ≡ starts_type names.now kind.now }
-{
-    match kind {
-        TokenKind::Name(name) => names.contains(name),
-        TokenKind::Keyword(keyword) => is_type_keyword(*keyword),
-        _ => false,
-    }
-}
-
-fn is_type_keyword(keyword: Keyword) -> bool
-    ensures { result ≡ keyword_begins_type keyword }
-{
-    match keyword {
-        Keyword::Const | Keyword::Void | Keyword::Struct | Keyword::Enum => true,
-        Keyword::Char | Keyword::Short | Keyword::Int => true,
-        Keyword::Long | Keyword::Signed | Keyword::Unsigned => true,
-        _ => false,
-    }
+    tokens::begins_type(source.tokens, source.names, at)
 }
 
 /// Whether the token at a number is left out wherever it stands, outside expressions, in this scope.
@@ -163,8 +103,10 @@ fn is_left_out_kind(kind: &TokenKind, scope: Scope) -> bool
 }
 
 /// Why the token at a number is refused where no tree of any height goes on with it.
+#[tactic(auto, using(crate::proofs::AptReasons::always_apt, crate::proofs::AptReasons::syntax_apt))]
 pub fn reason_at(source: &Source, at: usize, scope: Scope) -> Reason
-    ensures { result ≡ plain_reason scope (kind_or_end source.now.tokens.now at) }
+    ensures is { result ≡ plain_reason scope (kind_or_end source.now.tokens.now at) }
+    ensures apt { IsApt scope (kind_or_end source.now.tokens.now at) result }
 {
     if is_left_out(source, at, scope) {
         Reason::LeftOut
@@ -175,15 +117,18 @@ pub fn reason_at(source: &Source, at: usize, scope: Scope) -> Reason
 
 /// The refusal of the token at a number, with which no tree of any height goes on.
 pub fn refuse(source: &Source, at: usize, scope: Scope) -> Stop
-    ensures { result ≡ stop.Refused at (plain_reason scope (kind_or_end source.now.tokens.now at)) }
+    ensures is { result ≡ stop.Refused at (plain_reason scope (kind_or_end source.now.tokens.now at)) }
+    ensures apt { IsStopApt scope source.now.tokens.now result }
 {
     Stop::Refused(at, reason_at(source, at, scope))
 }
 
 /// The same, where besides a mark is left out.
+#[tactic(auto, using(crate::proofs::AptReasons::left_apt))]
 pub fn refuse_but(source: &Source, at: usize, scope: Scope, left_out: Mark) -> Stop
     ensures reason { RefusesBut left_out scope at (kind_or_end source.now.tokens.now at) result }
     ensures plain { RefusesBehind at false result }
+    ensures apt { IsTrue (may_be_out scope (token.Mark left_out)) → IsStopApt scope source.now.tokens.now result }
 {
     if is_mark(source, at, left_out) {
         return Stop::Refused(at, Reason::LeftOut);
@@ -192,8 +137,10 @@ pub fn refuse_but(source: &Source, at: usize, scope: Scope, left_out: Mark) -> S
 }
 
 /// The refusal of the token at a number, with which only trees that are too high go on.
+#[tactic(auto, using(crate::proofs::AptReasons::deep_apt))]
 pub fn refuse_deep(at: usize) -> Stop
-    ensures { result ≡ stop.Refused at TooDeep }
+    ensures is { result ≡ stop.Refused at TooDeep }
+    ensures apt { (scope : Scope) (tokens : List Lexed) → IsStopApt scope tokens result }
 {
     Stop::Refused(at, Reason::TooDeep)
 }
@@ -203,6 +150,5 @@ pub fn place_at(source: &Source, at: usize) -> Place
     requires { at < length source.now.tokens.now }
     ensures { StandsAt result (drop at source.now.tokens.now) }
 {
-    let token = &source.tokens[at];
-    token.place
+    tokens::place_at(source.tokens, at)
 }

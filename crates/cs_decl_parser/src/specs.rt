@@ -11,6 +11,7 @@ ghost use Rattle.cs_decl_parser.specs.DeclarationAnswers.{constant_row};
 ghost use Rattle.cs_decl_parser.specs.SpecWords.{begins_words, name_in, number_behind, enum_of, IsTagKeyword, HasNoTag, IsTagged, IsOpened, IsSpecOf, IsStatic, PlainAnswer, ElementAnswer, SpecAnswer, SpecsAnswer};
 ghost use Rattle.cs_decl_parser.specs.FilePlaces.{in_body, AreInRow, IsNamePlaced, IsSpecPlaced, IsConstantPlaced, HasSpecPlaces};
 ghost use Rattle.cs_decl_parser.specs.SpecPlaces.{place_in, IsWordPlaced, IsWordThere, AreGroupsPlaced};
+ghost use Rattle.cs_decl_parser.specs.Aptness.{IsAnswerApt};
 
 use crate::constants::{ConstantList, constants};
 use crate::members::members;
@@ -60,6 +61,7 @@ pub fn specs(
     ensures bounds { IsBounded room source.now.tokens.now from result }
     ensures parsed { SpecsAnswer source.now.names.now room source.now.tokens.now source.now.end from result }
     ensures placed { IfOk result (λ taken. HasSpecPlaces taken.tree (drop from source.now.tokens.now)) }
+    ensures apt { IsAnswerApt Scope.File source.now.tokens.now result }
 {
     let mut words = Vec::new(alloc);
     let mut tag = None;
@@ -110,6 +112,7 @@ fn word_at(
     ensures bounds { IsWordBounded room source.now.tokens.now at result }
     ensures word { SpecAnswer source.now.names.now room source.now.tokens.now source.now.end at so_far result }
     ensures placed { IfOk result (IsWordThere source.now.tokens.now at so_far) }
+    ensures apt { IsAnswerApt Scope.File source.now.tokens.now result }
 {
     if is_keyword(source, at, Keyword::Static) {
         return Ok(Some(static_word(at, so_far)));
@@ -155,6 +158,7 @@ pub fn plain_word(source: &Source, at: usize, so_far: TypeSoFar) -> Result<Optio
     ensures bounds { IsWordBounded 1 source.now.tokens.now at result }
     ensures word { PlainAnswer source.now.names.now source.now.tokens.now at so_far result }
     ensures placed { IfOk result (IsWordThere source.now.tokens.now at so_far) }
+    ensures apt { IsAnswerApt Scope.Block source.now.tokens.now result }
 {
     let Some(word) = type_word_at(source, at)? else {
         return Ok(None);
@@ -181,6 +185,7 @@ fn tagged(alloc: Global, source: &Source, at: usize, room: u32) -> Result<NextWo
     ensures bounds { IsNextBounded room source.now.tokens.now at result }
     ensures element { ElementAnswer source.now.names.now room source.now.tokens.now source.now.end at result }
     ensures placed { IfOk result (IsWordPlaced source.now.tokens.now at) }
+    ensures apt { IsAnswerApt Scope.File source.now.tokens.now result }
 {
     let tag = any_name_at(source, at + 1)?;
     let behind = behind_tag(at, &tag);
@@ -243,6 +248,7 @@ fn with_body(
     ensures bounds { IsNextBounded room source.now.tokens.now at result }
     ensures element { ElementAnswer source.now.names.now room source.now.tokens.now source.now.end at result }
     ensures placed { IsNamePlaced tag (drop (at + 1) source.now.tokens.now) → IfOk result (IsWordPlaced source.now.tokens.now at) }
+    ensures apt { IsAnswerApt Scope.File source.now.tokens.now result }
 {
     if is_keyword(source, at, Keyword::Struct) {
         let members = members(alloc, source, brace + 1, room - 1)?;

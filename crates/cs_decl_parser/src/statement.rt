@@ -12,6 +12,7 @@ ghost use Rattle.cs_decl_parser.specs.Forms.{form_of, is_labelled, IsJump};
 ghost use Rattle.cs_decl_parser.specs.FilePlaces.{ArePartsPlaced};
 ghost use Rattle.cs_decl_parser.specs.Nodes.{IsNode};
 ghost use Rattle.cs_decl_parser.specs.StatementPlaces.{HasStatementPlaces};
+ghost use Rattle.cs_decl_parser.specs.Aptness.{IsAnswerApt};
 
 use crate::block::block;
 use crate::branches::{if_statement, switch_statement};
@@ -40,6 +41,7 @@ pub fn statement(
     ensures bounds { IsBounded room source.now.tokens.now from result }
     ensures parsed { Answers (Sentences source.now.names.now) statement_of room source.now.tokens.now source.now.end from result }
     ensures placed { IfOk result (λ taken. HasStatementPlaces taken.tree (drop from source.now.tokens.now)) }
+    ensures apt { IsAnswerApt Scope.Block source.now.tokens.now result }
 {
     let form = form_at(source, from);
     if room < form.least_height() {
@@ -82,6 +84,7 @@ fn label(alloc: Global, source: &Source, from: usize, room: u32) -> Result<Taken
     ensures bounds { IsBounded room source.now.tokens.now from result }
     ensures parsed { Answers (Sentences source.now.names.now) statement_of room source.now.tokens.now source.now.end from result }
     ensures placed { IfOk result (λ taken. HasStatementPlaces taken.tree (drop from source.now.tokens.now)) }
+    ensures apt { IsAnswerApt Scope.Block source.now.tokens.now result }
 {
     let Some(name) = any_name_at(source, from)? else {
         return Err(refuse(source, from, Scope::Block));
@@ -99,6 +102,7 @@ fn run(alloc: Global, source: &Source, from: usize, room: u32) -> Result<Taken<R
     ensures bounds { IsBounded room source.now.tokens.now from result }
     ensures parsed { Answers (Sentences source.now.names.now) statement_of room source.now.tokens.now source.now.end from result }
     ensures placed { IfOk result (λ taken. HasStatementPlaces taken.tree (drop from source.now.tokens.now)) }
+    ensures apt { IsAnswerApt Scope.Block source.now.tokens.now result }
 {
     let (level, closing) = (ExprLevel::Expr, Mark::Semicolon);
     let value = closed(alloc, source, from, room.saturating_sub(1), level, closing)?;
@@ -115,6 +119,7 @@ fn goto(source: &Source, from: usize) -> Result<Taken<RawStmt>, Stop>
     ensures bounds { IsBounded 1 source.now.tokens.now from result }
     ensures parsed { (room : ℕ) → 1 ≤ room → Answers (Sentences source.now.names.now) statement_of room source.now.tokens.now source.now.end from result }
     ensures placed { IfOk result (λ taken. HasStatementPlaces taken.tree (drop from source.now.tokens.now)) }
+    ensures apt { IsAnswerApt Scope.Block source.now.tokens.now result }
 {
     let Some(name) = any_name_at(source, from + 1)? else {
         return Err(refuse(source, from + 1, Scope::Block));
@@ -133,6 +138,7 @@ fn jump(source: &Source, from: usize, kind: RawStmtKind) -> Result<Taken<RawStmt
     ensures bounds { IsBounded 1 source.now.tokens.now from result }
     ensures parsed { (room : ℕ) → 1 ≤ room → Answers (Sentences source.now.names.now) statement_of room source.now.tokens.now source.now.end from result }
     ensures placed { IfOk result (λ taken. HasStatementPlaces taken.tree (drop from source.now.tokens.now)) }
+    ensures apt { IsAnswerApt Scope.Block source.now.tokens.now result }
 {
     if !is_mark(source, from + 1, Mark::Semicolon) {
         return Err(refuse(source, from + 1, Scope::Block));
@@ -154,6 +160,7 @@ fn return_statement(
     ensures bounds { IsBounded room source.now.tokens.now from result }
     ensures parsed { Answers (Sentences source.now.names.now) statement_of room source.now.tokens.now source.now.end from result }
     ensures placed { IfOk result (λ taken. HasStatementPlaces taken.tree (drop from source.now.tokens.now)) }
+    ensures apt { IsAnswerApt Scope.Block source.now.tokens.now result }
 {
     let (level, closing) = (ExprLevel::Expr, Mark::Semicolon);
     let value = closed_if_any(alloc, source, from + 1, room - 1, level, closing)?;

@@ -1,5 +1,5 @@
-mod Standing
-mod Stopping
+pub mod Standing
+pub mod Stopping
 mod RowsOfTrees
 mod Closings
 mod Suffixes
@@ -13,8 +13,8 @@ mod SitesOfLevels
 mod SitesOfPrefixes
 mod ProgramRows
 mod TypesInside
-mod WordsBegun
-mod SitesOfWords
+pub mod WordsBegun
+pub mod SitesOfWords
 mod SitesOfChains
 mod SitesOfRows
 mod SitesOfTypes

@@ -344,7 +344,7 @@ whole_named names (word.Enum tag) w = refl
 whole_named names word.Const w = absurd cc
 whole_named names (word.Integer k) w = absurd cc
 
-some_type : (names : Names) (so_far : TypeSoFar) (words : List TypeWord) → Describes names so_far words → names_some so_far ≡ true → is_type names words ≡ true
+pub some_type : (names : Names) (so_far : TypeSoFar) (words : List TypeWord) → Describes names so_far words → names_some so_far ≡ true → is_type names words ≡ true
 some_type names Nothing words d some = absurd cc
 some_type names (Integers all) words (first, others, named, are) some = ap (names_type names) named ∙ integers_named names all first others are
 some_type names Whole words (only, named, whole) some = ap (names_type names) named ∙ whole_named names only whole

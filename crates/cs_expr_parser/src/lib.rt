@@ -19,3 +19,4 @@ mod unary;
 
 pub use answer::{ExprLevel, Phrase};
 pub use parser::expression;
+pub use tokens::{begins_type, is_mark, keyword_at, mark_at, name_at, place_at};

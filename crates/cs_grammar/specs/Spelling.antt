@@ -35,6 +35,10 @@ abbrev pub left_out_spelling : TokenKind → List ℕ
 left_out_spelling (token.LeftOut word) = word_spelling word
 left_out_spelling (token.Mark mark.Ellipsis) = codes "..."
 left_out_spelling (token.Mark mark.OpenBrace) = codes "{"
+left_out_spelling (token.Mark mark.OpenParenthesis) = codes "("
+left_out_spelling (token.Mark mark.OpenBracket) = codes "["
+left_out_spelling (token.Mark mark.Dot) = codes "."
+left_out_spelling (token.Mark mark.Colon) = codes ":"
 left_out_spelling (token.Keyword keyword.Static) = codes "static"
 left_out_spelling (token.Keyword keyword.Typedef) = codes "typedef"
 left_out_spelling other = []

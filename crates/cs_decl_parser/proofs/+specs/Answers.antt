@@ -24,6 +24,8 @@ use Rattle.cs_decl_parser.specs.SpecPlaces.{IsWordThere, IsGroupPlaced, group_te
 use Rattle.cs_decl_parser.proofs.PlacingSpecs.{SpecsPlaced, specs_begun, specs_go_on, static_there, tagged_placed, body_begins, struct_placed, enum_placed, group_framed, declarators_behind}
 use Rattle.cs_decl_parser.proofs.Placing.{SidePlaced, side_begun, side_goes_on}
 use Rattle.cs_decl_parser.proofs.MemberSites.{member_absent, member_full, member_specs_stop, member_list_stops, member_taken, MembersSoFar, members_none, member_more, member_stops, members_taken}
+use Rattle.cs_decl_parser.specs.declared.source.Scope.TheVariants as scope_of
+use Rattle.cs_decl_parser.proofs.AptReasons.{answer_apt}
 use Rattle.cs_decl_parser.proofs.+specs.Goals as goal
 
 pub specs::specs-words-init : goal.specs::specs-words-init
@@ -64,7 +66,7 @@ specs::specs-returns-in_err-found-clause-parsed t c =
 pub specs::specs-returns-then-not-names_type-clause-parsed : goal.specs::specs-returns-then-not-names_type-clause-parsed
 specs::specs-returns-then-not-names_type-clause-parsed t c =
     let n = (subst (λ (x : Option NextWord). SpecAnswer c.args.source.now.names.now c.args.room c.args.source.now.tokens.now c.args.source.now.end c.words.next c.words.so_far (Ok x)) c.in_default.is c.in_ok-found.ensures.word) in
-    specs_stop c.args.source.now.names.now c.args.room c.requires.some c.args.source.now.tokens.now c.args.source.now.end c.args.from c.words.next c.words.so_far c.words.words.items c.words.height c.refuse.result c.words.invariant.low c.words.invariant.so_far (sym c.names_type.ensures ∙ c.if-not-names_type.true) n.0 n.1 c.refuse.ensures
+    specs_stop c.args.source.now.names.now c.args.room c.requires.some c.args.source.now.tokens.now c.args.source.now.end c.args.from c.words.next c.words.so_far c.words.words.items c.words.height c.refuse.result c.words.invariant.low c.words.invariant.so_far (sym c.names_type.ensures ∙ c.if-not-names_type.true) n.0 n.1 c.refuse.ensures.is
 
 pub specs::specs-returns-clause-parsed : goal.specs::specs-returns-clause-parsed
 specs::specs-returns-clause-parsed t c =
@@ -143,7 +145,7 @@ pub specs::with_body-returns-then-room-lt2-clause-element : goal.specs::with_bod
 specs::with_body-returns-then-room-lt2-clause-element t c =
     let o = c.requires.opened in
     let f : o.is_struct ≡ false = same_struct o.is_struct false (kind_or_end c.args.source.now.tokens.now c.args.at) o.stands ((λ e. absurd (false≢true e)), (λ k. sym c.if-is_keyword.false ∙ c.is_keyword.ensures.keyword.1 k)) in
-    subst (ElementStops c.args.source.now.names.now c.args.room c.args.source.now.tokens.now c.args.source.now.end c.args.at) (sym c.refuse_deep.ensures)
+    subst (ElementStops c.args.source.now.names.now c.args.room c.args.source.now.tokens.now c.args.source.now.end c.args.at) (sym c.refuse_deep.ensures.is)
     (enum_little c.args.source.now.names.now c.args.room c.requires.some c.if-room-lt2.true (name_in c.args.tag) c.args.source.now.tokens.now c.args.source.now.end c.args.at c.args.brace (subst (λ (b : Bool). Spells c.args.source.now.tokens.now c.args.at c.args.brace (λ rest. tag_keyword b ∷ name_text (name_in c.args.tag) rest)) f o.spelled) o.opening)
 
 pub specs::tagged-with_body-requires : goal.specs::tagged-with_body-requires
@@ -167,15 +169,15 @@ specs::tagged-returns-in-Some-clause-element t c =
 
 pub specs::tagged-returns-in-None-clause-element : goal.specs::tagged-returns-in-None-clause-element
 specs::tagged-returns-in-None-clause-element t c =
-    untagged_stops c.args.source.now.names.now c.args.room c.requires.some c.args.source.now.tokens.now c.args.source.now.end c.args.at c.behind_tag-behind.result c.in_ok-tag.tag c.in-None.is c.requires.stands c.in_ok-tag.ensures.name c.behind_tag-behind.ensures (λ b. false≢true (sym c.if-is_mark.false ∙ c.is_mark.ensures.mark.1 b)) c.refuse.result c.refuse.ensures
+    untagged_stops c.args.source.now.names.now c.args.room c.requires.some c.args.source.now.tokens.now c.args.source.now.end c.args.at c.behind_tag-behind.result c.in_ok-tag.tag c.in-None.is c.requires.stands c.in_ok-tag.ensures.name c.behind_tag-behind.ensures (λ b. false≢true (sym c.if-is_mark.false ∙ c.is_mark.ensures.mark.1 b)) c.refuse.result c.refuse.ensures.is
 
 pub members::member-returns-then-not-begins_specs-clause-parsed : goal.members::member-returns-then-not-begins_specs-clause-parsed
 members::member-returns-then-not-begins_specs-clause-parsed t c =
-    member_absent c.args.source.now.names.now c.args.room c.args.source.now.tokens.now c.args.source.now.end c.args.from c.refuse.result c.requires.within (sym c.begins_specs.ensures ∙ c.if-not-begins_specs.true) c.refuse.ensures
+    member_absent c.args.source.now.names.now c.args.room c.args.source.now.tokens.now c.args.source.now.end c.args.from c.refuse.result c.requires.within (sym c.begins_specs.ensures ∙ c.if-not-begins_specs.true) c.refuse.ensures.is
 
 pub members::member-returns-then-room-lt2-clause-parsed : goal.members::member-returns-then-room-lt2-clause-parsed
 members::member-returns-then-room-lt2-clause-parsed t c =
-    member_full c.args.source.now.names.now c.args.room c.args.source.now.tokens.now c.args.source.now.end c.args.from c.refuse_deep.result c.requires.within c.if-room-lt2.true (sym c.begins_specs.ensures ∙ c.if-not-begins_specs.false) c.refuse_deep.ensures
+    member_full c.args.source.now.names.now c.args.room c.args.source.now.tokens.now c.args.source.now.end c.args.from c.refuse_deep.result c.requires.within c.if-room-lt2.true (sym c.begins_specs.ensures ∙ c.if-not-begins_specs.false) c.refuse_deep.ensures.is
 
 pub members::member-returns-in_err-specs-clause-parsed : goal.members::member-returns-in_err-specs-clause-parsed
 members::member-returns-in_err-specs-clause-parsed t c =
@@ -239,3 +241,6 @@ members::members-returns-clause-parsed t c =
 
 pub members::members-returns-clause-placed : goal.members::members-returns-clause-placed
 members::members-returns-clause-placed t c = c.members.invariant.placed.row
+
+pub specs::word_at-returns-then-not-begins_tagged-clause-apt : goal.specs::word_at-returns-then-not-begins_tagged-clause-apt
+specs::word_at-returns-then-not-begins_tagged-clause-apt t c = answer_apt scope_of.File c.args.source.now.tokens.now c.plain_word.result c.plain_word.ensures.apt

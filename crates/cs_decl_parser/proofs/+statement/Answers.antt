@@ -1,11 +1,9 @@
-use Rattle.std.proofs.Common.{◌≡◌, ℕ, ◌+◌, ◌-◌, ◌≤◌, ◌<◌, inl, inr, Bool, true, false, List, [], drop, Option, Result, Ok, Err, refl, sym, ap, ◌∙◌, subst, arith, rules}
+use Rattle.std.proofs.Common.{◌≡◌, ℕ, ◌+◌, ◌<◌, inl, inr, drop, Option, Err, refl, sym, ap, ◌∙◌, subst, arith, rules}
 use Rattle.std.proofs.lemmas.Bool.{false≢true}
 use Rattle.cs_ast.specs.declared.raw.name.RawName.{RawName}
 use Rattle.cs_ast.specs.RawStatementView.{sentence, statement_of, item, switch_item}
 use Rattle.cs_ast.specs.declared.raw.statement.RawStmtKind.TheVariants as kind
-use Rattle.cs_ast.specs.declared.token.TokenKind.TheVariants as token
 use Rattle.cs_grammar.specs.FileClasses.{Sentences, BlockItems, SwitchParts, SwitchRows}
-use Rattle.cs_decl_parser.specs.declared.stop.Stop.TheVariants as stop
 use Rattle.cs_decl_parser.specs.declared.form.Form.{Form}
 use Rattle.cs_decl_parser.specs.declared.form.Form.TheVariants as form
 use Rattle.cs_expr_parser.specs.Positions.{kind_or_end}
@@ -73,7 +71,7 @@ loops::do_statement-returns-in_err-body-clause-parsed t c =
 
 pub loops::do_statement-returns-then-not-is_keyword-clause-parsed : goal.loops::do_statement-returns-then-not-is_keyword-clause-parsed
 loops::do_statement-returns-then-not-is_keyword-clause-parsed t c =
-    do_while_missing c.args.source.now.names.now c.args.room c.args.source.now.tokens.now c.args.source.now.end c.args.from c.in_ok-body.body c.refuse.result c.requires.enough c.requires.stands c.in_ok-body.ensures.parsed (λ k. false≢true (sym c.if-not-is_keyword.true ∙ c.is_keyword.ensures.keyword.1 k)) c.refuse.ensures
+    do_while_missing c.args.source.now.names.now c.args.room c.args.source.now.tokens.now c.args.source.now.end c.args.from c.in_ok-body.body c.refuse.result c.requires.enough c.requires.stands c.in_ok-body.ensures.parsed (λ k. false≢true (sym c.if-not-is_keyword.true ∙ c.is_keyword.ensures.keyword.1 k)) c.refuse.ensures.is
 
 pub loops::do_statement-returns-in_err-test-clause-parsed : goal.loops::do_statement-returns-in_err-test-clause-parsed
 loops::do_statement-returns-in_err-test-clause-parsed t c =
@@ -83,7 +81,7 @@ loops::do_statement-returns-in_err-test-clause-parsed t c =
 
 pub loops::do_statement-returns-then-not-is_mark-clause-parsed : goal.loops::do_statement-returns-then-not-is_mark-clause-parsed
 loops::do_statement-returns-then-not-is_mark-clause-parsed t c =
-    do_semicolon_missing c.args.source.now.names.now c.args.room c.args.source.now.tokens.now c.args.source.now.end c.args.from c.in_ok-body.body c.in_ok-test.test c.refuse-then-not-is_mark.result c.requires.enough c.requires.stands c.in_ok-body.ensures.parsed (c.is_keyword.ensures.keyword.0 c.if-not-is_keyword.false) c.in_ok-test.ensures.parsed (λ k. false≢true (sym c.if-not-is_mark.true ∙ c.is_mark.ensures.mark.1 k)) c.refuse-then-not-is_mark.ensures
+    do_semicolon_missing c.args.source.now.names.now c.args.room c.args.source.now.tokens.now c.args.source.now.end c.args.from c.in_ok-body.body c.in_ok-test.test c.refuse-then-not-is_mark.result c.requires.enough c.requires.stands c.in_ok-body.ensures.parsed (c.is_keyword.ensures.keyword.0 c.if-not-is_keyword.false) c.in_ok-test.ensures.parsed (λ k. false≢true (sym c.if-not-is_mark.true ∙ c.is_mark.ensures.mark.1 k)) c.refuse-then-not-is_mark.ensures.is
 
 pub loops::do_statement-returns-clause-parsed : goal.loops::do_statement-returns-clause-parsed
 loops::do_statement-returns-clause-parsed t c =
@@ -124,14 +122,14 @@ statement::label-returns-clause-parsed t c =
 
 pub statement::statement-returns-then-room-least_height-clause-parsed : goal.statement::statement-returns-then-room-least_height-clause-parsed
 statement::statement-returns-then-room-least_height-clause-parsed t c =
-    statement_full c.args.source.now.names.now c.args.room c.args.source.now.tokens.now c.args.source.now.end c.args.from c.refuse_deep.result c.requires.within (subst (λ (f : Form). c.args.room < least f) c.form_at-form.ensures.form (subst (λ (n : ℕ). c.args.room < n) c.least_height.ensures c.if-room-least_height.true)) c.refuse_deep.ensures
+    statement_full c.args.source.now.names.now c.args.room c.args.source.now.tokens.now c.args.source.now.end c.args.from c.refuse_deep.result c.requires.within (subst (λ (f : Form). c.args.room < least f) c.form_at-form.ensures.form (subst (λ (n : ℕ). c.args.room < n) c.least_height.ensures c.if-room-least_height.true)) c.refuse_deep.ensures.is
 
 pub statement::statement-returns-in-Unlabelled-clause-parsed : goal.statement::statement-returns-in-Unlabelled-clause-parsed
 statement::statement-returns-in-Unlabelled-clause-parsed t c =
     let l : least c.form_at-form.result ≡ 2 = ap least c.in-Unlabelled.is in
     let h = c.least_height.ensures in
     let f = c.if-room-least_height.false in
-    unlabelled_stops c.args.source.now.names.now c.args.room c.args.source.now.tokens.now c.args.source.now.end c.args.from c.refuse.result (omega arith) (sym c.form_at-form.ensures.form ∙ c.in-Unlabelled.is) c.refuse.ensures
+    unlabelled_stops c.args.source.now.names.now c.args.room c.args.source.now.tokens.now c.args.source.now.end c.args.from c.refuse.result (omega arith) (sym c.form_at-form.ensures.form ∙ c.in-Unlabelled.is) c.refuse.ensures.is
 
 pub statement::statement-returns-in-Empty-clause-parsed : goal.statement::statement-returns-in-Empty-clause-parsed
 statement::statement-returns-in-Empty-clause-parsed t c =
@@ -226,7 +224,7 @@ branches::switch_statement-returns-in_err-value-clause-parsed t c =
 
 pub branches::switch_statement-returns-then-not-is_mark-clause-parsed : goal.branches::switch_statement-returns-then-not-is_mark-clause-parsed
 branches::switch_statement-returns-then-not-is_mark-clause-parsed t c =
-    switch_brace_missing c.args.source.now.names.now c.args.room c.args.source.now.tokens.now c.args.source.now.end c.args.from c.in_ok-value.value c.refuse.result c.requires.enough c.requires.stands c.in_ok-value.ensures.parsed (λ k. false≢true (sym c.if-not-is_mark.true ∙ c.is_mark.ensures.mark.1 k)) c.refuse.ensures
+    switch_brace_missing c.args.source.now.names.now c.args.room c.args.source.now.tokens.now c.args.source.now.end c.args.from c.in_ok-value.value c.refuse.result c.requires.enough c.requires.stands c.in_ok-value.ensures.parsed (λ k. false≢true (sym c.if-not-is_mark.true ∙ c.is_mark.ensures.mark.1 k)) c.refuse.ensures.is
 
 pub branches::switch_statement-returns-in_err-items-clause-parsed : goal.branches::switch_statement-returns-in_err-items-clause-parsed
 branches::switch_statement-returns-in_err-items-clause-parsed t c =

@@ -1,5 +1,5 @@
 -- Each return is the refusal of the first token, of the type or of the objects, or all were taken.
-use Rattle.std.proofs.Common.{◌≡◌, ℕ, ◌+◌, ◌-◌, Result, Ok, Err, refl, sym, ap, ◌∙◌, subst, arith, rules}
+use Rattle.std.proofs.Common.{◌≡◌, Err, refl, sym, subst, arith, rules}
 use Rattle.cs_decl_parser.specs.Answers.{ExactAnswers}
 use Rattle.cs_decl_parser.specs.Blocks.{Locals, local_of}
 use Rattle.cs_decl_parser.proofs.LocalSites.{local_none, local_type_stops, local_objects_stop, local_taken}
@@ -8,7 +8,7 @@ use Rattle.cs_decl_parser.proofs.block.declaration.Goals as goal
 
 pub returns-then-room-lt2-clause-parsed : goal.returns-then-room-lt2-clause-parsed
 returns-then-room-lt2-clause-parsed c =
-    local_none c.args.source.now.names.now c.args.room c.args.source.now.tokens.now c.args.source.now.end c.args.from c.refuse_deep.result c.requires.within c.if-room-lt2.true c.requires.typed c.refuse_deep.ensures
+    local_none c.args.source.now.names.now c.args.room c.args.source.now.tokens.now c.args.source.now.end c.args.from c.refuse_deep.result c.requires.within c.if-room-lt2.true c.requires.typed c.refuse_deep.ensures.is
 
 pub returns-in_err-specs-clause-parsed : goal.returns-in_err-specs-clause-parsed
 returns-in_err-specs-clause-parsed c =

@@ -1,8 +1,7 @@
-use Rattle.std.proofs.Common.{◌≡◌, ◌≤◌, ◌<◌, Err, Ok, List, [], Option, None, refl, sym, ap, ◌∙◌, subst, arith, rules}
+use Rattle.std.proofs.Common.{◌≡◌, Err, Ok, List, Option, None, refl, sym, ◌∙◌, subst, arith, rules}
 use Rattle.std.proofs.lemmas.Bool.{false≢true}
 use Rattle.cs_ast.specs.declared.raw.declaration.SpecWord.{SpecWord}
 use Rattle.cs_grammar.specs.declared.type_words.TypeSoFar.TheVariants.{Nothing}
-use Rattle.cs_expr_parser.specs.Positions.{kind_or_end}
 use Rattle.cs_decl_parser.specs.declared.specs.NextWord.{NextWord}
 use Rattle.cs_decl_parser.specs.SpecWords.{BlockSpecsAnswer, BlockWordAnswer}
 use Rattle.cs_decl_parser.proofs.BlockSpecSites.{WordsSoFar, words_none, word_more, words_stop, word_stops, words_taken}
@@ -41,7 +40,7 @@ returns-in_err-found-clause-parsed c =
 pub returns-then-not-names_type-clause-parsed : goal.returns-then-not-names_type-clause-parsed
 returns-then-not-names_type-clause-parsed c =
     words_stop c.args.source.now.names.now c.args.room c.requires.some c.args.source.now.tokens.now c.args.source.now.end c.args.from c.words.next c.words.so_far c.words.words.items c.refuse.result c.words.invariant.so_far (sym c.names_type.ensures ∙ c.if-not-names_type.true)
-    (subst (λ (x : Option NextWord). BlockWordAnswer c.args.source.now.names.now c.args.source.now.tokens.now c.words.next c.words.so_far (Ok x)) c.in_default.is c.in_ok-found.ensures.word) c.refuse.ensures
+    (subst (λ (x : Option NextWord). BlockWordAnswer c.args.source.now.names.now c.args.source.now.tokens.now c.words.next c.words.so_far (Ok x)) c.in_default.is c.in_ok-found.ensures.word) c.refuse.ensures.is
 
 pub returns-clause-parsed : goal.returns-clause-parsed
 returns-clause-parsed c =

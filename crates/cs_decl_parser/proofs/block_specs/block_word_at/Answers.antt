@@ -1,7 +1,7 @@
-use Rattle.std.proofs.Common.{◌≡◌, Err, Ok, Some, None, Result, refl, sym, ap, ◌∙◌, subst, rules}
+use Rattle.std.proofs.Common.{◌≡◌, Err, sym, ◌∙◌, subst, rules}
 use Rattle.cs_expr_parser.specs.Positions.{kind_or_end}
-use Rattle.cs_decl_parser.specs.SpecWords.{BlockWordAnswer, BlockTagAnswer}
-use Rattle.cs_decl_parser.proofs.StuckWords.{tag_unfit, fresh_nothing, block_word, block_error, block_plain}
+use Rattle.cs_decl_parser.specs.SpecWords.{BlockWordAnswer}
+use Rattle.cs_decl_parser.proofs.StuckWords.{tag_unfit, block_word, block_error, block_plain}
 use Rattle.cs_decl_parser.proofs.block_specs.block_word_at.Goals as goal
 
 pub returns-then-not-begins_tagged-clause-word : goal.returns-then-not-begins_tagged-clause-word

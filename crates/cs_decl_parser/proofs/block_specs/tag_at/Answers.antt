@@ -1,4 +1,4 @@
-use Rattle.std.proofs.Common.{◌≡◌, ◌+◌, drop, Option, refl, sym, ap, ◌∙◌, subst}
+use Rattle.std.proofs.Common.{◌+◌, drop, Option, refl, sym, ◌∙◌, subst}
 use Rattle.std.proofs.lemmas.Bool.{false≢true}
 use Rattle.cs_ast.specs.declared.raw.name.RawName.{RawName}
 use Rattle.cs_grammar.specs.declared.refusal.Reason.TheVariants.{LeftOut}
@@ -8,11 +8,13 @@ use Rattle.cs_decl_parser.specs.DeclarationAnswers.{IsNameAt}
 use Rattle.cs_decl_parser.proofs.StuckWords.{tag_taken, tag_unnamed, tag_braced}
 use Rattle.cs_decl_parser.specs.FilePlaces.{IsNamePlaced}
 use Rattle.cs_decl_parser.proofs.PlacingSpecs.{tagged_placed}
+use Rattle.cs_decl_parser.specs.declared.source.Scope.TheVariants as scope
+use Rattle.cs_decl_parser.proofs.AptReasons.{brace_apt}
 use Rattle.cs_decl_parser.proofs.block_specs.tag_at.Goals as goal
 
 pub returns-in_default-clause-tag : goal.returns-in_default-clause-tag
 returns-in_default-clause-tag c =
-    tag_unnamed c.args.source.now.names.now c.args.source.now.tokens.now c.args.at c.requires.stands (subst (λ (x : Option RawName). IsNameAt (λ name. Unit {0}) (kind_or_end c.args.source.now.tokens.now (c.args.at + 1)) x) c.in_default.is c.in_ok-tag.ensures.name) c.refuse_body.result c.refuse_body.ensures
+    tag_unnamed c.args.source.now.names.now c.args.source.now.tokens.now c.args.at c.requires.stands (subst (λ (x : Option RawName). IsNameAt (λ name. Unit {0}) (kind_or_end c.args.source.now.tokens.now (c.args.at + 1)) x) c.in_default.is c.in_ok-tag.ensures.name) c.refuse_body.result c.refuse_body.ensures.plain
 
 pub returns-then-is_mark-clause-tag : goal.returns-then-is_mark-clause-tag
 returns-then-is_mark-clause-tag c =
@@ -32,3 +34,6 @@ returns-clause-placed c =
     let k = c.requires.stands in
     tagged_placed c.args.source.now.tokens.now c.args.at k.0 c.in-Some.tag.name c.in-Some.tag.place c.without_body.result (c.without_body.ensures.word.one k.0 k.1) c.without_body.ensures.tag
     (subst (λ (x : Option RawName). IsNamePlaced x (drop (c.args.at + 1) c.args.source.now.tokens.now)) c.in-Some.is c.in_ok-tag.ensures.placed)
+
+pub returns-then-is_mark-clause-apt : goal.returns-then-is_mark-clause-apt
+returns-then-is_mark-clause-apt c = brace_apt scope.Block (kind_or_end c.args.source.now.tokens.now (c.args.at + 2)) LeftOut (c.is_mark.ensures.mark.0 c.if-is_mark.true)

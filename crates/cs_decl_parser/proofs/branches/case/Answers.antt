@@ -1,5 +1,5 @@
 -- Each return is the refusal of the word or of the value, or both were taken.
-use Rattle.std.proofs.Common.{◌≡◌, ℕ, ◌+◌, ◌-◌, Result, Ok, Err, refl, sym, ap, ◌∙◌, subst, arith, rules}
+use Rattle.std.proofs.Common.{◌≡◌, Err, refl, sym, subst, arith, rules}
 use Rattle.cs_ast.specs.RawStatementView.{switch_item}
 use Rattle.cs_grammar.specs.FileClasses.{SwitchParts}
 use Rattle.cs_decl_parser.specs.Answers.{Answers}
@@ -9,7 +9,7 @@ use Rattle.cs_decl_parser.proofs.branches.case.Goals as goal
 
 pub returns-then-room-eq0-clause-parsed : goal.returns-then-room-eq0-clause-parsed
 returns-then-room-eq0-clause-parsed c =
-    case_full c.args.source.now.names.now c.args.room c.args.source.now.tokens.now c.args.source.now.end c.args.from c.refuse_deep.result (let w = c.requires.within in omega arith) c.if-room-eq0.true c.requires.stands c.refuse_deep.ensures
+    case_full c.args.source.now.names.now c.args.room c.args.source.now.tokens.now c.args.source.now.end c.args.from c.refuse_deep.result (let w = c.requires.within in omega arith) c.if-room-eq0.true c.requires.stands c.refuse_deep.ensures.is
 
 pub returns-in_err-value-clause-parsed : goal.returns-in_err-value-clause-parsed
 returns-in_err-value-clause-parsed c =

@@ -1,12 +1,12 @@
 -- Each return is the refusal of the colon, or the word with it.
-use Rattle.std.proofs.Common.{◌≡◌, ℕ, ◌+◌, ◌-◌, Result, Ok, Err, refl, sym, ap, ◌∙◌, subst, arith, rules}
+use Rattle.std.proofs.Common.{refl, sym, ◌∙◌}
 use Rattle.std.proofs.lemmas.Bool.{false≢true}
 use Rattle.cs_decl_parser.proofs.BlockSites.{default_stops, default_taken}
 use Rattle.cs_decl_parser.proofs.branches.default.Goals as goal
 
 pub returns-then-not-is_mark-clause-parsed : goal.returns-then-not-is_mark-clause-parsed
 returns-then-not-is_mark-clause-parsed c =
-    λ room. default_stops c.args.source.now.names.now room c.args.source.now.tokens.now c.args.source.now.end c.args.from c.refuse.result c.requires.stands (λ k. false≢true (sym c.if-not-is_mark.true ∙ c.is_mark.ensures.mark.1 k)) c.refuse.ensures
+    λ room. default_stops c.args.source.now.names.now room c.args.source.now.tokens.now c.args.source.now.end c.args.from c.refuse.result c.requires.stands (λ k. false≢true (sym c.if-not-is_mark.true ∙ c.is_mark.ensures.mark.1 k)) c.refuse.ensures.is
 
 pub returns-clause-parsed : goal.returns-clause-parsed
 returns-clause-parsed c =

@@ -1,4 +1,4 @@
-use Rattle.std.proofs.Common.{drop, ◌≡◌, ℕ, ◌+◌, ◌-◌, ◌≤◌, ◌<◌, max, map, Bool, Err, List, [], ◌∷◌, ◌++◌, Option, refl, sym, ap, ◌∙◌, subst, arith, rules}
+use Rattle.std.proofs.Common.{drop, ◌≡◌, ◌-◌, Err, Option, refl, sym, ◌∙◌, subst, arith, rules}
 use Rattle.std.proofs.lemmas.Bool.{false≢true}
 use Rattle.cs_ast.specs.declared.raw.name.RawName.{RawName}
 use Rattle.cs_ast.specs.RawDeclarationView.{constant}
@@ -12,16 +12,19 @@ use Rattle.cs_decl_parser.proofs.ListSites.{constant_stops, lone_taken, lone_ful
 use Rattle.std.proofs.lemmas.List.{drop-drop}
 use Rattle.cs_grammar.specs.Places.{HasPlaces}
 use Rattle.cs_decl_parser.specs.FilePlaces.{IsNamePlaced}
+use Rattle.cs_decl_parser.specs.declared.source.Scope.TheVariants as scope
+use Rattle.cs_decl_parser.specs.Aptness.{IsUnclosedApt}
+use Rattle.cs_decl_parser.proofs.AptReasons.{apt_in, stop_apt}
 use Rattle.cs_decl_parser.proofs.constants.constant.Goals as goal
 
 pub returns-in_default-clause-parsed : goal.returns-in_default-clause-parsed
 returns-in_default-clause-parsed c =
-    constant_stops c.args.source.now.names.now c.args.room c.args.source.now.tokens.now c.args.source.now.end c.args.from File c.refuse.result c.requires.within (subst (λ (x : Option RawName). IsNameAt (IsFree c.args.source.now.names.now) (kind_or_end c.args.source.now.tokens.now c.args.from) x) c.in_default.is c.in_ok-name.ensures.name) c.refuse.ensures
+    constant_stops c.args.source.now.names.now c.args.room c.args.source.now.tokens.now c.args.source.now.end c.args.from File c.refuse.result c.requires.within (subst (λ (x : Option RawName). IsNameAt (IsFree c.args.source.now.names.now) (kind_or_end c.args.source.now.tokens.now c.args.from) x) c.in_default.is c.in_ok-name.ensures.name) c.refuse.ensures.is
 
 pub returns-then-not-is_mark-clause-parsed : goal.returns-then-not-is_mark-clause-parsed
 returns-then-not-is_mark-clause-parsed c =
     let n = subst (λ (x : Option RawName). IsNameAt (IsFree c.args.source.now.names.now) (kind_or_end c.args.source.now.tokens.now c.args.from) x) c.in-Some.is c.in_ok-name.ensures.name in
-    lone_taken c.args.source.now.names.now c.args.room (c.args.room - 1) (let some = c.requires.some in omega arith) c.args.source.now.tokens.now c.args.from c.in-Some.name.name n.0 n.1 (λ k. false≢true (sym c.if-not-is_mark.true ∙ c.is_mark.ensures.mark.1 k)) File c.lone.result c.lone.ensures.tree c.lone.ensures.height c.lone.ensures.next (c.lone.ensures.otherwise ∙ c.reason_at.ensures)
+    lone_taken c.args.source.now.names.now c.args.room (c.args.room - 1) (let some = c.requires.some in omega arith) c.args.source.now.tokens.now c.args.from c.in-Some.name.name n.0 n.1 (λ k. false≢true (sym c.if-not-is_mark.true ∙ c.is_mark.ensures.mark.1 k)) File c.lone.result c.lone.ensures.tree c.lone.ensures.height c.lone.ensures.next (c.lone.ensures.otherwise ∙ c.reason_at.ensures.is)
 
 pub returns-then-room-lt2-clause-parsed : goal.returns-then-room-lt2-clause-parsed
 returns-then-room-lt2-clause-parsed c =
@@ -54,3 +57,11 @@ pub returns-clause-placed : goal.returns-clause-placed
 returns-clause-placed c =
     let n = subst (λ (x : Option RawName). IsNamePlaced x (drop c.args.from c.args.source.now.tokens.now)) c.in-Some.is c.in_ok-name.ensures.placed in
     c.enumerator.ensures.placed (drop c.args.from c.args.source.now.tokens.now) n (subst (HasPlaces c.in_ok-value.value.tree) (sym (drop-drop 2 c.args.from c.args.source.now.tokens.now)) c.in_ok-value.ensures.placed)
+
+pub returns-in_err-value-clause-apt : goal.returns-in_err-value-clause-apt
+returns-in_err-value-clause-apt c =
+    let e : c.from_residual-in_err-value.result ≡ Err c.in_err-value.field-0.0 = search rules in
+    subst (IsUnclosedApt scope.File c.args.source.now.tokens.now) (sym e) (stop_apt scope.File c.args.source.now.tokens.now c.in_err-value.field-0.0 c.in_err-value.ensures.apt)
+
+pub returns-clause-apt : goal.returns-clause-apt
+returns-clause-apt c = apt_in scope.File (kind_or_end c.args.source.now.tokens.now c.in_ok-value.value.next) c.in_ok-value.value.otherwise c.in_ok-value.ensures.apt

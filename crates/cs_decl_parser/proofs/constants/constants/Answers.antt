@@ -1,4 +1,4 @@
-use Rattle.std.proofs.Common.{◌≡◌, ℕ, ◌+◌, ◌-◌, ◌≤◌, ◌<◌, max, map, Bool, Err, List, [], ◌∷◌, ◌++◌, Option, refl, sym, ap, ◌∙◌, subst, arith, rules}
+use Rattle.std.proofs.Common.{◌≡◌, ℕ, ◌+◌, max, map, Err, List, [], ◌∷◌, ◌++◌, refl, sym, ap, ◌∙◌, subst, arith, rules}
 use Rattle.std.proofs.lemmas.Bool.{false≢true}
 use Rattle.std.proofs.lemmas.List.{map-append}
 use Rattle.cs_ast.specs.declared.token.TokenKind.TheVariants as token
@@ -12,11 +12,14 @@ use Rattle.cs_expr_parser.specs.Positions.{kind_or_end}
 use Rattle.cs_expr_parser.specs.Parts.{is_deep}
 use Rattle.cs_decl_parser.specs.declared.stop.Stop.TheVariants as stop
 use Rattle.cs_decl_parser.specs.DeclarationAnswers.{ConstantsAnswer}
-use Rattle.cs_decl_parser.proofs.RowSites.{TrailingRow, trailing_first, trailing_next, trailing_first_stops, trailing_next_stops, trailing_taken, IsRowTaken, row_is_exact}
+use Rattle.cs_decl_parser.proofs.RowSites.{TrailingRow, trailing_first, trailing_next, trailing_first_stops, trailing_next_stops, trailing_taken, row_is_exact}
 use Rattle.cs_decl_parser.proofs.ListSites.{next_stands, list_unclosed}
 use Rattle.cs_grammar.specs.FileText.{constant_text}
 use Rattle.cs_decl_parser.specs.FilePlaces.{IsConstantPlaced}
 use Rattle.cs_decl_parser.proofs.Placing.{RowPlaced, row_begun, row_goes_on, row_placed, constant_framed}
+use Rattle.cs_decl_parser.specs.declared.source.Scope.TheVariants as scope
+use Rattle.cs_decl_parser.specs.Aptness.{IsApt}
+use Rattle.cs_decl_parser.proofs.ListSites.{unclosed_apt}
 use Rattle.cs_decl_parser.proofs.constants.constants.Goals as goal
 
 pub returns-in_err-last-clause-parsed : goal.returns-in_err-last-clause-parsed
@@ -33,6 +36,7 @@ constants-init c =
       onward = b.0;
       inside = b.1;
       low = b.2;
+      apt = c.in_ok-last.ensures.apt;
       placed =
           subst (λ (x : List RawEnumerator). RowPlaced IsConstantPlaced (λ e. constant_text (constant e)) c.args.source.now.tokens.now c.args.from x c.in_ok-last.last.tree c.in_ok-last.last.next) (sym c.new-list.ensures.items)
           (row_begun IsConstantPlaced (λ e. constant_text (constant e)) c.args.source.now.tokens.now c.args.from c.in_ok-last.last.tree c.in_ok-last.last.next t.spelled c.in_ok-last.ensures.placed);
@@ -61,6 +65,7 @@ constants-preserved c =
       onward = omega arith;
       inside = b.1;
       low = omega arith;
+      apt = c.in_ok-following.ensures.apt;
       placed = row_goes_on IsConstantPlaced (λ e. constant_text (constant e)) constant_framed c.args.source.now.tokens.now c.args.from c.constants.list.items c.push.new.self.items c.constants.last.tree c.constants.last.next c.in_ok-following.following.tree c.in_ok-following.following.next i.placed c.in_ok-push.ensures.items t.spelled c.in_ok-following.ensures.placed;
       so_far =
           subst (λ (x : List Constant). TrailingRow (Constants c.args.source.now.names.now) (token.Mark mark.CloseBrace) c.args.room c.args.source.now.tokens.now c.args.from x (constant c.in_ok-following.following.tree) c.in_ok-following.following.next (is_deep c.in_ok-following.following.otherwise) c.max-height.result) (sym all)
@@ -83,3 +88,9 @@ returns-clause-parsed c =
 pub returns-clause-placed : goal.returns-clause-placed
 returns-clause-placed c =
     row_placed IsConstantPlaced (λ e. constant_text (constant e)) c.args.source.now.tokens.now c.args.from c.constants.list.items _ c.constants.last.tree c.constants.last.next c.constants.invariant.placed c.in_ok-push-2.ensures.items
+
+pub returns-then-not-is_mark-clause-apt : goal.returns-then-not-is_mark-clause-apt
+returns-then-not-is_mark-clause-apt c =
+    subst (λ (n : ℕ). IsApt scope.File (kind_or_end c.args.source.now.tokens.now n) c.constants.last.otherwise) (sym c.closing_at-closing.ensures)
+    (unclosed_apt scope.File c.args.source.now.tokens.now c.constants.last.next c.constants.last.otherwise c.is_mark-comma.result c.is_mark-comma.ensures.mark.0 (sym c.goes_on.ensures.comma ∙ c.constants-test.false)
+    (λ k. false≢true (sym c.if-not-is_mark.true ∙ c.is_mark.ensures.mark.1 (ap (kind_or_end c.args.source.now.tokens.now) c.closing_at-closing.ensures ∙ k))) c.constants.invariant.apt)

@@ -8,6 +8,9 @@ use Rattle.cs_decl_parser.proofs.RowSites.{TrailingRow}
 use Rattle.cs_grammar.specs.FileText.{constant_text}
 use Rattle.cs_decl_parser.specs.FilePlaces.{IsConstantPlaced}
 use Rattle.cs_decl_parser.proofs.Placing.{RowPlaced}
+use Rattle.cs_expr_parser.specs.Positions.{kind_or_end}
+use Rattle.cs_decl_parser.specs.declared.source.Scope.TheVariants as scope
+use Rattle.cs_decl_parser.specs.Aptness.{IsApt}
 use Rattle.cs_decl_parser.proofs.constants.constants.Given as goal
 
 abbrev pub invariant-constants : goal.invariant-constants
@@ -15,6 +18,7 @@ invariant-constants l = record {
   onward : l.from < l.last.next;
   inside : l.last.next ≤ length l.source.tokens.now;
   low : l.height ≤ l.room;
+  apt : IsApt scope.File (kind_or_end l.source.tokens.now l.last.next) l.last.otherwise;
   placed : RowPlaced IsConstantPlaced (λ e. constant_text (constant e)) l.source.tokens.now l.from l.list.items l.last.tree l.last.next;
   so_far : TrailingRow (Constants l.source.names.now) (token.Mark mark.CloseBrace) l.room l.source.tokens.now l.from (map constant l.list.items) (constant l.last.tree) l.last.next (is_deep l.last.otherwise) l.height;
 }

@@ -1,8 +1,4 @@
-use Rattle.std.proofs.Common.{◌≡◌, ◌+◌, ℕ, Err, refl, sym, ap, ◌∙◌, subst, rules}
-use Rattle.cs_ast.specs.declared.token.TokenKind.TheVariants as token
-use Rattle.cs_ast.specs.declared.token.Mark.TheVariants as mark
-use Rattle.cs_decl_parser.specs.declared.declarator.Declares.TheVariants as declaring
-use Rattle.cs_decl_parser.specs.declared.declarator.Declares.{Declares}
+use Rattle.std.proofs.Common.{◌≡◌, ◌+◌, Err, sym, subst, rules}
 use Rattle.cs_decl_parser.specs.DeclarationAnswers.{BoundAnswer}
 use Rattle.cs_decl_parser.proofs.ExpressionSites.{bound_stops}
 use Rattle.cs_decl_parser.proofs.declarator.bound.Goals as goal

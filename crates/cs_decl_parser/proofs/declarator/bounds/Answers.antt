@@ -1,5 +1,4 @@
-use Rattle.std.proofs.Common.{◌≡◌, ℕ, ◌+◌, ◌≤◌, ◌<◌, max, Err, List, Option, refl, sym, ◌∙◌, subst, arith, rules}
-use Rattle.std.proofs.lemmas.Bool.{false≢true}
+use Rattle.std.proofs.Common.{◌≡◌, ℕ, max, Err, List, Option, refl, sym, ◌∙◌, subst, arith, rules}
 use Rattle.cs_ast.specs.declared.raw.expression.RawExpr.{RawExpr}
 use Rattle.cs_ast.specs.RawDeclarationView.{bounds_of}
 use Rattle.cs_decl_parser.specs.DeclarationAnswers.{BoundsAnswer}

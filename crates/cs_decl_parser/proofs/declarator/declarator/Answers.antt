@@ -1,6 +1,8 @@
-use Rattle.std.proofs.Common.{◌≡◌, Err, refl, sym, subst, rules}
+use Rattle.std.proofs.Common.{◌≡◌, Err, sym, subst, rules}
 use Rattle.cs_decl_parser.specs.DeclarationAnswers.{DeclaratorAnswers}
 use Rattle.cs_decl_parser.proofs.DeclaratorSites.{pointed_stops}
+use Rattle.cs_decl_parser.specs.Aptness.{IsAnswerApt}
+use Rattle.cs_decl_parser.proofs.AptReasons.{stop_apt}
 use Rattle.cs_decl_parser.proofs.declarator.declarator.Goals as goal
 
 pub returns-in_err-pointed-clause-parsed : goal.returns-in_err-pointed-clause-parsed
@@ -20,3 +22,8 @@ returns-clause-parsed c = c.in_ok-taken.ensures.parsed c.args.from c.in_ok-point
 
 pub returns-clause-placed : goal.returns-clause-placed
 returns-clause-placed c = c.in_ok-taken.ensures.placed c.args.from c.in_ok-pointed.ensures.parsed c.in_ok-pointed.ensures.placed
+
+pub returns-in_err-taken-clause-apt : goal.returns-in_err-taken-clause-apt
+returns-in_err-taken-clause-apt c =
+    let e : c.from_residual-in_err-taken.result ≡ Err c.in_err-taken.field-0.0 = search rules in
+    subst (IsAnswerApt c.args.scope c.args.source.now.tokens.now) (sym e) (stop_apt c.args.scope c.args.source.now.tokens.now c.in_err-taken.field-0.0 c.in_err-taken.ensures.apt)

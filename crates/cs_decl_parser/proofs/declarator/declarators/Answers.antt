@@ -1,4 +1,4 @@
-use Rattle.std.proofs.Common.{◌≡◌, ℕ, ◌+◌, ◌-◌, ◌≤◌, ◌<◌, max, map, Err, List, [], ◌∷◌, ◌++◌, refl, sym, ap, ◌∙◌, subst, arith, rules}
+use Rattle.std.proofs.Common.{◌≡◌, ℕ, ◌-◌, max, map, Err, List, [], ◌∷◌, ◌++◌, refl, sym, ap, ◌∙◌, subst, arith, rules}
 use Rattle.std.proofs.lemmas.Bool.{false≢true}
 use Rattle.std.proofs.lemmas.List.{map-append}
 use Rattle.cs_ast.specs.declared.token.TokenKind.TheVariants as token
@@ -72,7 +72,7 @@ returns-then-not-is_mark-clause-parsed c =
     let some = c.requires.some in
     declarators_wrong c.args.declares c.args.source.now.names.now c.args.room (c.args.room - 1) c.args.source.now.tokens.now c.args.source.now.end c.args.from (map declarator c.declarators.list.items) (declarator c.declarators.last.tree) c.declarators.last.next c.declarators.height c.declarators.invariant.so_far
     (λ k. false≢true (sym c.declarators-test.false ∙ c.is_mark.ensures.mark.1 k)) (λ k. false≢true (sym c.if-not-is_mark.true ∙ c.is_mark-2.ensures.mark.1 k))
-    c.refuse_behind.result (c.refuse_behind.ensures (c.args.room - 1) (omega arith))
+    c.refuse_behind.result (c.refuse_behind.ensures.is (c.args.room - 1) (omega arith))
 
 pub returns-clause-parsed : goal.returns-clause-parsed
 returns-clause-parsed c =
@@ -83,7 +83,7 @@ pub returns-then-not-is_mark-clause-bounds : goal.returns-then-not-is_mark-claus
 returns-then-not-is_mark-clause-bounds c =
     let some = c.requires.some in
     let i = c.declarators.invariant in
-    let r = refuses_at c.declarators.last.next _ c.refuse_behind.result (c.refuse_behind.ensures (c.args.room - 1) (omega arith)) in
+    let r = refuses_at c.declarators.last.next _ c.refuse_behind.result (c.refuse_behind.ensures.is (c.args.room - 1) (omega arith)) in
     subst (StopsInside c.args.source.now.tokens.now c.args.from) (sym r.1) (omega arith, i.inside)
 
 pub returns-clause-placed : goal.returns-clause-placed

@@ -1,4 +1,4 @@
-use Rattle.std.proofs.Common.{◌≡◌, Option, drop, refl, sym, subst}
+use Rattle.std.proofs.Common.{Option, drop, refl, subst}
 use Rattle.cs_ast.specs.declared.raw.name.RawName.{RawName}
 use Rattle.cs_expr_parser.specs.Positions.{kind_or_end}
 use Rattle.cs_decl_parser.specs.DeclarationAnswers.{IsNameAt, IsNameFor}

@@ -5,7 +5,7 @@ use Rattle.cs_ast.specs.RawView.{written}
 use Rattle.cs_grammar.specs.Places.{HasPlaces}
 use Rattle.cs_grammar.proofs.StatementParts.{expression_height}
 use Rattle.cs_expr_parser.specs.Expression.{level_asked}
-use Rattle.cs_decl_parser.proofs.ExpressionSites.{phrase_taken, phrase_stops}
+use Rattle.cs_decl_parser.proofs.ExpressionSites.{phrase_taken, phrase_apt, phrase_stops}
 use Rattle.cs_decl_parser.proofs.expression.expression.Goals as goal
 
 pub returns-in-Ok-clause-bounds : goal.returns-in-Ok-clause-bounds
@@ -41,3 +41,7 @@ pub returns-in-Ok-clause-placed : goal.returns-in-Ok-clause-placed
 returns-in-Ok-clause-placed c =
     let u = c.unclosed.ensures in
     subst (λ (e : RawExpr). HasPlaces e (drop c.args.from c.args.source.now.tokens.now)) (sym u.0) c.in-Ok.ensures.taken.placed
+
+pub returns-in-Ok-clause-apt : goal.returns-in-Ok-clause-apt
+returns-in-Ok-clause-apt c =
+    phrase_apt c.args.source.now.names.now (level_asked c.args.level) c.args.room c.args.source.now.tokens.now c.args.from c.in-Ok.phrase c.unclosed.result c.unclosed.ensures c.in-Ok.ensures.taken

@@ -1,18 +1,18 @@
-use Rattle.std.proofs.Common.{◌≡◌, Err, [], refl, sym, ◌∙◌, subst, rules}
+use Rattle.std.proofs.Common.{◌≡◌, Err, [], sym, ◌∙◌, subst, rules}
 use Rattle.std.proofs.lemmas.Bool.{false≢true}
 use Rattle.cs_ast.specs.RawView.{written}
 use Rattle.cs_grammar.specs.FileClasses.{Tests}
 use Rattle.cs_expr_parser.specs.Positions.{kind_or_end}
 use Rattle.cs_decl_parser.specs.declared.source.Scope.TheVariants.{Block}
 use Rattle.cs_decl_parser.specs.Answers.{ExactAnswers}
-use Rattle.cs_decl_parser.proofs.Standing.{spells_none}
+use Rattle.cs_expr_parser.proofs.Standing.{spells_none}
 use Rattle.cs_decl_parser.proofs.StatementStops.{stops_plain}
 use Rattle.cs_decl_parser.proofs.ExpressionSites.{test_missing, test_stops, test_taken}
 use Rattle.cs_decl_parser.proofs.expression.parenthesised.Goals as goal
 
 pub returns-then-not-is_mark-clause-parsed : goal.returns-then-not-is_mark-clause-parsed
 returns-then-not-is_mark-clause-parsed c =
-    stops_plain (Tests c.args.source.now.names.now) c.args.room c.args.source.now.tokens.now c.args.source.now.end c.args.from c.args.from Block [] c.refuse.result (spells_none c.args.source.now.tokens.now c.args.from c.requires.within) c.refuse.ensures
+    stops_plain (Tests c.args.source.now.names.now) c.args.room c.args.source.now.tokens.now c.args.source.now.end c.args.from c.args.from Block [] c.refuse.result (spells_none c.args.source.now.tokens.now c.args.from c.requires.within) c.refuse.ensures.is
     (test_missing c.args.source.now.names.now c.args.room (kind_or_end c.args.source.now.tokens.now c.args.from) (λ k. false≢true (sym c.if-not-is_mark.true ∙ c.is_mark.ensures.mark.1 k)))
 
 pub returns-in_err-inner-clause-parsed : goal.returns-in_err-inner-clause-parsed

@@ -1,10 +1,12 @@
 -- Each return is the refusal of the type or of the name, or a type alone, or what stands behind the name.
-use Rattle.std.proofs.Common.{◌≡◌, ℕ, ◌+◌, ◌-◌, Result, Ok, Err, map, refl, sym, ap, ◌∙◌, subst, arith, rules}
+use Rattle.std.proofs.Common.{◌≡◌, Err, refl, sym, ◌∙◌, subst, rules}
 use Rattle.std.proofs.lemmas.Bool.{false≢true}
-use Rattle.cs_ast.specs.RawStatementView.{external, external_of}
+use Rattle.cs_ast.specs.RawStatementView.{external_of}
 use Rattle.cs_grammar.specs.DeclarationClasses.{Externals}
 use Rattle.cs_decl_parser.specs.Answers.{ExactAnswers}
 use Rattle.cs_decl_parser.proofs.ExternalSites.{declared_type_stops, external_alone_taken, external_name_stops}
+use Rattle.cs_decl_parser.specs.FileAnswers.{IsBodyApt}
+use Rattle.cs_decl_parser.proofs.InBodies.{type_body, name_body}
 use Rattle.cs_decl_parser.proofs.external.declared.Goals as goal
 
 pub returns-in_err-specs-clause-parsed : goal.returns-in_err-specs-clause-parsed
@@ -41,3 +43,21 @@ returns-then-is_mark-2-clause-placed c =
 pub returns-clause-placed : goal.returns-clause-placed
 returns-clause-placed c =
     c.objects.ensures.placed c.args.from (record { taken = c.in_ok-specs.ensures.parsed; no_typedef = c.requires.other }, c.in_ok-specs.ensures.placed) (c.in_ok-pointed.ensures.parsed, c.in_ok-pointed.ensures.placed)
+
+pub returns-in_err-specs-clause-inside : goal.returns-in_err-specs-clause-inside
+returns-in_err-specs-clause-inside c =
+    let e : c.from_residual.result ≡ Err c.in_err-specs.field-0.0 = search rules in
+    subst (IsBodyApt c.args.source.now.names.now c.args.source.now.tokens.now c.args.from) (sym e)
+    (type_body c.args.source.now.names.now c.args.source.now.tokens.now c.args.source.now.end c.args.from c.in_err-specs.field-0.0 c.in_err-specs.ensures.parsed)
+
+pub returns-in_err-pointed-clause-inside : goal.returns-in_err-pointed-clause-inside
+returns-in_err-pointed-clause-inside c =
+    let e : c.from_residual-in_err-pointed.result ≡ Err c.in_err-pointed.field-0.0 = search rules in
+    subst (IsBodyApt c.args.source.now.names.now c.args.source.now.tokens.now c.args.from) (sym e)
+    (name_body c.args.source.now.names.now c.args.source.now.tokens.now c.args.from c.in_ok-specs.specs (record { taken = c.in_ok-specs.ensures.parsed; no_typedef = c.requires.other }) c.in_err-pointed.field-0.0 c.in_err-pointed.ensures.parsed)
+
+pub returns-then-is_mark-2-clause-inside : goal.returns-then-is_mark-2-clause-inside
+returns-then-is_mark-2-clause-inside c = c.function.ensures.inside c.args.from (record { taken = c.in_ok-specs.ensures.parsed; no_typedef = c.requires.other }) c.in_ok-pointed.ensures.parsed
+
+pub returns-clause-inside : goal.returns-clause-inside
+returns-clause-inside c = c.objects.ensures.inside c.args.from (record { taken = c.in_ok-specs.ensures.parsed; no_typedef = c.requires.other }) c.in_ok-pointed.ensures.parsed

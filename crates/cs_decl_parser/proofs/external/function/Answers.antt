@@ -1,11 +1,13 @@
 -- Each return is the refusal of a part, or all were taken.
-use Rattle.std.proofs.Common.{◌≡◌, ℕ, ◌+◌, ◌-◌, Result, Ok, Err, map, refl, sym, ap, ◌∙◌, subst, arith, rules}
+use Rattle.std.proofs.Common.{◌≡◌, Err, refl, sym, ◌∙◌, subst, arith, rules}
 use Rattle.std.proofs.lemmas.Bool.{false≢true}
-use Rattle.cs_ast.specs.RawStatementView.{external, external_of}
+use Rattle.cs_ast.specs.RawStatementView.{external_of}
 use Rattle.cs_grammar.specs.DeclarationClasses.{Externals}
 use Rattle.cs_decl_parser.specs.Answers.{ExactAnswers}
 use Rattle.cs_decl_parser.proofs.ExternalSites.{external_parameters_stop, head_made, external_end_missing, external_function_taken, external_body_stops, external_definition_taken}
 use Rattle.cs_decl_parser.proofs.PlacingFiles.{head_placed, function_placed, body_placed, definition_placed}
+use Rattle.cs_decl_parser.specs.FileAnswers.{IsBodyApt}
+use Rattle.cs_decl_parser.proofs.InBodies.{parameters_body, end_body, inside_body}
 use Rattle.cs_decl_parser.proofs.external.function.Goals as goal
 
 pub returns-in_err-parameters-clause-parsed : goal.returns-in_err-parameters-clause-parsed
@@ -23,11 +25,11 @@ returns-then-is_mark-clause-parsed c =
 
 pub returns-then-not-is_mark-clause-parsed : goal.returns-then-not-is_mark-clause-parsed
 returns-then-not-is_mark-clause-parsed c =
-    λ from t p. external_end_missing c.args.source.now.names.now c.args.source.now.tokens.now c.args.source.now.end from c.args.specs c.head-head.result c.refuse.result t (head_made c.args.source.now.names.now c.args.source.now.tokens.now c.args.specs.next c.args.pointed c.in_ok-parameters.parameters c.head-head.result p c.requires.stands c.in_ok-parameters.ensures.parsed c.head-head.ensures.size.0 c.head-head.ensures.size.1 c.head-head.ensures.tree) (λ k. false≢true (sym c.if-is_mark.false ∙ c.is_mark.ensures.mark.1 k)) (λ k named. false≢true (sym c.if-not-is_mark.true ∙ c.is_mark-2.ensures.mark.1 k)) c.refuse.ensures
+    λ from t p. external_end_missing c.args.source.now.names.now c.args.source.now.tokens.now c.args.source.now.end from c.args.specs c.head-head.result c.refuse.result t (head_made c.args.source.now.names.now c.args.source.now.tokens.now c.args.specs.next c.args.pointed c.in_ok-parameters.parameters c.head-head.result p c.requires.stands c.in_ok-parameters.ensures.parsed c.head-head.ensures.size.0 c.head-head.ensures.size.1 c.head-head.ensures.tree) (λ k. false≢true (sym c.if-is_mark.false ∙ c.is_mark.ensures.mark.1 k)) (λ k named. false≢true (sym c.if-not-is_mark.true ∙ c.is_mark-2.ensures.mark.1 k)) c.refuse.ensures.is
 
 pub returns-then-not-are_named-clause-parsed : goal.returns-then-not-are_named-clause-parsed
 returns-then-not-are_named-clause-parsed c =
-    λ from t p. external_end_missing c.args.source.now.names.now c.args.source.now.tokens.now c.args.source.now.end from c.args.specs c.head-head.result c.refuse-then-not-are_named.result t (head_made c.args.source.now.names.now c.args.source.now.tokens.now c.args.specs.next c.args.pointed c.in_ok-parameters.parameters c.head-head.result p c.requires.stands c.in_ok-parameters.ensures.parsed c.head-head.ensures.size.0 c.head-head.ensures.size.1 c.head-head.ensures.tree) (λ k. false≢true (sym c.if-is_mark.false ∙ c.is_mark.ensures.mark.1 k)) (λ k named. false≢true (sym c.if-not-are_named.true ∙ c.are_named.ensures.1 named)) c.refuse-then-not-are_named.ensures
+    λ from t p. external_end_missing c.args.source.now.names.now c.args.source.now.tokens.now c.args.source.now.end from c.args.specs c.head-head.result c.refuse-then-not-are_named.result t (head_made c.args.source.now.names.now c.args.source.now.tokens.now c.args.specs.next c.args.pointed c.in_ok-parameters.parameters c.head-head.result p c.requires.stands c.in_ok-parameters.ensures.parsed c.head-head.ensures.size.0 c.head-head.ensures.size.1 c.head-head.ensures.tree) (λ k. false≢true (sym c.if-is_mark.false ∙ c.is_mark.ensures.mark.1 k)) (λ k named. false≢true (sym c.if-not-are_named.true ∙ c.are_named.ensures.1 named)) c.refuse-then-not-are_named.ensures.is
 
 pub returns-clause-parsed : goal.returns-clause-parsed
 returns-clause-parsed c =
@@ -56,3 +58,25 @@ returns-clause-placed c =
     definition_placed c.args.source.now.tokens.now from c.args.specs.next c.head-head.result.next c.args.specs.tree c.head-head.result.tree _ t.0.taken.spelled made.stands.spelled t.1
     (head_placed c.args.source.now.names.now c.args.source.now.tokens.now c.args.specs.next c.args.pointed c.in_ok-parameters.parameters.tree c.head-head.result.tree c.head-head.ensures.placed p c.in_ok-parameters.ensures.placed)
     (body_placed c.args.source.now.tokens.now c.head-head.result.next c.in_ok-body.body.next _ c.place_at.ensures c.in_ok-body.ensures.placed c.in_ok-body.ensures.parsed.spelled c.place_at-2.ensures)
+
+pub returns-in_err-parameters-clause-inside : goal.returns-in_err-parameters-clause-inside
+returns-in_err-parameters-clause-inside c =
+    λ from t p.
+    let e : c.from_residual.result ≡ Err c.in_err-parameters.field-0.0 = search rules in
+    subst (IsBodyApt c.args.source.now.names.now c.args.source.now.tokens.now from) (sym e)
+    (parameters_body c.args.source.now.names.now c.args.source.now.tokens.now c.args.source.now.end from c.args.specs c.args.pointed t p c.requires.stands c.in_err-parameters.field-0.0 c.in_err-parameters.ensures.parsed)
+
+pub returns-then-not-is_mark-clause-inside : goal.returns-then-not-is_mark-clause-inside
+returns-then-not-is_mark-clause-inside c =
+    λ from t p. end_body c.args.source.now.names.now c.args.source.now.tokens.now from c.args.specs c.head-head.result t (head_made c.args.source.now.names.now c.args.source.now.tokens.now c.args.specs.next c.args.pointed c.in_ok-parameters.parameters c.head-head.result p c.requires.stands c.in_ok-parameters.ensures.parsed c.head-head.ensures.size.0 c.head-head.ensures.size.1 c.head-head.ensures.tree) c.refuse.result c.refuse.ensures.is
+
+pub returns-then-not-are_named-clause-inside : goal.returns-then-not-are_named-clause-inside
+returns-then-not-are_named-clause-inside c =
+    λ from t p. end_body c.args.source.now.names.now c.args.source.now.tokens.now from c.args.specs c.head-head.result t (head_made c.args.source.now.names.now c.args.source.now.tokens.now c.args.specs.next c.args.pointed c.in_ok-parameters.parameters c.head-head.result p c.requires.stands c.in_ok-parameters.ensures.parsed c.head-head.ensures.size.0 c.head-head.ensures.size.1 c.head-head.ensures.tree) c.refuse-then-not-are_named.result c.refuse-then-not-are_named.ensures.is
+
+pub returns-in_err-body-clause-inside : goal.returns-in_err-body-clause-inside
+returns-in_err-body-clause-inside c =
+    λ from t p.
+    let e : c.from_residual-in_err-body.result ≡ Err c.in_err-body.field-0.0 = search rules in
+    subst (IsBodyApt c.args.source.now.names.now c.args.source.now.tokens.now from) (sym e)
+    (inside_body c.args.source.now.names.now c.args.source.now.tokens.now from c.in_err-body.field-0.0 c.in_err-body.ensures.apt)

@@ -1,5 +1,5 @@
 -- A part was refused, one more was taken, or all were.
-use Rattle.std.proofs.Common.{◌≡◌, List, [], Result, Ok, Err, refl, sym, ap, ◌∙◌, subst, arith, rules}
+use Rattle.std.proofs.Common.{◌≡◌, List, [], Err, sym, subst, arith, rules}
 use Rattle.cs_ast.specs.declared.raw.external.RawExternal.{RawExternal}
 use Rattle.cs_grammar.specs.TypeWords.{Names}
 use Rattle.cs_decl_parser.specs.Files.{parts_of}
@@ -19,7 +19,7 @@ pub returns-in_err-taken-clause-parsed : goal.returns-in_err-taken-clause-parsed
 returns-in_err-taken-clause-parsed c =
     let e : c.from_residual.result ≡ Err c.in_err-taken.field-0.0 = search rules in
     subst (FileAnswer c.args.tokens.now c.args.end) (sym e)
-    (file_stops c.file.names c.args.tokens.now c.args.end (parts_of c.file.list.items) c.file.next c.file-test.true c.file.invariant.so_far c.in_err-taken.field-0.0 c.in_err-taken.ensures.parsed)
+    (file_stops c.file.names c.args.tokens.now c.args.end (parts_of c.file.list.items) c.file.next c.file-test.true c.file.invariant.so_far c.in_err-taken.field-0.0 c.in_err-taken.ensures.parsed c.in_err-taken.ensures.apt c.in_err-taken.ensures.inside)
 
 pub file-preserved : goal.file-preserved
 file-preserved c =

@@ -1,5 +1,5 @@
 -- So many parts of the file were taken, and the names of its typedefs are known.
-use Rattle.std.proofs.Common.{◌≤◌, ◌<◌, ◌+◌, ◌-◌, ◌*◌, length}
+use Rattle.std.proofs.Common.{◌≤◌, ◌-◌, length}
 use Rattle.cs_decl_parser.specs.Files.{parts_of}
 use Rattle.cs_decl_parser.proofs.FileSites.{PartsSoFar}
 use Rattle.cs_decl_parser.proofs.PlacingFiles.{PartsPlaced}

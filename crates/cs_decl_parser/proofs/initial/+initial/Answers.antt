@@ -1,4 +1,4 @@
-use Rattle.std.proofs.Common.{◌≡◌, ℕ, ◌+◌, ◌-◌, ◌≤◌, ◌<◌, max, map, Bool, Err, List, [], ◌∷◌, ◌++◌, Option, refl, sym, ap, ◌∙◌, subst, arith, rules}
+use Rattle.std.proofs.Common.{◌≡◌, ℕ, ◌+◌, ◌-◌, max, map, Err, List, [], ◌∷◌, ◌++◌, refl, sym, ap, ◌∙◌, subst, arith, rules}
 use Rattle.std.proofs.lemmas.Bool.{false≢true}
 use Rattle.std.proofs.lemmas.List.{map-append}
 use Rattle.cs_ast.specs.declared.token.TokenKind.TheVariants as token
@@ -19,6 +19,10 @@ use Rattle.cs_decl_parser.proofs.ListSites.{next_stands, list_unclosed, designat
 use Rattle.cs_grammar.specs.FileText.{initial_text}
 use Rattle.cs_decl_parser.specs.FilePlaces.{IsInitialPlaced}
 use Rattle.cs_decl_parser.proofs.Placing.{RowPlaced, row_begun, row_goes_on, row_placed, initial_framed, list_placed}
+use Rattle.cs_decl_parser.specs.Aptness.{IsApt}
+use Rattle.cs_decl_parser.proofs.AptReasons.{designator_apt, apt_in, stop_apt}
+use Rattle.cs_decl_parser.proofs.ListSites.{unclosed_apt}
+use Rattle.cs_decl_parser.specs.Aptness.{IsUnclosedApt}
 use Rattle.cs_decl_parser.proofs.initial.+initial.Goals as goal
 
 pub initial-returns-then-begins_designator-clause-parsed : goal.initial-returns-then-begins_designator-clause-parsed
@@ -36,7 +40,7 @@ initial-returns-clause-parsed t c = single_value_taken c.args.source.now.names.n
 
 pub items-returns-then-room-lt2-clause-parsed : goal.items-returns-then-room-lt2-clause-parsed
 items-returns-then-room-lt2-clause-parsed t c =
-    subst (Stops (Values c.args.source.now.names.now) c.args.room c.args.source.now.tokens.now c.args.source.now.end c.args.from) (sym c.refuse_deep.ensures) (list_full_stops c.args.source.now.names.now c.args.room c.args.source.now.tokens.now c.args.from (let w = c.requires.within in omega arith) c.if-room-lt2.true c.requires.stands)
+    subst (Stops (Values c.args.source.now.names.now) c.args.room c.args.source.now.tokens.now c.args.source.now.end c.args.from) (sym c.refuse_deep.ensures.is) (list_full_stops c.args.source.now.names.now c.args.room c.args.source.now.tokens.now c.args.from (let w = c.requires.within in omega arith) c.if-room-lt2.true c.requires.stands)
 
 pub items-returns-in_err-last-clause-parsed : goal.items-returns-in_err-last-clause-parsed
 items-returns-in_err-last-clause-parsed t c =
@@ -54,6 +58,7 @@ items-items-init t c =
       onward = b.0;
       inside = b.1;
       low = b.2;
+      apt = c.in_ok-last.ensures.apt;
       placed =
           subst (λ (x : List RawInitial). RowPlaced IsInitialPlaced (λ i. initial_text (initial i)) c.args.source.now.tokens.now (c.args.from + 1) x c.in_ok-last.last.tree c.in_ok-last.last.next) (sym c.new-list.ensures.items)
           (row_begun IsInitialPlaced (λ i. initial_text (initial i)) c.args.source.now.tokens.now (c.args.from + 1) c.in_ok-last.last.tree c.in_ok-last.last.next v.spelled c.in_ok-last.ensures.placed);
@@ -83,6 +88,7 @@ items-items-preserved t c =
       onward = omega arith;
       inside = b.1;
       low = omega arith;
+      apt = c.in_ok-following.ensures.apt;
       placed = row_goes_on IsInitialPlaced (λ i. initial_text (initial i)) initial_framed c.args.source.now.tokens.now (c.args.from + 1) c.items.list.items c.push.new.self.items c.items.last.tree c.items.last.next c.in_ok-following.following.tree c.in_ok-following.following.next i.placed c.in_ok-push.ensures.items v.spelled c.in_ok-following.ensures.placed;
       so_far =
           subst (λ (x : List Initial). TrailingRow (Values c.args.source.now.names.now) (token.Mark mark.CloseBrace) (c.args.room - 1) c.args.source.now.tokens.now (c.args.from + 1) x (initial c.in_ok-following.following.tree) c.in_ok-following.following.next (is_deep c.in_ok-following.following.otherwise) c.max-height.result) (sym all)
@@ -103,7 +109,7 @@ items-returns-clause-parsed t c =
     items_taken c.args.source.now.names.now c.args.room (c.args.room - 1) (let enough = c.if-room-lt2.false in omega arith) (let enough = c.if-room-lt2.false in omega arith) c.args.source.now.tokens.now c.args.from _ c.requires.stands _ c.items.height r _
     (initial-List c.push-2.new.self c.is_mark-comma.result
     ∙ ap (λ (x : Initials). Listed x c.is_mark-comma.result) (items_listed c.push-2.new.self.items ∙ ap items_of (ap (map initial) c.in_ok-push-2.ensures.items ∙ map-append initial c.items.list.items (c.items.last.tree ∷ []))))
-    refl (ap (λ (n : ℕ). n + 1) c.closing_at-closing.ensures) (ap is_deep c.reason_at.ensures ∙ plain_flat c.args.scope _)
+    refl (ap (λ (n : ℕ). n + 1) c.closing_at-closing.ensures) (ap is_deep c.reason_at.ensures.is ∙ plain_flat c.args.scope _)
 
 pub initial-returns-clause-placed : goal.initial-returns-clause-placed
 initial-returns-clause-placed t c = c.in_ok-value.ensures.placed
@@ -112,3 +118,20 @@ pub items-returns-clause-placed : goal.items-returns-clause-placed
 items-returns-clause-placed t c =
     list_placed c.push-2.new.self c.is_mark-comma.result c.args.source.now.tokens.now c.args.from
     (row_placed IsInitialPlaced (λ i. initial_text (initial i)) c.args.source.now.tokens.now (c.args.from + 1) c.items.list.items c.push-2.new.self.items c.items.last.tree c.items.last.next c.items.invariant.placed c.in_ok-push-2.ensures.items)
+
+pub items-returns-then-not-is_mark-clause-apt : goal.items-returns-then-not-is_mark-clause-apt
+items-returns-then-not-is_mark-clause-apt t c =
+    subst (λ (n : ℕ). IsApt c.args.scope (kind_or_end c.args.source.now.tokens.now n) c.items.last.otherwise) (sym c.closing_at-closing.ensures)
+    (unclosed_apt c.args.scope c.args.source.now.tokens.now c.items.last.next c.items.last.otherwise c.is_mark-comma.result c.is_mark-comma.ensures.mark.0 (sym c.goes_on.ensures.comma ∙ c.items-test.false)
+    (λ k. false≢true (sym c.if-not-is_mark.true ∙ c.is_mark.ensures.mark.1 (ap (kind_or_end c.args.source.now.tokens.now) c.closing_at-closing.ensures ∙ k))) c.items.invariant.apt)
+
+pub initial-returns-then-begins_designator-clause-apt : goal.initial-returns-then-begins_designator-clause-apt
+initial-returns-then-begins_designator-clause-apt t c = designator_apt c.args.scope (kind_or_end c.args.source.now.tokens.now c.args.from) (c.begins_designator.ensures c.if-begins_designator.true)
+
+pub initial-returns-in_err-value-clause-apt : goal.initial-returns-in_err-value-clause-apt
+initial-returns-in_err-value-clause-apt t c =
+    let e : c.from_residual.result ≡ Err c.in_err-value.field-0.0 = search rules in
+    subst (IsUnclosedApt c.args.scope c.args.source.now.tokens.now) (sym e) (stop_apt c.args.scope c.args.source.now.tokens.now c.in_err-value.field-0.0 c.in_err-value.ensures.apt)
+
+pub initial-returns-clause-apt : goal.initial-returns-clause-apt
+initial-returns-clause-apt t c = apt_in c.args.scope (kind_or_end c.args.source.now.tokens.now c.in_ok-value.value.next) c.in_ok-value.value.otherwise c.in_ok-value.ensures.apt

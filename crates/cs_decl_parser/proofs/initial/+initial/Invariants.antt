@@ -9,6 +9,8 @@ use Rattle.cs_decl_parser.proofs.RowSites.{TrailingRow}
 use Rattle.cs_grammar.specs.FileText.{initial_text}
 use Rattle.cs_decl_parser.specs.FilePlaces.{IsInitialPlaced}
 use Rattle.cs_decl_parser.proofs.Placing.{RowPlaced}
+use Rattle.cs_expr_parser.specs.Positions.{kind_or_end}
+use Rattle.cs_decl_parser.specs.Aptness.{IsApt}
 use Rattle.cs_decl_parser.proofs.initial.+initial.Given as goal
 
 abbrev pub decreases-initial : goal.decreases-initial
@@ -22,6 +24,7 @@ invariant-items-items l = record {
   onward : l.fn.from + 1 < l.last.next;
   inside : l.last.next ≤ length l.source.tokens.now;
   low : l.height ≤ l.room - 1;
+  apt : IsApt l.scope (kind_or_end l.source.tokens.now l.last.next) l.last.otherwise;
   placed : RowPlaced IsInitialPlaced (λ i. initial_text (initial i)) l.source.tokens.now (l.fn.from + 1) l.list.items l.last.tree l.last.next;
   so_far : TrailingRow (Values l.source.names.now) (token.Mark mark.CloseBrace) (l.room - 1) l.source.tokens.now (l.fn.from + 1) (map initial l.list.items) (initial l.last.tree) l.last.next (is_deep l.last.otherwise) l.height;
 }

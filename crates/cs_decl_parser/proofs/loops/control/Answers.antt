@@ -1,5 +1,5 @@
 -- Each return is the refusal of the parenthesis or of a part, or all were taken.
-use Rattle.std.proofs.Common.{◌≡◌, ℕ, ◌+◌, ◌-◌, Result, Ok, Err, refl, sym, ap, ◌∙◌, subst, arith, rules}
+use Rattle.std.proofs.Common.{◌≡◌, ◌+◌, Err, refl, sym, ◌∙◌, subst, arith, rules}
 use Rattle.std.proofs.lemmas.Bool.{false≢true}
 use Rattle.cs_decl_parser.specs.Answers.{ExactAnswers}
 use Rattle.cs_decl_parser.specs.Blocks.{Controls, control_of}
@@ -9,7 +9,7 @@ use Rattle.cs_decl_parser.proofs.loops.control.Goals as goal
 
 pub returns-then-not-is_mark-clause-parsed : goal.returns-then-not-is_mark-clause-parsed
 returns-then-not-is_mark-clause-parsed c =
-    control_missing c.args.source.now.names.now c.args.room c.args.source.now.tokens.now c.args.source.now.end c.args.from c.refuse.result c.requires.within (λ k. false≢true (sym c.if-not-is_mark.true ∙ c.is_mark.ensures.mark.1 k)) c.refuse.ensures
+    control_missing c.args.source.now.names.now c.args.room c.args.source.now.tokens.now c.args.source.now.end c.args.from c.refuse.result c.requires.within (λ k. false≢true (sym c.if-not-is_mark.true ∙ c.is_mark.ensures.mark.1 k)) c.refuse.ensures.is
 
 pub returns-in_err-first-clause-parsed : goal.returns-in_err-first-clause-parsed
 returns-in_err-first-clause-parsed c =

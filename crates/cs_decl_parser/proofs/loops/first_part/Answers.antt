@@ -1,5 +1,5 @@
 -- Each return is the refusal of a declaration or of an expression, or it was taken.
-use Rattle.std.proofs.Common.{◌≡◌, ℕ, ◌+◌, ◌-◌, Result, Ok, Err, refl, sym, ap, ◌∙◌, subst, arith, rules}
+use Rattle.std.proofs.Common.{◌≡◌, Err, refl, sym, ◌∙◌, subst, rules}
 use Rattle.cs_ast.specs.RawStatementView.{first_of}
 use Rattle.cs_grammar.specs.FileClasses.{Firsts}
 use Rattle.cs_decl_parser.specs.Answers.{ExactAnswers}

@@ -1,5 +1,4 @@
-use Rattle.std.proofs.Common.{◌≡◌, ℕ, ◌+◌, ◌-◌, ◌≤◌, ◌<◌, max, map, Bool, Err, List, [], ◌∷◌, ◌++◌, Option, refl, sym, ap, ◌∙◌, subst, arith, rules}
-use Rattle.std.proofs.lemmas.Bool.{false≢true}
+use Rattle.std.proofs.Common.{◌≡◌, Err, sym, subst, rules}
 use Rattle.cs_ast.specs.RawDeclarationView.{declared}
 use Rattle.cs_grammar.specs.DeclarationClasses.{Objects}
 use Rattle.cs_decl_parser.specs.Answers.{UnclosedAnswers}

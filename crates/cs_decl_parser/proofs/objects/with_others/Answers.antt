@@ -1,4 +1,4 @@
-use Rattle.std.proofs.Common.{◌≡◌, ℕ, ◌+◌, ◌-◌, ◌≤◌, ◌<◌, max, map, Bool, Err, List, [], ◌∷◌, ◌++◌, Option, refl, sym, ap, ◌∙◌, subst, arith, rules}
+use Rattle.std.proofs.Common.{◌≡◌, ℕ, max, map, Err, List, [], ◌∷◌, ◌++◌, refl, sym, ap, ◌∙◌, subst, arith, rules}
 use Rattle.std.proofs.lemmas.Bool.{false≢true}
 use Rattle.std.proofs.lemmas.List.{map-append}
 use Rattle.cs_ast.specs.declared.token.TokenKind.TheVariants as token
@@ -9,9 +9,8 @@ use Rattle.cs_ast.specs.RawDeclarationView.{declared}
 use Rattle.cs_grammar.specs.Composed.{Separated}
 use Rattle.cs_grammar.specs.DeclarationClasses.{Objects}
 use Rattle.cs_grammar.proofs.DeclaredObjects.{object_row}
-use Rattle.cs_expr_parser.specs.Positions.{kind_or_end}
 use Rattle.cs_expr_parser.specs.Parts.{is_deep}
-use Rattle.cs_decl_parser.specs.Answers.{ExactAnswers, IsUnclosed}
+use Rattle.cs_decl_parser.specs.Answers.{ExactAnswers}
 use Rattle.cs_decl_parser.proofs.RowSites.{RowSoFar, row_first, row_next, row_next_stops, row_wrong, row_taken}
 use Rattle.cs_grammar.specs.FileText.{declared_text}
 use Rattle.cs_decl_parser.specs.FilePlaces.{IsDeclaredPlaced}
@@ -23,6 +22,7 @@ objects-init c = record {
   onward = omega arith;
   inside = c.requires.within;
   low = c.requires.low;
+  apt = c.requires.apt;
   placed = λ from first has.
       subst (λ (x : List RawInit). RowPlaced IsDeclaredPlaced (λ d. declared_text (declared d)) c.args.source.now.tokens.now from x c.args.first.tree c.args.first.next) (sym c.new-list.ensures.items)
       (row_begun IsDeclaredPlaced (λ d. declared_text (declared d)) c.args.source.now.tokens.now from c.args.first.tree c.args.first.next first.spelled has);
@@ -48,6 +48,7 @@ objects-preserved c =
       onward = omega arith;
       inside = b.1;
       low = omega arith;
+      apt = c.in_ok-following.ensures.apt;
       placed = λ from first has.
           row_goes_on IsDeclaredPlaced (λ d. declared_text (declared d)) declared_framed c.args.source.now.tokens.now from c.objects.list.items c.push.new.self.items c.objects.last.tree c.objects.last.next c.in_ok-following.following.tree c.in_ok-following.following.next (i.placed from first has) c.in_ok-push.ensures.items t.spelled c.in_ok-following.ensures.placed;
       so_far = λ from first.

@@ -1,4 +1,4 @@
-use Rattle.std.proofs.Common.{drop, ◌≡◌, ℕ, ◌≤◌, ◌-◌, map, length}
+use Rattle.std.proofs.Common.{drop, ℕ, ◌≤◌, ◌-◌, map, length}
 use Rattle.cs_ast.specs.declared.token.TokenKind.TheVariants as token
 use Rattle.cs_ast.specs.declared.token.Mark.TheVariants as mark
 use Rattle.cs_ast.specs.RawDeclarationView.{declared}
@@ -9,6 +9,8 @@ use Rattle.cs_decl_parser.proofs.RowSites.{RowSoFar}
 use Rattle.cs_grammar.specs.FileText.{declared_text}
 use Rattle.cs_decl_parser.specs.FilePlaces.{IsDeclaredPlaced}
 use Rattle.cs_decl_parser.proofs.Placing.{RowPlaced}
+use Rattle.cs_expr_parser.specs.Positions.{kind_or_end}
+use Rattle.cs_decl_parser.specs.Aptness.{IsApt}
 use Rattle.cs_decl_parser.proofs.objects.with_others.Given as goal
 
 abbrev pub invariant-objects : goal.invariant-objects
@@ -16,6 +18,7 @@ invariant-objects l = record {
   onward : l.fn.first.next ≤ l.last.next;
   inside : l.last.next ≤ length l.source.tokens.now;
   low : l.height ≤ l.room;
+  apt : IsApt l.scope (kind_or_end l.source.tokens.now l.last.next) l.last.otherwise;
   placed : (from : ℕ) → IsUnclosed (Objects l.source.names.now) declared l.room l.source.tokens.now from l.fn.first → IsDeclaredPlaced l.fn.first.tree (drop from l.source.tokens.now) → RowPlaced IsDeclaredPlaced (λ d. declared_text (declared d)) l.source.tokens.now from l.list.items l.last.tree l.last.next;
   so_far : (from : ℕ) → IsUnclosed (Objects l.source.names.now) declared l.room l.source.tokens.now from l.fn.first → RowSoFar (Objects l.source.names.now) (token.Mark mark.Semicolon) l.room l.source.tokens.now from (map declared l.list.items) (declared l.last.tree) l.last.next (is_deep l.last.otherwise) l.height;
 }

@@ -1,8 +1,6 @@
-use Rattle.std.proofs.Common.{drop, ◌≡◌, ℕ, ◌+◌, ◌-◌, ◌≤◌, ◌<◌, max, map, Bool, Err, List, [], ◌∷◌, ◌++◌, Option, refl, sym, ap, ◌∙◌, subst, arith, rules}
+use Rattle.std.proofs.Common.{drop, ◌≡◌, ◌+◌, ◌-◌, Err, refl, sym, ◌∙◌, subst, arith, rules}
 use Rattle.std.proofs.lemmas.Bool.{false≢true}
-use Rattle.cs_ast.specs.RawView.{written}
-use Rattle.cs_ast.specs.RawDeclarationView.{declarator, initial, declared}
-use Rattle.cs_ast.specs.RawFileHeight.{declarator_height, initial_height}
+use Rattle.cs_ast.specs.RawDeclarationView.{declared}
 use Rattle.cs_grammar.specs.DeclarationClasses.{Objects}
 use Rattle.cs_decl_parser.specs.Answers.{UnclosedAnswers}
 use Rattle.cs_decl_parser.proofs.ObjectSites.{alone_taken, alone_full, object_value_stops, object_value_taken}
@@ -11,7 +9,7 @@ use Rattle.cs_decl_parser.proofs.objects.with_value.Goals as goal
 
 pub returns-then-not-is_mark-clause-parsed : goal.returns-then-not-is_mark-clause-parsed
 returns-then-not-is_mark-clause-parsed c = λ from d.
-    alone_taken c.args.source.now.names.now c.args.room (c.args.room - 1) (let a = c.requires.some in let b = c.requires.low in omega arith) c.args.source.now.tokens.now from c.args.declarator d (λ k. false≢true (sym c.if-not-is_mark.true ∙ c.is_mark.ensures.mark.1 k)) c.args.scope c.alone.result c.alone.ensures.tree c.alone.ensures.height c.alone.ensures.next (c.alone.ensures.otherwise ∙ c.reason_at.ensures)
+    alone_taken c.args.source.now.names.now c.args.room (c.args.room - 1) (let a = c.requires.some in let b = c.requires.low in omega arith) c.args.source.now.tokens.now from c.args.declarator d (λ k. false≢true (sym c.if-not-is_mark.true ∙ c.is_mark.ensures.mark.1 k)) c.args.scope c.alone.result c.alone.ensures.tree c.alone.ensures.height c.alone.ensures.next (c.alone.ensures.otherwise ∙ c.reason_at.ensures.is)
 
 pub returns-then-declarator-room-clause-parsed : goal.returns-then-declarator-room-clause-parsed
 returns-then-declarator-room-clause-parsed c = λ from d.

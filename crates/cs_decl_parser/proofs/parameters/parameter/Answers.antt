@@ -3,6 +3,9 @@ use Rattle.cs_ast.specs.RawDeclarationView.{bounds_of}
 use Rattle.cs_decl_parser.specs.ParameterAnswers.{ParameterAnswer}
 use Rattle.cs_decl_parser.proofs.ParameterSites.{tail_stops, tail_stands, behind_specs_stops, stopped, parameter_stands, parameter_taken, pointers_no_const, name_stops, specs_stop}
 use Rattle.cs_decl_parser.proofs.PlacingParameters.{parameter_placed}
+use Rattle.cs_decl_parser.specs.declared.source.Scope.TheVariants as scope
+use Rattle.cs_decl_parser.specs.Aptness.{IsAnswerApt}
+use Rattle.cs_decl_parser.proofs.AptReasons.{stop_apt}
 use Rattle.cs_decl_parser.proofs.parameters.parameter.Goals as goal
 
 pub returns-in_err-specs-clause-parsed : goal.returns-in_err-specs-clause-parsed
@@ -58,3 +61,8 @@ pub returns-clause-placed : goal.returns-clause-placed
 returns-clause-placed c =
     let n = c.in_ok-name.ensures.name in
     parameter_placed _ c.args.source.now.tokens.now c.args.from c.in_ok-specs.specs.next c.in_ok-pointers.pointers.next c.in_ok-name.name.next c.place_at.ensures c.in_ok-specs.ensures.placed c.in_ok-specs.ensures.parsed.spelled c.in_ok-pointers.ensures.pointers.spelled n.2 c.in_ok-name.ensures.placed c.in_ok-bounds.ensures.placed
+
+pub returns-in_err-bounds-clause-apt : goal.returns-in_err-bounds-clause-apt
+returns-in_err-bounds-clause-apt c =
+    let e : c.from_residual-in_err-bounds.result ≡ Err c.in_err-bounds.field-0.0 = search rules in
+    subst (IsAnswerApt scope.File c.args.source.now.tokens.now) (sym e) (stop_apt scope.File c.args.source.now.tokens.now c.in_err-bounds.field-0.0 c.in_err-bounds.ensures.apt)

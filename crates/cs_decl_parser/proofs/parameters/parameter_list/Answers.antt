@@ -1,4 +1,4 @@
-use Rattle.std.proofs.Common.{◌≡◌, ℕ, ◌+◌, ◌-◌, max, map, Err, List, [], ◌∷◌, ◌++◌, false, refl, sym, ap, ◌∙◌, subst, arith, rules}
+use Rattle.std.proofs.Common.{◌≡◌, ℕ, max, map, Err, List, [], ◌∷◌, ◌++◌, false, refl, sym, ap, ◌∙◌, subst, arith, rules}
 use Rattle.std.proofs.lemmas.Bool.{false≢true}
 use Rattle.std.proofs.lemmas.List.{map-append}
 use Rattle.cs_ast.specs.declared.raw.declaration.RawParameter.{RawParameter}
@@ -74,7 +74,7 @@ parameters-preserved c =
 pub returns-then-not-is_mark-clause-parsed : goal.returns-then-not-is_mark-clause-parsed
 returns-then-not-is_mark-clause-parsed c =
     let enough = c.requires.enough in
-    subst (Stops (ParameterRows c.args.source.now.names.now) c.args.room c.args.source.now.tokens.now c.args.source.now.end c.args.from) (sym c.refuse.ensures)
+    subst (Stops (ParameterRows c.args.source.now.names.now) c.args.room c.args.source.now.tokens.now c.args.source.now.end c.args.from) (sym c.refuse.ensures.is)
     (unended_stops c.args.source.now.names.now c.args.room (omega arith) c.args.source.now.tokens.now c.args.source.now.end c.args.from (map parameter c.parameters.list.items) (parameter c.parameters.last.tree) c.parameters.last.next c.parameters.height c.parameters.invariant.so_far
     (λ k. false≢true (sym c.parameters-test.false ∙ c.is_mark.ensures.mark.1 k)) (λ k. false≢true (sym c.if-not-is_mark.true ∙ c.is_mark-2.ensures.mark.1 k))
     (plain_reason File (kind_or_end c.args.source.now.tokens.now c.parameters.last.next)) (plain_flat File (kind_or_end c.args.source.now.tokens.now c.parameters.last.next)))

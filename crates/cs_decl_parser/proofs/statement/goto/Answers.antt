@@ -1,5 +1,5 @@
 -- Each return is the refusal of the name or of the semicolon, or both were taken.
-use Rattle.std.proofs.Common.{◌≡◌, ℕ, ◌+◌, ◌-◌, Result, Ok, Err, refl, sym, ap, ◌∙◌, subst, arith, rules}
+use Rattle.std.proofs.Common.{◌+◌, sym, ◌∙◌, subst}
 use Rattle.std.proofs.lemmas.Bool.{false≢true}
 use Rattle.cs_expr_parser.specs.Positions.{kind_or_end}
 use Rattle.cs_decl_parser.specs.DeclarationAnswers.{IsNameAt}
@@ -10,13 +10,13 @@ pub returns-in_default-clause-parsed : goal.returns-in_default-clause-parsed
 returns-in_default-clause-parsed c =
     λ room some.
     let none = subst (IsNameAt (λ name. Unit {0}) (kind_or_end c.args.source.now.tokens.now (c.args.from + 1))) c.in_default.is c.in_ok-name.ensures.name in
-    goto_name_missing c.args.source.now.names.now room c.args.source.now.tokens.now c.args.source.now.end c.args.from c.refuse.result some c.requires.stands (λ n k. none n k tt) c.refuse.ensures
+    goto_name_missing c.args.source.now.names.now room c.args.source.now.tokens.now c.args.source.now.end c.args.from c.refuse.result some c.requires.stands (λ n k. none n k tt) c.refuse.ensures.is
 
 pub returns-then-not-is_mark-clause-parsed : goal.returns-then-not-is_mark-clause-parsed
 returns-then-not-is_mark-clause-parsed c =
     λ room some.
     let name = subst (IsNameAt (λ name. Unit {0}) (kind_or_end c.args.source.now.tokens.now (c.args.from + 1))) c.in-Some.is c.in_ok-name.ensures.name in
-    goto_semicolon_missing c.args.source.now.names.now room c.args.source.now.tokens.now c.args.source.now.end c.args.from c.in-Some.name.name c.refuse-then-not-is_mark.result some c.requires.stands name.0 (λ k. false≢true (sym c.if-not-is_mark.true ∙ c.is_mark.ensures.mark.1 k)) c.refuse-then-not-is_mark.ensures
+    goto_semicolon_missing c.args.source.now.names.now room c.args.source.now.tokens.now c.args.source.now.end c.args.from c.in-Some.name.name c.refuse-then-not-is_mark.result some c.requires.stands name.0 (λ k. false≢true (sym c.if-not-is_mark.true ∙ c.is_mark.ensures.mark.1 k)) c.refuse-then-not-is_mark.ensures.is
 
 pub returns-clause-parsed : goal.returns-clause-parsed
 returns-clause-parsed c =

@@ -1,5 +1,5 @@
 -- Each return is the refusal of the semicolon, or it was taken.
-use Rattle.std.proofs.Common.{◌≡◌, ℕ, ◌+◌, ◌-◌, Result, Ok, Err, refl, sym, ap, ◌∙◌, subst, arith, rules}
+use Rattle.std.proofs.Common.{sym, ◌∙◌}
 use Rattle.std.proofs.lemmas.Bool.{false≢true}
 use Rattle.cs_ast.specs.RawStatementView.{sentence}
 use Rattle.cs_decl_parser.proofs.RunSites.{jump_stops, jump_taken}
@@ -10,7 +10,7 @@ use Rattle.cs_decl_parser.proofs.statement.jump.Goals as goal
 
 pub returns-then-not-is_mark-clause-parsed : goal.returns-then-not-is_mark-clause-parsed
 returns-then-not-is_mark-clause-parsed c =
-    λ room some. jump_stops c.args.source.now.names.now room c.args.source.now.tokens.now c.args.source.now.end c.args.from (sentence c.args.kind) c.refuse.result some c.requires.stands (λ k. false≢true (sym c.if-not-is_mark.true ∙ c.is_mark.ensures.mark.1 k)) c.refuse.ensures
+    λ room some. jump_stops c.args.source.now.names.now room c.args.source.now.tokens.now c.args.source.now.end c.args.from (sentence c.args.kind) c.refuse.result some c.requires.stands (λ k. false≢true (sym c.if-not-is_mark.true ∙ c.is_mark.ensures.mark.1 k)) c.refuse.ensures.is
 
 pub returns-clause-parsed : goal.returns-clause-parsed
 returns-clause-parsed c =

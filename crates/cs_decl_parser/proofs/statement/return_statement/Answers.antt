@@ -1,5 +1,5 @@
 -- Each return is the refusal of the value, or it was taken.
-use Rattle.std.proofs.Common.{◌≡◌, ℕ, ◌+◌, ◌-◌, Result, Ok, Err, refl, sym, ap, ◌∙◌, subst, arith, rules}
+use Rattle.std.proofs.Common.{◌≡◌, Err, sym, subst, rules}
 use Rattle.cs_ast.specs.RawStatementView.{statement_of}
 use Rattle.cs_grammar.specs.FileClasses.{Sentences}
 use Rattle.cs_decl_parser.specs.Answers.{Answers}

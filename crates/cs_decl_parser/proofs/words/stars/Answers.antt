@@ -1,4 +1,4 @@
-use Rattle.std.proofs.Common.{◌≡◌, ◌<◌, ◌+◌, ◌-◌, refl, sym, subst, arith}
+use Rattle.std.proofs.Common.{◌+◌, sym, subst, arith}
 use Rattle.std.proofs.lemmas.Bool.{ltb-true, lt-ltb}
 use Rattle.cs_decl_parser.proofs.DeclaratorSites.{PointersSoFar, pointers_none, pointers_one_more, pointers_taken}
 use Rattle.cs_decl_parser.proofs.words.stars.Goals as goal

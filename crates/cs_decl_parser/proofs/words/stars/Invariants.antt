@@ -1,4 +1,4 @@
-use Rattle.std.proofs.Common.{◌≤◌, ◌<◌, ◌+◌, ◌-◌, length}
+use Rattle.std.proofs.Common.{◌≤◌, ◌-◌, length}
 use Rattle.cs_decl_parser.proofs.DeclaratorSites.{PointersSoFar}
 use Rattle.cs_decl_parser.proofs.words.stars.Given as goal
 

@@ -1,6 +1,7 @@
-use Rattle.std.proofs.Common.{◌≡◌, Some, refl, sym, ap, ◌∙◌}
+use Rattle.std.proofs.Common.{sym}
 use Rattle.cs_expr_parser.specs.Positions.{kind_or_end}
-use Rattle.cs_decl_parser.proofs.StuckWords.{keyword_is, keyword_type_word}
+use Rattle.cs_expr_parser.proofs.Standing.{keyword_is}
+use Rattle.cs_decl_parser.proofs.StuckWords.{keyword_type_word}
 use Rattle.cs_decl_parser.proofs.words.type_word_at.Goals as goal
 
 pub returns-in-Some-keyword_at-clause-word : goal.returns-in-Some-keyword_at-clause-word

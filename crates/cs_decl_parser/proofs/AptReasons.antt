@@ -1,0 +1,166 @@
+-- Reasons that tokens may have: for the contracts of the parts that refuse tokens.
+use Rattle.std.proofs.Common.{◌≡◌, ℕ, if◌then◌else◌, Bool, true, false, List, Option, Some, None, Result, Ok, Err, slice_get, refl, sym, ap, ◌∙◌, subst}
+use Rattle.std.specs.Option.{option_map}
+use Rattle.std.proofs.lemmas.Bool.{false≢true}
+use Rattle.cs_ast.specs.declared.token.Token.{Token}
+use Rattle.cs_ast.specs.declared.token.TokenKind.{TokenKind}
+use Rattle.cs_ast.specs.declared.token.TokenKind.TheVariants as token
+use Rattle.cs_ast.specs.declared.token.Keyword.{Keyword}
+use Rattle.cs_ast.specs.declared.token.Keyword.TheVariants as keyword
+use Rattle.cs_ast.specs.declared.token.Mark.{Mark}
+use Rattle.cs_ast.specs.declared.token.Mark.TheVariants as mark
+use Rattle.cs_grammar.specs.declared.refusal.Reason.{Reason}
+use Rattle.cs_grammar.specs.declared.refusal.Reason.TheVariants.{Syntax, LeftOut, TooDeep}
+use Rattle.cs_grammar.specs.TypeWords.{Names}
+use Rattle.cs_grammar.specs.Text.{Kinds}
+use Rattle.cs_grammar.specs.Refusals.{IsLeftOut, IsReason}
+use Rattle.cs_expr_parser.specs.Positions.{kind_or_end}
+use Rattle.cs_expr_parser.specs.Expression.{kind_at}
+use Rattle.cs_expr_parser.proofs.Standing.{kind_of_some, kind_of_none}
+use Rattle.cs_decl_parser.specs.declared.source.Scope.{Scope}
+use Rattle.cs_decl_parser.specs.declared.source.Scope.TheVariants.{File, Block}
+use Rattle.cs_decl_parser.specs.declared.stop.Stop.{Stop}
+use Rattle.cs_decl_parser.specs.declared.stop.Stop.TheVariants as stop
+use Rattle.cs_decl_parser.specs.Reasons.{is_left_out, plain_reason}
+use Rattle.cs_decl_parser.specs.Aptness.{may_be_out, IsApt, IsStopApt, IsAnswerApt}
+use Rattle.cs_decl_parser.specs.DeclarationAnswers.{is_designator}
+
+-- what is left out everywhere in a scope is left out somewhere in it
+out_mark : (scope : Scope) (m : Mark) → is_left_out scope (token.Mark m) ≡ true → may_be_out scope (token.Mark m) ≡ true
+out_mark File mark.Ellipsis e = refl
+out_mark Block mark.Ellipsis e = refl
+out_mark File _ e = absurd (false≢true e)
+out_mark Block _ e = absurd (false≢true e)
+
+out_word : (scope : Scope) (k : Keyword) → is_left_out scope (token.Keyword k) ≡ true → may_be_out scope (token.Keyword k) ≡ true
+out_word Block keyword.Static e = refl
+out_word Block keyword.Typedef e = refl
+out_word File keyword.Static e = refl
+out_word File keyword.Typedef e = refl
+out_word Block _ e = absurd (false≢true e)
+out_word File _ e = absurd (false≢true e)
+
+out_may : (scope : Scope) (next : TokenKind) → is_left_out scope next ≡ true → may_be_out scope next ≡ true
+out_may File (token.LeftOut w) e = refl
+out_may Block (token.LeftOut w) e = refl
+out_may scope (token.Mark m) e = out_mark scope m e
+out_may scope (token.Keyword k) e = out_word scope k e
+out_may File _ e = absurd (false≢true e)
+out_may Block _ e = absurd (false≢true e)
+
+pub left_apt : (scope : Scope) (next : TokenKind) → may_be_out scope next ≡ true → IsApt scope next LeftOut
+left_apt scope next may = record { out = λ o l. cc; kept = λ k l. false≢true (sym k ∙ may) }
+
+pub always_apt : (scope : Scope) (next : TokenKind) → is_left_out scope next ≡ true → IsApt scope next LeftOut
+always_apt scope next out = left_apt scope next (out_may scope next out)
+
+pub syntax_apt : (scope : Scope) (next : TokenKind) → is_left_out scope next ≡ false → IsApt scope next Syntax
+syntax_apt scope next none = record { out = λ o l. false≢true (sym none ∙ o); kept = λ k l. cc }
+
+pub deep_apt : (scope : Scope) (next : TokenKind) → IsApt scope next TooDeep
+deep_apt scope next = record { out = λ o l. cc; kept = λ k l. cc }
+
+either_apt : (scope : Scope) (next : TokenKind) (b : Bool) → is_left_out scope next ≡ b → IsApt scope next (if b then LeftOut else Syntax)
+either_apt scope next true e = always_apt scope next e
+either_apt scope next false e = syntax_apt scope next e
+
+-- the reason for a token with which no tree goes on
+pub plain_apt : (scope : Scope) (next : TokenKind) → IsApt scope next (plain_reason scope next)
+plain_apt scope next = either_apt scope next (is_left_out scope next) refl
+
+-- where a designator would begin
+designator_mark : (scope : Scope) (m : Mark) → is_designator (token.Mark m) ≡ true → may_be_out scope (token.Mark m) ≡ true
+designator_mark File mark.Dot e = refl
+designator_mark Block mark.Dot e = refl
+designator_mark File mark.OpenBracket e = refl
+designator_mark Block mark.OpenBracket e = refl
+designator_mark scope _ e = absurd (false≢true e)
+
+pub designator_apt : (scope : Scope) (next : TokenKind) → is_designator next ≡ true → IsApt scope next LeftOut
+designator_apt scope (token.Mark m) e = left_apt scope (token.Mark m) (designator_mark scope m e)
+designator_apt scope _ e = absurd (false≢true e)
+
+-- a brace may have each reason
+pub brace_apt : (scope : Scope) (next : TokenKind) (reason : Reason) → next ≡ token.Mark mark.OpenBrace → IsApt scope next reason
+brace_apt File next reason e = record { out = λ o l. false≢true (sym (ap (is_left_out File) e) ∙ o); kept = λ k l. false≢true (sym k ∙ ap (may_be_out File) e) }
+brace_apt Block next reason e = record { out = λ o l. false≢true (sym (ap (is_left_out Block) e) ∙ o); kept = λ k l. false≢true (sym k ∙ ap (may_be_out Block) e) }
+
+-- a reason that a token may have in blocks is one that it may have outside
+file_out : (next : TokenKind) → is_left_out File next ≡ true → is_left_out Block next ≡ true
+file_out (token.LeftOut w) e = refl
+file_out (token.Mark mark.Ellipsis) e = refl
+file_out (token.Mark _) e = absurd (false≢true e)
+file_out _ e = absurd (false≢true e)
+
+file_mark : (m : Mark) → may_be_out File (token.Mark m) ≡ false → may_be_out Block (token.Mark m) ≡ false
+file_mark mark.Colon e = refl
+file_mark mark.Ellipsis e = absurd (false≢true (sym e))
+file_mark mark.OpenBrace e = absurd (false≢true (sym e))
+file_mark mark.OpenParenthesis e = absurd (false≢true (sym e))
+file_mark mark.Dot e = absurd (false≢true (sym e))
+file_mark mark.OpenBracket e = absurd (false≢true (sym e))
+file_mark _ e = refl
+
+file_word : (k : Keyword) → may_be_out File (token.Keyword k) ≡ false → may_be_out Block (token.Keyword k) ≡ false
+file_word keyword.Static e = absurd (false≢true (sym e))
+file_word keyword.Typedef e = absurd (false≢true (sym e))
+file_word _ e = refl
+
+file_kept : (next : TokenKind) → may_be_out File next ≡ false → may_be_out Block next ≡ false
+file_kept (token.LeftOut w) e = absurd (false≢true (sym e))
+file_kept (token.Mark m) e = file_mark m e
+file_kept (token.Keyword k) e = file_word k e
+file_kept _ e = refl
+
+pub apt_in : (scope : Scope) (next : TokenKind) (reason : Reason) → IsApt Block next reason → IsApt scope next reason
+apt_in File next reason a = record { out = λ o l. a.out (file_out next o) l; kept = λ k l. a.kept (file_kept next k) l }
+apt_in Block next reason a = a
+
+-- the reasons of the parser of expressions
+out_left : (names : Names) (front : Kinds) (next : TokenKind) → is_left_out Block next ≡ true → IsLeftOut names front next
+out_left names front (token.LeftOut w) e = tt
+out_left names front (token.Mark mark.Ellipsis) e = tt
+out_left names front (token.Keyword keyword.Static) e = tt
+out_left names front (token.Keyword keyword.Typedef) e = tt
+out_left names front (token.Mark _) e = absurd (false≢true e)
+out_left names front (token.Keyword _) e = absurd (false≢true e)
+out_left names front _ e = absurd (false≢true e)
+
+left_may : (names : Names) (front : Kinds) (next : TokenKind) → IsLeftOut names front next → may_be_out Block next ≡ true
+left_may names front (token.LeftOut w) o = refl
+left_may names front (token.Mark mark.Ellipsis) o = refl
+left_may names front (token.Mark mark.OpenBrace) o = refl
+left_may names front (token.Keyword keyword.Static) o = refl
+left_may names front (token.Keyword keyword.Typedef) o = refl
+left_may names front (token.Mark _) o = absurd o
+left_may names front (token.Keyword _) o = absurd o
+left_may names front _ o = absurd o
+
+reason_apt : (names : Names) (level : ℕ) (front : Kinds) (next : TokenKind) (reason : Reason) → IsReason names level front (Some next) reason → IsApt Block next reason
+reason_apt names level front next TooDeep r = deep_apt Block next
+reason_apt names level front next LeftOut r = left_apt Block next (left_may names front next r.1)
+reason_apt names level front next Syntax r = record { out = λ o l. r.1 (out_left names front next o); kept = λ k l. cc }
+
+end_apt : (names : Names) (level : ℕ) (front : Kinds) (reason : Reason) → IsReason names level front None reason → IsApt Block token.Attribute reason
+end_apt names level front Syntax r = syntax_apt Block token.Attribute refl
+end_apt names level front LeftOut r = absurd r
+end_apt names level front TooDeep r = absurd r
+
+apt_found : (names : Names) (level : ℕ) (front : Kinds) (tokens : List Token) (at : ℕ) (reason : Reason) (found : Option Token) → slice_get tokens at ≡ found → IsReason names level front (option_map (λ (t : Token). t.kind) found) reason → IsApt Block (kind_or_end tokens at) reason
+apt_found names level front tokens at reason (Some t) e r =
+    subst (λ (x : TokenKind). IsApt Block x reason) (sym (kind_of_some tokens at t e)) (reason_apt names level front t.kind reason r)
+apt_found names level front tokens at reason None e r =
+    subst (λ (x : TokenKind). IsApt Block x reason) (sym (kind_of_none tokens at e)) (end_apt names level front reason r)
+
+pub expression_apt : (names : Names) (level : ℕ) (front : Kinds) (tokens : List Token) (at : ℕ) (reason : Reason) → IsReason names level front (kind_at tokens at) reason → IsApt Block (kind_or_end tokens at) reason
+expression_apt names level front tokens at reason r = apt_found names level front tokens at reason (slice_get tokens at) refl r
+
+-- the same of what the parts answer
+pub stop_apt : (scope : Scope) (tokens : List Token) (s : Stop) → IsStopApt Block tokens s → IsStopApt scope tokens s
+stop_apt scope tokens (stop.Refused at reason) a = apt_in scope (kind_or_end tokens at) reason a
+stop_apt scope tokens (stop.Expression r) a = tt
+stop_apt scope tokens stop.Memory a = tt
+
+pub answer_apt : {A : Type 0} (scope : Scope) (tokens : List Token) (answer : Result A Stop) → IsAnswerApt Block tokens answer → IsAnswerApt scope tokens answer
+answer_apt scope tokens (Ok taken) a = tt
+answer_apt scope tokens (Err s) a = stop_apt scope tokens s a
