@@ -1,0 +1,17 @@
+pub mod Beside
+pub mod BodyRows
+pub mod ClosedBodies
+pub mod FirstBounds
+pub mod FoldedSoFar
+pub mod InitialsInTurn
+pub mod JudgedSoFar
+pub mod LastStars
+pub mod LesserCodes
+pub mod PartTypes
+pub mod PassedArrays
+pub mod PlainWords
+pub mod Refusing
+pub mod SaidSoFar
+pub mod StoredSoFar
+pub mod ValuesSoFar
+pub mod WrittenLists

@@ -1,0 +1,130 @@
+-- The values of the items so far before those of the items that are left: for the loops over items.
+use Rattle.std.proofs.Common.{◌≡◌, ℕ, suc, ◌≤◌, List, [], ◌∷◌, ◌++◌, drop, length, Some, None, refl, sym, ap, ◌∙◌, Vec, Global, Bool}
+use Rattle.std.proofs.Math.ListN.{drop_of_length-le}
+use Rattle.std.specs.Prelude.{slice_get}
+use Rattle.cs_types.specs.Shape.{Shape}
+use Rattle.cs_ast.specs.declared.raw.declaration.RawInitial as first_value
+use Rattle.cs_ast.specs.declared.raw.declaration.RawInitial.{RawInitial}
+use Rattle.cs_ast.specs.declared.raw.expression.RawExpr.{RawExpr}
+use Rattle.cs_ast.specs.declared.typed.expression.Expr.{Expr}
+use Rattle.cs_ast.specs.declared.typed.statement.Initial.{Initial as Held}
+use Rattle.cs_ast.specs.TypedTree.{Initials, Value, NoPart, Part, Parts}
+use Rattle.cs_ast.specs.TypedView.{typed, initial, initial_list}
+use Rattle.cs_consts.specs.declared.context.Context.{Context}
+use Rattle.cs_consts.specs.declared.refusal.TypeRefusal.{TypeRefusal}
+use Rattle.cs_consts.specs.Doors.{operand_of}
+use Rattle.cs_consts.specs.Typing.{Literals, literals_behind}
+use Rattle.cs_consts.specs.Verdicts.{Verdict, Fine, Fault, lift, IsRefused}
+use Rattle.cs_consts.proofs.Lifting.{lift-fine, lift-fault, lift-refused}
+use Rattle.cs_consts.proofs.SingleParts.{lift_is}
+use Rattle.cs_consts.proofs.Productions.{refused_as}
+use Rattle.cs_declarations.specs.Initializers.{Reading, Readings, part_types, types_or_none, value_read, expression_read, parts_read, one_more, initial_read, items_read, list_read}
+use Rattle.cs_declarations.proofs.PartTypes.{types_from, types_past}
+use Rattle.cs_declarations.proofs.WrittenLists.{items_of}
+
+-- an expression for something that is no array
+module _ (c : Context) (literals : Literals) (ty : Shape) (e : RawExpr) (plain : expression_read c literals ty e ≡ lift (value_read literals e.kind) (operand_of c literals (Some ty) e)) where
+  pub operand_refused : (r : TypeRefusal) → IsRefused (operand_of c literals (Some ty) e) r → IsRefused (expression_read c literals ty e) r
+  operand_refused r h = refused_as r plain (lift-refused (value_read literals e.kind) _ r h)
+
+  pub operand_read : (v : Expr) (behind : Literals) → operand_of c literals (Some ty) e ≡ Fine (typed v) → behind ≡ literals_behind literals e.kind → expression_read c literals ty e ≡ Fine (Value (typed v), behind)
+  operand_read v behind h texts = plain ∙ lift_is (value_read literals e.kind) _ (typed v) h ∙ ap (λ ls. Fine (Value (typed v), ls)) (sym texts)
+
+-- values before others
+abbrev pub before : List Held → Initials → Initials
+before [] others = others
+before (first ∷ list) others = Part (initial first) (before list others)
+
+-- values that were read before others
+abbrev pub behind : List Held → Readings → Verdict Readings
+behind list r = Fine (before list r.0, r.1)
+
+pub before-push : (list : List Held) (v : Held) (others : Initials) → before list (Part (initial v) others) ≡ before (list ++ v ∷ []) others
+before-push [] v others = refl
+before-push (first ∷ list) v others = ap (Part (initial first)) (before-push list v others)
+
+pub before-all : (list : List Held) → before list NoPart ≡ initial_list list
+before-all [] = refl
+before-all (first ∷ list) = ap (Part (initial first)) (before-all list)
+
+-- rules that say the same of each value
+same_rule : {A B : Type 0} (f g : A → Verdict B) → ((a : A) → f a ≡ g a) → (v : Verdict A) → lift f v ≡ lift g v
+same_rule f g h (Fine value) = lift-fine f value ∙ h value ∙ sym (lift-fine g value)
+same_rule f g h (Fault code place) = lift-fault f code place ∙ sym (lift-fault g code place)
+
+read-row : (c : Context) (literals : Literals) (types : List Shape) (n : _) (row : first_value.Row_of-RawInitial n) → list_read c literals types (first_value.items-the_row-RawInitial n row) ≡ items_read c literals types row
+read-row c literals [] n first_value.end_of-RawInitial = refl
+read-row c literals (ty ∷ types) n first_value.end_of-RawInitial = refl
+read-row c literals [] n (first_value.more_of-RawInitial first others) = refl
+read-row c literals (ty ∷ types) n (first_value.more_of-RawInitial first others) =
+    same_rule (λ (r : Reading). lift (one_more r.0) (list_read c r.1 types (first_value.items-the_row-RawInitial _ others))) (λ (r : Reading). lift (one_more r.0) (items_read c r.1 types others))
+    (λ r. ap (lift (one_more r.0)) (read-row c r.1 types _ others)) (initial_read c literals ty first)
+
+no_types : (c : Context) (literals : Literals) (items : List RawInitial) → list_read c literals [] items ≡ Fine (NoPart, literals)
+no_types c literals [] = refl
+no_types c literals (first ∷ others) = refl
+
+no_items : (c : Context) (literals : Literals) (types : List Shape) → list_read c literals types [] ≡ Fine (NoPart, literals)
+no_items c literals [] = refl
+no_items c literals (ty ∷ types) = refl
+
+-- the values of a list
+module _ (c : Context) (literals : Literals) (ty : Shape) (v : RawInitial) (list : Vec RawInitial Global) (comma : Bool) (is : v ≡ first_value.TheVariants.List list comma) where
+  pub initial_read-List : initial_read c literals ty v ≡ lift parts_read (list_read c literals (types_or_none (part_types c.table.list ty)) list.items)
+  initial_read-List =
+      let row = items_of (first_value.TheVariants.List list comma) in
+      ap (initial_read c literals ty) is ∙ ap (lift parts_read) (sym (read-row c literals (types_or_none (part_types c.table.list ty)) row.0 row.1))
+      ∙ ap (λ xs. lift parts_read (list_read c literals (types_or_none (part_types c.table.list ty)) xs)) (first_value.items_hidden-the_row-RawInitial-0 list)
+
+  pub list_values : (types : List Shape) → part_types c.table.list ty ≡ Some types → initial_read c literals ty v ≡ lift parts_read (list_read c literals types list.items)
+  list_values types parts = initial_read-List ∙ ap (λ p. lift parts_read (list_read c literals (types_or_none p) list.items)) parts
+
+  pub list_refused : (types : List Shape) (r : TypeRefusal) → part_types c.table.list ty ≡ Some types → IsRefused (list_read c literals types list.items) r → IsRefused (initial_read c literals ty v) r
+  list_refused types r parts h = refused_as r (list_values types parts) (lift-refused parts_read _ r h)
+
+  pub list_is : (types : List Shape) (found : Readings) → part_types c.table.list ty ≡ Some types → list_read c literals types list.items ≡ Fine found → initial_read c literals ty v ≡ Fine (Parts found.0, found.1)
+  list_is types found parts h = list_values types parts ∙ lift_is parts_read _ found h
+
+  pub no_values : part_types c.table.list ty ≡ None → initial_read c literals ty v ≡ Fine (Parts NoPart, literals)
+  no_values parts = initial_read-List ∙ ap (λ p. lift parts_read (list_read c literals (types_or_none p) list.items)) parts ∙ lift_is parts_read _ (NoPart, literals) (no_types c literals list.items)
+
+-- what is read further, before which values stand
+regrouped : (list : List Held) (v : Held) (rest : Verdict Readings) → lift (behind list) (lift (one_more (initial v)) rest) ≡ lift (behind (list ++ v ∷ [])) rest
+regrouped list v (Fine r) =
+    ap (lift (behind list)) (lift-fine (one_more (initial v)) r) ∙ lift-fine (behind list) (Part (initial v) r.0, r.1)
+    ∙ ap (λ all. Fine (all, r.1)) (before-push list v r.0) ∙ sym (lift-fine (behind (list ++ v ∷ [])) r)
+regrouped list v (Fault code place) =
+    ap (lift (behind list)) (lift-fault (one_more (initial v)) code place) ∙ lift-fault (behind list) code place ∙ sym (lift-fault (behind (list ++ v ∷ [])) code place)
+
+none_yet : (v : Verdict Readings) → lift (behind []) v ≡ v
+none_yet (Fine r) = lift-fine (behind []) r
+none_yet (Fault code place) = lift-fault (behind []) code place
+
+pub nothing_read : (list : List Held) (v : Verdict Readings) → list ≡ [] → lift (behind list) v ≡ v
+nothing_read list v empty = ap (λ xs. lift (behind xs) v) empty ∙ none_yet v
+
+module _ (c : Context) (types : List Shape) (items : List RawInitial) (literals : Literals) (i : ℕ) (list : List Held) (whole : Verdict Readings) (so_far : lift (behind list) (list_read c literals (drop i types) (drop i items)) ≡ whole) where
+  all_read : list_read c literals (drop i types) (drop i items) ≡ Fine (NoPart, literals) → whole ≡ Fine (initial_list list, literals)
+  all_read e = sym so_far ∙ lift_is (behind list) _ (NoPart, literals) e ∙ ap (λ all. Fine (all, literals)) (before-all list)
+
+  pub read_over : slice_get types i ≡ None → whole ≡ Fine (initial_list list, literals)
+  read_over part = all_read (ap (λ ts. list_read c literals ts (drop i items)) (types_past types i part) ∙ no_types c literals (drop i items))
+
+  pub read_end : length items ≤ i → whole ≡ Fine (initial_list list, literals)
+  read_end past = all_read (ap (list_read c literals (drop i types)) (drop_of_length-le items past) ∙ no_items c literals (drop i types))
+
+  module _ (item : RawInitial) (there : drop i items ≡ item ∷ drop (suc i) items) (ty : Shape) (part : slice_get types i ≡ Some ty) where
+    abbrev further : Reading → Verdict Readings
+    further r = lift (one_more r.0) (list_read c r.1 (drop (suc i) types) (drop (suc i) items))
+
+    next : lift (behind list) (lift further (initial_read c literals ty item)) ≡ whole
+    next = sym (ap (λ ts. lift (behind list) (list_read c literals ts (drop i items))) (types_from types i ty part) ∙ ap (λ xs. lift (behind list) (list_read c literals (ty ∷ drop (suc i) types) xs)) there) ∙ so_far
+
+    pub read_stops : (r : TypeRefusal) → IsRefused (initial_read c literals ty item) r → IsRefused whole r
+    read_stops r h = refused_as r (sym next) (lift-refused (behind list) _ r (lift-refused further _ r h))
+
+    pub read_more : (v : Held) (then_literals : Literals) (more : List Held) → initial_read c literals ty item ≡ Fine (initial v, then_literals) → more ≡ list ++ v ∷ [] → lift (behind more) (list_read c then_literals (drop (suc i) types) (drop (suc i) items)) ≡ whole
+    read_more v then_literals more h pushed =
+        ap (λ xs. lift (behind xs) (list_read c then_literals (drop (suc i) types) (drop (suc i) items))) pushed
+        ∙ sym (regrouped list v (list_read c then_literals (drop (suc i) types) (drop (suc i) items)))
+        ∙ ap (lift (behind list)) (sym (lift_is further _ (initial v, then_literals) h)) ∙ next
