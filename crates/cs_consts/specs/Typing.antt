@@ -1,0 +1,440 @@
+-- The typing of expressions (C11 6.5): one rule for each production, told at the first failing place.
+use Rattle.std.specs.Prelude.{◌≡◌, ℕ, zero, suc, ◌+◌, ℤ, pos, int_le, nat_le, length, Bool, true, false, not, ◌&&◌, if◌then◌else◌, List, [], ◌∷◌, ◌++◌, Option, Some, None, Result, Ok, Err}
+use Rattle.std.specs.Ordering.{int_eq}
+use Rattle.cs_types.specs.declared.data_model.DataModel.{DataModel}
+use Rattle.cs_types.specs.declared.int_type.IntType.{IntType}
+use Rattle.cs_types.specs.declared.int_type.IntType.TheVariants as int_type
+use Rattle.cs_types.specs.declared.structs.StructType.{StructType}
+use Rattle.cs_types.specs.IntType.{greatest_of}
+use Rattle.cs_types.specs.Shape.{Shape, void, integer, pointer, array, struct}
+use Rattle.cs_ast.specs.declared.place.Place.{Place}
+use Rattle.cs_ast.specs.declared.token.IntegerConstant.{IntegerConstant}
+use Rattle.cs_ast.specs.declared.token.Length.{Length}
+use Rattle.cs_ast.specs.declared.token.Length.TheVariants as size
+use Rattle.cs_ast.specs.declared.raw.expression.RawExpr.{RawExpr}
+use Rattle.cs_ast.specs.declared.raw.expression.RawExprKind.{RawExprKind, Row_of-RawExpr, end_of-RawExpr, more_of-RawExpr}
+use Rattle.cs_ast.specs.declared.raw.expression.RawExprKind.TheVariants as kind
+use Rattle.cs_ast.specs.declared.raw.written_type.WrittenType.{WrittenType}
+use Rattle.cs_ast.specs.declared.raw.operator.AssignOp.{AssignOp}
+use Rattle.cs_ast.specs.declared.raw.operator.AssignOp.TheVariants as assign_op
+use Rattle.cs_ast.specs.declared.raw.operator.InfixOp.{InfixOp}
+use Rattle.cs_ast.specs.declared.raw.operator.InfixOp.TheVariants as infix_op
+use Rattle.cs_ast.specs.declared.raw.operator.PrefixOp.{PrefixOp}
+use Rattle.cs_ast.specs.declared.raw.operator.PrefixOp.TheVariants as prefix_op
+use Rattle.cs_ast.specs.declared.typed.operator.BinOp.{BinOp}
+use Rattle.cs_ast.specs.declared.typed.operator.BinOp.TheVariants as bin
+use Rattle.cs_ast.specs.declared.typed.operator.UnOp.TheVariants as un
+use Rattle.cs_ast.specs.declared.typed.operator.Gives.{Gives}
+use Rattle.cs_ast.specs.declared.typed.operator.Gives.TheVariants.{Old, New}
+use Rattle.cs_ast.specs.TypedTree.{Typed, Of, Form, Number, Text, Local, Global, TypedList, NoMore, Further}
+use Rattle.cs_consts.specs.declared.context.Context.{Context}
+use Rattle.cs_consts.specs.declared.purpose.Purpose.{Purpose}
+use Rattle.cs_consts.specs.declared.purpose.Purpose.TheVariants.{Run, Constant, Unneeded}
+use Rattle.cs_consts.specs.declared.refusal.TypeCode.TheVariants as code
+use Rattle.cs_consts.specs.Meanings.{Signature, Meaning, Declaration}
+use Rattle.cs_consts.specs.Meanings as meaning
+use Rattle.cs_consts.specs.Verdicts.{Verdict, Fine, Fault, lift, lift2, lift3}
+use Rattle.cs_consts.specs.Integers.{type_of, form_of, raised, turned}
+use Rattle.cs_consts.specs.Objects.{is_void, is_array, valued, operand, measured}
+use Rattle.cs_consts.specs.Constants.{finished}
+use Rattle.cs_consts.specs.Conversions.{converted, recast}
+use Rattle.cs_consts.specs.Operators.{combined, tested, denied, chosen, followed}
+use Rattle.cs_consts.specs.Places.{address_of, through, indexed, selected, selected_through}
+use Rattle.cs_consts.specs.Stores.{assignable, assigned, updatable, updated, step_operator, stepped}
+use Rattle.cs_consts.specs.Scopes.{newest}
+use Rattle.cs_consts.specs.TypeNames.{type_named, arrayed, complete_at}
+use Rattle.cs_consts.specs.Calls.{called, parameters_of, admitted, converted_list, call_of}
+
+-- string literals by their numbers: the bytes of each
+abbrev pub Literals : Type 0
+Literals = List (List ℕ)
+
+-- the greatest number of a type is at least this
+abbrev pub has_room : DataModel → IntType → ℕ → Bool
+has_room model ty n = int_le (pos n) (greatest_of model ty)
+
+-- the first of some types that holds a number
+abbrev pub first_with_room : DataModel → ℕ → IntType → List IntType → IntType
+first_with_room model n last [] = last
+first_with_room model n last (ty ∷ types) = if has_room model ty n then ty else first_with_room model n last types
+
+-- the types of an integer constant in their order: with `u`, decimal, or neither, by the `l`s of its suffix (C11 6.4.4.1, paragraph 5);
+-- the last one is taken where none before it holds the number
+abbrev pub unsigned_types : Length → List IntType
+unsigned_types size.Plain = int_type.UInt ∷ int_type.ULong ∷ []
+unsigned_types size.Long = int_type.ULong ∷ []
+unsigned_types size.LongLong = []
+
+abbrev pub decimal_types : Length → List IntType
+decimal_types size.Plain = int_type.Int ∷ int_type.Long ∷ []
+decimal_types size.Long = int_type.Long ∷ []
+decimal_types size.LongLong = []
+
+abbrev pub other_types : Length → List IntType
+other_types size.Plain = int_type.Int ∷ int_type.UInt ∷ int_type.Long ∷ int_type.ULong ∷ int_type.LLong ∷ []
+other_types size.Long = int_type.Long ∷ int_type.ULong ∷ int_type.LLong ∷ []
+other_types size.LongLong = int_type.LLong ∷ []
+
+-- the type of an integer constant
+unfoldable pub constant_type : DataModel → IntegerConstant → IntType
+constant_type model k =
+    if k.unsigned then first_with_room model k.value int_type.ULLong (unsigned_types k.length)
+    else (if k.decimal then first_with_room model k.value int_type.LLong (decimal_types k.length)
+    else first_with_room model k.value int_type.ULLong (other_types k.length))
+
+-- a name (C11 6.5.1): a function's may only be called
+unfoldable pub named : Place → Option Meaning → Verdict Typed
+named at (Some (meaning.Constant n)) = Fine (Of at (integer int_type.Int) (Number n))
+named at (Some (meaning.Global number ty)) = Fine (Of at ty (Global number))
+named at (Some (meaning.Local number ty)) = Fine (Of at ty (Local number))
+named at (Some (meaning.Function f)) = Fault code.FunctionName at
+named at (Some (meaning.Typedef ty)) = Fault code.UnknownName at
+named at None = Fault code.UnknownName at
+
+-- a string literal, behind those before it (C11 6.4.5, paragraph 6)
+unfoldable pub text_at : Literals → Place → List ℕ → Verdict Typed
+text_at literals at bytes =
+    if nat_le (length bytes) 65535 then Fine (Of at (array (integer int_type.Char) (length bytes + 1)) (Text (length literals))) else Fault code.Size at
+
+abbrev mutual
+  -- the literals behind those of an expression
+  pub literals_behind : Literals → RawExprKind → Literals
+  literals_behind literals (kind.Name name) = literals
+  literals_behind literals (kind.Number constant) = literals
+  literals_behind literals (kind.Character value) = literals
+  literals_behind literals (kind.Text bytes) = literals ++ bytes ∷ []
+  literals_behind literals (kind.Parenthesis' p place inner) = literals_behind literals inner
+  literals_behind literals (kind.Index' p place left q place' right) = literals_behind (literals_behind literals left) right
+  literals_behind literals (kind.Call' p place function shape row) = literals_behind_row literals row
+  literals_behind literals (kind.Member' p place object name) = literals_behind literals object
+  literals_behind literals (kind.Arrow' p place e name) = literals_behind literals e
+  literals_behind literals (kind.StepBehind' step p place object) = literals_behind literals object
+  literals_behind literals (kind.StepBefore' step p place object) = literals_behind literals object
+  literals_behind literals (kind.Prefix' operator p place e) = literals_behind literals e
+  literals_behind literals (kind.SizeOf' p place e) = literals_behind literals e
+  literals_behind literals (kind.SizeOfType' ty shape row) = literals_behind_row literals row
+  literals_behind literals (kind.Cast' ty shape row p place e) = literals_behind literals e
+  literals_behind literals (kind.Infix' operator p place left q place' right) = literals_behind (literals_behind literals left) right
+  literals_behind literals (kind.Choice' p place test q place' one r place'' other) =
+      literals_behind (literals_behind (literals_behind literals test) one) other
+  literals_behind literals (kind.Assign' operator p place object q place' value) = literals_behind (literals_behind literals object) value
+  literals_behind literals (kind.Comma' p place first q place' second) = literals_behind (literals_behind literals first) second
+
+  -- the same of expressions in a row
+  pub literals_behind_row : Literals → {n : _} → Row_of-RawExpr n → Literals
+  literals_behind_row literals end_of-RawExpr = literals
+  literals_behind_row literals (more_of-RawExpr place k rest) = literals_behind_row (literals_behind literals k) rest
+
+-- how many expressions stand in a row
+abbrev pub row_length : {n : _} → Row_of-RawExpr n → ℕ
+row_length end_of-RawExpr = 0
+row_length (more_of-RawExpr place k rest) = suc (row_length rest)
+
+-- an expression for its purpose
+unfoldable pub done : Context → Purpose → Verdict Typed → Verdict Typed
+done c purpose v = lift (finished c.model purpose) v
+
+-- its value
+unfoldable pub value_in : Context → Purpose → Verdict Typed → Verdict Typed
+value_in c purpose v = lift (valued c.table.list) (done c purpose v)
+
+-- its value, which it has to have
+unfoldable pub operand_in : Context → Purpose → Verdict Typed → Verdict Typed
+operand_in c purpose v = lift (operand c.table.list) (done c purpose v)
+
+-- the number is 0
+abbrev pub is_zero_number : Form → Bool
+is_zero_number (Number n) = int_eq n (pos 0)
+is_zero_number other = false
+
+-- a constant's operand that is evaluated only where a test is true, or only where it is false
+abbrev pub purpose_if : Bool → Purpose → Verdict Typed → Purpose
+purpose_if way Run v = Run
+purpose_if way Unneeded v = Unneeded
+purpose_if true Constant (Fine e) = if is_zero_number (form_of e) then Unneeded else Constant
+purpose_if false Constant (Fine e) = if is_zero_number (form_of e) then Constant else Unneeded
+purpose_if way Constant (Fault code place) = Constant
+
+-- what the operand behind an operator is typed for (C11 6.5.13, paragraph 4; 6.5.14, paragraph 4)
+abbrev pub purpose_behind : InfixOp → Purpose → Verdict Typed → Purpose
+purpose_behind infix_op.And purpose v = purpose_if true purpose v
+purpose_behind infix_op.Or purpose v = purpose_if false purpose v
+purpose_behind other purpose v = purpose
+
+-- the operator is `&`
+abbrev pub is_address : PrefixOp → Bool
+is_address prefix_op.Address = true
+is_address other = false
+
+-- an operator before a value
+unfoldable pub prefixed_value : Context → PrefixOp → Place → Typed → Verdict Typed
+prefixed_value c prefix_op.Address at v = address_of at v
+prefixed_value c prefix_op.Through at v = through at v (type_of v)
+prefixed_value c prefix_op.Plus at v = raised c.model at v (type_of v)
+prefixed_value c prefix_op.Minus at v = turned c.model un.Negate at v (type_of v)
+prefixed_value c prefix_op.Complement at v = turned c.model un.Complement at v (type_of v)
+prefixed_value c prefix_op.Not at v = denied at v
+
+-- an operator before one operand (C11 6.5.3)
+unfoldable pub prefixed : Context → PrefixOp → Place → Typed → Verdict Typed
+prefixed c op at e = if is_address op then address_of at e else lift (prefixed_value c op at) (operand c.table.list e)
+
+-- a subscript of two values
+abbrev pub indexed_values : Context → Place → Typed → Typed → Verdict Typed
+indexed_values c at left right = indexed c.table.list at left right (type_of left) (type_of right)
+
+-- `->` on a value
+abbrev pub arrow_on : Context → Place → Place → List ℕ → Typed → Verdict Typed
+arrow_on c at name_at name e = selected_through c.table.list at name_at name e (type_of e)
+
+-- a step of an object
+abbrev pub stepped_object : Context → BinOp → Gives → Place → Typed → Verdict Typed
+stepped_object c op gives at e = stepped c.model op gives at e (type_of e)
+
+-- the operator of a compound assignment
+abbrev pub operator_of : AssignOp → BinOp
+operator_of assign_op.Plain = bin.Add
+operator_of assign_op.Multiply = bin.Mul
+operator_of assign_op.Divide = bin.Div
+operator_of assign_op.Remainder = bin.Rem
+operator_of assign_op.Add = bin.Add
+operator_of assign_op.Subtract = bin.Sub
+operator_of assign_op.ShiftLeft = bin.Shl
+operator_of assign_op.ShiftRight = bin.Shr
+operator_of assign_op.BitAnd = bin.And
+operator_of assign_op.BitXor = bin.Xor
+operator_of assign_op.BitOr = bin.Or
+
+-- `=`, which stores a value as it is
+abbrev pub is_plain : AssignOp → Bool
+is_plain assign_op.Plain = true
+is_plain other = false
+
+-- the left side of an operator that stores: what the operator asks of it alone
+unfoldable pub left_side : Context → AssignOp → Place → Typed → Verdict Typed
+left_side c op at e = if is_plain op then assignable c.table.list at e else updatable c.table.list (operator_of op) at e
+
+-- an operator that stores, between an object and a value
+unfoldable pub stored : Context → AssignOp → Place → Typed → Typed → Verdict Typed
+stored c op at object value =
+    if is_plain op
+    then lift (assigned at object) (converted c.model at value (type_of object) (type_of value))
+    else updated c.model (operator_of op) at object value (type_of object) (type_of value)
+
+-- the type of what an expression gives
+abbrev pub type_in : Verdict Typed → Option Shape
+type_in (Fine e) = Some (type_of e)
+type_in (Fault code place) = None
+
+-- the type to which the right side of an operator that stores goes
+abbrev pub right_target : AssignOp → Verdict Typed → Option Shape
+right_target op v = if is_plain op then type_in v else None
+
+-- a type to which a value can be cast (C11 6.5.4, paragraph 2)
+abbrev pub castable : Place → Shape → Verdict Shape
+castable at (array element count) = Fault code.OperandTypes at
+castable at (struct number) = Fault code.OperandTypes at
+castable at ty = Fine ty
+
+-- the type of a cast with so many bounds
+unfoldable pub cast_type : Place → ℕ → Verdict Shape → Verdict Shape
+cast_type at zero v = lift (castable at) v
+cast_type at (suc n) v = Fault code.OperandTypes at
+
+-- the type that a verdict gives
+abbrev pub given_shape : Verdict Shape → Option Shape
+given_shape (Fine ty) = Some ty
+given_shape (Fault code place) = None
+
+-- the operand of a cast: one to `void` takes what has no value
+unfoldable pub cast_operand : Context → Shape → Typed → Verdict Typed
+cast_operand c target e = if is_void target then valued c.table.list e else operand c.table.list e
+
+-- a cast to a type (C11 6.5.4)
+unfoldable pub cast_to : Context → Place → Shape → Typed → Verdict Typed
+cast_to c at target e = lift (λ v. recast c.model at v target (type_of v)) (cast_operand c target e)
+
+-- a choice between two values
+abbrev pub chosen_values : Context → Place → Typed → Typed → Typed → Verdict Typed
+chosen_values c at test one other = chosen c.model at test one other (type_of one) (type_of other)
+
+-- `sizeof` of an expression, which keeps its arrays
+abbrev pub measured_type : Context → Place → Typed → Verdict Typed
+measured_type c at e = measured c.model c.table.list at (type_of e)
+
+-- one more argument before others
+abbrev pub further : Typed → TypedList → Verdict TypedList
+further e others = Fine (Further e others)
+
+-- a call of what is no function's name
+abbrev pub no_function : Place → Typed → Verdict Typed
+no_function at e = Fault code.OperandTypes at
+
+-- a call of a function with the values of its arguments: once all are typed, the call's place judges how each comes to its
+-- parameter (C11 6.5.2.2, paragraph 2)
+unfoldable pub call_with : Context → Place → Option Shape → Signature → TypedList → Verdict Typed
+call_with c at target f values = lift (call_of at target f) (converted_list c.model at (parameters_of (Some f)) values)
+
+-- a call of a function with its arguments, or of something else
+unfoldable pub call_or_not : Context → Place → Option Shape → Option Signature → ℕ → Verdict Typed → Verdict TypedList → Verdict Typed
+call_or_not c at target None count v values = lift (no_function at) v
+call_or_not c at target (Some f) count v values = lift2 (call_with c at target) (admitted at target count f) values
+
+-- the number of a constant
+abbrev pub number_at : Form → Verdict ℤ
+number_at (Number n) = Fine n
+number_at other = Fine (pos 0)
+
+-- a number before others
+abbrev pub number_before : Typed → List ℤ → Verdict (List ℤ)
+number_before e ns = lift (λ n. Fine (n ∷ ns)) (number_at (form_of e))
+
+-- `sizeof` of a type with bounds
+unfoldable pub measured_arrays : Context → Place → Shape → List ℤ → Verdict Typed
+measured_arrays c at base ns = lift (measured c.model c.table.list at) (arrayed c.model c.table.list at base ns)
+
+-- a written type between parentheses, without its arrays
+abbrev pub base_in : Context → Place → WrittenType → Verdict Shape
+base_in c at ty = type_named c.scope.declarations c.scope.tags at ty
+
+abbrev mutual
+  -- an expression at a place, behind some literals, whose value goes to a type where what stands around it asks for that
+  pub formed : Context → Purpose → Literals → Option Shape → Place → RawExprKind → Verdict Typed
+  -- C11 6.5.1
+  formed c purpose literals target at (kind.Name name) = named at (newest name c.scope.declarations)
+  formed c purpose literals target at (kind.Number k) = Fine (Of at (integer (constant_type c.model k)) (Number (pos k.value)))
+  formed c purpose literals target at (kind.Character n) = Fine (Of at (integer int_type.Int) (Number n))
+  formed c purpose literals target at (kind.Text bytes) = text_at literals at bytes
+  formed c purpose literals target at (kind.Parenthesis' p place inner) = done c purpose (formed c purpose literals target place inner)
+  -- C11 6.5.2.1
+  formed c purpose literals target at (kind.Index' p place left q place' right) =
+      lift2 (indexed_values c at)
+      (operand_in c purpose (formed c purpose literals None place left))
+      (operand_in c purpose (formed c purpose (literals_behind literals left) None place' right))
+  -- C11 6.5.2.2
+  formed c purpose literals target at (kind.Call' p place function shape row) =
+      call_or_not c at target (called c.scope.declarations function) (row_length row)
+      (operand_in c purpose (formed c purpose literals None place function))
+      (arguments_formed c purpose literals (parameters_of (called c.scope.declarations function)) row)
+  -- C11 6.5.2.3
+  formed c purpose literals target at (kind.Member' p place object name) =
+      lift (selected c.table.list at name.place name.name) (done c purpose (formed c purpose literals None place object))
+  formed c purpose literals target at (kind.Arrow' p place e name) =
+      lift (arrow_on c at name.place name.name) (operand_in c purpose (formed c purpose literals None place e))
+  -- C11 6.5.2.4
+  formed c purpose literals target at (kind.StepBehind' step p place object) =
+      lift (stepped_object c (step_operator step) Old at)
+      (lift (updatable c.table.list (step_operator step) at) (done c purpose (formed c purpose literals None place object)))
+  -- C11 6.5.3.1
+  formed c purpose literals target at (kind.StepBefore' step p place object) =
+      lift (stepped_object c (step_operator step) New at)
+      (lift (updatable c.table.list (step_operator step) at) (done c purpose (formed c purpose literals None place object)))
+  -- C11 6.5.3.2, 6.5.3.3
+  formed c purpose literals target at (kind.Prefix' operator p place e) =
+      lift (prefixed c operator at) (done c purpose (formed c purpose literals None place e))
+  -- C11 6.5.3.4: the operand isn't evaluated
+  formed c purpose literals target at (kind.SizeOf' p place e) =
+      lift (measured_type c at) (done c Run (formed c Run literals None place e))
+  formed c purpose literals target at (kind.SizeOfType' ty shape row) =
+      lift2 (measured_arrays c at) (lift (complete_at c.table.list at) (base_in c at ty)) (numbers_formed c literals row)
+  -- C11 6.5.4
+  formed c purpose literals target at (kind.Cast' ty shape row p place e) =
+      lift2 (cast_to c at) (cast_type at (row_length row) (base_in c at ty))
+      (done c purpose (formed c purpose literals (given_shape (cast_type at (row_length row) (base_in c at ty))) place e))
+  -- C11 6.5.5 to 6.5.14
+  formed c purpose literals target at (kind.Infix' operator p place left q place' right) =
+      let one = operand_in c purpose (formed c purpose literals None place left) in
+      let behind = purpose_behind operator purpose one in
+      lift2 (combined c.model c.table.list operator at) one
+      (operand_in c behind (formed c behind (literals_behind literals left) None place' right))
+  -- C11 6.5.15
+  formed c purpose literals target at (kind.Choice' p place test q place' one r place'' other) =
+      let tells = lift (tested at) (operand_in c purpose (formed c purpose literals None place test)) in
+      let behind = literals_behind literals test in
+      lift3 (chosen_values c at) tells
+      (value_in c (purpose_if true purpose tells) (formed c (purpose_if true purpose tells) behind None place' one))
+      (value_in c (purpose_if false purpose tells) (formed c (purpose_if false purpose tells) (literals_behind behind one) None place'' other))
+  -- C11 6.5.16
+  formed c purpose literals target at (kind.Assign' operator p place object q place' value) =
+      let left = lift (left_side c operator at) (done c purpose (formed c purpose literals None place object)) in
+      lift2 (stored c operator at) left
+      (operand_in c purpose (formed c purpose (literals_behind literals object) (right_target operator left) place' value))
+  -- C11 6.5.17
+  formed c purpose literals target at (kind.Comma' p place first q place' second) =
+      lift2 (followed at)
+      (value_in c purpose (formed c purpose literals None place first))
+      (value_in c purpose (formed c purpose (literals_behind literals first) None place' second))
+
+  -- the values of the arguments of a call, each for a parameter
+  pub arguments_formed : Context → Purpose → Literals → List Shape → {n : _} → Row_of-RawExpr n → Verdict TypedList
+  arguments_formed c purpose literals types end_of-RawExpr = Fine NoMore
+  arguments_formed c purpose literals [] (more_of-RawExpr place k rest) = Fine NoMore
+  arguments_formed c purpose literals (ty ∷ types) (more_of-RawExpr place k rest) =
+      lift2 further
+      (operand_in c purpose (formed c purpose literals (Some ty) place k))
+      (arguments_formed c purpose (literals_behind literals k) types rest)
+
+  -- the numbers of bounds, which are constant
+  pub numbers_formed : Context → Literals → {n : _} → Row_of-RawExpr n → Verdict (List ℤ)
+  numbers_formed c literals end_of-RawExpr = Fine []
+  numbers_formed c literals (more_of-RawExpr place k rest) =
+      lift2 number_before
+      (done c Constant (formed c Constant literals None place k))
+      (numbers_formed c (literals_behind literals k) rest)
+
+-- the rules of the productions with more than one part, each on the parts themselves: what the functions for them promise
+abbrev pub infix_formed : Context → Purpose → Literals → Place → InfixOp → RawExpr → RawExpr → Verdict Typed
+infix_formed c purpose literals at operator left right =
+    let one = operand_in c purpose (formed c purpose literals None left.place left.kind) in
+    let behind = purpose_behind operator purpose one in
+    lift2 (combined c.model c.table.list operator at) one
+    (operand_in c behind (formed c behind (literals_behind literals left.kind) None right.place right.kind))
+
+abbrev pub choice_formed : Context → Purpose → Literals → Place → RawExpr → RawExpr → RawExpr → Verdict Typed
+choice_formed c purpose literals at test one other =
+    let tells = lift (tested at) (operand_in c purpose (formed c purpose literals None test.place test.kind)) in
+    let behind = literals_behind literals test.kind in
+    lift3 (chosen_values c at) tells
+    (value_in c (purpose_if true purpose tells) (formed c (purpose_if true purpose tells) behind None one.place one.kind))
+    (value_in c (purpose_if false purpose tells) (formed c (purpose_if false purpose tells) (literals_behind behind one.kind) None other.place other.kind))
+
+abbrev pub store_formed : Context → Purpose → Literals → Place → AssignOp → RawExpr → RawExpr → Verdict Typed
+store_formed c purpose literals at operator object value =
+    let left = lift (left_side c operator at) (done c purpose (formed c purpose literals None object.place object.kind)) in
+    lift2 (stored c operator at) left
+    (operand_in c purpose (formed c purpose (literals_behind literals object.kind) (right_target operator left) value.place value.kind))
+
+abbrev pub cast_formed : Context → Purpose → Literals → Place → WrittenType → ℕ → RawExpr → Verdict Typed
+cast_formed c purpose literals at ty bounds e =
+    lift2 (cast_to c at) (cast_type at bounds (base_in c at ty))
+    (done c purpose (formed c purpose literals (given_shape (cast_type at bounds (base_in c at ty))) e.place e.kind))
+
+-- the same along lists: the arguments of a call, and the numbers of bounds
+abbrev pub literals_behind_list : Literals → List RawExpr → Literals
+literals_behind_list literals [] = literals
+literals_behind_list literals (e ∷ rest) = literals_behind_list (literals_behind literals e.kind) rest
+
+abbrev pub arguments_listed : Context → Purpose → Literals → List Shape → List RawExpr → Verdict TypedList
+arguments_listed c purpose literals types [] = Fine NoMore
+arguments_listed c purpose literals [] (e ∷ rest) = Fine NoMore
+arguments_listed c purpose literals (ty ∷ types) (e ∷ rest) =
+    lift2 further
+    (operand_in c purpose (formed c purpose literals (Some ty) e.place e.kind))
+    (arguments_listed c purpose (literals_behind literals e.kind) types rest)
+
+abbrev pub numbers_listed : Context → Literals → List RawExpr → Verdict (List ℤ)
+numbers_listed c literals [] = Fine []
+numbers_listed c literals (e ∷ rest) =
+    lift2 number_before
+    (done c Constant (formed c Constant literals None e.place e.kind))
+    (numbers_listed c (literals_behind literals e.kind) rest)
+
+abbrev pub call_formed : Context → Purpose → Literals → Option Shape → Place → RawExpr → List RawExpr → Verdict Typed
+call_formed c purpose literals target at function arguments =
+    call_or_not c at target (called c.scope.declarations function.kind) (length arguments)
+    (operand_in c purpose (formed c purpose literals None function.place function.kind))
+    (arguments_listed c purpose literals (parameters_of (called c.scope.declarations function.kind)) arguments)
+
+-- the typing of an expression
+abbrev pub judged : Context → Purpose → Literals → Option Shape → RawExpr → Verdict Typed
+judged c purpose literals target e = done c purpose (formed c purpose literals target e.place e.kind)

@@ -1,0 +1,14 @@
+-- How functions that change what they are given tell the verdicts of rules.
+use Rattle.std.specs.Prelude.{◌≡◌, Result, Ok, Err}
+use Rattle.cs_consts.specs.declared.refusal.TypeRefusal.{TypeRefusal}
+use Rattle.cs_consts.specs.Verdicts.{Verdict, Fine, IsRefused}
+
+-- the answer, seen in some way, and what was changed are together what the verdict has
+abbrev pub AnswersWith : {A B C : Type 0} → (A → B → C) → Verdict C → Result A TypeRefusal → B → Type 0
+AnswersWith view verdict (Ok answer) changed = verdict ≡ Fine (view answer changed)
+AnswersWith view verdict (Err refusal) changed = IsRefused verdict refusal
+
+-- what was changed is what the verdict has
+abbrev pub Leaves : {A B : Type 0} → Verdict B → Result A TypeRefusal → B → Type 0
+Leaves verdict (Ok answer) changed = verdict ≡ Fine changed
+Leaves verdict (Err refusal) changed = IsRefused verdict refusal

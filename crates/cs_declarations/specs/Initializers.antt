@@ -1,0 +1,252 @@
+-- What objects hold at first (C11 6.7.9): the items of a list go to the elements or members in order, each as its own braces say.
+use Rattle.std.specs.Prelude.{ℕ, zero, suc, ◌+◌, ◌-◌, ◌*◌, nat_le, nat_lt, nat_eq, Bool, true, false, not, ◌&&◌, ◌||◌, if◌then◌else◌, List, [], ◌∷◌, ◌++◌, length, map, Option, Some, None, is_some}
+use Rattle.cs_types.specs.declared.int_type.IntType.{IntType}
+use Rattle.cs_types.specs.declared.int_type.IntType.TheVariants.{Char, SChar, UChar}
+use Rattle.cs_types.specs.Shape.{Shape, void, integer, pointer, array, struct}
+use Rattle.cs_ast.specs.declared.place.Place.{Place}
+use Rattle.cs_ast.specs.declared.raw.expression.RawExpr.{RawExpr}
+use Rattle.cs_ast.specs.declared.raw.expression.RawExprKind.{RawExprKind}
+use Rattle.cs_ast.specs.declared.raw.expression.RawExprKind.TheVariants as kind
+use Rattle.cs_ast.specs.declared.raw.declaration.RawInitial as first_value
+use Rattle.cs_ast.specs.declared.raw.declaration.RawInitial.{RawInitial}
+use Rattle.cs_types.specs.declared.data_model.DataModel.{DataModel}
+use Rattle.cs_ast.specs.TypedTree.{Typed, Of, Form, Null, Address, Decay, Sum, Convert, Text, Index, Global as GlobalObject, Member as MemberOf, Initial, Value, Parts, Bytes, Initials, NoPart, Part}
+use Rattle.cs_types.specs.Layout.{members_of}
+use Rattle.cs_types.specs.Members.{Member}
+use Rattle.cs_types.specs.declared.structs.StructType.{StructType}
+use Rattle.cs_consts.specs.declared.context.Context.{Context}
+use Rattle.cs_consts.specs.declared.refusal.TypeCode.TheVariants.{Initializer, TooManyScalars}
+use Rattle.cs_consts.specs.Verdicts.{Verdict, Fine, Fault, lift}
+use Rattle.cs_consts.specs.Integers.{type_of}
+use Rattle.cs_consts.specs.Constants.{number_in}
+use Rattle.cs_consts.specs.Scalars.{few, scalars_in}
+use Rattle.cs_consts.specs.Conversions.{converted}
+use Rattle.cs_consts.specs.Calls.{lesser}
+use Rattle.cs_consts.specs.Typing.{Literals, literals_behind}
+use Rattle.cs_consts.specs.Doors.{operand_of}
+
+-- where the object stands: a file-scope object holds constants
+pub data Storage : Type 0 where
+  InFile : Storage
+  InFunction : Storage
+
+-- a type of characters, whose arrays take texts
+abbrev pub is_character : Shape → Bool
+is_character (integer Char) = true
+is_character (integer SChar) = true
+is_character (integer UChar) = true
+is_character other = false
+
+-- the members' types
+abbrev pub member_types : Option (List Member) → List Shape
+member_types (Some members) = map (λ (m : Member). m.ty) members
+member_types None = []
+
+-- the same type once more
+abbrev pub copies : ℕ → Shape → List Shape
+copies zero ty = []
+copies (suc n) ty = ty ∷ copies n ty
+
+-- the types of the parts that a list of items is for: the elements of an array, the members of a struct
+abbrev pub part_types : List StructType → Shape → Option (List Shape)
+part_types table (array element count) = Some (copies count element)
+part_types table (struct number) = Some (member_types (members_of table number))
+part_types table other = None
+
+-- the bytes of an expression that is a text
+abbrev pub text_of : RawExprKind → List ℕ
+text_of (kind.Text bytes) = bytes
+text_of other = []
+
+-- the expression is an integer constant expression (C11 6.6, paragraph 6)
+abbrev pub is_number : DataModel → Typed → Bool
+is_number model e = is_some (number_in model true e)
+
+abbrev mutual
+  -- the value is an address constant (C11 6.6, paragraph 9): null, or the address of a file-scope object or a text, or of a part of
+  -- one at constant places, plus or minus constants
+  pub is_address : DataModel → Typed → Bool
+  is_address model (Of at ty Null) = true
+  is_address model (Of at ty (Address object)) = is_fixed model object
+  is_address model (Of at ty (Decay object)) = is_fixed model object
+  is_address model (Of at ty (Sum address amount direction order)) = is_address model address && is_number model amount
+  is_address model (Of at ty (Convert e)) = is_address model e
+  is_address model (Of at ty other) = false
+
+  -- the object is a file-scope object, a text, or a part of one at constant places
+  pub is_fixed : DataModel → Typed → Bool
+  is_fixed model (Of at ty (GlobalObject number)) = true
+  is_fixed model (Of at ty (Text number)) = true
+  is_fixed model (Of at ty (MemberOf object offset)) = is_fixed model object
+  is_fixed model (Of at ty (Index elements number order)) = is_address model elements && is_number model number
+  is_fixed model (Of at ty other) = false
+
+-- the value may be the initializer of an object that stands there (paragraph 4)
+abbrev pub is_admitted : DataModel → Storage → Typed → Bool
+is_admitted model InFunction e = true
+is_admitted model InFile e = is_number model e || is_address model e
+
+-- the expression has the form that the type asks for: a text for characters, and for a struct only where no constant is asked for
+abbrev pub takes_expression : Storage → Shape → RawExprKind → Bool
+takes_expression storage (array element count) (kind.Text bytes) = is_character element && nat_le (length bytes) count
+takes_expression storage (array element count) other = false
+takes_expression InFile (struct number) e = false
+takes_expression storage ty e = true
+
+abbrev mutual
+  -- the written initializer has the form that a type asks for, as far as its braces and the number of its items tell
+  pub has_form : List StructType → Storage → Shape → RawInitial → Bool
+  has_form table storage ty (first_value.TheVariants.Value e) = takes_expression storage ty e.kind
+  has_form table storage ty (first_value.TheVariants.List' shape row comma) = have_forms table storage (part_types table ty) row
+
+  pub have_forms : {n : _} → List StructType → Storage → Option (List Shape) → first_value.Row_of-RawInitial n → Bool
+  have_forms table storage None row = false
+  have_forms table storage (Some types) first_value.end_of-RawInitial = true
+  have_forms table storage (Some []) (first_value.more_of-RawInitial first others) = false
+  have_forms table storage (Some (ty ∷ types)) (first_value.more_of-RawInitial first others) =
+      has_form table storage ty first && have_forms table storage (Some types) others
+
+abbrev pub list_has_forms : List StructType → Storage → List Shape → List RawInitial → Bool
+list_has_forms table storage types [] = true
+list_has_forms table storage [] (first ∷ others) = false
+list_has_forms table storage (ty ∷ types) (first ∷ others) = has_form table storage ty first && list_has_forms table storage types others
+
+-- an initializer whose values aren't converted yet, with the string literals behind it
+abbrev pub Reading : Type 0
+Reading = Initial × Literals
+
+-- the same of the items of a list
+abbrev pub Readings : Type 0
+Readings = Initials × Literals
+
+abbrev pub value_read : Literals → RawExprKind → Typed → Verdict Reading
+value_read literals e v = Fine (Value v, literals_behind literals e)
+
+-- an expression for something of a type: the text of an array is no literal of the program
+abbrev pub expression_read : Context → Literals → Shape → RawExpr → Verdict Reading
+expression_read c literals (array element count) e = Fine (Bytes (text_of e.kind), literals)
+expression_read c literals ty e = lift (value_read literals e.kind) (operand_of c literals (Some ty) e)
+
+-- the types of parts, none where there are none
+abbrev pub types_or_none : Option (List Shape) → List Shape
+types_or_none (Some types) = types
+types_or_none None = []
+
+abbrev pub parts_read : Readings → Verdict Reading
+parts_read r = Fine (Parts r.0, r.1)
+
+abbrev pub one_more : Initial → Readings → Verdict Readings
+one_more first r = Fine (Part first r.0, r.1)
+
+abbrev mutual
+  -- the values of an initializer of this form, in their order
+  pub initial_read : Context → Literals → Shape → RawInitial → Verdict Reading
+  initial_read c literals ty (first_value.TheVariants.Value e) = expression_read c literals ty e
+  initial_read c literals ty (first_value.TheVariants.List' shape row comma) =
+      lift parts_read (items_read c literals (types_or_none (part_types c.table.list ty)) row)
+
+  pub items_read : {n : _} → Context → Literals → List Shape → first_value.Row_of-RawInitial n → Verdict Readings
+  items_read c literals types first_value.end_of-RawInitial = Fine (NoPart, literals)
+  items_read c literals [] (first_value.more_of-RawInitial first others) = Fine (NoPart, literals)
+  items_read c literals (ty ∷ types) (first_value.more_of-RawInitial first others) =
+      lift (λ (r : Reading). lift (one_more r.0) (items_read c r.1 types others)) (initial_read c literals ty first)
+
+-- the items of a list of initializers
+abbrev pub list_read : Context → Literals → List Shape → List RawInitial → Verdict Readings
+list_read c literals types [] = Fine (NoPart, literals)
+list_read c literals [] (first ∷ others) = Fine (NoPart, literals)
+list_read c literals (ty ∷ types) (first ∷ others) =
+    lift (λ (r : Reading). lift (one_more r.0) (list_read c r.1 types others)) (initial_read c literals ty first)
+
+-- a value for an item of a list: a struct's is of its type, for it has no braces of its own
+abbrev pub is_braceless : Shape → Shape → Bool
+is_braceless (struct n) (struct m) = not (nat_eq n m)
+is_braceless (struct n) other = true
+is_braceless ty other = false
+
+-- a converted value, if an object that stands there may hold it
+abbrev pub value_held : DataModel → Storage → Place → Typed → Verdict Initial
+value_held model storage at v = if is_admitted model storage v then Fine (Value v) else Fault Initializer at
+
+abbrev pub value_judged : DataModel → Storage → Place → Shape → Typed → Verdict Initial
+value_judged model storage at ty v = lift (value_held model storage at) (converted model at v ty (type_of v))
+
+abbrev pub item_judged : DataModel → Storage → Place → Shape → Typed → Verdict Initial
+item_judged model storage at ty v = if is_braceless ty (type_of v) then Fault Initializer at else value_judged model storage at ty v
+
+-- an item before others: of two codes at the `=` the lesser is told
+abbrev pub before_others : Place → Verdict Initial → Verdict Initials → Verdict Initials
+before_others at (Fine first) (Fine others) = Fine (Part first others)
+before_others at (Fine first) (Fault code place) = Fault code at
+before_others at (Fault code place) (Fine others) = Fault code at
+before_others at (Fault code place) (Fault other there) = Fault (lesser code other) at
+
+abbrev mutual
+  -- what the `=` says of an item of a list: its values go to their types as if by assignment (paragraph 11)
+  pub part_judged : Context → Storage → Place → Shape → Initial → Verdict Initial
+  part_judged c storage at ty (Value v) = item_judged c.model storage at ty v
+  part_judged c storage at ty (Bytes bytes) = Fine (Bytes bytes)
+  part_judged c storage at ty (Parts parts) =
+      lift (λ all. Fine (Parts all)) (parts_judged c storage at (types_or_none (part_types c.table.list ty)) parts)
+
+  pub parts_judged : Context → Storage → Place → List Shape → Initials → Verdict Initials
+  parts_judged c storage at types NoPart = Fine NoPart
+  parts_judged c storage at [] (Part first others) = Fine NoPart
+  parts_judged c storage at (ty ∷ types) (Part first others) =
+      before_others at (part_judged c storage at ty first) (parts_judged c storage at types others)
+
+-- what it says of the whole
+abbrev pub initial_judged : Context → Storage → Place → Shape → Initial → Verdict Initial
+initial_judged c storage at ty (Value v) = value_judged c.model storage at ty v
+initial_judged c storage at ty other = part_judged c storage at ty other
+
+-- so many scalars and some more, if they are few
+abbrev pub together : Option ℕ → Option ℕ → Option ℕ
+together (Some n) (Some m) = few (n + m)
+together one other = None
+
+-- the bytes that a text stores: with its zero byte where that has room
+abbrev pub bytes_stored : Shape → ℕ → Option ℕ
+bytes_stored (array element count) bytes = few (if nat_lt bytes count then bytes + 1 else bytes)
+bytes_stored other bytes = few bytes
+
+abbrev mutual
+  -- how many scalars an initializer stores, if they are few; what it leaves out isn't counted
+  pub stored : List StructType → Shape → Initial → Option ℕ
+  stored table ty (Value v) = scalars_in table ty
+  stored table ty (Bytes bytes) = bytes_stored ty (length bytes)
+  stored table ty (Parts parts) = stored_parts table (types_or_none (part_types table ty)) parts
+
+  pub stored_parts : List StructType → List Shape → Initials → Option ℕ
+  stored_parts table types NoPart = Some 0
+  stored_parts table [] (Part first others) = Some 0
+  stored_parts table (ty ∷ types) (Part first others) = together (stored table ty first) (stored_parts table types others)
+
+-- a local's initializer stores few scalars
+abbrev pub limited : List StructType → Storage → Place → Shape → Initial → Verdict Initial
+limited table InFile at ty found = Fine found
+limited table InFunction at ty found = if is_some (stored table ty found) then Fine found else Fault TooManyScalars at
+
+abbrev pub kept_with : Literals → Initial → Verdict Reading
+kept_with literals found = Fine (found, literals)
+
+-- the initializer behind an `=`: its form, its values in their order, and then what the `=` asks of them
+abbrev pub initial_typed : Context → Literals → Storage → Place → Shape → RawInitial → Verdict Reading
+initial_typed c literals storage at ty written =
+    if has_form c.table.list storage ty written
+    then lift (λ (r : Reading). lift (kept_with r.1) (lift (limited c.table.list storage at ty) (initial_judged c storage at ty r.0)))
+           (initial_read c literals ty written)
+    else Fault Initializer at
+
+-- how many elements a written initializer gives an array whose size isn't said: those of its list, or its text with the zero byte
+abbrev pub row_count : {n : _} → first_value.Row_of-RawInitial n → ℕ
+row_count first_value.end_of-RawInitial = 0
+row_count (first_value.more_of-RawInitial first others) = suc (row_count others)
+
+abbrev pub text_count : RawExprKind → Option ℕ
+text_count (kind.Text bytes) = Some (length bytes + 1)
+text_count other = None
+
+abbrev pub elements_given : RawInitial → Option ℕ
+elements_given (first_value.TheVariants.Value e) = text_count e.kind
+elements_given (first_value.TheVariants.List' shape row comma) = Some (row_count row)

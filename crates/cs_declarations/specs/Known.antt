@@ -1,0 +1,92 @@
+-- What is known at a point of a file: the structs, the tags, the declarations in force and the string literals before it.
+use Rattle.std.specs.Prelude.{ℕ, ◌∷◌, [], ◌++◌, List, drop, take, length, Bool, is_some}
+use Rattle.cs_types.specs.declared.data_model.DataModel.{DataModel}
+use Rattle.cs_types.specs.declared.structs.StructType.{StructType}
+use Rattle.cs_consts.specs.declared.context.Context.{Context}
+use Rattle.cs_consts.specs.declared.scope.TagMeaning.{TagMeaning}
+use Rattle.cs_consts.specs.Meanings.{Declaration, Meaning}
+use Rattle.cs_consts.specs.Scopes.{newest}
+use Rattle.cs_consts.specs.Typing.{Literals}
+
+-- the declarations of the innermost scope are those behind the first `outer`; `reading` are the structs whose bodies are being read
+pub record Known : Type 0 where
+  pub context : Context
+  pub reading : List ℕ
+  pub outer : ℕ
+  pub literals : Literals
+
+-- the data model, the structs, and the declarations in force
+abbrev pub model_of : Known → DataModel
+model_of k = k.context.model
+
+abbrev pub table_of : Known → List StructType
+table_of k = k.context.table.list
+
+abbrev pub declarations_of : Known → List Declaration
+declarations_of k = k.context.scope.declarations
+
+-- with other structs
+abbrev pub with_table : List StructType → Known → Known
+with_table table k = record {
+  context = record { model = k.context.model; table = record { list = table }; scope = k.context.scope };
+  reading = k.reading;
+  outer = k.outer;
+  literals = k.literals;
+}
+
+-- with other bodies being read
+abbrev pub with_reading : List ℕ → Known → Known
+with_reading reading k = record { context = k.context; reading = reading; outer = k.outer; literals = k.literals }
+
+-- behind other string literals
+abbrev pub with_literals : Literals → Known → Known
+with_literals literals k = record { context = k.context; reading = k.reading; outer = k.outer; literals = literals }
+
+-- behind a new tag (C11 6.2.1, paragraph 7)
+abbrev pub with_tag : List ℕ → TagMeaning → Known → Known
+with_tag name meaning k = record {
+  context = record {
+    model = k.context.model;
+    table = k.context.table;
+    scope = record { declarations = k.context.scope.declarations; tags = k.context.scope.tags ++ record { name = name; meaning = meaning } ∷ [] };
+  };
+  reading = k.reading;
+  outer = k.outer;
+  literals = k.literals;
+}
+
+-- with other declarations in force, the innermost scope's being those behind the first `outer`
+abbrev pub with_declarations : List Declaration → ℕ → Known → Known
+with_declarations declarations outer k = record {
+  context = record { model = k.context.model; table = k.context.table; scope = record { declarations = declarations; tags = k.context.scope.tags } };
+  reading = k.reading;
+  outer = outer;
+  literals = k.literals;
+}
+
+-- behind the declaration of a name
+abbrev pub declaring : List ℕ → Meaning → Known → Known
+declaring name meaning k = with_declarations (declarations_of k ++ record { name = name; meaning = meaning } ∷ []) k.outer k
+
+-- the name is declared in the innermost scope (C11 6.7, paragraph 3)
+abbrev pub is_declared_here : List ℕ → Known → Bool
+is_declared_here name k = is_some (newest name (drop k.outer (declarations_of k)))
+
+-- inside a new scope (C11 6.2.1, paragraph 4)
+abbrev pub entered : Known → Known
+entered k = with_declarations (declarations_of k) (length (declarations_of k)) k
+
+-- where a scope begins: how many declarations stand around it, and around the scope around it
+pub record Mark : Type 0 where
+  pub declarations : ℕ
+  pub outer : ℕ
+
+abbrev pub mark_of : Known → Mark
+mark_of k = record { declarations = length (declarations_of k); outer = k.outer }
+
+-- behind a scope: the declarations of the scope around it are in force again; structs, tags and literals stay
+abbrev pub left_to : Mark → Known → Known
+left_to m k = with_declarations (take m.declarations (declarations_of k)) m.outer k
+
+abbrev pub left : Known → Known → Known
+left before k = left_to (mark_of before) k

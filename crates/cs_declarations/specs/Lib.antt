@@ -1,0 +1,7 @@
+pub mod Known
+pub mod Sizes
+pub mod Bodies
+pub mod Parameters
+pub mod Initializers
+pub mod Answered
+pub mod View

@@ -1,0 +1,145 @@
+-- Parameters and the heads of functions (C11 6.7.6.3).
+use Rattle.std.specs.Prelude.{ℕ, ◌+◌, ℤ, unsigned_abs, Bool, true, false, not, ◌&&◌, if◌then◌else◌, List, [], ◌∷◌, ◌++◌, length, map, Option, Some, None}
+use Rattle.std.specs.List.{list_any}
+use Rattle.cs_types.specs.Shape.{Shape, void, integer, pointer, array, struct}
+use Rattle.cs_ast.specs.declared.place.Place.{Place}
+use Rattle.cs_ast.specs.declared.raw.name.RawName.{RawName}
+use Rattle.cs_ast.specs.declared.raw.expression.RawExpr.{RawExpr}
+use Rattle.cs_ast.specs.declared.raw.written_type.PointerWord.{PointerWord}
+use Rattle.cs_ast.specs.declared.raw.written_type.PointerWord.TheVariants.{Star, Const}
+use Rattle.cs_ast.specs.declared.raw.declaration.RawSpecs.{RawSpecs}
+use Rattle.cs_ast.specs.declared.raw.declaration.RawParameter.{RawParameter}
+use Rattle.cs_ast.specs.declared.raw.declaration.RawParameters.{RawParameters}
+use Rattle.cs_ast.specs.declared.raw.declaration.RawParameters.TheVariants as parameter_lists
+use Rattle.cs_ast.specs.TypedProgram.{Variable}
+use Rattle.cs_consts.specs.declared.context.Context.{Context}
+use Rattle.cs_consts.specs.declared.refusal.TypeCode.TheVariants.{DeclaredTwice, IncompleteType}
+use Rattle.cs_consts.specs.Verdicts.{Verdict, Fine, Fault, lift}
+use Rattle.cs_consts.specs.Meanings.{Local}
+use Rattle.cs_consts.specs.TypeNames.{array_of, starred}
+use Rattle.cs_declarations.specs.Known.{Known, declaring, is_declared_here}
+use Rattle.cs_declarations.specs.Sizes.{sizes_said, bounded, element_of}
+use Rattle.cs_declarations.specs.Bodies.{Typing, specs_type, has_const}
+
+-- the place of a parameter: its name, or its first token where it has none
+abbrev pub place_of : Place → Option RawName → Place
+place_of at (Some name) = name.place
+place_of at None = at
+
+-- the name of a parameter, which may be missing
+abbrev pub name_in : Option RawName → List ℕ
+name_in (Some name) = name.name
+name_in None = []
+
+-- the type of a parameter, with how many elements the block behind it has, where it was written with a bound
+pub record Passed : Type 0 where
+  pub ty : Shape
+  pub block : Option ℕ
+
+-- a pointer to elements in place of an array of them (C11 6.7.6.3, paragraph 7)
+abbrev pub elements_passed : Shape → Option ℕ → Passed
+elements_passed element block = record { ty = pointer element; block = block }
+
+-- a parameter without bounds: arrays by a typedef are pointers too, and structs aren't taken
+abbrev pub plainly_passed : Place → Shape → Verdict Passed
+plainly_passed at void = Fault IncompleteType at
+plainly_passed at (struct number) = Fault IncompleteType at
+plainly_passed at (array element count) = Fine (elements_passed element (Some count))
+plainly_passed at ty = Fine (record { ty = ty; block = None })
+
+-- a parameter whose first bound says a size or none
+abbrev pub array_passed : Context → Place → Option ℤ → Shape → Verdict Passed
+array_passed c at (Some n) element = lift (λ whole. Fine (elements_passed element (Some (unsigned_abs n)))) (array_of c.model c.table.list at n element)
+array_passed c at None element = Fine (elements_passed element None)
+
+abbrev pub passed : Context → Place → Shape → List (Option ℤ) → Verdict Passed
+passed c at base [] = plainly_passed at base
+passed c at base (first ∷ others) = lift (array_passed c at first) (element_of c at base others)
+
+abbrev pub begins_const : List PointerWord → Bool
+begins_const (Const ∷ others) = true
+begins_const others = false
+
+-- for each star, the last one first, whether `const` stands behind it
+abbrev pub consts_behind : List PointerWord → List Bool
+consts_behind [] = []
+consts_behind (Star ∷ others) = consts_behind others ++ begins_const others ∷ []
+consts_behind (Const ∷ others) = consts_behind others
+
+-- the first and the second of them, if they are there
+abbrev pub first_of : List Bool → Option Bool
+first_of [] = None
+first_of (first ∷ others) = Some first
+
+abbrev pub second_of : List Bool → Option Bool
+second_of [] = None
+second_of (first ∷ others) = first_of others
+
+-- what a parameter with a bracket points to is const: behind its last star, or without a star among its words
+abbrev pub elements_const : RawSpecs → List Bool → Bool
+elements_const s [] = has_const s
+elements_const s (last ∷ others) = last
+
+-- what a parameter without a bracket points to is const: behind its last star but one, or with one star among its words
+abbrev pub target_const : RawSpecs → List Bool → Bool
+target_const s [] = false
+target_const s (last ∷ []) = has_const s
+target_const s (last ∷ before ∷ others) = before
+
+abbrev pub points_to_const : RawSpecs → List PointerWord → List (Option RawExpr) → Bool
+points_to_const s pointers [] = target_const s (consts_behind pointers)
+points_to_const s pointers (bound ∷ bounds) = elements_const s (consts_behind pointers)
+
+abbrev pub is_pointer : Shape → Bool
+is_pointer (pointer target) = true
+is_pointer other = false
+
+-- a function without a body may write through the parameter
+abbrev pub may_write : RawParameter → Shape → Bool
+may_write p ty = is_pointer ty && not (points_to_const p.specs p.pointers.items p.bounds.items)
+
+-- parameters so far: each with its name, and whether it may be written through; what is known behind them
+pub record Head : Type 0 where
+  pub variables : List Variable
+  pub written : List Bool
+  pub known : Known
+
+-- behind the name of a parameter, if it has one
+abbrev pub naming : Option RawName → ℕ → Shape → Known → Known
+naming None number ty k = k
+naming (Some name) number ty k = declaring name.name (Local number ty) k
+
+abbrev pub is_free_name : Option RawName → Known → Bool
+is_free_name None k = true
+is_free_name (Some name) k = not (is_declared_here name.name k)
+
+abbrev pub with_parameter : RawParameter → Head → Known → Passed → Verdict Head
+with_parameter p before k found = Fine (record {
+  variables = before.variables ++ record { name = name_in p.name; ty = found.ty; block = found.block } ∷ [];
+  written = before.written ++ may_write p found.ty ∷ [];
+  known = naming p.name (length before.variables) found.ty k;
+})
+
+-- how a parameter is passed whose pointers make this type
+abbrev pub parameter_passed : Context → RawParameter → Shape → Verdict Passed
+parameter_passed c p base =
+    lift (λ whole. lift (passed c (place_of p.place p.name) whole) (sizes_said c p.bounds.items)) (bounded c (place_of p.place p.name) base p.bounds.items)
+
+-- a parameter behind others
+abbrev pub parameter_typed : RawParameter → Head → Verdict Head
+parameter_typed p before =
+    lift (λ (found : Typing).
+      if is_free_name p.name found.1
+      then lift (with_parameter p before found.1) (parameter_passed found.1.context p (starred p.pointers.items found.0))
+      else Fault DeclaredTwice (place_of p.place p.name))
+      (specs_type before.known p.place p.specs)
+
+abbrev pub parameters_behind : List RawParameter → Head → Verdict Head
+parameters_behind [] before = Fine before
+parameters_behind (p ∷ ps) before = lift (parameters_behind ps) (parameter_typed p before)
+
+-- what stands between the parentheses of a function's head
+abbrev pub parameters_typed : Known → RawParameters → Verdict Head
+parameters_typed k parameter_lists.Empty = Fine (record { variables = []; written = []; known = k })
+parameters_typed k parameter_lists.Void = Fine (record { variables = []; written = []; known = k })
+parameters_typed k (parameter_lists.List list) = parameters_behind list.items (record { variables = []; written = []; known = k })

@@ -1,0 +1,56 @@
+-- The bounds of declarators and the arrays that they make (C11 6.7.6.2).
+use Rattle.std.specs.Prelude.{ℕ, ℤ, pos, List, [], ◌∷◌, Option, Some, None}
+use Rattle.cs_types.specs.Shape.{Shape}
+use Rattle.cs_ast.specs.declared.place.Place.{Place}
+use Rattle.cs_ast.specs.declared.raw.expression.RawExpr.{RawExpr}
+use Rattle.cs_consts.specs.declared.context.Context.{Context}
+use Rattle.cs_consts.specs.declared.refusal.TypeCode.TheVariants.{Size}
+use Rattle.cs_consts.specs.Verdicts.{Verdict, Fine, Fault, lift, lift2}
+use Rattle.cs_consts.specs.Doors.{value_of}
+use Rattle.cs_consts.specs.TypeNames.{array_of, arrayed, complete_at}
+
+-- the size that a bound says, if it says one
+abbrev pub size_said : Context → Option RawExpr → Verdict (Option ℤ)
+size_said c None = Fine None
+size_said c (Some e) = lift (λ v. Fine (Some v.1)) (value_of c e)
+
+-- the sizes that bounds say, the outermost first
+abbrev pub sizes_said : Context → List (Option RawExpr) → Verdict (List (Option ℤ))
+sizes_said c [] = Fine []
+sizes_said c (bound ∷ bounds) = lift2 (λ first others. Fine (first ∷ others)) (size_said c bound) (sizes_said c bounds)
+
+-- sizes of which each has to be said
+abbrev pub all_said : Place → List (Option ℤ) → Verdict (List ℤ)
+all_said at [] = Fine []
+all_said at (None ∷ others) = Fault Size at
+all_said at (Some n ∷ others) = lift (λ ns. Fine (n ∷ ns)) (all_said at others)
+
+-- what stands before bounds, if there are any, is complete (C11 6.7.6.2, paragraph 1): for that they needn't be read
+abbrev pub bounded : Context → Place → Shape → List (Option RawExpr) → Verdict Shape
+bounded c at base [] = Fine base
+bounded c at base (bound ∷ bounds) = complete_at c.table.list at base
+
+-- what the elements of the outermost array are, behind whose bound these stand
+abbrev pub element_of : Context → Place → Shape → List (Option ℤ) → Verdict Shape
+element_of c at base others = lift (arrayed c.model c.table.list at base) (all_said at others)
+
+-- what is declared: something of a type, or an array of these elements whose size isn't said
+pub data Extent : Type 0 where
+  Whole : (ty : Shape) → Extent
+  Unsized : (element : Shape) → Extent
+
+-- an array of a size that is said or isn't
+abbrev pub outermost : Context → Place → Option ℤ → Shape → Verdict Extent
+outermost c at (Some n) element = lift (λ ty. Fine (Whole ty)) (array_of c.model c.table.list at n element)
+outermost c at None element = Fine (Unsized element)
+
+-- what a declarator at its name declares, whose pointers make this type
+abbrev pub extent_of : Context → Place → Shape → List (Option ℤ) → Verdict Extent
+extent_of c at base [] = Fine (Whole base)
+extent_of c at base (first ∷ others) = lift (outermost c at first) (element_of c at base others)
+
+-- a type whose size is said, or else that of so many elements
+abbrev pub filled : Context → Place → Option ℕ → Extent → Verdict Shape
+filled c at count (Whole ty) = Fine ty
+filled c at (Some n) (Unsized element) = array_of c.model c.table.list at (pos n) element
+filled c at None (Unsized element) = Fault Size at

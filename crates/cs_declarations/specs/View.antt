@@ -1,0 +1,83 @@
+-- What is known, and parts of declarations, of the program seen as plain data.
+use Rattle.std.specs.Prelude.{◌≡◌, ℕ, ℤ, Bool, List, [], ◌∷◌, map, Option}
+use Rattle.cs_types.specs.declared.ctype.CType.{CType}
+use Rattle.cs_types.specs.Shape.{Shape, shape_of}
+use Rattle.cs_ast.specs.declared.typed.program.Local.{Local}
+use Rattle.cs_ast.specs.TypedProgram.{Variable}
+use Rattle.cs_declarations.specs.declared.known.Known.{Known as Held}
+use Rattle.cs_declarations.specs.declared.known.Mark.{Mark as HeldMark}
+use Rattle.cs_declarations.specs.declared.sizes.Extent.{Extent as HeldExtent}
+use Rattle.cs_declarations.specs.declared.sizes.Extent.TheVariants as held
+use Rattle.cs_declarations.specs.declared.laying.Laying.{Laying as HeldLaying}
+use Rattle.cs_declarations.specs.declared.parameters.Passed.{Passed as HeldPassed}
+use Rattle.cs_declarations.specs.declared.parameters.Head.{Head as HeldHead}
+use Rattle.cs_declarations.specs.Known.{Known, Mark}
+use Rattle.cs_declarations.specs.Sizes.{Extent, Whole, Unsized}
+use Rattle.cs_declarations.specs.Bodies.{Laying, Counting, Opening, Body}
+use Rattle.cs_declarations.specs.Parameters.{Passed, Head, consts_behind, first_of, second_of}
+use Rattle.cs_ast.specs.declared.typed.statement.Initial.{Initial as HeldInitial}
+use Rattle.cs_ast.specs.TypedView.{initial, initial_list}
+use Rattle.cs_declarations.specs.Initializers.{Storage, InFile, InFunction, copies, Reading, Readings}
+use Rattle.cs_declarations.specs.declared.storage.Storage.{Storage as HeldStorage}
+use Rattle.cs_declarations.specs.declared.storage.Storage.TheVariants as stands
+use Rattle.cs_declarations.specs.declared.forms.Parts.{Parts as HeldParts}
+use Rattle.cs_declarations.specs.declared.forms.Parts.TheVariants as held_parts
+use Rattle.cs_declarations.specs.declared.constness.Stars.{Stars}
+use Rattle.cs_ast.specs.declared.raw.written_type.PointerWord.{PointerWord}
+use Rattle.cs_types.specs.Members.{Member}
+
+abbrev pub known_of : Held → Known
+known_of k = record { context = k.context; reading = k.reading.items; outer = k.outer; literals = k.literals.items }
+
+abbrev pub mark : HeldMark → Mark
+mark m = record { declarations = m.declarations; outer = m.outer }
+
+abbrev pub extent : HeldExtent → Extent
+extent (held.Whole ty) = Whole (shape_of ty)
+extent (held.Unsized element) = Unsized (shape_of element)
+
+abbrev pub laying : HeldLaying → Laying
+laying l = record { members = l.members; size = l.size; align = l.align }
+
+abbrev pub passed_of : HeldPassed → Passed
+passed_of p = record { ty = shape_of p.ty; block = p.block }
+
+abbrev pub variable : Local → Variable
+variable l = record { name = l.name; ty = shape_of l.ty; block = l.block }
+
+-- what a function gives, with what is known behind it
+abbrev pub typing : CType → Held → Shape × Known
+typing ty k = (shape_of ty, known_of k)
+
+abbrev pub counting : ℤ → Held → Counting
+counting next k = record { next = next; known = known_of k }
+
+abbrev pub opened_as : ℕ → Held → Opening
+opened_as number k = record { number = number; known = known_of k }
+
+abbrev pub body : HeldLaying → Held → Body
+body l k = record { laying = laying l; known = known_of k }
+
+abbrev pub head : HeldHead → Held → Head
+head h k = record { variables = map variable h.parameters.items; written = h.written.items; known = known_of k }
+
+-- the last star of some words, and the one before it
+pub record AreLastStars (pointers : List PointerWord) (stars : Stars) : Type 0 where
+  pub last : stars.last ≡ first_of (consts_behind pointers)
+  pub before : stars.before ≡ second_of (consts_behind pointers)
+
+abbrev pub storage : HeldStorage → Storage
+storage stands.File = InFile
+storage stands.Function = InFunction
+
+-- the types of the parts that a list is for
+abbrev pub types_of : HeldParts → List Shape
+types_of (held_parts.Elements element count) = copies count (shape_of element.now)
+types_of (held_parts.Members members) = map (λ (m : Member). m.ty) members.now
+
+-- what is read, with the string literals behind it
+abbrev pub reading : HeldInitial → List (List ℕ) → Reading
+reading i literals = (initial i, literals)
+
+abbrev pub readings : List HeldInitial → List (List ℕ) → Readings
+readings list literals = (initial_list list, literals)

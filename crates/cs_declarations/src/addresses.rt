@@ -1,0 +1,58 @@
+//! Constants that file-scope objects may hold (C11 6.6).
+ghost use Rattle.std.specs.Prelude.{◌≡◌};
+ghost use Rattle.cs_ast.specs.TypedView.{typed};
+ghost use Rattle.cs_declarations.specs.Initializers.{is_number, is_address, is_fixed, is_admitted};
+ghost use Rattle.cs_declarations.specs.View as view;
+
+use crate::storage::Storage;
+use cs_ast::typed::expression::{Expr, ExprKind};
+use cs_consts::number_in;
+use cs_types::DataModel;
+
+// Whether the expression is an integer constant expression (C11 6.6, paragraph 6).
+fn is_number(model: DataModel, value: &Expr) -> bool
+    ensures { result ≡ is_number model (typed value.now) }
+{
+    number_in(model, true, value).is_some()
+}
+
+// Whether the value is an address constant (C11 6.6, paragraph 9).
+#[cycle(addresses)]
+fn is_address(model: DataModel, value: &Expr) -> bool
+    ensures { result ≡ is_address model (typed value.now) }
+{
+    match &value.kind {
+        ExprKind::Null => true,
+        ExprKind::Address(object) | ExprKind::Decay(object) => is_fixed(model, object),
+        ExprKind::Sum(address, amount, _, _) => {
+            is_address(model, address) && is_number(model, amount)
+        }
+        ExprKind::Convert(value) => is_address(model, value),
+        _ => false,
+    }
+}
+
+// Whether the object is a file-scope object, a text, or a part of one at constant places.
+#[cycle(addresses)]
+fn is_fixed(model: DataModel, object: &Expr) -> bool
+    ensures { result ≡ is_fixed model (typed object.now) }
+{
+    match &object.kind {
+        ExprKind::Global(_) | ExprKind::Text(_) => true,
+        ExprKind::Member(object, _) => is_fixed(model, object),
+        ExprKind::Index(elements, number, _) => {
+            is_address(model, elements) && is_number(model, number)
+        }
+        _ => false,
+    }
+}
+
+/// Whether an object that stands there may hold the value at first (C11 6.7.9, paragraph 4).
+pub fn is_admitted(model: DataModel, storage: Storage, value: &Expr) -> bool
+    ensures { result ≡ is_admitted model (view.storage storage) (typed value.now) }
+{
+    match storage {
+        Storage::Function => true,
+        Storage::File => is_number(model, value) || is_address(model, value),
+    }
+}

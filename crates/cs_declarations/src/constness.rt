@@ -1,0 +1,87 @@
+//! Where `const` stands among the words and the pointers of a declaration.
+ghost use Rattle.std.specs.Prelude.{◌≡◌, List, ◌++◌, [], ◌∷◌};
+ghost use Rattle.cs_declarations.specs.Bodies.{has_const, is_const_word};
+ghost use Rattle.cs_ast.specs.declared.raw.written_type.PointerWord.{PointerWord};
+ghost use Rattle.cs_declarations.specs.Parameters.{points_to_const};
+ghost use Rattle.cs_declarations.specs.View.{AreLastStars};
+
+use cs_ast::raw::declaration::{RawSpecs, SpecWord};
+use cs_ast::raw::expression::RawExpr;
+use cs_ast::raw::written_type::{PointerWord, TypeWord};
+
+/// Whether `const` stands among the words.
+pub fn has_const(specs: &RawSpecs) -> bool
+    ensures { result ≡ has_const specs.now }
+{
+    specs.words.iter().any(is_const_word)
+}
+
+// Whether the word is `const`.
+fn is_const_word(word: &SpecWord) -> bool
+    ensures { result ≡ is_const_word word.now }
+{
+    match word {
+        SpecWord::Plain(TypeWord::Const) => true,
+        _ => false,
+    }
+}
+
+/// For the last star and for the one before it, if they are there, whether `const` stands behind it.
+#[derive(Clone, Copy)]
+pub struct Stars {
+    pub last: Option<bool>,
+    pub before: Option<bool>,
+}
+
+/// The last two stars of a declarator.
+pub fn last_stars(pointers: &[PointerWord]) -> Stars
+    ensures { AreLastStars pointers.now result }
+{
+    let mut stars = Stars {
+        last: None,
+        before: None,
+    };
+    for word in pointers {
+        stars = stars.behind(*word);
+    }
+    stars
+}
+
+impl Stars {
+    // The last two stars behind one more word.
+    fn behind(self, word: PointerWord) -> Stars
+        ensures { (before : List PointerWord) → AreLastStars before self → AreLastStars (before ++ word ∷ []) result }
+    {
+        match (word, self.last) {
+            (PointerWord::Star, last) => Stars {
+                last: Some(false),
+                before: last,
+            },
+            (PointerWord::Const, Some(_)) => Stars {
+                last: Some(true),
+                before: self.before,
+            },
+            (PointerWord::Const, None) => self,
+        }
+    }
+}
+
+/// Whether what a parameter points to is const, which was written with these bounds.
+///
+/// With a bound that is what the last star says, or the words where there is none; without one it is what the last star but one
+/// says, or the words where there is one star.
+pub fn points_to_const(
+    specs: &RawSpecs,
+    pointers: &[PointerWord],
+    bounds: &[Option<RawExpr>],
+) -> bool
+    ensures { result ≡ points_to_const specs.now pointers.now bounds.now }
+{
+    let stars = last_stars(pointers);
+    let has_bound = !bounds.is_empty();
+    let said = if has_bound { stars.last } else { stars.before };
+    match said {
+        Some(constant) => constant,
+        None => (has_bound || stars.last.is_some()) && has_const(specs),
+    }
+}

@@ -1,0 +1,112 @@
+//! The forms of written initializers (C11 6.7.9).
+ghost use Rattle.std.specs.Prelude.{◌≡◌, option_map, slice_get};
+ghost use Rattle.cs_types.specs.Shape.{shape_of};
+ghost use Rattle.cs_declarations.specs.Initializers.{part_types, is_character, takes_expression, has_form, list_has_forms, elements_given};
+ghost use Rattle.cs_declarations.specs.View as view;
+ghost use Rattle.cs_declarations.specs.View.{types_of};
+
+use crate::storage::Storage;
+use cs_ast::raw::declaration::RawInitial;
+use cs_ast::raw::expression::RawExprKind;
+use cs_consts::members;
+use cs_types::{CType, IntType, Member, StructTable};
+
+/// The parts that the items of a list go to: the elements of an array, or the members of a struct.
+#[derive(Clone, Copy)]
+pub enum Parts<'a> {
+    Elements(&'a CType, u64),
+    Members(&'a [Member]),
+}
+
+/// The parts of a type, if it has any.
+pub fn parts_of<'a>(table: &'a StructTable, ty: &'a CType) -> Option<Parts<'a>>
+    ensures { option_map types_of result ≡ part_types table.now.list (shape_of ty.now) }
+{
+    match ty {
+        CType::Array(element, count) => Some(Parts::Elements(element, *count)),
+        CType::Struct(number) => match members(table, *number) {
+            Some(members) => Some(Parts::Members(members.as_slice())),
+            None => Some(Parts::Members(&[])),
+        },
+        _ => None,
+    }
+}
+
+impl<'a> Parts<'a> {
+    /// The type of the part with this number.
+    pub fn ty(self, number: usize) -> Option<&'a CType>
+        ensures { option_map (λ ty. shape_of ty.now) result ≡ slice_get (types_of self.entry) number }
+    {
+        match self {
+            Parts::Elements(element, count) if (number as u64) < count => Some(element),
+            Parts::Elements(_, _) => None,
+            Parts::Members(members) => Some(members.get(number)?.ty()),
+        }
+    }
+}
+
+// Whether the type is one of characters, whose arrays take texts.
+fn is_character(ty: &CType) -> bool
+    ensures { result ≡ is_character (shape_of ty.now) }
+{
+    match ty {
+        CType::Int(IntType::Char) | CType::Int(IntType::SChar) | CType::Int(IntType::UChar) => true,
+        _ => false,
+    }
+}
+
+// Whether an expression has the form that the type asks for.
+fn takes_expression(storage: Storage, ty: &CType, tree: &RawExprKind) -> bool
+    ensures { result ≡ takes_expression (view.storage storage) (shape_of ty.now) tree.now }
+{
+    match (ty, tree) {
+        (CType::Array(element, count), RawExprKind::Text(bytes)) => {
+            is_character(element) && bytes.as_bytes().len() as u64 <= *count
+        }
+        (CType::Array(_, _), _) => false,
+        (CType::Struct(_), _) => storage == Storage::Function,
+        _ => true,
+    }
+}
+
+/// Whether a written initializer has the form that a type asks for, as far as its braces and the number of its items tell.
+#[cycle(forms)]
+pub fn has_form(table: &StructTable, storage: Storage, ty: &CType, written: &RawInitial) -> bool
+    ensures { result ≡ has_form table.now.list (view.storage storage) (shape_of ty.now) written.now }
+{
+    match written {
+        RawInitial::Value(tree) => takes_expression(storage, ty, &tree.kind),
+        RawInitial::List(items, _) => match parts_of(table, ty) {
+            Some(parts) => have_forms(table, storage, parts, items),
+            None => false,
+        },
+    }
+}
+
+// The same of each item of a list, of which there may be as many as parts.
+#[cycle(forms)]
+fn have_forms(table: &StructTable, storage: Storage, parts: Parts, items: &[RawInitial]) -> bool
+    ensures { result ≡ list_has_forms table.now.list (view.storage storage) (types_of parts.entry) items.now }
+{
+    let mut number = 0;
+    for item in items {
+        match parts.ty(number) {
+            Some(ty) if has_form(table, storage, ty, item) => number += 1,
+            _ => return false,
+        }
+    }
+    true
+}
+
+/// How many elements a written initializer gives an array whose size isn't said: those of its list, or its text with the zero byte.
+pub fn elements_given(written: &RawInitial) -> Option<usize>
+    ensures { result ≡ elements_given written.now }
+{
+    match written {
+        RawInitial::Value(tree) => match &tree.kind {
+            RawExprKind::Text(bytes) => Some(bytes.as_bytes().len() + 1),
+            _ => None,
+        },
+        RawInitial::List(items, _) => Some(items.len()),
+    }
+}

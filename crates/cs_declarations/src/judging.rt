@@ -1,0 +1,127 @@
+//! What the `=` of a declaration asks of the values behind it (C11 6.7.9, paragraph 11).
+ghost use Rattle.std.specs.Prelude.{◌≡◌};
+ghost use Rattle.cs_types.specs.Shape.{shape_of};
+ghost use Rattle.cs_consts.specs.Verdicts.{Answers};
+ghost use Rattle.cs_ast.specs.TypedView.{typed, initial, initial_list};
+ghost use Rattle.cs_declarations.specs.Initializers.{is_braceless, value_judged, part_judged, parts_judged, initial_judged};
+ghost use Rattle.cs_declarations.specs.View as view;
+ghost use Rattle.cs_declarations.specs.View.{types_of};
+
+use crate::addresses::is_admitted;
+use crate::forms::{Parts, parts_of};
+use crate::storage::Storage;
+use cs_ast::Place;
+use cs_ast::typed::expression::Expr;
+use cs_ast::typed::statement::Initial;
+use cs_consts::{Context, TypeCode, TypeRefusal, converted, least};
+use cs_types::CType;
+use std::alloc::Global;
+
+// A value converted to the type of what holds it, if an object that stands there may hold it.
+fn value_judged(
+    alloc: Global,
+    context: &Context,
+    storage: Storage,
+    place: Place,
+    ty: &CType,
+    value: Expr,
+) -> Result<Initial, TypeRefusal>
+    ensures { Answers initial (value_judged context.now.model (view.storage storage) place (shape_of ty.now) (typed value)) result }
+{
+    let converted = converted(alloc, context.model, place, value, ty)?;
+    if is_admitted(context.model, storage, &converted) {
+        Ok(Initial::Value(converted))
+    } else {
+        Err(TypeRefusal::Code(TypeCode::Initializer, place))
+    }
+}
+
+// Whether a value for an item of a list stands for a struct's own list: it is of another type, and has no braces.
+fn is_braceless(ty: &CType, value: &CType) -> bool
+    ensures { result ≡ is_braceless (shape_of ty.now) (shape_of value.now) }
+{
+    match (ty, value) {
+        (CType::Struct(wanted), CType::Struct(number)) => wanted != number,
+        (CType::Struct(_), _) => true,
+        _ => false,
+    }
+}
+
+// What the `=` says of an item of a list.
+#[cycle(judging)]
+fn part_judged(
+    alloc: Global,
+    context: &Context,
+    storage: Storage,
+    place: Place,
+    ty: &CType,
+    part: Initial,
+) -> Result<Initial, TypeRefusal>
+    ensures { Answers initial (part_judged context.now (view.storage storage) place (shape_of ty.now) (initial part)) result }
+{
+    match part {
+        Initial::Value(value) => {
+            if is_braceless(ty, &value.ty) {
+                return Err(TypeRefusal::Code(TypeCode::Initializer, place));
+            }
+            value_judged(alloc, context, storage, place, ty, value)
+        }
+        Initial::Text(bytes) => Ok(Initial::Text(bytes)),
+        Initial::List(list) => {
+            let judged = match parts_of(&context.table, ty) {
+                Some(parts) => parts_judged(alloc, context, storage, place, parts, list)?,
+                None => Vec::new(alloc),
+            };
+            Ok(Initial::List(judged))
+        }
+    }
+}
+
+// The same of each item: where several are wrong, the least code is told.
+#[cycle(judging)]
+fn parts_judged(
+    alloc: Global,
+    context: &Context,
+    storage: Storage,
+    place: Place,
+    parts: Parts,
+    items: Vec<Initial>,
+) -> Result<Vec<Initial>, TypeRefusal>
+    ensures { Answers (λ list. initial_list list.items) (parts_judged context.now (view.storage storage) place (types_of parts.entry) (initial_list items.items)) result }
+{
+    let mut list = Vec::new(alloc);
+    let mut wrong = None;
+    let mut number = 0;
+    for item in items {
+        let Some(ty) = parts.ty(number) else {
+            break;
+        };
+        number += 1;
+        match part_judged(alloc, context, storage, place, ty, item) {
+            Ok(judged) => list.push(judged)?,
+            Err(TypeRefusal::Code(code, _)) => wrong = Some(least(code, wrong)),
+            Err(TypeRefusal::Memory) => return Err(TypeRefusal::Memory),
+        }
+    }
+    match wrong {
+        Some(code) => Err(TypeRefusal::Code(code, place)),
+        None => Ok(list),
+    }
+}
+
+/// What the `=` says of a whole initializer.
+pub fn judged(
+    alloc: Global,
+    context: &Context,
+    storage: Storage,
+    place: Place,
+    ty: &CType,
+    written: Initial,
+) -> Result<Initial, TypeRefusal>
+    ensures { Answers initial (initial_judged context.now (view.storage storage) place (shape_of ty.now) (initial written)) result }
+{
+    match written {
+        Initial::Value(value) => value_judged(alloc, context, storage, place, ty, value),
+        other => part_judged(alloc, context, storage, place, ty, other),
+    }
+}

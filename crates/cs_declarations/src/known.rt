@@ -1,0 +1,189 @@
+//! What is known at a point of a file.
+ghost use Rattle.std.specs.Prelude.{◌≡◌, ◌-◌, ◌||◌, None, OnOk, IfOk, length, take, is_some};
+ghost use Rattle.cs_types.specs.Layout.{members_of};
+ghost use Rattle.cs_types.specs.Shape.{shape_of};
+ghost use Rattle.cs_consts.specs.Meanings.{meaning_of};
+ghost use Rattle.cs_declarations.specs.Known.{table_of, with_reading, with_tag, declaring, is_declared_here, entered, left_to, mark_of};
+ghost use Rattle.cs_declarations.specs.Bodies.{with_struct, with_tagged_struct, with_members, name_or_none, tag_in, is_among, typedef_added, typedefs_added};
+ghost use Rattle.cs_declarations.specs.Answered.{Leaves};
+ghost use Rattle.cs_declarations.specs.View.{known_of, mark, laying};
+
+use crate::laying::{Laying, rounded_up};
+use crate::sizes::declarator_type;
+use cs_ast::raw::declaration::RawDeclarator;
+use cs_consts::{Context, Declaration, Meaning, Tag, TagMeaning, TypeCode, TypeRefusal, members};
+use cs_names::{Bytes, Name};
+use cs_types::{CType, StructType};
+use std::alloc::{AllocError, Global};
+
+/// The structs, the tags, the declarations in force and the string literals before a point of a file.
+#[derive(Drop)]
+pub struct Known {
+    pub context: Context,
+    /// The structs whose bodies are being read, the innermost last.
+    pub reading: Vec<u32>,
+    /// How many declarations stand around the innermost scope.
+    pub outer: usize,
+    pub literals: Vec<Bytes>,
+}
+
+/// Where a scope began, and where the one around it did.
+#[derive(Clone, Copy)]
+pub struct Mark {
+    pub declarations: usize,
+    pub outer: usize,
+}
+
+impl Known {
+    /// Declares a name in the innermost scope (C11 6.2.1).
+    pub fn declare(&mut self, name: &Name, meaning: Meaning) -> Result<(), AllocError>
+        ensures { OnOk result (known_of self.new ≡ declaring name.now (meaning_of meaning) (known_of self.old)) }
+    {
+        let name = name.copy()?;
+        self.context.scope.declarations.declare(Declaration { name, meaning })
+    }
+
+    /// Whether a name is declared in the innermost scope (C11 6.7, paragraph 3).
+    pub fn is_declared_here(&self, name: &Name) -> bool
+        ensures { result ≡ is_declared_here name.now (known_of self.now) }
+    {
+        self.context.scope.declarations.is_declared_since(name, self.outer)
+    }
+
+    /// Begins a scope (C11 6.2.1, paragraph 4).
+    pub fn enter(&mut self) -> Mark
+        ensures entered { known_of self.new ≡ entered (known_of self.old) }
+        ensures mark { mark result ≡ mark_of (known_of self.old) }
+    {
+        let around = Mark {
+            declarations: self.context.scope.declarations.len(),
+            outer: self.outer,
+        };
+        self.outer = around.declarations;
+        around
+    }
+
+    /// Ends the scope that began there: what it declared is not in force any longer.
+    pub fn leave(&mut self, around: Mark)
+        ensures { known_of self.new ≡ left_to (mark around) (known_of self.old) }
+    {
+        self.context.scope.declarations.leave(around.declarations);
+        self.outer = around.outer;
+    }
+
+    // A number of structs.
+    fn number_of_structs(&self) -> Result<u32, AllocError>
+        ensures { IfOk result (λ number. number ≡ length (table_of (known_of self.now))) }
+    {
+        u32::try_from(self.context.table.list.as_slice().len()).map_err(|_| AllocError)
+    }
+
+    /// Adds a struct of this name without members, and gives its number.
+    pub fn add_struct(&mut self, name: Name) -> Result<u32, AllocError>
+        ensures number { IfOk result (λ number. number ≡ length (table_of (known_of self.old))) }
+        ensures known { OnOk result (known_of self.new ≡ with_struct name (known_of self.old)) }
+    {
+        let number = self.number_of_structs()?;
+        self.context.table.list.push(StructType {
+            tag: name,
+            members: None,
+            size: 0,
+            align: 0,
+        })?;
+        Ok(number)
+    }
+
+    /// Adds a struct of this tag, which is new, and gives its number.
+    pub fn add_tagged_struct(&mut self, tag: &Name) -> Result<u32, AllocError>
+        requires { tag_in (known_of self.old) tag.now ≡ None }
+        ensures number { IfOk result (λ number. number ≡ length (table_of (known_of self.old))) }
+        ensures known { OnOk result (known_of self.new ≡ with_tagged_struct tag.now (known_of self.old)) }
+    {
+        let number = self.add_struct(tag.copy()?)?;
+        self.add_tag(tag, TagMeaning::Struct(number))?;
+        Ok(number)
+    }
+
+    /// Adds a tag, which is new.
+    pub fn add_tag(&mut self, tag: &Name, meaning: TagMeaning) -> Result<(), AllocError>
+        requires { tag_in (known_of self.old) tag.now ≡ None }
+        ensures { OnOk result (known_of self.new ≡ with_tag tag.now meaning (known_of self.old)) }
+    {
+        let name = tag.copy()?;
+        self.context.scope.tags.add(Tag { name, meaning })
+    }
+
+    /// Whether a struct has a body, or one of it is being read.
+    pub fn has_body(&self, number: u32) -> bool
+        ensures { result ≡ (is_among number (known_of self.now).reading || is_some (members_of (table_of (known_of self.now)) number)) }
+    {
+        self.reading.iter().any(|other| *other == number) || members(&self.context.table, number).is_some()
+    }
+
+    /// Gives a struct the members of its body, which is no longer being read.
+    pub fn complete_struct(
+        &mut self,
+        alloc: Global,
+        number: u32,
+        tag: &Option<Name>,
+        laid: Laying,
+    ) -> Result<(), AllocError>
+        ensures { OnOk result (known_of self.new ≡ with_reading (take (length (known_of self.old).reading - 1) (known_of self.old).reading) (with_members number (name_or_none tag.now) (laying laid) (known_of self.old))) }
+    {
+        let size = rounded_up(laid.size, laid.align).ok_or(AllocError)?;
+        let complete = StructType {
+            tag: name_or_none(alloc, tag)?,
+            members: Some(laid.members),
+            size,
+            align: laid.align,
+        };
+        let _ = self.reading.pop();
+        let number = number as usize;
+        if number < self.context.table.list.as_slice().len() {
+            self.context.table.list.set(number, complete);
+        }
+        Ok(())
+    }
+
+    // Declares a name of a typedef (C11 6.7.8).
+    fn declare_typedef(
+        &mut self,
+        alloc: Global,
+        base: &CType,
+        declarator: &RawDeclarator,
+    ) -> Result<(), TypeRefusal>
+        ensures { Leaves (typedef_added (shape_of base.now) declarator.now (known_of self.old)) result (known_of self.new) }
+    {
+        if self.is_declared_here(&declarator.name) {
+            return Err(TypeRefusal::Code(TypeCode::DeclaredTwice, declarator.place));
+        }
+        let ty = declarator_type(alloc, &self.context, base, None, declarator)?;
+        self.declare(&declarator.name, Meaning::Typedef(ty))?;
+        Ok(())
+    }
+
+    /// Declares the names of a typedef, behind whose words stands a type.
+    pub fn declare_typedefs(
+        &mut self,
+        alloc: Global,
+        base: &CType,
+        declarators: &[RawDeclarator],
+    ) -> Result<(), TypeRefusal>
+        ensures { Leaves (typedefs_added (shape_of base.now) declarators.now (known_of self.old)) result (known_of self.new) }
+    {
+        for declarator in declarators {
+            self.declare_typedef(alloc, base, declarator)?;
+        }
+        Ok(())
+    }
+}
+
+// The name in the table of a struct with or without a tag.
+fn name_or_none(alloc: Global, tag: &Option<Name>) -> Result<Name, AllocError>
+    ensures { IfOk result (λ name. name ≡ name_or_none tag.now) }
+{
+    match tag {
+        Some(name) => name.copy(),
+        None => Name::from_slice(alloc, b""),
+    }
+}

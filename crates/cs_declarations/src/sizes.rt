@@ -1,0 +1,181 @@
+//! The bounds of declarators, and the arrays that they make (C11 6.7.6.2).
+ghost use Rattle.std.specs.Prelude.{◌≡◌, List};
+ghost use Rattle.std.specs.Option.{option_map};
+ghost use Rattle.cs_types.specs.Shape.{shape_of};
+ghost use Rattle.cs_consts.specs.Verdicts.{Answers};
+ghost use Rattle.cs_declarations.specs.Sizes.{size_said, sizes_said, all_said, bounded, element_of, outermost, extent_of, filled};
+ghost use Rattle.cs_declarations.specs.Bodies.{declarator_type};
+ghost use Rattle.cs_declarations.specs.View.{extent};
+
+use cs_ast::Place;
+use cs_ast::raw::declaration::RawDeclarator;
+use cs_ast::raw::expression::RawExpr;
+use cs_consts::{Context, TypeCode, TypeRefusal, array_of, arrayed, complete_at, starred, value};
+use cs_types::CType;
+use std::alloc::Global;
+
+/// What is declared: something of a type, or an array of these elements whose size isn't said.
+#[derive(Drop)]
+pub enum Extent {
+    Whole(CType),
+    Unsized(CType),
+}
+
+// The size that a bound says, if it says one.
+fn size_said(
+    alloc: Global,
+    context: &Context,
+    bound: &Option<RawExpr>,
+) -> Result<Option<i128>, TypeRefusal>
+    ensures { Answers (λ size. size) (size_said context.now bound.now) result }
+{
+    match bound {
+        None => Ok(None),
+        Some(size) => {
+            let (_, number) = value(alloc, context, size)?;
+            Ok(Some(number))
+        }
+    }
+}
+
+/// The sizes that bounds say, the outermost first.
+pub fn sizes_said(
+    alloc: Global,
+    context: &Context,
+    bounds: &[Option<RawExpr>],
+) -> Result<Vec<Option<i128>>, TypeRefusal>
+    ensures { Answers (λ sizes. sizes.items) (sizes_said context.now bounds.now) result }
+{
+    let mut sizes = Vec::new(alloc);
+    for bound in bounds {
+        sizes.push(size_said(alloc, context, bound)?)?;
+    }
+    Ok(sizes)
+}
+
+// Sizes of which each has to be said.
+fn all_said(
+    alloc: Global,
+    place: Place,
+    sizes: &[Option<i128>],
+) -> Result<Vec<i128>, TypeRefusal>
+    ensures { Answers (λ numbers. numbers.items) (all_said place sizes.now) result }
+{
+    let mut numbers = Vec::new(alloc);
+    for size in sizes {
+        match size {
+            Some(number) => numbers.push(*number)?,
+            None => return Err(TypeRefusal::Code(TypeCode::Size, place)),
+        }
+    }
+    Ok(numbers)
+}
+
+/// What stands before bounds, if there are any, is complete.
+pub fn bounded(
+    context: &Context,
+    place: Place,
+    base: CType,
+    bounds: &[Option<RawExpr>],
+) -> Result<CType, TypeRefusal>
+    ensures { Answers shape_of (bounded context.now place (shape_of base) bounds.now) result }
+{
+    match bounds {
+        [] => Ok(base),
+        [_, ..] => complete_at(&context.table, place, base),
+    }
+}
+
+/// What the elements of the outermost array are, behind whose bound these stand.
+pub fn element_of(
+    alloc: Global,
+    context: &Context,
+    place: Place,
+    base: CType,
+    others: &[Option<i128>],
+) -> Result<CType, TypeRefusal>
+    ensures { Answers shape_of (element_of context.now place (shape_of base) others.now) result }
+{
+    let numbers = all_said(alloc, place, others)?;
+    arrayed(alloc, context.model, &context.table, place, base, &numbers)
+}
+
+// An array of a size that is said or isn't.
+fn outermost(
+    alloc: Global,
+    context: &Context,
+    place: Place,
+    size: Option<i128>,
+    element: CType,
+) -> Result<Extent, TypeRefusal>
+    ensures { Answers extent (outermost context.now place size (shape_of element)) result }
+{
+    match size {
+        Some(number) => {
+            let ty = array_of(alloc, context.model, &context.table, place, number, element)?;
+            Ok(Extent::Whole(ty))
+        }
+        None => Ok(Extent::Unsized(element)),
+    }
+}
+
+/// What a declarator at its name declares, whose pointers make this type.
+pub fn extent_of(
+    alloc: Global,
+    context: &Context,
+    place: Place,
+    base: CType,
+    sizes: &[Option<i128>],
+) -> Result<Extent, TypeRefusal>
+    ensures { Answers extent (extent_of context.now place (shape_of base) sizes.now) result }
+{
+    match sizes {
+        [] => Ok(Extent::Whole(base)),
+        [first, others @ ..] => {
+            let element = element_of(alloc, context, place, base, others)?;
+            outermost(alloc, context, place, *first, element)
+        }
+    }
+}
+
+/// A type whose size is said, or else that of so many elements.
+pub fn filled(
+    alloc: Global,
+    context: &Context,
+    place: Place,
+    count: Option<usize>,
+    declared: Extent,
+) -> Result<CType, TypeRefusal>
+    ensures { Answers shape_of (filled context.now place count (extent declared)) result }
+{
+    match (declared, count) {
+        (Extent::Whole(ty), _) => Ok(ty),
+        (Extent::Unsized(element), Some(count)) => array_of(
+            alloc,
+            context.model,
+            &context.table,
+            place,
+            count as i128,
+            element,
+        ),
+        (Extent::Unsized(_), None) => Err(TypeRefusal::Code(TypeCode::Size, place)),
+    }
+}
+
+/// The type that a declarator gives its name, behind whose words stands a type; so many elements are given where its size isn't said.
+pub fn declarator_type(
+    alloc: Global,
+    context: &Context,
+    base: &CType,
+    count: Option<usize>,
+    declarator: &RawDeclarator,
+) -> Result<CType, TypeRefusal>
+    ensures { Answers shape_of (declarator_type context.now (shape_of base.now) count declarator.now) result }
+{
+    let place = declarator.place;
+    let pointed = starred(alloc, &declarator.pointers, base.copy(alloc)?)?;
+    let whole = bounded(context, place, pointed, &declarator.bounds)?;
+    let sizes = sizes_said(alloc, context, &declarator.bounds)?;
+    let declared = extent_of(alloc, context, place, whole, &sizes)?;
+    filled(alloc, context, place, count, declared)
+}

@@ -1,0 +1,52 @@
+//! The words of types among those before declarators (C11 6.7.2).
+ghost use Rattle.std.specs.Prelude.{◌≡◌, option_copied};
+ghost use Rattle.cs_consts.specs.TypeNames.{times, integer_type, whole_word};
+ghost use Rattle.cs_declarations.specs.Bodies.{plain_words};
+
+use cs_ast::raw::declaration::SpecWord;
+use cs_ast::raw::written_type::{IntegerWord, TypeWord};
+use cs_consts::{IntegerWords, is_word};
+use cs_types::IntType;
+
+// How often a word of an integer type stands among these.
+fn times(kind: IntegerWord, words: &[SpecWord]) -> usize
+    ensures { result ≡ times kind (plain_words words.now) }
+{
+    words.iter().filter(|word| is_kind(kind, word)).count()
+}
+
+// Whether the word is this one of an integer type.
+fn is_kind(kind: IntegerWord, word: &SpecWord) -> bool {
+    match word {
+        SpecWord::Plain(word) => is_word(kind, word),
+        _ => false,
+    }
+}
+
+/// The integer type that words name.
+pub fn integer_type(words: &[SpecWord]) -> IntType
+    ensures { result ≡ integer_type (plain_words words.now) }
+{
+    let counts = IntegerWords {
+        char: times(IntegerWord::Char, words),
+        short: times(IntegerWord::Short, words),
+        long: times(IntegerWord::Long, words),
+        signed: times(IntegerWord::Signed, words),
+        unsigned: times(IntegerWord::Unsigned, words),
+    };
+    counts.named()
+}
+
+/// The word that names a whole type, if one does.
+pub fn whole_word(words: &[SpecWord]) -> Option<&TypeWord>
+    ensures { option_copied result ≡ whole_word (plain_words words.now) }
+{
+    for word in words {
+        match word {
+            SpecWord::Plain(TypeWord::Const) | SpecWord::Plain(TypeWord::Integer(_)) => {}
+            SpecWord::Plain(named) => return Some(named),
+            _ => {}
+        }
+    }
+    None
+}

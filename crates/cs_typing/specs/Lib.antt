@@ -1,0 +1,4 @@
+pub mod Objects
+pub mod Statements
+pub mod Functions
+pub mod Files
