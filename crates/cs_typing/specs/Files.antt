@@ -16,8 +16,8 @@ use Rattle.cs_consts.specs.declared.scope.Callee.TheVariants.{Malloc, Calloc, Fr
 use Rattle.cs_consts.specs.Verdicts.{Verdict, Fine, lift}
 use Rattle.cs_consts.specs.Meanings.{Declaration, Function}
 use Rattle.cs_declarations.specs.Known.{Known}
-use Rattle.cs_declarations.specs.Bodies.{Typing, specs_type}
-use Rattle.cs_typing.specs.Objects.{Filed, with_known, typedefs_added, objects_added}
+use Rattle.cs_declarations.specs.Bodies.{Typing, specs_type, typedefs_added}
+use Rattle.cs_typing.specs.Objects.{Filed, with_known, objects_added}
 use Rattle.cs_typing.specs.Functions.{function_added}
 
 -- the functions that are declared before a file begins (C11 7.22.3)
