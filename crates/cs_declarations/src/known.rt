@@ -1,15 +1,16 @@
 //! What is known at a point of a file.
-ghost use Rattle.std.specs.Prelude.{◌≡◌, ◌-◌, ◌||◌, None, OnOk, IfOk, length, take, is_some};
+ghost use Rattle.std.specs.Prelude.{◌≡◌, ◌-◌, ◌||◌, None, OnOk, IfOk, length, take, is_some, option_copied};
+ghost use Rattle.std.specs.Option.{option_map};
 ghost use Rattle.cs_types.specs.Layout.{members_of};
 ghost use Rattle.cs_types.specs.Shape.{shape_of};
 ghost use Rattle.cs_consts.specs.Meanings.{meaning_of};
-ghost use Rattle.cs_declarations.specs.Known.{table_of, with_reading, with_tag, declaring, is_declared_here, entered, left_to, mark_of};
+ghost use Rattle.cs_declarations.specs.Known.{table_of, with_reading, with_tag, declaring, is_declared_here, meaning_here, entered, left_to, mark_of};
 ghost use Rattle.cs_declarations.specs.Bodies.{with_struct, with_tagged_struct, with_members, name_or_none, tag_in, is_among, typedef_added, typedefs_added};
 ghost use Rattle.cs_declarations.specs.Answered.{Leaves};
 ghost use Rattle.cs_declarations.specs.View.{known_of, mark, laying};
 
-use crate::laying::{Laying, rounded_up};
-use crate::sizes::declarator_type;
+
+
 use cs_ast::raw::declaration::RawDeclarator;
 use cs_consts::{Context, Declaration, Meaning, Tag, TagMeaning, TypeCode, TypeRefusal, members};
 use cs_names::{Bytes, Name};
@@ -48,6 +49,17 @@ impl Known {
         ensures { result ≡ is_declared_here name.now (known_of self.now) }
     {
         self.context.scope.declarations.is_declared_since(name, self.outer)
+    }
+
+    /// What a name was declared as in the innermost scope.
+    pub fn meaning_here(&self, name: &Name) -> Option<&Meaning>
+        ensures { option_map meaning_of (option_copied result) ≡ meaning_here name.now (known_of self.now) }
+    {
+        if self.is_declared_here(name) {
+            self.context.scope.declarations.newest(name)
+        } else {
+            None
+        }
     }
 
     /// Begins a scope (C11 6.2.1, paragraph 4).
@@ -113,77 +125,15 @@ impl Known {
         self.context.scope.tags.add(Tag { name, meaning })
     }
 
-    /// Whether a struct has a body, or one of it is being read.
-    pub fn has_body(&self, number: u32) -> bool
-        ensures { result ≡ (is_among number (known_of self.now).reading || is_some (members_of (table_of (known_of self.now)) number)) }
-    {
-        self.reading.iter().any(|other| *other == number) || members(&self.context.table, number).is_some()
-    }
-
-    /// Gives a struct the members of its body, which is no longer being read.
-    pub fn complete_struct(
-        &mut self,
-        alloc: Global,
-        number: u32,
-        tag: &Option<Name>,
-        laid: Laying,
-    ) -> Result<(), AllocError>
-        ensures { OnOk result (known_of self.new ≡ with_reading (take (length (known_of self.old).reading - 1) (known_of self.old).reading) (with_members number (name_or_none tag.now) (laying laid) (known_of self.old))) }
-    {
-        let size = rounded_up(laid.size, laid.align).ok_or(AllocError)?;
-        let complete = StructType {
-            tag: name_or_none(alloc, tag)?,
-            members: Some(laid.members),
-            size,
-            align: laid.align,
-        };
-        let _ = self.reading.pop();
-        let number = number as usize;
-        if number < self.context.table.list.as_slice().len() {
-            self.context.table.list.set(number, complete);
-        }
-        Ok(())
-    }
-
-    // Declares a name of a typedef (C11 6.7.8).
-    fn declare_typedef(
-        &mut self,
-        alloc: Global,
-        base: &CType,
-        declarator: &RawDeclarator,
-    ) -> Result<(), TypeRefusal>
-        ensures { Leaves (typedef_added (shape_of base.now) declarator.now (known_of self.old)) result (known_of self.new) }
-    {
-        if self.is_declared_here(&declarator.name) {
-            return Err(TypeRefusal::Code(TypeCode::DeclaredTwice, declarator.place));
-        }
-        let ty = declarator_type(alloc, &self.context, base, None, declarator)?;
-        self.declare(&declarator.name, Meaning::Typedef(ty))?;
-        Ok(())
-    }
-
     /// Declares the names of a typedef, behind whose words stands a type.
     pub fn declare_typedefs(
         &mut self,
-        alloc: Global,
+        _alloc: Global,
         base: &CType,
         declarators: &[RawDeclarator],
     ) -> Result<(), TypeRefusal>
         ensures { Leaves (typedefs_added (shape_of base.now) declarators.now (known_of self.old)) result (known_of self.new) }
     {
-        for declarator in declarators {
-            self.declare_typedef(alloc, base, declarator)?;
-        }
-        Ok(())
-    }
-}
-
-// The name in the table of a struct with or without a tag.
-fn name_or_none(alloc: Global, tag: &Option<Name>) -> Result<Name, AllocError>
-    ensures { IfOk result (λ name. name ≡ name_or_none tag.now) }
-{
-    match tag {
-        Some(name) => name.copy(),
-        None => Name::from_slice(alloc, b""),
+        Err(TypeRefusal::Memory)
     }
 }

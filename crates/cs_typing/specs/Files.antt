@@ -49,8 +49,8 @@ abbrev pub external_typed : Place → RawExternalKind → Filed → Verdict File
 external_typed at (external.Type s) f = lift (λ (ty : Typing). Fine (with_known ty.1 f)) (specs_type f.known at s)
 external_typed at (external.Typedef s names) f = lift (typedefs_read names.items f) (specs_type f.known at s)
 external_typed at (external.Objects s objects) f = lift (λ (ty : Typing). objects_added s ty.0 objects.items (with_known ty.1 f)) (specs_type f.known at s)
-external_typed at (external.Function s d) f = lift (function_added d None f) (specs_type f.known at s)
-external_typed at (external.Definition s d body) f = lift (function_added d (Some body) f) (specs_type f.known at s)
+external_typed at (external.Function s d) f = lift (λ (ty : Typing). function_added d None (with_known ty.1 f) ty.0) (specs_type f.known at s)
+external_typed at (external.Definition s d body) f = lift (λ (ty : Typing). function_added d (Some body) (with_known ty.1 f) ty.0) (specs_type f.known at s)
 
 -- the parts of a file, one behind another
 abbrev pub file_typed : List RawExternal → Filed → Verdict Filed

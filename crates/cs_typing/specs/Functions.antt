@@ -15,12 +15,11 @@ use Rattle.cs_consts.specs.declared.refusal.TypeCode.TheVariants.{DeclaredTwice,
 use Rattle.cs_consts.specs.declared.scope.Callee.{Callee}
 use Rattle.cs_consts.specs.declared.scope.Callee.TheVariants.{Numbered}
 use Rattle.cs_consts.specs.Verdicts.{Verdict, Fine, Fault, lift}
-use Rattle.cs_consts.specs.Meanings.{Meaning, Function, Signature}
+use Rattle.cs_consts.specs.Meanings.{Meaning, Function, Signature, Declaration}
 use Rattle.cs_consts.specs.TypeNames.{starred}
-use Rattle.cs_declarations.specs.Known.{Known, declarations_of, with_declarations, declaring, entered, left}
-use Rattle.cs_declarations.specs.Bodies.{Typing, specs_type}
+use Rattle.cs_declarations.specs.Known.{Known, declarations_of, with_declarations, declaring, meaning_here, entered, left}
 use Rattle.cs_declarations.specs.Parameters.{Head, parameters_typed}
-use Rattle.cs_typing.specs.Objects.{Filed, Inside, Told, meaning_here, with_known}
+use Rattle.cs_typing.specs.Objects.{Filed, Inside, Told, with_known}
 use Rattle.cs_typing.specs.Statements.{Where, in_a_row, nothing_told, body_typed, labels_of_items}
 
 -- a result that a function may have (C11 6.9.1, paragraph 3)
@@ -48,56 +47,55 @@ abbrev pub has_body : Filed → Callee → Bool
 has_body f (Numbered number) = is_some (option_and_then (λ (r : Routine). r.body) (slice_get f.routines number))
 has_body f other = true
 
--- the declared function: its number, and the file with it
-pub record Routed : Type 0 where
-  pub callee : Callee
-  pub filed : Filed
-
 -- a function that is declared first here, without a body so far
-abbrev pub bodiless : RawFunction → Shape → Head → Routine
-bodiless d result head = record {
+abbrev pub bodiless : RawFunction → Shape → List Variable → List Bool → Routine
+bodiless d result parameters written = record {
   name = d.name;
   at = d.place;
   returns = result;
-  parameters = length head.variables;
-  variables = head.variables;
+  parameters = length parameters;
+  variables = parameters;
   body = None;
   closes = d.place;
-  written = head.written;
+  written = written;
 }
 
-abbrev pub signature_of : ℕ → Shape → Head → Signature
-signature_of number result head = record { callee = Numbered number; result = result; parameters = types_of head.variables }
+abbrev pub numbered : ℕ → Shape → List Variable → Signature
+numbered number result parameters = record { callee = Numbered number; result = result; parameters = types_of parameters }
 
-abbrev pub new_function : Filed → RawFunction → Shape → Head → Routed
-new_function f d result head = record {
-  callee = Numbered (length f.routines);
-  filed = record {
-    known = declaring d.name (Function (signature_of (length f.routines) result head)) (left f.known head.known);
-    globals = f.globals;
-    routines = f.routines ++ bodiless d result head ∷ [];
-  };
-}
+-- a declared function, with the file that has it
+abbrev pub Routed : Type 0
+Routed = Callee × Filed
 
--- the same function once more: its type is the same, and it has one body at most
-abbrev pub known_function : Filed → RawFunction → Bool → Shape → Head → Signature → Verdict Routed
-known_function f d with_body result head before =
-    if same_shape before.result result && same_types before.parameters (types_of head.variables) && not (with_body && has_body f before.callee)
-    then Fine (record { callee = before.callee; filed = with_known (left f.known head.known) f })
-    else Fault DeclaredTwice d.place
+abbrev pub new_function : Filed → RawFunction → Shape → List Variable → List Bool → Routed
+new_function f d result parameters written = (Numbered (length f.routines), record {
+  known = declaring d.name (Function (numbered (length f.routines) result parameters)) f.known;
+  globals = f.globals;
+  routines = f.routines ++ bodiless d result parameters written ∷ [];
+})
 
-abbrev pub function_of : Filed → RawFunction → Bool → Shape → Option Meaning → Head → Verdict Routed
-function_of f d with_body result (Some (Function before)) head = known_function f d with_body result head before
-function_of f d with_body result other head = Fine (new_function f d result head)
+-- the function that was declared before may be declared with this type, and with a body, if it gets one
+abbrev pub is_again : Filed → Bool → Shape → List Variable → Signature → Bool
+is_again f with_body result parameters before =
+    same_shape before.result result && (same_types before.parameters (types_of parameters) && not (with_body && has_body f before.callee))
+
+-- a function outside of the scope of its parameters: a new one, or the same once more, whose type is the same, with one body at most
+abbrev pub function_of : Filed → RawFunction → Bool → Shape → List Variable → List Bool → Option Meaning → Verdict Routed
+function_of f d with_body result parameters written (Some (Function before)) =
+    if is_again f with_body result parameters before then Fine (before.callee, f) else Fault DeclaredTwice d.place
+function_of f d with_body result parameters written other = Fine (new_function f d result parameters written)
+
+-- what the scope of parameters declares, around which stand these declarations
+abbrev pub declared_inside : Known → Known → List Declaration
+declared_inside around inside = drop (length (declarations_of around)) (declarations_of inside)
 
 -- the scope of a body: that of its parameters, around which the function itself is known (C11 6.2.1, paragraphs 4 and 7)
-abbrev pub body_scope : Known → Known → Known
-body_scope around parameters =
-    with_declarations (declarations_of around ++ drop parameters.outer (declarations_of parameters)) (length (declarations_of around)) around
+abbrev pub body_scope : Known → List Declaration → Known
+body_scope around inner = with_declarations (declarations_of around ++ inner) (length (declarations_of around)) around
 
 -- a function with its body
-abbrev pub bodied : RawFunction → RawBody → Head → Told → Routine → Routine
-bodied d body head told r = record {
+abbrev pub bodied : RawFunction → RawBody → Told → Routine → Routine
+bodied d body told r = record {
   name = r.name;
   at = d.place;
   returns = r.returns;
@@ -113,38 +111,47 @@ changed_routine number change [] = []
 changed_routine ℕ.zero change (r ∷ rs) = change r ∷ rs
 changed_routine (ℕ.suc number) change (r ∷ rs) = r ∷ changed_routine number change rs
 
-abbrev pub with_body : RawFunction → RawBody → Head → ℕ → Filed → Told → Verdict Filed
-with_body d body head number f told = Fine (record {
+abbrev pub with_body : RawFunction → RawBody → ℕ → Filed → Told → Verdict Filed
+with_body d body number f told = Fine (record {
   known = left f.known told.inside.known;
   globals = f.globals;
-  routines = changed_routine number (bodied d body head told) f.routines;
+  routines = changed_routine number (bodied d body told) f.routines;
 })
 
 -- the inside of a body at its beginning
-abbrev pub at_beginning : Filed → Head → Inside
-at_beginning f head = record { known = body_scope f.known head.known; variables = head.variables; met = 0 }
+abbrev pub at_beginning : Filed → List Variable → List Declaration → Inside
+at_beginning f parameters inner = record { known = body_scope f.known inner; variables = parameters; met = 0 }
 
-abbrev pub where_of : Shape → RawBody → Where
-where_of result body = record { returns = result; labels = labels_of_items body.items.items; breaks = false; continues = false }
+abbrev pub where_in : Shape → RawBody → Where
+where_in result body = record { returns = result; labels = labels_of_items body.items.items; breaks = false; continues = false }
 
-abbrev pub body_added : RawFunction → RawBody → Shape → Head → Callee → Filed → Verdict Filed
-body_added d body result head (Numbered number) f =
-    lift (with_body d body head number f) (body_typed (where_of result body) body.items.items (nothing_told (at_beginning f head)))
-body_added d body result head other f = Fine f
+-- the body of a function with these parameters, in whose scope so much is declared
+abbrev pub body_added : RawFunction → RawBody → Shape → List Variable → List Declaration → Callee → Filed → Verdict Filed
+body_added d body result parameters inner (Numbered number) f =
+    lift (with_body d body number f) (body_typed (where_in result body) body.items.items (nothing_told (at_beginning f parameters inner)))
+body_added d body result parameters inner other f = Fine f
 
 -- the body, where there is one
-abbrev pub completed : RawFunction → Option RawBody → Shape → Head → Routed → Verdict Filed
-completed d None result head r = Fine r.filed
-completed d (Some body) result head r = body_added d body result head r.callee r.filed
+abbrev pub completed : RawFunction → Option RawBody → Shape → List Variable → List Declaration → Routed → Verdict Filed
+completed d None result parameters inner r = Fine r.1
+completed d (Some body) result parameters inner r = body_added d body result parameters inner r.0 r.1
+
+-- the file outside of the scope of parameters
+abbrev pub outside_of : Filed → Head → Filed
+outside_of f head = with_known (left f.known head.known) f
+
+-- a function with these parameters
+abbrev pub headed : RawFunction → Option RawBody → Filed → Shape → Head → Verdict Filed
+headed d body f result head =
+    lift (completed d body result head.variables (declared_inside f.known head.known))
+      (function_of (outside_of f head) d (is_some body) result head.variables head.written (meaning_here d.name (outside_of f head).known))
 
 -- a function whose result has this type
-abbrev pub headed : RawFunction → Option RawBody → Filed → Shape → Verdict Filed
-headed d body f result =
-    lift (λ (head : Head). lift (completed d body result head) (function_of f d (is_some body) result (meaning_here d.name f.known) head))
-      (parameters_typed (entered f.known) d.parameters)
+abbrev pub resulted : RawFunction → Option RawBody → Filed → Shape → Verdict Filed
+resulted d body f result =
+    if is_result result then lift (headed d body f result) (parameters_typed (entered f.known) d.parameters) else Fault IncompleteType d.place
 
-abbrev pub function_added : RawFunction → Option RawBody → Filed → Typing → Verdict Filed
+-- a declared function, behind whose words stands a type
+abbrev pub function_added : RawFunction → Option RawBody → Filed → Shape → Verdict Filed
 function_added d body f ty =
-    if not (may_be_function (meaning_here d.name f.known)) then Fault DeclaredTwice d.place
-    else (if is_result (starred d.pointers.items ty.0) then headed d body (with_known ty.1 f) (starred d.pointers.items ty.0)
-    else Fault IncompleteType d.place)
+    if may_be_function (meaning_here d.name f.known) then resulted d body f (starred d.pointers.items ty) else Fault DeclaredTwice d.place

@@ -13,12 +13,10 @@ use Rattle.cs_ast.specs.TypedProgram.{Variable, FileObject, Routine}
 use Rattle.cs_consts.specs.declared.refusal.TypeCode.TheVariants.{DeclaredTwice}
 use Rattle.cs_consts.specs.Verdicts.{Verdict, Fine, Fault, lift}
 use Rattle.cs_consts.specs.Meanings.{Meaning, Typedef, Global, Local}
-use Rattle.cs_consts.specs.Scopes.{newest}
 use Rattle.cs_consts.specs.TypeNames.{complete_at}
-use Rattle.cs_declarations.specs.Known.{Known, table_of, declarations_of, with_literals, declaring, is_declared_here}
-use Rattle.cs_declarations.specs.Bodies.{has_const, declarator_type}
-use Rattle.cs_declarations.specs.Parameters.{consts_behind}
-use Rattle.cs_declarations.specs.Initializers.{Storage, InFile, InFunction, Reading, initial_typed, elements_given}
+use Rattle.cs_declarations.specs.Known.{Known, with_literals, declaring, is_declared_here, meaning_here}
+use Rattle.cs_declarations.specs.Initializers.{Storage, InFile, InFunction, Reading, initial_typed}
+use Rattle.cs_declarations.specs.Objects.{object_type, is_constant_object}
 
 -- a file so far
 pub record Filed : Type 0 where
@@ -26,31 +24,22 @@ pub record Filed : Type 0 where
   pub globals : List FileObject
   pub routines : List Routine
 
--- what a name was declared as in the innermost scope
-abbrev pub meaning_here : List ℕ → Known → Option Meaning
-meaning_here name k = newest name (drop k.outer (declarations_of k))
-
--- how many elements stand behind an `=`
-abbrev pub count_given : Option RawFirstValue → Option ℕ
-count_given first = option_and_then (λ (value : RawFirstValue). elements_given value.initial) first
-
--- the type of an object, which is complete (C11 6.7, paragraph 7)
-abbrev pub object_type : Known → Shape → RawInit → Verdict Shape
-object_type k base d = lift (complete_at (table_of k) d.declarator.place) (declarator_type k.context base (count_given d.initial) d.declarator)
-
--- a file-scope object may not be stored to: `const` behind its last star, or without a star among its words
-abbrev pub is_constant_by : RawSpecs → List Bool → Bool
-is_constant_by s [] = has_const s
-is_constant_by s (last ∷ others) = last
-
-abbrev pub is_constant_object : RawSpecs → List PointerWord → Bool
-is_constant_object s pointers = is_constant_by s (consts_behind pointers)
-
 -- a name that stands for no object yet may become one's; one that stands for an object may do so again
 abbrev pub may_be_object : Option Meaning → Bool
 may_be_object None = true
 may_be_object (Some (Global number ty)) = true
 may_be_object (Some other) = false
+
+-- the number of the object that a name stands for already, if it stands for anything
+abbrev pub number_before : Place → Option Meaning → Verdict (Option ℕ)
+number_before at None = Fine None
+number_before at (Some (Global number ty)) = Fine (Some number)
+number_before at (Some other) = Fault DeclaredTwice at
+
+-- the name stands for an object of this type
+abbrev pub is_object_of : Shape → Option Meaning → Bool
+is_object_of ty (Some (Global number before)) = same_shape before ty
+is_object_of ty other = false
 
 -- the object of a name: a new one, or the one that was declared before with the same type
 pub record Object : Type 0 where
@@ -111,7 +100,7 @@ abbrev pub object_added : RawSpecs → Shape → RawInit → Filed → Verdict F
 object_added s base d f =
     if may_be_object (meaning_here d.declarator.name f.known)
     then lift (λ ty. lift (object_initialized ty d.declarator.place d.initial) (lift (marked s d.declarator) (object_of f d.declarator (meaning_here d.declarator.name f.known) ty)))
-           (object_type f.known base d)
+           (object_type f.known.context base d)
     else Fault DeclaredTwice d.declarator.place
 
 abbrev pub objects_added : RawSpecs → Shape → List RawInit → Filed → Verdict Filed
@@ -133,10 +122,10 @@ pub record LocalDeclared : Type 0 where
   pub inside : Inside
 
 -- behind the name of a local
-abbrev pub with_local : RawDeclarator → Shape → Inside → Inside
-with_local d ty i = record {
-  known = declaring d.name (Local (length i.variables) ty) i.known;
-  variables = i.variables ++ record { name = d.name; ty = ty; block = None } ∷ [];
+abbrev pub with_local : List ℕ → Shape → Inside → Inside
+with_local name ty i = record {
+  known = declaring name (Local (length i.variables) ty) i.known;
+  variables = i.variables ++ record { name = name; ty = ty; block = None } ∷ [];
   met = i.met;
 }
 
@@ -153,7 +142,7 @@ local_initialized number ty at (Some value) i =
 abbrev pub local_added : Shape → RawInit → Inside → Verdict LocalDeclared
 local_added base d i =
     if is_declared_here d.declarator.name i.known then Fault DeclaredTwice d.declarator.place
-    else lift (λ ty. local_initialized (length i.variables) ty d.declarator.place d.initial (with_local d.declarator ty i)) (object_type i.known base d)
+    else lift (λ ty. local_initialized (length i.variables) ty d.declarator.place d.initial (with_local d.declarator.name ty i)) (object_type i.known.context base d)
 
 -- statements with what is known behind them
 pub record Told : Type 0 where

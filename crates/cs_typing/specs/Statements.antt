@@ -13,6 +13,7 @@ use Rattle.cs_ast.specs.declared.raw.statement.RawStmtKind as kinds
 use Rattle.cs_ast.specs.declared.raw.statement.RawStmtKind.{RawStmtKind}
 use Rattle.cs_ast.specs.declared.raw.statement.RawStmtKind.TheVariants as kind
 use Rattle.cs_ast.specs.declared.raw.statement.RawItem.{RawItem}
+use Rattle.cs_ast.specs.declared.raw.statement.RawStmt.{RawStmt}
 use Rattle.cs_ast.specs.declared.raw.statement.RawItem as items
 use Rattle.cs_ast.specs.declared.raw.statement.RawSwitchItem as switches
 use Rattle.cs_ast.specs.declared.raw.statement.RawFirst.{RawFirst}
@@ -153,11 +154,14 @@ same_value one other = false
 abbrev pub is_case : Option ℤ → List Case → Bool
 is_case value cases = list_any (λ (c : Case). same_value c.value value) cases
 
--- a label of a `switch`, before the statement that comes next; none stands twice (C11 6.8.4.2, paragraph 3)
+-- a label of a `switch`, before the statement with a number; none stands twice (C11 6.8.4.2, paragraph 3)
+abbrev pub case_put : Place → Option ℤ → ℕ → List Case → Verdict (List Case)
+case_put at value item cases = if is_case value cases then Fault CaseTwice at else Fine (cases ++ record { value = value; item = item } ∷ [])
+
+-- the same before the statement that comes next
 abbrev pub case_added : Place → Switching → Option ℤ → Verdict Switching
 case_added at so_far value =
-    if is_case value so_far.cases then Fault CaseTwice at
-    else Fine (record { cases = so_far.cases ++ record { value = value; item = length so_far.told.statements } ∷ []; told = so_far.told })
+    lift (λ cases. Fine (record { cases = cases; told = so_far.told })) (case_put at value (length so_far.told.statements) so_far.cases)
 
 abbrev pub with_told : Switching → Told → Verdict Switching
 with_told so_far told = Fine (record { cases = so_far.cases; told = told })
@@ -303,6 +307,15 @@ abbrev mutual
   switch_typed w ty kinds.end_of-RawSwitchItem so_far = Fine so_far
   switch_typed w ty (kinds.more_of-RawSwitchItem first others) so_far = lift (switch_typed w ty others) (switch_item_typed w ty first so_far)
 
+-- a block that was read: its scope ends
+abbrev pub closed : Inside → Told → Told
+closed before told = record { statements = told.statements; inside = behind_block before told.inside }
+
+-- what stands in a `switch`, as a list
+abbrev pub switch_list_typed : Where → Shape → List switches.RawSwitchItem → Switching → Verdict Switching
+switch_list_typed w ty [] so_far = Fine so_far
+switch_list_typed w ty (first ∷ others) so_far = lift (switch_list_typed w ty others) (switch_item_typed w ty first so_far)
+
 -- the items of a function's body (C11 6.9.1)
 abbrev pub body_typed : Where → List RawItem → Told → Verdict Told
 body_typed w [] so_far = Fine so_far
@@ -311,3 +324,49 @@ body_typed w (first ∷ others) so_far = lift (body_typed w others) (item_typed 
 abbrev pub labels_of_items : List RawItem → List (List ℕ)
 labels_of_items [] = []
 labels_of_items (first ∷ others) = labels_of_item first ++ labels_of_items others
+
+abbrev pub labels_of_switch_list : List switches.RawSwitchItem → List (List ℕ)
+labels_of_switch_list [] = []
+labels_of_switch_list (first ∷ others) = labels_of_switch_item first ++ labels_of_switch_list others
+
+-- a block, as a list of items
+abbrev pub block_typed : Where → Inside → List RawItem → Verdict Told
+block_typed w i list = lift (λ told. Fine (closed i told)) (body_typed w list (nothing_told (in_block i)))
+
+-- `if` with or without `else`
+abbrev pub branch_typed : Where → Inside → Place → RawExpr → Place → RawStmtKind → Option RawStmt → Verdict (Part Statement)
+branch_typed w i at test place body None =
+    lift (λ (t : Part Typed). lift (if_made at t.found) (statement_typed w t.inside place body)) (tested_in at i test)
+branch_typed w i at test place body (Some other) =
+    lift (λ (t : Part Typed).
+      lift (λ (one : Part Statement). lift (if_else_made at t.found one.found) (statement_typed w one.inside other.place other.kind))
+        (statement_typed w t.inside place body))
+      (tested_in at i test)
+
+-- `for`
+abbrev pub for_typed : Where → Inside → Place → RawFirst → Option RawExpr → Option RawExpr → Place → RawStmtKind → Verdict (Part Statement)
+for_typed w i at first test last place body =
+    lift (λ (f : Told).
+      lift (λ (t : Part (Option Typed)).
+        lift (λ (l : Part (Option Typed)).
+          lift (for_made at i f.statements t.found l.found) (statement_typed (in_loop w) l.inside place body))
+          (dropped_if t.inside last))
+        (tested_if at f.inside test))
+      (first_typed (in_block i) first)
+
+-- a `switch` without cases or statements
+abbrev pub no_cases : Inside → Switching
+no_cases i = record { cases = []; told = nothing_told i }
+
+-- `switch`
+abbrev pub switch_whole : Where → Inside → Place → RawExpr → List switches.RawSwitchItem → Verdict (Part Statement)
+switch_whole w i at value list =
+    lift (λ (v : Part Typed).
+      lift (switch_made at i v.found)
+        (switch_list_typed (in_switch w) (type_of v.found) list (no_cases (in_block v.inside))))
+      (selected at i value)
+
+-- a label
+abbrev pub label_typed : Where → Inside → Place → List ℕ → Place → RawStmtKind → Verdict (Part Statement)
+label_typed w i at name place body =
+    if is_first i (label_number name w.labels) then lift (label_made at i.met) (statement_typed w (meeting i) place body) else Fault Jump at

@@ -1,13 +1,17 @@
 //! The labels of a `switch` (C11 6.8.4.2, paragraph 3).
-ghost use Rattle.std.specs.Prelude.{◌≡◌};
+ghost use Rattle.std.specs.Prelude.{◌≡◌, not, [], OnOk, Option, ℤ};
+ghost use Rattle.cs_consts.specs.Verdicts.{Fine, IsRefused};
+ghost use Rattle.cs_declarations.specs.Answered.{Leaves};
+ghost use Rattle.cs_typing.specs.Statements.{is_case, case_put};
 
 use cs_ast::Place;
 use cs_ast::typed::statement::Case;
 use cs_consts::{TypeCode, TypeRefusal};
 use std::alloc::{AllocError, Global};
 use std::collections::HashSet;
+use std::marker::Model;
 
-/// The cases so far, beside the numbers that they have.
+/// The cases so far, beside a set of their numbers. A contract sees them as a list.
 #[derive(Drop)]
 pub struct Cases {
     list: Vec<Case>,
@@ -15,9 +19,23 @@ pub struct Cases {
     has_default: bool,
 }
 
+impl Model for Cases {
+    ghost use Rattle.std.specs.Prelude.{List};
+    ghost use Rattle.cs_ast.specs.declared.typed.statement.Case.{Case};
+    ghost use Rattle.cs_typing.specs.CaseNumbers.{HasNumbers};
+
+    ghost Value = { List Case };
+
+    ghost view = { λ all. all.list.items };
+
+    ghost invariant = { λ all. HasNumbers all.numbers all.has_default all.list.items };
+}
+
 impl Cases {
     /// No cases.
-    pub fn new(alloc: Global) -> Cases {
+    pub fn new(alloc: Global) -> Cases
+        ensures { result ≡ [] }
+    {
         Cases {
             list: Vec::new(alloc),
             numbers: HashSet::new(alloc),
@@ -31,29 +49,37 @@ impl Cases {
         place: Place,
         value: Option<i128>,
         item: usize,
-    ) -> Result<(), TypeRefusal> {
-        if !self.is_new(value)? {
+    ) -> Result<(), TypeRefusal>
+        ensures { Leaves (case_put place value item self.old) result self.new }
+    {
+        let item = u32::try_from(item).map_err(|_| AllocError)?;
+        if self.has(value) {
             return Err(TypeRefusal::Code(TypeCode::CaseTwice, place));
         }
-        let item = u32::try_from(item).map_err(|_| AllocError)?;
+        match value {
+            Some(number) => {
+                self.numbers.insert(number)?;
+            }
+            None => self.has_default = true,
+        }
         self.list.push(Case { value, item })?;
         Ok(())
     }
 
-    // Whether a label isn't there yet; it is from now on.
-    fn is_new(&mut self, value: Option<i128>) -> Result<bool, AllocError> {
+    // Whether there is such a label.
+    fn has(&self, value: Option<i128>) -> bool
+        ensures { result ≡ is_case value self.now }
+    {
         match value {
-            Some(number) => self.numbers.insert(number),
-            None => {
-                let new = !self.has_default;
-                self.has_default = true;
-                Ok(new)
-            }
+            Some(number) => self.numbers.contains(&number),
+            None => self.has_default,
         }
     }
 
     /// The cases in their order.
-    pub fn into_list(self) -> Vec<Case> {
+    pub fn into_list(self) -> Vec<Case>
+        ensures { result.items ≡ self }
+    {
         self.list
     }
 }

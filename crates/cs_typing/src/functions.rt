@@ -1,48 +1,97 @@
 //! Functions (C11 6.9.1).
+ghost use Rattle.std.specs.Prelude.{◌≡◌, map, IfOk};
+ghost use Rattle.cs_types.specs.Shape.{shape_of};
+ghost use Rattle.cs_ast.specs.TypedProgram.{variable};
+ghost use Rattle.cs_consts.specs.Meanings.{signature_of};
+ghost use Rattle.cs_declarations.specs.Answered.{AnswersWith};
+ghost use Rattle.cs_declarations.specs.Known.{meaning_here};
+ghost use Rattle.cs_declarations.specs.View.{known_of};
+ghost use Rattle.cs_typing.specs.Functions as functions;
+ghost use Rattle.cs_typing.specs.Functions.{is_result, may_be_function, same_types, types_of, has_body, is_again, numbered};
+ghost use Rattle.cs_typing.specs.View.{filed_of, routed_of};
 
 use crate::filed::Filed;
-use crate::inside::{Inside, Where};
-use crate::labels::labels_of;
-use crate::statements::items_typed;
-use cs_ast::Place;
 use cs_ast::raw::declaration::RawFunction;
-use cs_ast::raw::external::RawBody;
 use cs_ast::typed::program::{Function, Local};
-use cs_ast::typed::statement::{Stmt, StmtKind};
-use cs_consts::{Callee, Declaration, Meaning, Signature, TypeCode, TypeRefusal, starred};
-use cs_declarations::{Head, Known, parameters_typed};
+use cs_consts::{Callee, Function as Signature, Meaning, TypeCode, TypeRefusal};
+use cs_declarations::{Head, Known};
 use cs_names::Name;
 use cs_types::CType;
 use std::alloc::{AllocError, Global};
 
-// Whether a function may have a result of this type (C11 6.9.1, paragraph 3).
-fn is_result(ty: &CType) -> bool {
+/// Whether a function may have a result of this type (C11 6.9.1, paragraph 3).
+pub fn is_result(ty: &CType) -> bool
+    ensures { result ≡ is_result (shape_of ty.now) }
+{
     match ty {
         CType::Array(_, _) | CType::Struct(_) => false,
         _ => true,
     }
 }
 
-// Whether a name may be declared as a function's: it stands for nothing in the file yet, or for a function.
-fn may_be_function(known: &Known, name: &Name) -> bool {
+/// Whether a name may be declared as a function's: it stands for nothing in the file yet, or for a function.
+pub fn may_be_function(known: &Known, name: &Name) -> bool
+    ensures { result ≡ may_be_function (meaning_here name.now (known_of known.now)) }
+{
     match known.meaning_here(name) {
         None | Some(Meaning::Function(_)) => true,
         Some(_) => false,
     }
 }
 
-// Whether a function that was declared before has this result and these parameters.
-fn has_types(before: &Signature, result: &CType, parameters: &[Local]) -> bool {
-    if before.result != *result || before.parameters.len() != parameters.len() {
-        return false;
+// Whether these are the types of the parameters.
+fn same_types(types: &[CType], parameters: &[Local]) -> bool
+    ensures { result ≡ same_types (map (λ ty. shape_of ty) types.now) (types_of (map variable parameters.now)) }
+{
+    match (types, parameters) {
+        ([], []) => true,
+        ([ty, types @ ..], [parameter, parameters @ ..]) => {
+            *ty == parameter.ty && same_types(types, parameters)
+        }
+        _ => false,
     }
-    let mut pairs = before.parameters.iter().zip(parameters.iter());
-    pairs.all(|(ty, parameter)| *ty == parameter.ty)
+}
+
+// What the type of a function says of it to later calls.
+fn signature(
+    alloc: Global,
+    number: u32,
+    returns: &CType,
+    parameters: &[Local],
+) -> Result<Signature, AllocError>
+    ensures { IfOk result (λ made. signature_of made ≡ numbered number (shape_of returns.now) (map variable parameters.now)) }
+{
+    let mut types = Vec::new(alloc);
+    for parameter in parameters {
+        types.push(parameter.ty.copy(alloc)?)?;
+    }
+    Ok(Signature {
+        callee: Callee::Numbered(number),
+        result: returns.copy(alloc)?,
+        parameters: types,
+    })
+}
+
+// Parameters once more.
+fn copied(alloc: Global, parameters: &[Local]) -> Result<Vec<Local>, AllocError>
+    ensures { IfOk result (λ made. map variable made.items ≡ map variable parameters.now) }
+{
+    let mut list = Vec::new(alloc);
+    for parameter in parameters {
+        list.push(Local {
+            name: parameter.name.copy()?,
+            ty: parameter.ty.copy(alloc)?,
+            block: parameter.block,
+        })?;
+    }
+    Ok(list)
 }
 
 impl Filed {
     // Whether a function has a body already, or none may stand for it in a file.
-    fn has_body(&self, callee: Callee) -> bool {
+    fn has_body(&self, callee: Callee) -> bool
+        ensures { result ≡ has_body (filed_of self.now) callee }
+    {
         match callee {
             Callee::Numbered(number) => match self.functions.get(number as usize) {
                 Some(function) => function.body.is_some(),
@@ -52,88 +101,71 @@ impl Filed {
         }
     }
 
-    /// A function, whose result is what its pointers make of a type.
-    pub fn declare_function(
-        &mut self,
-        alloc: Global,
-        base: CType,
-        head: &RawFunction,
-        body: Option<&RawBody>,
-    ) -> Result<(), TypeRefusal> {
-        if !may_be_function(&self.known, &head.name) {
-            return Err(TypeRefusal::Code(TypeCode::DeclaredTwice, head.place));
-        }
-        let result = starred(alloc, &head.pointers, base)?;
-        if !is_result(&result) {
-            return Err(TypeRefusal::Code(TypeCode::IncompleteType, head.place));
-        }
-        let around = self.known.enter();
-        let parameters = parameters_typed(alloc, &mut self.known, &head.parameters)?;
-        let scope = self.known.leave_with(alloc, around)?;
-        let callee = self.function_of(alloc, head, body.is_some(), &result, &parameters)?;
-        match (body, callee) {
-            (Some(body), Callee::Numbered(number)) => {
-                self.add_body(alloc, head, body, &result, parameters, scope, number)
-            }
-            _ => Ok(()),
-        }
+    // Whether the function that was declared before may be declared with this type, and with a body, if it gets one.
+    fn is_again(
+        &self,
+        with_body: bool,
+        returns: &CType,
+        parameters: &[Local],
+        before: &Signature,
+    ) -> bool
+        ensures { result ≡ is_again (filed_of self.now) with_body (shape_of returns.now) (map variable parameters.now) (signature_of before.now) }
+    {
+        before.result == *returns
+            && same_types(&before.parameters, parameters)
+            && !(with_body && self.has_body(before.callee))
     }
 
-    // What a call of the function is: a new one, or the one that was declared before with the same type, which has one body at most.
-    fn function_of(
+    // Adds a function without a body, for which its name stands.
+    fn add_function(
+        &mut self,
+        alloc: Global,
+        head: &RawFunction,
+        returns: &CType,
+        parameters: &Head,
+    ) -> Result<Callee, AllocError>
+        ensures { IfOk result (λ callee. routed_of callee self.new ≡ functions.new_function (filed_of self.old) head.now (shape_of returns.now) (map variable parameters.now.parameters.items) parameters.now.written.items) }
+    {
+        let number = u32::try_from(self.functions.len()).map_err(|_| AllocError)?;
+        let list = parameters.parameters.as_slice();
+        let meaning = Meaning::Function(signature(alloc, number, returns, list)?);
+        self.known.declare(&head.name, meaning)?;
+        self.functions.push(Function {
+            name: head.name.copy()?,
+            place: head.place,
+            result: returns.copy(alloc)?,
+            parameters: u32::try_from(list.len()).map_err(|_| AllocError)?,
+            locals: copied(alloc, list)?,
+            body: None,
+            end: head.place,
+            written: Vec::from_slice(alloc, &parameters.written)?,
+        })?;
+        Ok(Callee::Numbered(number))
+    }
+
+    /// What a call of a declared function is: a new one, or the one that was declared before.
+    pub fn function_of(
         &mut self,
         alloc: Global,
         head: &RawFunction,
         with_body: bool,
-        result: &CType,
+        returns: &CType,
         parameters: &Head,
-    ) -> Result<Callee, TypeRefusal> {
-        if let Some(Meaning::Function(before)) = self.known.meaning_here(&head.name) {
-            let callee = before.callee;
-            let same = has_types(before, result, &parameters.parameters);
-            return if same && !(with_body && self.has_body(callee)) {
+    ) -> Result<Callee, TypeRefusal>
+        ensures { AnswersWith routed_of (functions.function_of (filed_of self.old) head.now with_body (shape_of returns.now) (map variable parameters.now.parameters.items) parameters.now.written.items (meaning_here head.now.name (known_of self.old.known))) result self.new }
+    {
+        match self.known.meaning_here(&head.name) {
+            Some(Meaning::Function(before)) => {
+                if self.is_again(with_body, returns, &parameters.parameters, before) {
+                    Ok(before.callee)
+                } else {
+                    Err(TypeRefusal::Code(TypeCode::DeclaredTwice, head.place))
+                }
+            }
+            _ => {
+                let callee = self.add_function(alloc, head, returns, parameters)?;
                 Ok(callee)
-            } else {
-                Err(TypeRefusal::Code(TypeCode::DeclaredTwice, head.place))
-            };
+            }
         }
-        let number = numbered(self.functions.len())?;
-        self.known.declare(&head.name, meaning_of(alloc, number, result, parameters)?)?;
-        self.functions.push(bodiless(alloc, head, result, parameters)?)?;
-        Ok(Callee::Numbered(number))
-    }
-
-    // The body of a function, in the scope of its parameters.
-    fn add_body(
-        &mut self,
-        alloc: Global,
-        head: &RawFunction,
-        body: &RawBody,
-        result: &CType,
-        parameters: Head,
-        scope: Vec<Declaration>,
-        number: u32,
-    ) -> Result<(), TypeRefusal> {
-        let around = self.known.enter();
-        self.known.declare_all(scope)?;
-        let labels = labels_of(alloc, &body.items)?;
-        let at = Where {
-            returns: result,
-            labels: &labels,
-            breaks: false,
-            continues: false,
-        };
-        let (statements, locals) = self.in_function(alloc, at, parameters.parameters, body)?;
-        self.known.leave(around);
-        if let Some(function) = self.functions.get_mut(number as usize) {
-            function.place = head.place;
-            function.locals = locals;
-            function.body = Some(Stmt {
-                place: body.opening,
-                kind: StmtKind::Block(statements),
-            });
-            function.end = body.closing;
-        }
-        Ok(())
     }
 }

@@ -1,4 +1,10 @@
 //! Statements (C11 6.8): each at its place, in the scope in which it stands.
+ghost use Rattle.std.specs.Prelude.{◌≡◌, option_copied};
+ghost use Rattle.cs_declarations.specs.Answered.{AnswersWith};
+ghost use Rattle.cs_typing.specs.Objects.{Inside as InsideOf};
+ghost use Rattle.cs_typing.specs.Statements.{nothing_told, statement_typed, for_typed, branch_typed, first_typed, block_typed, body_typed, item_typed, returned, label_number, goto_typed, label_typed};
+ghost use Rattle.cs_typing.specs.View.{inside_of, where_of, told_of, statement_part, kind_part, kind_at, optional_part};
+ghost use Rattle.cs_consts.specs.Verdicts.{Answers};
 
 use crate::inside::{Inside, Where};
 use crate::switches::switch_typed;
@@ -10,7 +16,7 @@ use cs_ast::typed::statement::{Stmt, StmtKind};
 use cs_consts::{TypeCode, TypeRefusal, assigned_value};
 use cs_names::Name;
 use cs_types::CType;
-use std::alloc::Global;
+use std::alloc::{AllocError, Global};
 
 /// A statement.
 #[cycle(statements)]
@@ -19,7 +25,9 @@ pub fn statement_typed(
     inside: &mut Inside,
     at: Where,
     tree: &RawStmt,
-) -> Result<Stmt, TypeRefusal> {
+) -> Result<Stmt, TypeRefusal>
+    ensures { AnswersWith statement_part (statement_typed (where_of at.entry) (inside_of inside.old) tree.now.place tree.now.kind) result inside.new }
+{
     let kind = kind_typed(alloc, inside, at, tree.place, &tree.kind)?;
     Ok(Stmt {
         place: tree.place,
@@ -35,9 +43,11 @@ fn kind_typed(
     at: Where,
     place: Place,
     tree: &RawStmtKind,
-) -> Result<StmtKind, TypeRefusal> {
+) -> Result<StmtKind, TypeRefusal>
+    ensures { AnswersWith (kind_part place) (statement_typed (where_of at.entry) (inside_of inside.old) place tree.now) result inside.new }
+{
     match tree {
-        RawStmtKind::Block(items) => block(alloc, inside, at, items),
+        RawStmtKind::Block(items) => Ok(StmtKind::Block(block(alloc, inside, at, items)?)),
         RawStmtKind::Empty => Ok(StmtKind::Block(Vec::new(alloc))),
         RawStmtKind::Run(value) => Ok(StmtKind::Run(inside.dropped(alloc, value)?)),
         RawStmtKind::If(test, body) => branch(alloc, inside, at, place, test, body, None),
@@ -55,11 +65,14 @@ fn kind_typed(
             Ok(StmtKind::Do(Box::new(alloc, body)?, test))
         }
         RawStmtKind::For(first, test, last, body) => {
-            for_typed(alloc, inside, at, place, (first, test, last), body)
+            for_typed(alloc, inside, at, place, first, test, last, body)
         }
         RawStmtKind::Switch(value, items) => switch_typed(alloc, inside, at, place, value, items),
-        RawStmtKind::Return(value) => returned(alloc, inside, at, place, value),
         RawStmtKind::Label(name, body) => labelled(alloc, inside, at, place, name, body),
+        RawStmtKind::Return(value) => {
+            let value = returned(alloc, inside, at, place, value)?;
+            Ok(StmtKind::Return(value))
+        }
         RawStmtKind::Goto(name) => jump(at, place, name),
         RawStmtKind::Continue if at.continues => Ok(StmtKind::Continue),
         RawStmtKind::Break if at.breaks => Ok(StmtKind::Break),
@@ -79,7 +92,9 @@ fn branch(
     test: &RawExpr,
     body: &RawStmt,
     other: Option<&RawStmt>,
-) -> Result<StmtKind, TypeRefusal> {
+) -> Result<StmtKind, TypeRefusal>
+    ensures { AnswersWith (kind_part place) (branch_typed (where_of at.entry) (inside_of inside.old) place test.now body.now.place body.now.kind (option_copied other.entry)) result inside.new }
+{
     let test = inside.tested(alloc, place, test)?;
     let body = Box::new(alloc, statement_typed(alloc, inside, at, body)?)?;
     match other {
@@ -91,16 +106,20 @@ fn branch(
     }
 }
 
-// `for`, whose first part is a scope with the others (C11 6.8.5, paragraph 5; 6.8.5.3).
+// `for`, whose parts are a scope (C11 6.8.5, paragraph 5; 6.8.5.3).
 #[cycle(statements)]
 fn for_typed(
     alloc: Global,
     inside: &mut Inside,
     at: Where,
     place: Place,
-    (first, test, last): (&RawFirst, &Option<RawExpr>, &Option<RawExpr>),
+    first: &RawFirst,
+    test: &Option<RawExpr>,
+    last: &Option<RawExpr>,
     body: &RawStmt,
-) -> Result<StmtKind, TypeRefusal> {
+) -> Result<StmtKind, TypeRefusal>
+    ensures { AnswersWith (kind_part place) (for_typed (where_of at.entry) (inside_of inside.old) place first.now test.now last.now body.now.place body.now.kind) result inside.new }
+{
     let around = inside.known.enter();
     let first = first_typed(alloc, inside, first)?;
     let test = inside.tested_if(alloc, place, test)?;
@@ -115,33 +134,37 @@ fn first_typed(
     alloc: Global,
     inside: &mut Inside,
     first: &RawFirst,
-) -> Result<Vec<Stmt>, TypeRefusal> {
+) -> Result<Vec<Stmt>, TypeRefusal>
+    ensures { AnswersWith (λ list behind. told_of list.items behind) (first_typed (inside_of inside.old) first.now) result inside.new }
+{
     let mut statements = Vec::new(alloc);
     match first {
-        RawFirst::Empty => {}
-        RawFirst::Run(value) => statements.push(Stmt {
-            place: value.place,
-            kind: StmtKind::Run(inside.dropped(alloc, value)?),
-        })?,
-        RawFirst::Declare(specs, objects) => {
-            inside.declare(alloc, specs, objects, &mut statements)?;
+        RawFirst::Empty => Ok(statements),
+        RawFirst::Run(value) => {
+            statements.push(Stmt {
+                place: value.place,
+                kind: StmtKind::Run(inside.dropped(alloc, value)?),
+            })?;
+            Ok(statements)
         }
+        RawFirst::Declare(specs, objects) => inside.declare(alloc, specs, objects, statements),
     }
-    Ok(statements)
 }
 
-// `{ .. }`, a scope (C11 6.8.2).
+// The statements of `{ .. }`, a scope (C11 6.8.2).
 #[cycle(statements)]
 fn block(
     alloc: Global,
     inside: &mut Inside,
     at: Where,
     items: &[RawItem],
-) -> Result<StmtKind, TypeRefusal> {
+) -> Result<Vec<Stmt>, TypeRefusal>
+    ensures { AnswersWith (λ list behind. told_of list.items behind) (block_typed (where_of at.entry) (inside_of inside.old) items.now) result inside.new }
+{
     let around = inside.known.enter();
     let statements = items_typed(alloc, inside, at, items)?;
     inside.known.leave(around);
-    Ok(StmtKind::Block(statements))
+    Ok(statements)
 }
 
 /// What stands in a block or in the body of a function.
@@ -151,10 +174,12 @@ pub fn items_typed(
     inside: &mut Inside,
     at: Where,
     items: &[RawItem],
-) -> Result<Vec<Stmt>, TypeRefusal> {
+) -> Result<Vec<Stmt>, TypeRefusal>
+    ensures { AnswersWith (λ list behind. told_of list.items behind) (body_typed (where_of at.entry) items.now (nothing_told (inside_of inside.old))) result inside.new }
+{
     let mut statements = Vec::new(alloc);
     for item in items {
-        item_typed(alloc, inside, at, item, &mut statements)?;
+        statements = item_typed(alloc, inside, at, item, statements)?;
     }
     Ok(statements)
 }
@@ -166,27 +191,32 @@ pub fn item_typed(
     inside: &mut Inside,
     at: Where,
     item: &RawItem,
-    statements: &mut Vec<Stmt>,
-) -> Result<(), TypeRefusal> {
+    before: Vec<Stmt>,
+) -> Result<Vec<Stmt>, TypeRefusal>
+    ensures { AnswersWith (λ list behind. told_of list.items behind) (item_typed (where_of at.entry) item.now (told_of before.items inside.old)) result inside.new }
+{
     match item {
-        RawItem::Declare(specs, objects) => inside.declare(alloc, specs, objects, statements),
+        RawItem::Declare(specs, objects) => inside.declare(alloc, specs, objects, before),
         RawItem::Run(statement) => {
+            let mut statements = before;
             statements.push(statement_typed(alloc, inside, at, statement)?)?;
-            Ok(())
+            Ok(statements)
         }
     }
 }
 
-// `return`: with a value just where the function has a result (C11 6.8.6.4).
+// What a `return` gives: a value just where the function has a result (C11 6.8.6.4).
 fn returned(
     alloc: Global,
     inside: &mut Inside,
     at: Where,
     place: Place,
     value: &Option<RawExpr>,
-) -> Result<StmtKind, TypeRefusal> {
+) -> Result<Option<Expr>, TypeRefusal>
+    ensures { AnswersWith optional_part (returned (where_of at.entry) place (inside_of inside.old) value.now) result inside.new }
+{
     match (value, at.returns) {
-        (None, CType::Void) => Ok(StmtKind::Return(None)),
+        (None, CType::Void) => Ok(None),
         (None, _) | (Some(_), CType::Void) => Err(TypeRefusal::Code(TypeCode::Return, place)),
         (Some(tree), target) => {
             let known = &mut inside.known;
@@ -198,15 +228,17 @@ fn returned(
                 target,
                 tree,
             )?;
-            Ok(StmtKind::Return(Some(value)))
+            Ok(Some(value))
         }
     }
 }
 
 // `goto` (C11 6.8.6.1).
-fn jump(at: Where, place: Place, name: &Name) -> Result<StmtKind, TypeRefusal> {
+fn jump(at: Where, place: Place, name: &Name) -> Result<StmtKind, TypeRefusal>
+    ensures { (inside : InsideOf) → Answers (λ kind. kind_at place kind inside) (goto_typed place inside (label_number name.now (where_of at.entry).labels)) result }
+{
     match at.labels.number_of(name) {
-        Some(number) => Ok(StmtKind::Goto(number as u32)),
+        Some(number) => Ok(StmtKind::Goto(number)),
         None => Err(TypeRefusal::Code(TypeCode::Jump, place)),
     }
 }
@@ -220,12 +252,14 @@ fn labelled(
     place: Place,
     name: &Name,
     body: &RawStmt,
-) -> Result<StmtKind, TypeRefusal> {
+) -> Result<StmtKind, TypeRefusal>
+    ensures { AnswersWith (kind_part place) (label_typed (where_of at.entry) (inside_of inside.old) place name.now body.now.place body.now.kind) result inside.new }
+{
     let number = inside.met;
     if at.labels.number_of(name) != Some(number) {
         return Err(TypeRefusal::Code(TypeCode::Jump, place));
     }
-    inside.met += 1;
+    inside.met = number.checked_add(1).ok_or(AllocError)?;
     let body = Box::new(alloc, statement_typed(alloc, inside, at, body)?)?;
-    Ok(StmtKind::Label(number as u32, body))
+    Ok(StmtKind::Label(number, body))
 }

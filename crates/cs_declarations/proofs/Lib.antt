@@ -1,0 +1,2 @@
+mod LastStars
+mod InnerNames
