@@ -1,5 +1,5 @@
 -- What is known, and parts of declarations, of the program seen as plain data.
-use Rattle.std.specs.Prelude.{◌≡◌, ℕ, ℤ, Bool, List, [], ◌∷◌, map, Option}
+use Rattle.std.specs.Prelude.{◌≡◌, ℕ, ℤ, List, map}
 use Rattle.cs_types.specs.declared.ctype.CType.{CType}
 use Rattle.cs_types.specs.Shape.{Shape, shape_of}
 use Rattle.cs_ast.specs.declared.typed.program.Local.{Local}
