@@ -63,7 +63,7 @@ def main():
     wrong = 0
     for path, judge in [("src/constants.rt", constant), ("src/types.rt", typed)]:
         for table, rows in tables(path).items():
-            flag = "-m64" if table == "LP64" else "-m32"
+            flag = "-m32" if table == "ILP32" else "-m64"
             wrong += report(path, rows, lambda e, told: judge(flag, e, told))
     found = tables("src/refused.rt")
     wrong += report("src/refused.rt", found["TYPES"], lambda e, told: typed("-m64", e, told))

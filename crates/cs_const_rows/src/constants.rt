@@ -4,8 +4,8 @@ use crate::said::constant;
 use cs_types::DataModel;
 use std::test::Fail;
 
-/// Under `gcc -m64`.
-const LP64: [(&str, &str); 100] = [
+/// Operators under `gcc -m64`.
+const OPERATORS: [(&str, &str); 63] = [
     ("7/2", "int 3"),
     ("-7/2", "int -3"),
     ("-7%2", "int -1"),
@@ -69,6 +69,10 @@ const LP64: [(&str, &str); 100] = [
     ("1?2:3u", "unsigned int 2"),
     ("1?-1:0u", "unsigned int 4294967295"),
     ("1?'a':2ll", "long long 97"),
+];
+
+/// Casts, sizes, names and orders of operators under `gcc -m64`.
+const CASTS: [(&str, &str); 37] = [
     ("(char)300", "char 44"),
     ("(signed char)200", "signed char -56"),
     ("(unsigned char)-1", "unsigned char 255"),
@@ -143,11 +147,25 @@ const ILP32: [(&str, &str); 24] = [
 ];
 
 #[test]
-fn constants_have_gccs_types_and_values(rt: HostRuntime) -> Result<(), Fail> {
-    for (text, expected) in LP64 {
+fn operators_have_gccs_types_and_values(rt: HostRuntime) -> Result<(), Fail> {
+    for (text, expected) in OPERATORS {
         let said = constant(rt.alloc(), DataModel::Lp64, text)?;
         assert_eq!(rt; said.as_str(), expected, "{text}");
     }
+    Ok(())
+}
+
+#[test]
+fn casts_have_gccs_types_and_values(rt: HostRuntime) -> Result<(), Fail> {
+    for (text, expected) in CASTS {
+        let said = constant(rt.alloc(), DataModel::Lp64, text)?;
+        assert_eq!(rt; said.as_str(), expected, "{text}");
+    }
+    Ok(())
+}
+
+#[test]
+fn constants_of_32_bits_have_gccs_types_and_values(rt: HostRuntime) -> Result<(), Fail> {
     for (text, expected) in ILP32 {
         let said = constant(rt.alloc(), DataModel::Ilp32, text)?;
         assert_eq!(rt; said.as_str(), expected, "{text}");

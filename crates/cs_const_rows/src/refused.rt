@@ -114,6 +114,11 @@ fn the_first_fault_is_told_with_its_place(rt: HostRuntime) -> Result<(), Fail> {
         let said = type_of(rt.alloc(), DataModel::Lp64, text)?;
         assert_eq!(rt; said.as_str(), expected, "{text}");
     }
+    Ok(())
+}
+
+#[test]
+fn the_first_fault_in_a_constant_is_told_with_its_place(rt: HostRuntime) -> Result<(), Fail> {
     for (text, expected) in CONSTANTS {
         let said = constant(rt.alloc(), DataModel::Lp64, text)?;
         assert_eq!(rt; said.as_str(), expected, "{text}");
