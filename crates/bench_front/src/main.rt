@@ -1,13 +1,18 @@
-//! Times the front end from outside: cuts standard input into tokens, parses them, and says how many there were.
+//! Times the front end from outside: cuts standard input into tokens, parses them, types the tree unless the word is `parse`, and says
+//! how many there were of each.
 #![tactic(auto)]
 
 ghost use Rattle.std.specs.Prelude.{◌≤◌, length};
 
+use cs_ast::raw::external::RawExternal;
+use cs_consts::TypeRefusal;
 use cs_decl_parser::parse;
 use cs_grammar::SyntaxRefusal;
 use cs_io::{StdSource, read_all};
 use cs_lexer::{Lexed, tokens};
-use std::io;
+use cs_types::DataModel;
+use cs_typing::typed;
+use std::{env, io};
 
 fn main(rt: HostRuntime) -> io::Result<()> {
     let mut source = StdSource::new(rt.stdin());
@@ -40,7 +45,8 @@ fn parsed(rt: &HostRuntime, lexed: &Lexed) -> io::Result<()> {
     match parse(rt.alloc(), list, lexed.end) {
         Ok(tree) => {
             let count = tree.externals.as_slice().len();
-            println!(rt; "{count} parts")
+            println!(rt; "{count} parts")?;
+            with_types(rt, lexed, &tree.externals)
         }
         Err(SyntaxRefusal::Syntax(place)) => {
             println!(rt; "syntax {}:{}", place.line, place.column)
@@ -52,5 +58,32 @@ fn parsed(rt: &HostRuntime, lexed: &Lexed) -> io::Result<()> {
             println!(rt; "too deep {}:{}", place.line, place.column)
         }
         Err(SyntaxRefusal::Memory) => println!(rt; "memory"),
+    }
+}
+
+// Whether the word says that nothing is typed.
+fn only_parses(rt: &HostRuntime) -> bool {
+    match env::args(rt) {
+        Ok(mut arguments) => arguments
+            .nth(1)
+            .is_some_and(|word| word.as_str() == "parse"),
+        Err(_) => false,
+    }
+}
+
+// Types a tree.
+fn with_types(rt: &HostRuntime, lexed: &Lexed, tree: &[RawExternal]) -> io::Result<()> {
+    if only_parses(rt) {
+        return Ok(());
+    }
+    match typed(rt.alloc(), DataModel::Lp64, &lexed.files, &lexed.list, tree) {
+        Ok(program) => {
+            let count = program.functions.len();
+            println!(rt; "{count} functions")
+        }
+        Err(TypeRefusal::Code(code, place)) => {
+            println!(rt; "type {} {}:{}", code.number(), place.line, place.column)
+        }
+        Err(TypeRefusal::Memory) => println!(rt; "memory"),
     }
 }

@@ -53,10 +53,6 @@ analysis_push files functions f told before now text more h one status lines =
       found = status ∙ ap (λ s. found_if s told.reports.items) h.found ∙ status_push h.results told;
     }
 
--- before the first function
-pub none_analyzed : (files : List (List ℕ)) → IsAnalysisOf files [] Clean []
-none_analyzed files = record { results = []; good = tt; is = refl; found = refl }
-
 length_taken : {X Y : Type 0} (f : X → Y) (xs : List X) (n : ℕ) → n ≤ length xs → n ≡ length (map f (take n xs))
 length_taken f xs n h = grind (arith, common_steps)
 

@@ -1,4 +1,6 @@
 pub mod ShapeLemmas
 pub mod EntryLemmas
-pub mod OneFile
+pub mod ReplayLemmas
+pub mod TypingLemmas
 pub mod AnswerLemmas
+pub mod AcceptedLemmas

@@ -1,51 +1,104 @@
 -- What a run of the program answers.
-use Rattle.std.specs.Prelude.{◌≡◌, ◌⊎◌, ℕ, List, ◌++◌, Option, Some, None, IfSome, codes}
+use Rattle.std.specs.Prelude.{◌≡◌, ◌⊎◌, ℕ, List, [], ◌++◌, Option, Some, None, codes}
 use Rattle.std.specs.Fmt.{decimal}
 use Rattle.std.specs.Io.KnownBytes.{Appends}
 use Rattle.cs_io.specs.Count.{Rose}
 use Rattle.cs_io.specs.Told.{AppendsPart}
+use Rattle.cs_types.specs.declared.data_model.DataModel.{DataModel}
 use Rattle.cs_ast.specs.declared.raw.external.RawExternal.{RawExternal}
 use Rattle.cs_ast.specs.Tree.{Definition}
+use Rattle.cs_ast.specs.TypedProgram.{TypedProgram}
 use Rattle.cs_lexer.specs.declared.lexer.Lexed.{Lexed}
+use Rattle.cs_consts.specs.Verdicts.{Fine}
 use Rattle.cs_small.specs.Reading.{IsOfForm}
-use Rattle.cs_app.specs.Trees.{Parses, IsOfNoForm}
-use Rattle.cs_app.specs.Refusals.{RefusesSource}
+use Rattle.cs_runs.specs.declared.outcome.Outcome.{Outcome}
+use Rattle.cs_runs.specs.declared.outcome.Outcome.TheVariants.{Done, Fault, Over}
+use Rattle.cs_runs.specs.Runs.{Log}
+use Rattle.cs_plain.specs.PlainRuns.{RunGives}
+use Rattle.cs_report.specs.ReplayLines.{replay_line}
+use Rattle.cs_words.specs.declared.command.Command.{Command}
+use Rattle.cs_words.specs.declared.command.Command.TheVariants.{Analyze, Replay}
+use Rattle.cs_words.specs.declared.command.ReplayWords.{ReplayWords}
+use Rattle.cs_words.specs.Meaning.{WordsMean, AreRefusedAt}
+use Rattle.cs_app.specs.Trees.{Parses, HasProgram, IsOfNoForm, typed_tree, entry_of}
+use Rattle.cs_app.specs.Refusals.{IsRefusal}
 use Rattle.cs_app.specs.Entries.{IsAnalysisOf}
 use Rattle.cs_app.specs.declared.status.Status.{Status}
-use Rattle.cs_app.specs.declared.status.Status.TheVariants.{Clean, Found, BadWords, BadFile}
-use Rattle.cs_app.specs.Words.{first_refused}
+use Rattle.cs_app.specs.declared.status.Status.TheVariants.{Clean, Found, BadWords, BadFile, NoEntry}
 
--- the file has a tree of the form, and the text is the analysis of the functions that the tree has
-pub record IsAnalysis (file : List ℕ) (status : Status) (text : List ℕ) : Type 0 where
+-- the text is the analysis of the program's functions, or says that they aren't of the form that is analyzed so far
+abbrev pub IsAnalysisAnswer : List (List ℕ) → TypedProgram → Status → List ℕ → Type 0
+IsAnalysisAnswer files program BadFile text = IsOfNoForm program × (text ≡ codes "refused form\n")
+IsAnalysisAnswer files program status text = (functions : List Definition) × IsOfForm program functions × IsAnalysisOf files functions status text
+
+-- found where a run ends in a fault
+abbrev pub outcome_status : Outcome → Status
+outcome_status (Fault kind place) = Found
+outcome_status (Done returned) = Clean
+outcome_status (Over budget place) = Clean
+
+-- the text is the line of the outcome in which the plain machine's run of the entry ends, with these inputs and without guesses
+pub record IsReplayOf (files : List (List ℕ)) (program : TypedProgram) (words : ReplayWords) (entry : ℕ) (status : Status) (text : List ℕ) : Type 0 where
+  pub outcome : Outcome
+  pub log : Log
+  pub ends : RunGives program entry (record { inputs = words.inputs; guesses = [] }) words.budgets outcome log
+  pub says : text ≡ replay_line files outcome
+  pub tells : status ≡ outcome_status outcome
+
+-- the replay of the entry that the words name, or the line that says that there is none
+abbrev pub IsReplayAnswer : List (List ℕ) → TypedProgram → ReplayWords → Status → List ℕ → Type 0
+IsReplayAnswer files program words NoEntry text = (entry_of words.entry program ≡ None) × (text ≡ codes "refused entry " ++ (words.entry ++ codes "\n"))
+IsReplayAnswer files program words status text = (entry : ℕ) × (entry_of words.entry program ≡ Some entry) × IsReplayOf files program words entry status text
+
+-- the data model that a command speaks of
+abbrev pub model_of : Command → DataModel
+model_of (Analyze words) = words.model
+model_of (Replay words) = words.model
+
+-- the answer of a command to a program, whose places are in these files
+abbrev pub IsProgramAnswer : Command → List (List ℕ) → TypedProgram → Status → List ℕ → Type 0
+IsProgramAnswer (Analyze words) files program status text = IsAnalysisAnswer files program status text
+IsProgramAnswer (Replay words) files program status text = IsReplayAnswer files program words status text
+
+-- the file is a program, and the command answers it so
+pub record Accepts (command : Command) (file : List ℕ) (status : Status) (text : List ℕ) : Type 0 where
   pub lexed : Lexed
   pub tree : List RawExternal
-  pub parsed : Parses file lexed tree
-  pub functions : List Definition
-  pub of_form : IsOfForm tree functions
-  pub analyzed : IsAnalysisOf lexed.files.items functions status text
+  pub program : TypedProgram
+  pub accepted : HasProgram (model_of command) file lexed tree program
+  pub answer : IsProgramAnswer command lexed.files.items program status text
 
--- the text is the analysis of the tree's functions, or says that it isn't of the form
-abbrev pub IsTreeAnswer : List (List ℕ) → List RawExternal → Status → List ℕ → Type 0
-IsTreeAnswer files tree BadFile text = IsOfNoForm tree × (text ≡ codes "refused form\n")
-IsTreeAnswer files tree status text = (functions : List Definition) × IsOfForm tree functions × IsAnalysisOf files functions status text
+-- the status and the whole text that a command has for a file
+abbrev pub IsAnswer : Command → List ℕ → Status → List ℕ → Type 0
+IsAnswer command file BadFile text = IsRefusal (model_of command) file text ⊎ Accepts command file BadFile text
+IsAnswer command file status text = Accepts command file status text
 
--- the whole text that belongs to a status, for this file, where the source tells what it is
-abbrev pub IsFileAnswer : Option (List ℕ) → Status → List ℕ → Type 0
-IsFileAnswer file Clean text = IfSome file (λ bytes. IsAnalysis bytes Clean text)
-IsFileAnswer file Found text = IfSome file (λ bytes. IsAnalysis bytes Found text)
-IsFileAnswer file BadFile text = RefusesSource file text
-IsFileAnswer file _ text = ⊥
+-- what a source has left is this file, where it tells
+abbrev pub IsLeft : Option (List ℕ) → List ℕ → Type 0
+IsLeft (Some left) file = file ≡ left
+IsLeft None file = Unit {0}
 
--- the same for these words, too
+-- the same of a file that the source has left
+abbrev pub IsFileAnswer : Command → Option (List ℕ) → Status → List ℕ → Type 0
+IsFileAnswer command left status text = (file : List ℕ) × IsLeft left file × IsAnswer command file status text
+
+-- the whole text that belongs to a status, for these words and this file
 abbrev pub IsWhole : List (List ℕ) → Option (List ℕ) → Status → List ℕ → Type 0
-IsWhole words file BadWords text = (n : ℕ) × (first_refused words ≡ Some n) × (text ≡ codes "refused words " ++ (decimal n ++ codes "\n"))
-IsWhole words file status text = (first_refused words ≡ None) × IsFileAnswer file status text
+IsWhole words file BadWords text = (n : ℕ) × AreRefusedAt words n × (text ≡ codes "refused words " ++ (decimal n ++ codes "\n"))
+IsWhole words file status text = (command : Command) × WordsMean words command × IsFileAnswer command file status text
 
--- the file was analyzed
-abbrev pub IsAnalyzed : Status → Type 0
-IsAnalyzed Clean = Unit {0}
-IsAnalyzed Found = Unit {0}
-IsAnalyzed _ = ⊥
+-- the whole file was read, and is a program
+abbrev pub IsRead : Status → Type 0
+IsRead Clean = Unit {0}
+IsRead Found = Unit {0}
+IsRead NoEntry = Unit {0}
+IsRead _ = ⊥
+
+-- the program was analyzed, or its entry was run
+abbrev pub IsAnswered : Status → Type 0
+IsAnswered Clean = Unit {0}
+IsAnswered Found = Unit {0}
+IsAnswered _ = ⊥
 
 -- the text was written whole
 abbrev pub IsDone : Status → Type 0
@@ -53,6 +106,7 @@ IsDone Clean = Unit {0}
 IsDone Found = Unit {0}
 IsDone BadWords = Unit {0}
 IsDone BadFile = Unit {0}
+IsDone NoEntry = Unit {0}
 IsDone _ = ⊥
 
 -- the sink took the whole text of this status
@@ -68,13 +122,18 @@ IsPartWritten words file before now =
 abbrev pub SinkRose : (faults faults' empty_takes empty_takes' : ℕ) → Type 0
 SinkRose faults faults' empty_takes empty_takes' = Rose faults faults' ⊎ Rose empty_takes empty_takes'
 
--- the words are a command, and the file has a tree of the form
+-- what a command asks of a program: that it is of the form; that it has the entry
+abbrev pub Suits : Command → TypedProgram → Type 0
+Suits (Analyze words) program = (functions : List Definition) × IsOfForm program functions
+Suits (Replay words) program = (entry : ℕ) × (entry_of words.entry program ≡ Some entry)
+
+-- the words mean one command, and the file has a tree that is a program which suits it, whichever tree of the file is taken
 pub record IsAcceptable (words : List (List ℕ)) (file : Option (List ℕ)) : Type 0 where
-  pub command : first_refused words ≡ None
+  pub command : Command
+  pub meant : WordsMean words command
   pub bytes : List ℕ
   pub told : file ≡ Some bytes
   pub lexed : Lexed
   pub tree : List RawExternal
   pub parsed : Parses bytes lexed tree
-  pub functions : List Definition
-  pub of_form : IsOfForm tree functions
+  pub suits : (other : List RawExternal) → Parses bytes lexed other → (program : TypedProgram) × (typed_tree (model_of command) lexed other ≡ Fine program) × Suits command program

@@ -1,5 +1,4 @@
 pub mod Statuses
-pub mod Words
 pub mod Trees
 pub mod Refusals
 pub mod Entries

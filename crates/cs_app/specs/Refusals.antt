@@ -1,5 +1,7 @@
 -- Why a file is refused, and the line that says so.
-use Rattle.std.specs.Prelude.{◌≡◌, ◌≤◌, ◌<◌, ℕ, List, [], ◌++◌, length, codes, Option, Some, None, slice_index_or}
+use Rattle.std.specs.Prelude.{◌≡◌, ◌≤◌, ◌<◌, ℕ, List, [], ◌++◌, length, codes, slice_index_or}
+use Rattle.std.specs.Fmt.{decimal}
+use Rattle.cs_types.specs.declared.data_model.DataModel.{DataModel}
 use Rattle.cs_ast.specs.declared.place.Place.{Place}
 use Rattle.cs_ast.specs.declared.raw.external.RawExternal.{RawExternal}
 use Rattle.cs_lexer.specs.declared.lexer.Lexed.{Lexed}
@@ -9,8 +11,12 @@ use Rattle.cs_lexer.specs.Lexing.{Lexes, IsRefused}
 use Rattle.cs_grammar.specs.declared.refusal.SyntaxRefusal.{SyntaxRefusal}
 use Rattle.cs_grammar.specs.declared.refusal.SyntaxRefusal.TheVariants as syntax
 use Rattle.cs_decl_parser.specs.Files.{IsFileRefusal}
+use Rattle.cs_consts.specs.declared.refusal.TypeCode.{TypeCode}
+use Rattle.cs_consts.specs.declared.refusal.TypeRefusal.{TypeRefusal}
+use Rattle.cs_consts.specs.declared.refusal.TypeRefusal.TheVariants as refused
+use Rattle.cs_consts.specs.Verdicts.{Fault, number_of}
 use Rattle.cs_report.specs.RefusalLines.{refusal_line}
-use Rattle.cs_app.specs.Trees.{MOST_BYTES, Parses, IsOfNoForm}
+use Rattle.cs_app.specs.Trees.{MOST_BYTES, Parses, typed_tree}
 
 -- the line for a text that has no tokens; want of memory has none
 abbrev pub IsLexLine : LexRefusal → List ℕ → Type 0
@@ -32,17 +38,20 @@ IsSyntaxLine files (syntax.LeftOut place word) text = text ≡ line_in files (co
 IsSyntaxLine files (syntax.TooDeep place) text = text ≡ line_in files (codes "refused too-deep ") place
 IsSyntaxLine files syntax.Memory text = ⊥
 
--- the first check that a file doesn't pass, with the line that says so: it is too long; it has no tokens; they are no file; it
--- isn't of the form
-pub data IsRefusal (file text : List ℕ) : Type 0 where
-  too_long : MOST_BYTES < length file → text ≡ codes "refused too-long 4194305\n" → IsRefusal file text
-  by_lexing : length file ≤ MOST_BYTES → (refusal : LexRefusal) → IsRefused file refusal → IsLexLine refusal text → IsRefusal file text
-  by_syntax : length file ≤ MOST_BYTES → (lexed : Lexed) → Lexes file lexed
-      → (refusal : SyntaxRefusal) → IsFileRefusal lexed.list.items lexed.end refusal → IsSyntaxLine lexed.files.items refusal text → IsRefusal file text
-  by_form : (lexed : Lexed) → (tree : List RawExternal) → Parses file lexed tree
-      → IsOfNoForm tree → text ≡ codes "refused form\n" → IsRefusal file text
+-- the line for a tree that is no program; want of memory has none
+abbrev pub type_line : List (List ℕ) → TypeCode → Place → List ℕ
+type_line files code place = line_in files (codes "refused type " ++ (decimal (number_of code) ++ codes " ")) place
 
--- the same of what a source has left; where it doesn't tell, of some bytes
-abbrev pub RefusesSource : Option (List ℕ) → List ℕ → Type 0
-RefusesSource (Some file) text = IsRefusal file text
-RefusesSource None text = (file : List ℕ) × IsRefusal file text
+abbrev pub IsTypeLine : List (List ℕ) → TypeRefusal → List ℕ → Type 0
+IsTypeLine files (refused.Code code place) text = text ≡ type_line files code place
+IsTypeLine files refused.Memory text = ⊥
+
+-- the first check that a file doesn't pass, with the line that says so: it is too long; it has no tokens; they are no file; its
+-- tree is no program
+pub data IsRefusal (model : DataModel) (file text : List ℕ) : Type 0 where
+  too_long : MOST_BYTES < length file → text ≡ codes "refused too-long 4194305\n" → IsRefusal model file text
+  by_lexing : length file ≤ MOST_BYTES → (refusal : LexRefusal) → IsRefused file refusal → IsLexLine refusal text → IsRefusal model file text
+  by_syntax : length file ≤ MOST_BYTES → (lexed : Lexed) → Lexes file lexed
+      → (refusal : SyntaxRefusal) → IsFileRefusal lexed.list.items lexed.end refusal → IsSyntaxLine lexed.files.items refusal text → IsRefusal model file text
+  by_type : (lexed : Lexed) → (tree : List RawExternal) → Parses file lexed tree
+      → (code : TypeCode) → (place : Place) → typed_tree model lexed tree ≡ Fault code place → text ≡ type_line lexed.files.items code place → IsRefusal model file text

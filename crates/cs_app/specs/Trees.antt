@@ -1,11 +1,17 @@
--- The tree of a file.
-use Rattle.std.specs.Prelude.{◌≤◌, ℕ, List, length}
+-- The tree of a file, and the program that the tree is.
+use Rattle.std.specs.Prelude.{◌≡◌, ◌≤◌, ◌&&◌, ℕ, nat_eq, is_some, Bool, List, length, Option}
+use Rattle.std.specs.List.{position}
+use Rattle.std.specs.Cmp.Lexicographic.{pointwise}
+use Rattle.cs_types.specs.declared.data_model.DataModel.{DataModel}
 use Rattle.cs_ast.specs.declared.raw.external.RawExternal.{RawExternal}
 use Rattle.cs_ast.specs.Tree.{Definition}
+use Rattle.cs_ast.specs.TypedProgram.{TypedProgram, Routine}
 use Rattle.cs_lexer.specs.declared.lexer.Lexed.{Lexed}
 use Rattle.cs_lexer.specs.Lexing.{Lexes}
 use Rattle.cs_decl_parser.specs.Files.{parts_of, IsTheFile}
 use Rattle.cs_decl_parser.specs.FilePlaces.{AreFilePlaced}
+use Rattle.cs_consts.specs.Verdicts.{Verdict, Fine}
+use Rattle.cs_typing.specs.Programs.{typed}
 use Rattle.cs_small.specs.Reading.{IsOfForm}
 
 -- the most bytes that a file may have
@@ -19,6 +25,22 @@ pub record Parses (file : List ℕ) (lexed : Lexed) (tree : List RawExternal) : 
   pub is_the_file : IsTheFile lexed.list.items (parts_of tree)
   pub placed : AreFilePlaced tree lexed.list.items
 
--- the parts of the tree aren't all functions of the form, or two have one name
-abbrev pub IsOfNoForm : List RawExternal → Type 0
-IsOfNoForm tree = (functions : List Definition) → IsOfForm tree functions → ⊥
+-- what the typing of a tree of these tokens gives
+abbrev pub typed_tree : DataModel → Lexed → List RawExternal → Verdict TypedProgram
+typed_tree model lexed tree = typed model lexed.files.items lexed.list.items tree
+
+-- the file has this tree, which is this program
+pub record HasProgram (model : DataModel) (file : List ℕ) (lexed : Lexed) (tree : List RawExternal) (program : TypedProgram) : Type 0 where
+  pub parsed : Parses file lexed tree
+  pub typed : typed_tree model lexed tree ≡ Fine program
+
+-- the functions of the program aren't all of the form
+abbrev pub IsOfNoForm : TypedProgram → Type 0
+IsOfNoForm program = (functions : List Definition) → IsOfForm program functions → ⊥
+
+-- the number of the function with this name and a body, if there is one
+abbrev pub is_entry : List ℕ → Routine → Bool
+is_entry name r = pointwise nat_eq r.name name && is_some r.body
+
+abbrev pub entry_of : List ℕ → TypedProgram → Option ℕ
+entry_of name program = position (is_entry name) program.routines

@@ -1,9 +1,9 @@
 //! The top call.
-ghost use Rattle.std.specs.Prelude.{◌≡◌, ℕ, None, Some};
+ghost use Rattle.std.specs.Prelude.{◌≡◌, ℕ};
 ghost use Rattle.std.specs.Io.KnownBytes.{IsAtEnd, Keeps};
 ghost use Rattle.cs_io.specs.Count.{Rose};
-ghost use Rattle.cs_app.specs.Words.{words_text, first_refused};
-ghost use Rattle.cs_app.specs.Answers.{IsWritten, IsPartWritten, IsDone, IsAnalyzed, IsAcceptable, SinkRose};
+ghost use Rattle.cs_words.specs.Meaning.{words_text, AreRefusedAt};
+ghost use Rattle.cs_app.specs.Answers.{IsWritten, IsPartWritten, IsDone, IsRead, IsAnswered, IsAcceptable, SinkRose};
 
 use crate::answer::Failure;
 use crate::command::answer_for;
@@ -13,7 +13,8 @@ use std::alloc::Global;
 
 /// Runs the program: these words, the file that the source has left, and the text into the sink.
 ///
-/// The checks come in this order: words, reading, length, lexing, syntax, form, analysis, writing. The whole text is made before
+/// The checks come in this order: words, reading, length, lexing, syntax, types, form or entry,
+/// analysis or run, writing. The whole text is made before
 /// the first write, so that nothing is written where the source fails or memory is short.
 pub fn csa<S: Source, K: Sink>(
     alloc: Global,
@@ -23,8 +24,8 @@ pub fn csa<S: Source, K: Sink>(
 ) -> Status
     // The whole text is written that belongs to the words, the file and the status.
     ensures written { IsDone result → IsWritten (words_text words.now) (S.left source.old) result (K.written sink.old) (K.written sink.new) }
-    ensures read_to_the_end { IsAnalyzed result → IsAtEnd (S.left source.new) }
-    ensures unread { (n : ℕ) → first_refused (words_text words.now) ≡ Some n → source.new ≡ source.old }
+    ensures read_to_the_end { IsRead result → IsAtEnd (S.left source.new) }
+    ensures unread { (n : ℕ) → AreRefusedAt (words_text words.now) n → source.new ≡ source.old }
 
     // Every other status has its cause, and leaves the sink as it was or with a part of such a text.
     ensures read_fault { result ≡ Status.ReadFault → Rose (S.faults source.old) (S.faults source.new) }
@@ -34,11 +35,11 @@ pub fn csa<S: Source, K: Sink>(
         IsPartWritten (words_text words.now) (S.left source.old) (K.written sink.old) (K.written sink.new) }
     ensures memory_writes_nothing { result ≡ Status.Memory → Keeps (K.written sink.old) (K.written sink.new) }
 
-    // What is accepted is analyzed, where no count rises and there is memory.
+    // What is accepted is answered, where no count rises and there is memory.
     ensures complete { IsAcceptable (words_text words.now) (S.left source.old)
         → (Rose (S.faults source.old) (S.faults source.new) → ⊥)
         → (SinkRose (K.faults sink.old) (K.faults sink.new) (K.empty_takes sink.old) (K.empty_takes sink.new) → ⊥)
-        → (result ≡ Status.Memory → ⊥) → IsAnalyzed result }
+        → (result ≡ Status.Memory → ⊥) → IsAnswered result }
 {
     match answer_for(alloc, words, source) {
         Ok(answer) => match write_all_of(sink, answer.text.as_slice()) {

@@ -1,17 +1,18 @@
 //! The answer to the words of the command line.
-ghost use Rattle.std.specs.Prelude.{◌≡◌, ℕ, ◌++◌, Err, Some, codes, IfOk};
+ghost use Rattle.std.specs.Prelude.{◌≡◌, ℕ, ◌++◌, Err, codes, IfOk};
 ghost use Rattle.std.specs.Io.KnownBytes.{IsAtEnd};
 ghost use Rattle.std.specs.Fmt.{decimal};
 ghost use Rattle.cs_io.specs.Count.{Rose};
-ghost use Rattle.cs_app.specs.Words.{words_text, first_refused};
-ghost use Rattle.cs_app.specs.Answers.{IsWhole, IsFileAnswer, IsAnalyzed};
+ghost use Rattle.cs_words.specs.declared.command.Command.{Command};
+ghost use Rattle.cs_words.specs.Meaning.{words_text, WordsMean, AreRefusedAt};
+ghost use Rattle.cs_app.specs.Answers.{IsWhole, IsFileAnswer, IsRead};
 
 use crate::answer::{Answer, Failure};
 use crate::file::answer_to;
 use crate::refused::refused_length;
 use crate::status::Status;
-use crate::words::{Command, WordsRefusal, words_of};
 use cs_io::{ReadRefusal, Source, read_all};
+use cs_words::{Command, WordsRefusal, words_of};
 use std::alloc::{AllocError, Global};
 
 /// The answer to these words, for the file that the source has left. It reads nothing where the words
@@ -23,16 +24,19 @@ pub fn answer_for<S: Source>(
 ) -> Result<Answer, Failure>
     ensures whole { IfOk result (λ answer.
         IsWhole (words_text words.now) (S.left source.old) answer.status answer.text.items) }
-    ensures read { IfOk result (λ answer. IsAnalyzed answer.status → IsAtEnd (S.left source.new)) }
-    ensures unread { (n : ℕ) → first_refused (words_text words.now) ≡ Some n → source.new ≡ source.old }
+    ensures only { (command : Command) → WordsMean (words_text words.now) command → IfOk result (λ answer.
+        IsFileAnswer command (S.left source.old) answer.status answer.text.items) }
+    ensures read { IfOk result (λ answer. IsRead answer.status → IsAtEnd (S.left source.new)) }
+    ensures unread { (n : ℕ) → AreRefusedAt (words_text words.now) n → source.new ≡ source.old }
     ensures fault { result ≡ Err Failure.Read → Rose (S.faults source.old) (S.faults source.new) }
 {
-    match words_of(words) {
-        Ok(Command::Analyze) => analysis(alloc, source),
+    match words_of(alloc, words) {
+        Ok(command) => answer_from(alloc, &command, source),
         Err(WordsRefusal::Words(number)) => {
             let answer = refused_words(alloc, number)?;
             Ok(answer)
         }
+        Err(WordsRefusal::Memory) => Err(Failure::Memory),
     }
 }
 
@@ -48,15 +52,19 @@ fn refused_words(alloc: Global, number: u64) -> Result<Answer, AllocError>
     })
 }
 
-/// The answer to the file that the source has left.
-fn analysis<S: Source>(alloc: Global, source: &mut S) -> Result<Answer, Failure>
-    ensures whole { IfOk result (λ answer. IsFileAnswer (S.left source.old) answer.status answer.text.items) }
-    ensures read { IfOk result (λ answer. IsAnalyzed answer.status → IsAtEnd (S.left source.new)) }
+/// The answer of a command to the file that the source has left.
+fn answer_from<S: Source>(
+    alloc: Global,
+    command: &Command,
+    source: &mut S,
+) -> Result<Answer, Failure>
+    ensures whole { IfOk result (λ answer. IsFileAnswer command.now (S.left source.old) answer.status answer.text.items) }
+    ensures read { IfOk result (λ answer. IsRead answer.status → IsAtEnd (S.left source.new)) }
     ensures fault { result ≡ Err Failure.Read → Rose (S.faults source.old) (S.faults source.new) }
 {
     match read_all(alloc, source) {
         Ok(file) => {
-            let answer = answer_to(alloc, file.as_slice())?;
+            let answer = answer_to(alloc, command, file.as_slice())?;
             Ok(answer)
         }
         Err(ReadRefusal::TooLong) => {

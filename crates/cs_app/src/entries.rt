@@ -1,5 +1,5 @@
 //! The answer to functions: the analysis of each, in order.
-ghost use Rattle.std.specs.Prelude.{◌≡◌, ◌≤◌, map, length, All, IfOk};
+ghost use Rattle.std.specs.Prelude.{◌≡◌, map, All, IfOk};
 ghost use Rattle.cs_ast.specs.View.{definition};
 ghost use Rattle.cs_app.specs.Entries.{IsAnalyzable, IsAnalysisOf, found_if};
 
@@ -14,14 +14,14 @@ use std::alloc::{AllocError, Global};
 
 /// The analyses of functions that it covers, whose places are in these files.
 pub fn analyzed(alloc: Global, files: &[Name], functions: &[Function]) -> Result<Answer, AllocError>
-    requires few { length functions.now ≤ 400000 }
-    requires covered { All IsAnalyzable (map definition functions.now) }
+    requires { All IsAnalyzable (map definition functions.now) }
     ensures { IfOk result (λ answer. IsAnalysisOf files.now (map definition functions.now) answer.status answer.text.items) }
 {
     let mut text = Vec::new(alloc);
     let mut status = Status::Clean;
     for (number, function) in functions.iter().enumerate() {
-        let told = analyze(alloc, number as u32, function)?;
+        let entry = number_of(number)?;
+        let told = analyze(alloc, entry, function)?;
         append_entry(&mut text, files, &function.name, &told)?;
         status = found_if(status, &told.reports);
     }
@@ -36,4 +36,11 @@ fn found_if(before: Status, reports: &[Finding]) -> Status
         [] => before,
         [_, ..] => Status::Found,
     }
+}
+
+/// The number of a function, by its index. More functions than there are numbers find no memory.
+pub fn number_of(index: usize) -> Result<u32, AllocError>
+    ensures { IfOk result (λ number. number ≡ index) }
+{
+    u32::try_from(index).map_err(|_| AllocError)
 }

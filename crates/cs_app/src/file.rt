@@ -1,27 +1,34 @@
-//! The answer to a file: its tokens, its tree, its functions.
-ghost use Rattle.std.specs.Prelude.{◌≤◌, ℕ, List, length, Some, IfOk};
+//! The answer to a file: its tokens, its tree, its program.
+ghost use Rattle.std.specs.Prelude.{◌≡◌, ◌≤◌, ℕ, List, length, IfOk};
+ghost use Rattle.cs_types.specs.Layout.{IsLaidOut};
 ghost use Rattle.cs_lexer.specs.Lexing.{Lexes};
-ghost use Rattle.cs_app.specs.Trees.{MOST_BYTES};
-ghost use Rattle.cs_app.specs.Answers.{IsFileAnswer, IsTreeAnswer};
+ghost use Rattle.cs_ast.specs.TypedProgram.{typed_program};
+ghost use Rattle.cs_app.specs.Trees.{MOST_BYTES, Parses};
+ghost use Rattle.cs_app.specs.Answers.{IsAnalysisAnswer, IsProgramAnswer, IsAnswer, model_of};
 
 use crate::answer::Answer;
 use crate::entries::analyzed;
-use crate::refused::{refused_form, refused_syntax, refused_tokens};
+use crate::refused::{refused_form, refused_syntax, refused_tokens, refused_type};
+use crate::replay::replayed;
 use cs_ast::raw::external::RawExternal;
+use cs_ast::typed::program::Program;
 use cs_decl_parser::parse;
 use cs_lexer::{Lexed, tokens};
 use cs_names::Name;
 use cs_small::{FormRefusal, functions_of};
+use cs_types::DataModel;
+use cs_typing::typed;
+use cs_words::Command;
 use std::alloc::{AllocError, Global};
 
-/// The answer to a file.
-pub fn answer_to(alloc: Global, file: &[u8]) -> Result<Answer, AllocError>
+/// The answer of a command to a file.
+pub fn answer_to(alloc: Global, command: &Command, file: &[u8]) -> Result<Answer, AllocError>
     requires { length file.now ≤ MOST_BYTES }
-    ensures { IfOk result (λ answer. IsFileAnswer (Some file.now) answer.status answer.text.items) }
+    ensures { IfOk result (λ answer. IsAnswer command.now file.now answer.status answer.text.items) }
 {
     match tokens(alloc, file) {
         Ok(lexed) => {
-            let answer = answer_by_syntax(alloc, &lexed)?;
+            let answer = answer_by_syntax(alloc, command, &lexed)?;
             Ok(answer)
         }
         Err(refusal) => {
@@ -32,14 +39,14 @@ pub fn answer_to(alloc: Global, file: &[u8]) -> Result<Answer, AllocError>
 }
 
 /// The answer to a file with these tokens.
-fn answer_by_syntax(alloc: Global, lexed: &Lexed) -> Result<Answer, AllocError>
+fn answer_by_syntax(alloc: Global, command: &Command, lexed: &Lexed) -> Result<Answer, AllocError>
     requires { length lexed.now.list.items ≤ 400000 }
     ensures { IfOk result (λ answer. (file : List ℕ) → length file ≤ MOST_BYTES → Lexes file lexed.now
-        → IsFileAnswer (Some file) answer.status answer.text.items) }
+        → IsAnswer command.now file answer.status answer.text.items) }
 {
     match parse(alloc, lexed.list.as_slice(), lexed.end) {
         Ok(tree) => {
-            let answer = answer_by_form(alloc, &lexed.files, &tree.externals)?;
+            let answer = answer_by_type(alloc, command, lexed, &tree.externals)?;
             Ok(answer)
         }
         Err(refusal) => {
@@ -49,12 +56,65 @@ fn answer_by_syntax(alloc: Global, lexed: &Lexed) -> Result<Answer, AllocError>
     }
 }
 
-/// The answer to a file with this tree, whose places are in these files.
-fn answer_by_form(alloc: Global, files: &[Name], tree: &[RawExternal]) -> Result<Answer, AllocError>
-    requires { length tree.now ≤ 400000 }
-    ensures { IfOk result (λ answer. IsTreeAnswer files.now tree.now answer.status answer.text.items) }
+/// The data model that a command speaks of.
+fn model_of(command: &Command) -> DataModel
+    ensures { result ≡ model_of command.now }
 {
-    match functions_of(alloc, tree) {
+    match command {
+        Command::Analyze(words) => words.model,
+        Command::Replay(words) => words.model,
+    }
+}
+
+/// The answer to a file with this tree.
+fn answer_by_type(
+    alloc: Global,
+    command: &Command,
+    lexed: &Lexed,
+    tree: &[RawExternal],
+) -> Result<Answer, AllocError>
+    ensures { IfOk result (λ answer. (file : List ℕ) → Parses file lexed.now tree.now
+        → IsAnswer command.now file answer.status answer.text.items) }
+{
+    match typed(alloc, model_of(command), &lexed.files, &lexed.list, tree) {
+        Ok(program) => {
+            let answer = answer_of(alloc, command, &lexed.files, &program)?;
+            Ok(answer)
+        }
+        Err(refusal) => {
+            let answer = refused_type(alloc, &lexed.files, refusal)?;
+            Ok(answer)
+        }
+    }
+}
+
+/// The answer to a program, whose places are in these files.
+fn answer_of(
+    alloc: Global,
+    command: &Command,
+    files: &[Name],
+    program: &Program,
+) -> Result<Answer, AllocError>
+    requires { IsLaidOut program.now.model program.now.table.list }
+    ensures { IfOk result (λ answer. IsProgramAnswer command.now files.now (typed_program program.now) answer.status answer.text.items) }
+{
+    match command {
+        Command::Analyze(_) => {
+            let answer = analysis(alloc, files, program)?;
+            Ok(answer)
+        }
+        Command::Replay(words) => {
+            let answer = replayed(alloc, files, program, words)?;
+            Ok(answer)
+        }
+    }
+}
+
+/// The analysis of a program, whose places are in these files.
+fn analysis(alloc: Global, files: &[Name], program: &Program) -> Result<Answer, AllocError>
+    ensures { IfOk result (λ answer. IsAnalysisAnswer files.now (typed_program program.now) answer.status answer.text.items) }
+{
+    match functions_of(alloc, program) {
         Ok(functions) => {
             let answer = analyzed(alloc, files, &functions)?;
             Ok(answer)

@@ -7,9 +7,8 @@ mod command;
 mod entries;
 mod file;
 mod refused;
+mod replay;
 mod status;
-mod words;
 
 pub use app::csa;
 pub use status::Status;
-pub use words::{Command, WordsRefusal, words_of};

@@ -1,11 +1,12 @@
 //! The answers to refused files: the line of each refusal.
 ghost use Rattle.std.specs.Prelude.{◌≡◌, ◌++◌, [], codes, slice_index_or, IfOk};
 ghost use Rattle.cs_report.specs.RefusalLines.{refusal_line};
-ghost use Rattle.cs_app.specs.Refusals.{IsLexLine, IsSyntaxLine, line_in};
+ghost use Rattle.cs_app.specs.Refusals.{IsLexLine, IsSyntaxLine, IsTypeLine, line_in};
 
 use crate::answer::Answer;
 use crate::status::Status;
 use cs_ast::Place;
+use cs_consts::TypeRefusal;
 use cs_grammar::SyntaxRefusal;
 use cs_lexer::LexRefusal;
 use cs_names::Name;
@@ -49,6 +50,24 @@ pub fn refused_syntax(
         SyntaxRefusal::LeftOut(place, word) => refused_word(alloc, &word, files, place),
         SyntaxRefusal::TooDeep(place) => refused_in(alloc, b"refused too-deep ", files, place),
         SyntaxRefusal::Memory => Err(AllocError),
+    }
+}
+
+/// The answer to a file whose tree is no program. Its places are in these files.
+pub fn refused_type(
+    alloc: Global,
+    files: &[Name],
+    refusal: TypeRefusal,
+) -> Result<Answer, AllocError>
+    ensures status { IfOk result (λ answer. answer.status ≡ Status.BadFile) }
+    ensures text { IfOk result (λ answer. IsTypeLine files.now refusal answer.text.items) }
+{
+    match refusal {
+        TypeRefusal::Code(code, place) => {
+            let words = format!(in alloc; "refused type {} ", code.number())?;
+            refused_in(alloc, words.as_bytes(), files, place)
+        }
+        TypeRefusal::Memory => Err(AllocError),
     }
 }
 

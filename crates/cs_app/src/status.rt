@@ -19,6 +19,8 @@ pub enum Status {
     WriteFault,
     /// There was no memory left. Nothing is written.
     Memory,
+    /// The file has no function with the name and a body. The line that says so is written.
+    NoEntry,
 }
 
 impl Status {
@@ -34,6 +36,7 @@ impl Status {
             Status::ReadFault => 4,
             Status::WriteFault => 5,
             Status::Memory => 6,
+            Status::NoEntry => 7,
         }
     }
 }

@@ -1,11 +1,11 @@
 //! The declarations in force, the innermost last (C11 6.2.1), and the tags (C11 6.2.3).
-ghost use Rattle.std.specs.Prelude.{◌≡◌, ◌++◌, [], ◌∷◌, None, OnOk, OnErr, option_copied, is_some, length, take, drop};
+ghost use Rattle.std.specs.Prelude.{◌≡◌, ◌++◌, [], ◌∷◌, None, OnOk, OnErr, option_copied, option_to_list, is_some, length, take, drop};
 ghost use Rattle.std.specs.Option.{option_map};
 ghost use Rattle.cs_consts.specs.Meanings.{meaning_of, declaration_of};
 ghost use Rattle.cs_consts.specs.Scopes.{newest, tagged};
 ghost use Rattle.cs_consts.specs.Entries.{tags_in};
 
-use crate::entries::{Entry, add, drop_behind, find, is_behind};
+use crate::entries::{Entry, add, drop_behind, find, is_behind, take_last};
 use crate::scope::{Declaration, Meaning, Tag, TagMeaning};
 use cs_names::Name;
 use indexmap::IndexMap;
@@ -59,6 +59,14 @@ impl Declarations {
         ensures err { OnErr result (self.new ≡ self.old) }
     {
         add(&mut self.list, &mut self.places, declaration)
+    }
+
+    /// Takes the innermost declaration, if there is one.
+    pub fn pop(&mut self) -> Option<Declaration>
+        ensures taken { self.old ≡ self.new ++ option_to_list (option_map declaration_of result) }
+        ensures none { result ≡ None → self.old ≡ [] }
+    {
+        take_last(&mut self.list, &mut self.places)
     }
 
     /// Ends a scope before which there were so many declarations: those in it are no longer in force (C11 6.2.1, paragraph 4).

@@ -1,5 +1,5 @@
 //! The declarations in force as a list, beside a table that has the place of each name's last one.
-ghost use Rattle.std.specs.Prelude.{◌≡◌, ◌-◌, true, ℕ, List, ◌++◌, [], ◌∷◌, Some, OnOk, OnErr, option_copied, is_some, drop, take, vec_len};
+ghost use Rattle.std.specs.Prelude.{◌≡◌, ◌-◌, true, ℕ, List, ◌++◌, [], ◌∷◌, Some, OnOk, OnErr, option_copied, None, is_some, drop, option_to_list, take, vec_len};
 ghost use Rattle.std.specs.Option.{option_map};
 ghost use Rattle.cs_consts.specs.Meanings.{meaning_of, declaration_of};
 ghost use Rattle.cs_consts.specs.Scopes.{newest};
@@ -104,14 +104,23 @@ fn put_back(places: &mut IndexMap<Name, Option<usize>>, name: &Name, place: Opti
     }
 }
 
-// Drops the last declaration.
-fn drop_last(list: &mut Vec<Entry>, places: &mut IndexMap<Name, Option<usize>>)
+/// Takes the last declaration, if there is one.
+pub fn take_last(
+    list: &mut Vec<Entry>,
+    places: &mut IndexMap<Name, Option<usize>>,
+) -> Option<Declaration>
     requires { Indexed places.old list.old.items }
+    ensures taken { declarations_in list.old.items ≡ declarations_in list.new.items ++ option_to_list (option_map declaration_of result) }
+    ensures none { result ≡ None → list.old.items ≡ [] }
     ensures left { list.new.items ≡ take (vec_len list.old - 1) list.old.items }
     ensures indexed { Indexed places.new list.new.items }
 {
-    if let Some(entry) = list.pop() {
-        put_back(places, &entry.declaration.name, entry.before);
+    match list.pop() {
+        Some(entry) => {
+            put_back(places, &entry.declaration.name, entry.before);
+            Some(entry.declaration)
+        }
+        None => None,
     }
 }
 
@@ -123,6 +132,6 @@ pub fn drop_behind(list: &mut Vec<Entry>, places: &mut IndexMap<Name, Option<usi
     ensures indexed { Indexed places.new list.new.items }
 {
     while list.len() > outer {
-        drop_last(list, places);
+        let _ = take_last(list, places);
     }
 }

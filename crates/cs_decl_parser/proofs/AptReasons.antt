@@ -14,25 +14,26 @@ use Rattle.cs_grammar.specs.declared.refusal.Reason.TheVariants.{Syntax, LeftOut
 use Rattle.cs_grammar.specs.TypeWords.{Names}
 use Rattle.cs_grammar.specs.Text.{Kinds}
 use Rattle.cs_grammar.specs.Refusals.{IsLeftOut, IsReason}
-use Rattle.cs_expr_parser.specs.Positions.{kind_or_end}
+use Rattle.cs_expr_parser.specs.LastTokens.{IsToldAt}
+use Rattle.cs_expr_parser.specs.Positions.{is_left_out as left_anywhere, kind_or_end}
 use Rattle.cs_expr_parser.specs.Expression.{kind_at}
 use Rattle.cs_expr_parser.proofs.Standing.{kind_of_some, kind_of_none}
 use Rattle.cs_decl_parser.specs.declared.source.Scope.{Scope}
 use Rattle.cs_decl_parser.specs.declared.source.Scope.TheVariants.{File, Block}
-use Rattle.cs_decl_parser.specs.declared.stop.Stop.{Stop}
-use Rattle.cs_decl_parser.specs.declared.stop.Stop.TheVariants as stop
+use Rattle.cs_expr_parser.specs.declared.stop.Stop.{Stop}
+use Rattle.cs_expr_parser.specs.declared.stop.Stop.TheVariants as stop
 use Rattle.cs_decl_parser.specs.Reasons.{is_left_out, plain_reason}
 use Rattle.cs_decl_parser.specs.Aptness.{may_be_out, IsApt, IsStopApt, IsAnswerApt}
 use Rattle.cs_decl_parser.specs.DeclarationAnswers.{is_designator}
 
 -- what is left out everywhere in a scope is left out somewhere in it
-out_mark : (scope : Scope) (m : Mark) → is_left_out scope (token.Mark m) ≡ true → may_be_out scope (token.Mark m) ≡ true
+out_mark : (scope : Scope) (m : Mark) → is_left_out scope (token.Mark m) ≡ true → may_be_out (token.Mark m) ≡ true
 out_mark File mark.Ellipsis e = refl
 out_mark Block mark.Ellipsis e = refl
 out_mark File _ e = absurd (false≢true e)
 out_mark Block _ e = absurd (false≢true e)
 
-out_word : (scope : Scope) (k : Keyword) → is_left_out scope (token.Keyword k) ≡ true → may_be_out scope (token.Keyword k) ≡ true
+out_word : (scope : Scope) (k : Keyword) → is_left_out scope (token.Keyword k) ≡ true → may_be_out (token.Keyword k) ≡ true
 out_word Block keyword.Static e = refl
 out_word Block keyword.Typedef e = refl
 out_word File keyword.Static e = refl
@@ -40,7 +41,7 @@ out_word File keyword.Typedef e = refl
 out_word Block _ e = absurd (false≢true e)
 out_word File _ e = absurd (false≢true e)
 
-out_may : (scope : Scope) (next : TokenKind) → is_left_out scope next ≡ true → may_be_out scope next ≡ true
+out_may : (scope : Scope) (next : TokenKind) → is_left_out scope next ≡ true → may_be_out next ≡ true
 out_may File (token.LeftOut w) e = refl
 out_may Block (token.LeftOut w) e = refl
 out_may scope (token.Mark m) e = out_mark scope m e
@@ -48,7 +49,7 @@ out_may scope (token.Keyword k) e = out_word scope k e
 out_may File _ e = absurd (false≢true e)
 out_may Block _ e = absurd (false≢true e)
 
-pub left_apt : (scope : Scope) (next : TokenKind) → may_be_out scope next ≡ true → IsApt scope next LeftOut
+pub left_apt : (scope : Scope) (next : TokenKind) → may_be_out next ≡ true → IsApt scope next LeftOut
 left_apt scope next may = record { out = λ o l. cc; kept = λ k l. false≢true (sym k ∙ may) }
 
 pub always_apt : (scope : Scope) (next : TokenKind) → is_left_out scope next ≡ true → IsApt scope next LeftOut
@@ -69,7 +70,7 @@ pub plain_apt : (scope : Scope) (next : TokenKind) → IsApt scope next (plain_r
 plain_apt scope next = either_apt scope next (is_left_out scope next) refl
 
 -- where a designator would begin
-designator_mark : (scope : Scope) (m : Mark) → is_designator (token.Mark m) ≡ true → may_be_out scope (token.Mark m) ≡ true
+designator_mark : (scope : Scope) (m : Mark) → is_designator (token.Mark m) ≡ true → may_be_out (token.Mark m) ≡ true
 designator_mark File mark.Dot e = refl
 designator_mark Block mark.Dot e = refl
 designator_mark File mark.OpenBracket e = refl
@@ -82,8 +83,8 @@ designator_apt scope _ e = absurd (false≢true e)
 
 -- a brace may have each reason
 pub brace_apt : (scope : Scope) (next : TokenKind) (reason : Reason) → next ≡ token.Mark mark.OpenBrace → IsApt scope next reason
-brace_apt File next reason e = record { out = λ o l. false≢true (sym (ap (is_left_out File) e) ∙ o); kept = λ k l. false≢true (sym k ∙ ap (may_be_out File) e) }
-brace_apt Block next reason e = record { out = λ o l. false≢true (sym (ap (is_left_out Block) e) ∙ o); kept = λ k l. false≢true (sym k ∙ ap (may_be_out Block) e) }
+brace_apt File next reason e = record { out = λ o l. false≢true (sym (ap (is_left_out File) e) ∙ o); kept = λ k l. false≢true (sym k ∙ ap may_be_out e) }
+brace_apt Block next reason e = record { out = λ o l. false≢true (sym (ap (is_left_out Block) e) ∙ o); kept = λ k l. false≢true (sym k ∙ ap may_be_out e) }
 
 -- a reason that a token may have in blocks is one that it may have outside
 file_out : (next : TokenKind) → is_left_out File next ≡ true → is_left_out Block next ≡ true
@@ -92,28 +93,8 @@ file_out (token.Mark mark.Ellipsis) e = refl
 file_out (token.Mark _) e = absurd (false≢true e)
 file_out _ e = absurd (false≢true e)
 
-file_mark : (m : Mark) → may_be_out File (token.Mark m) ≡ false → may_be_out Block (token.Mark m) ≡ false
-file_mark mark.Colon e = refl
-file_mark mark.Ellipsis e = absurd (false≢true (sym e))
-file_mark mark.OpenBrace e = absurd (false≢true (sym e))
-file_mark mark.OpenParenthesis e = absurd (false≢true (sym e))
-file_mark mark.Dot e = absurd (false≢true (sym e))
-file_mark mark.OpenBracket e = absurd (false≢true (sym e))
-file_mark _ e = refl
-
-file_word : (k : Keyword) → may_be_out File (token.Keyword k) ≡ false → may_be_out Block (token.Keyword k) ≡ false
-file_word keyword.Static e = absurd (false≢true (sym e))
-file_word keyword.Typedef e = absurd (false≢true (sym e))
-file_word _ e = refl
-
-file_kept : (next : TokenKind) → may_be_out File next ≡ false → may_be_out Block next ≡ false
-file_kept (token.LeftOut w) e = absurd (false≢true (sym e))
-file_kept (token.Mark m) e = file_mark m e
-file_kept (token.Keyword k) e = file_word k e
-file_kept _ e = refl
-
 pub apt_in : (scope : Scope) (next : TokenKind) (reason : Reason) → IsApt Block next reason → IsApt scope next reason
-apt_in File next reason a = record { out = λ o l. a.out (file_out next o) l; kept = λ k l. a.kept (file_kept next k) l }
+apt_in File next reason a = record { out = λ o l. a.out (file_out next o) l; kept = a.kept }
 apt_in Block next reason a = a
 
 -- the reasons of the parser of expressions
@@ -126,7 +107,7 @@ out_left names front (token.Mark _) e = absurd (false≢true e)
 out_left names front (token.Keyword _) e = absurd (false≢true e)
 out_left names front _ e = absurd (false≢true e)
 
-left_may : (names : Names) (front : Kinds) (next : TokenKind) → IsLeftOut names front next → may_be_out Block next ≡ true
+left_may : (names : Names) (front : Kinds) (next : TokenKind) → IsLeftOut names front next → may_be_out next ≡ true
 left_may names front (token.LeftOut w) o = refl
 left_may names front (token.Mark mark.Ellipsis) o = refl
 left_may names front (token.Mark mark.OpenBrace) o = refl
@@ -155,10 +136,26 @@ apt_found names level front tokens at reason None e r =
 pub expression_apt : (names : Names) (level : ℕ) (front : Kinds) (tokens : List Token) (at : ℕ) (reason : Reason) → IsReason names level front (kind_at tokens at) reason → IsApt Block (kind_or_end tokens at) reason
 expression_apt names level front tokens at reason r = apt_found names level front tokens at reason (slice_get tokens at) refl r
 
+left_behind : (next : TokenKind) → is_left_out Block next ≡ true → left_anywhere next ≡ true
+left_behind (token.LeftOut w) e = refl
+left_behind (token.Mark mark.Ellipsis) e = refl
+left_behind (token.Mark _) e = absurd (false≢true e)
+left_behind (token.Keyword keyword.Static) e = refl
+left_behind (token.Keyword keyword.Typedef) e = refl
+left_behind (token.Keyword _) e = absurd (false≢true e)
+left_behind _ e = absurd (false≢true e)
+
+-- the same inside an expression
+pub told_apt : (names : Names) (tokens : List Token) (from at : ℕ) (reason : Reason) → IsToldAt names tokens from at reason → IsApt Block (kind_or_end tokens at) reason
+told_apt names tokens from at TooDeep t = deep_apt Block (kind_or_end tokens at)
+told_apt names tokens from at LeftOut t = left_apt Block (kind_or_end tokens at) (left_may names t.front (kind_or_end tokens at) t.tells)
+told_apt names tokens from at Syntax t =
+    let e = t.tells.0 in
+    record { out = λ o l. false≢true (sym e ∙ left_behind (kind_or_end tokens at) o); kept = λ k l. cc }
+
 -- the same of what the parts answer
 pub stop_apt : (scope : Scope) (tokens : List Token) (s : Stop) → IsStopApt Block tokens s → IsStopApt scope tokens s
 stop_apt scope tokens (stop.Refused at reason) a = apt_in scope (kind_or_end tokens at) reason a
-stop_apt scope tokens (stop.Expression r) a = tt
 stop_apt scope tokens stop.Memory a = tt
 
 pub answer_apt : {A : Type 0} (scope : Scope) (tokens : List Token) (answer : Result A Stop) → IsAnswerApt Block tokens answer → IsAnswerApt scope tokens answer

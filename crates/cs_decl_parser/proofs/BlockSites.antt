@@ -1,6 +1,5 @@
 -- Each return of the parts that read blocks and `switch`, over tokens by their numbers.
 use Rattle.std.proofs.Common.{◌≡◌, ℕ, ◌+◌, ◌-◌, ◌≤◌, max, inl, inr, true, false, List, [], ◌∷◌, ◌++◌, length, refl, sym, ap, ◌∙◌, subst, arith, Vec, Global}
-use Rattle.cs_ast.specs.declared.place.Place.{Place}
 use Rattle.cs_ast.specs.declared.token.Token.{Token}
 use Rattle.cs_ast.specs.declared.token.TokenKind.{TokenKind}
 use Rattle.cs_ast.specs.declared.token.TokenKind.TheVariants as token
@@ -34,8 +33,8 @@ use Rattle.cs_grammar.proofs.ItemSites.{case_none}
 use Rattle.cs_expr_parser.specs.Positions.{kind_or_end}
 use Rattle.cs_expr_parser.specs.Parts.{Spells}
 use Rattle.cs_decl_parser.specs.declared.source.Scope.TheVariants as scope
-use Rattle.cs_decl_parser.specs.declared.stop.Stop.{Stop}
-use Rattle.cs_decl_parser.specs.declared.stop.Stop.TheVariants as stop
+use Rattle.cs_expr_parser.specs.declared.stop.Stop.{Stop}
+use Rattle.cs_expr_parser.specs.declared.stop.Stop.TheVariants as stop
 use Rattle.cs_decl_parser.specs.declared.stop.Taken.{Taken}
 use Rattle.cs_decl_parser.specs.Nodes.{IsNode}
 use Rattle.cs_decl_parser.specs.Answers.{Stops, IsExactly, IsTaken}
@@ -46,9 +45,9 @@ use Rattle.cs_decl_parser.proofs.StatementSites.{word_stands, mark_stands, taken
 use Rattle.cs_decl_parser.proofs.Passing.{RowSoFar, row_none, row_stops, row_more, row_exactly, pass_stops, pass_stands, begins_near}
 
 -- a block: what stands in it was refused
-pub block_stops : (names : Names) (room : ℕ) (tokens : List Token) (end : Place) (from : ℕ) → 1 ≤ room → kind_or_end tokens from ≡ open_brace → (s : Stop) → Stops (BlockRows names) (room - 1) tokens end (from + 1) s → Stops (Sentences names) room tokens end from s
-block_stops names room tokens end from some k s r =
-    single_stops (block_single names) room (room - 1) (omega arith, omega arith) tokens end from (from + 1) (mark_stands tokens from mark.OpenBrace k) (no_fits tokens (from + 1)) s r
+pub block_stops : (names : Names) (room : ℕ) (tokens : List Token) (from : ℕ) → 1 ≤ room → kind_or_end tokens from ≡ open_brace → (s : Stop) → Stops (BlockRows names) (room - 1) tokens (from + 1) s → Stops (Sentences names) room tokens from s
+block_stops names room tokens from some k s r =
+    single_stops (block_single names) room (room - 1) (omega arith, omega arith) tokens from (from + 1) (mark_stands tokens from mark.OpenBrace k) (no_fits tokens (from + 1)) s r
 
 pub block_taken : (names : Names) (room : ℕ) (tokens : List Token) (from : ℕ) (items : Taken (Vec RawItem Global)) (whole : Taken RawStmt) → 1 ≤ room → kind_or_end tokens from ≡ open_brace → AreTaken names (room - 1) tokens (from + 1) items → IsNode (sentence (kind.Block items.tree)) (items.height + 1) (items.next + 1) whole → IsTaken (Sentences names) statement_of room tokens from false whole
 block_taken names room tokens from items whole some k t n =
@@ -74,8 +73,8 @@ items_push (d ∷ ds) c = ap (MoreItems (item d)) (items_push ds c)
 pub items_none : (names : Names) (room : ℕ) (tokens : List Token) (from : ℕ) (done : List RawItem) → done ≡ [] → from ≤ length tokens → ItemsSoFar names room tokens from done 0 from
 items_none names room tokens from done none within = subst (λ (x : List RawItem). ItemsSoFar names room tokens from x 0 from) (sym none) (row_none (block_growing names) room tokens from within)
 
-pub items_stop : (names : Names) (room : ℕ) (tokens : List Token) (end : Place) (from : ℕ) (done : List RawItem) (tall next : ℕ) → ItemsSoFar names room tokens from done tall next → (kind_or_end tokens next ≡ close_brace → ⊥) → (s : Stop) → Stops (BlockItems names) room tokens end next s → Stops (BlockRows names) room tokens end from s
-items_stop names room tokens end from done tall next row other s r = row_stops (block_growing names) (λ after. refl) room tokens end from (items_list done) tall next row other s r
+pub items_stop : (names : Names) (room : ℕ) (tokens : List Token) (from : ℕ) (done : List RawItem) (tall next : ℕ) → ItemsSoFar names room tokens from done tall next → (kind_or_end tokens next ≡ close_brace → ⊥) → (s : Stop) → Stops (BlockItems names) room tokens next s → Stops (BlockRows names) room tokens from s
+items_stop names room tokens from done tall next row other s r = row_stops (block_growing names) (λ after. refl) room tokens from (items_list done) tall next row other s r
 
 pub items_more : (names : Names) (room : ℕ) (tokens : List Token) (from : ℕ) (done all : List RawItem) (tall next : ℕ) (taken : Taken RawItem) → ItemsSoFar names room tokens from done tall next → IsTaken (BlockItems names) item room tokens next false taken → all ≡ done ++ taken.tree ∷ [] → ItemsSoFar names room tokens from all (max tall taken.height) taken.next
 items_more names room tokens from done all tall next taken row t e =
@@ -106,8 +105,8 @@ switch_push (d ∷ ds) c = ap (MoreSwitchItems (switch_item d)) (switch_push ds 
 pub switch_none : (names : Names) (room : ℕ) (tokens : List Token) (from : ℕ) (done : List RawSwitchItem) → done ≡ [] → from ≤ length tokens → SwitchSoFar names room tokens from done 0 from
 switch_none names room tokens from done none within = subst (λ (x : List RawSwitchItem). SwitchSoFar names room tokens from x 0 from) (sym none) (row_none (switch_growing names) room tokens from within)
 
-pub switch_stop : (names : Names) (room : ℕ) (tokens : List Token) (end : Place) (from : ℕ) (done : List RawSwitchItem) (tall next : ℕ) → SwitchSoFar names room tokens from done tall next → (kind_or_end tokens next ≡ close_brace → ⊥) → (s : Stop) → Stops (SwitchParts names) room tokens end next s → Stops (SwitchRows names) room tokens end from s
-switch_stop names room tokens end from done tall next row other s r = row_stops (switch_growing names) (λ after. refl) room tokens end from (switch_list done) tall next row other s r
+pub switch_stop : (names : Names) (room : ℕ) (tokens : List Token) (from : ℕ) (done : List RawSwitchItem) (tall next : ℕ) → SwitchSoFar names room tokens from done tall next → (kind_or_end tokens next ≡ close_brace → ⊥) → (s : Stop) → Stops (SwitchParts names) room tokens next s → Stops (SwitchRows names) room tokens from s
+switch_stop names room tokens from done tall next row other s r = row_stops (switch_growing names) (λ after. refl) room tokens from (switch_list done) tall next row other s r
 
 pub switch_more : (names : Names) (room : ℕ) (tokens : List Token) (from : ℕ) (done all : List RawSwitchItem) (tall next : ℕ) (taken : Taken RawSwitchItem) → SwitchSoFar names room tokens from done tall next → IsTaken (SwitchParts names) switch_item room tokens next false taken → all ≡ done ++ taken.tree ∷ [] → SwitchSoFar names room tokens from all (max tall taken.height) taken.next
 switch_more names room tokens from done all tall next taken row t e =
@@ -126,26 +125,26 @@ switch_row_taken names room tokens from done tall next whole row closing tree he
 }
 
 -- `switch`: its value was refused
-pub switch_value_stops : (names : Names) (room : ℕ) (tokens : List Token) (end : Place) (from : ℕ) → 2 ≤ room → kind_or_end tokens from ≡ word keyword.Switch → (s : Stop) → Stops (Tests names) (room - 1) tokens end (from + 1) s → Stops (Sentences names) room tokens end from s
-switch_value_stops names room tokens end from enough k s r = pair_first_stops (switch_pair names) room (room - 1) (omega arith, omega arith, omega arith) tokens end from (from + 1) (word_stands tokens from keyword.Switch k) s r
+pub switch_value_stops : (names : Names) (room : ℕ) (tokens : List Token) (from : ℕ) → 2 ≤ room → kind_or_end tokens from ≡ word keyword.Switch → (s : Stop) → Stops (Tests names) (room - 1) tokens (from + 1) s → Stops (Sentences names) room tokens from s
+switch_value_stops names room tokens from enough k s r = pair_first_stops (switch_pair names) room (room - 1) (omega arith, omega arith, omega arith) tokens from (from + 1) (word_stands tokens from keyword.Switch k) s r
 
-bodies_stop : (names : Names) (room : ℕ) (tokens : List Token) (end : Place) (from : ℕ) (value : Taken RawExpr) → 2 ≤ room → kind_or_end tokens from ≡ word keyword.Switch → IsExactly (Tests names) written (room - 1) tokens (from + 1) value → (s : Stop) → Stops (SwitchBodies names) (room - 1) tokens end value.next s → Stops (Sentences names) room tokens end from s
-bodies_stop names room tokens end from value enough k t s r =
-    pair_second_stops (switch_pair names) room (room - 1) (omega arith, omega arith, omega arith) tokens end from (from + 1) value.next (word_stands tokens from keyword.Switch k) (written value.tree) (exact_stands (Tests names) written (room - 1) tokens (from + 1) value t) s r
+bodies_stop : (names : Names) (room : ℕ) (tokens : List Token) (from : ℕ) (value : Taken RawExpr) → 2 ≤ room → kind_or_end tokens from ≡ word keyword.Switch → IsExactly (Tests names) written (room - 1) tokens (from + 1) value → (s : Stop) → Stops (SwitchBodies names) (room - 1) tokens value.next s → Stops (Sentences names) room tokens from s
+bodies_stop names room tokens from value enough k t s r =
+    pair_second_stops (switch_pair names) room (room - 1) (omega arith, omega arith, omega arith) tokens from (from + 1) value.next (word_stands tokens from keyword.Switch k) (written value.tree) (exact_stands (Tests names) written (room - 1) tokens (from + 1) value t) s r
 
-pub switch_brace_missing : (names : Names) (room : ℕ) (tokens : List Token) (end : Place) (from : ℕ) (value : Taken RawExpr) (s : Stop) → 2 ≤ room → kind_or_end tokens from ≡ word keyword.Switch → IsExactly (Tests names) written (room - 1) tokens (from + 1) value → (kind_or_end tokens value.next ≡ open_brace → ⊥) → IsPlainStop scope.Block tokens value.next s → Stops (Sentences names) room tokens end from s
-switch_brace_missing names room tokens end from value s enough k t other is =
-    bodies_stop names room tokens end from value enough k t s
-    (stops_plain (SwitchBodies names) (room - 1) tokens end value.next value.next scope.Block [] s (spells_none tokens value.next t.spelled.within) is
+pub switch_brace_missing : (names : Names) (room : ℕ) (tokens : List Token) (from : ℕ) (value : Taken RawExpr) (s : Stop) → 2 ≤ room → kind_or_end tokens from ≡ word keyword.Switch → IsExactly (Tests names) written (room - 1) tokens (from + 1) value → (kind_or_end tokens value.next ≡ open_brace → ⊥) → IsPlainStop scope.Block tokens value.next s → Stops (Sentences names) room tokens from s
+switch_brace_missing names room tokens from value s enough k t other is =
+    bodies_stop names room tokens from value enough k t s
+    (stops_plain (SwitchBodies names) (room - 1) tokens value.next value.next scope.Block [] s (spells_none tokens value.next t.spelled.within) is
     (none_refused (SwitchBodies names) (room - 1) (kind_or_end tokens value.next) (λ o after is same. cc) (λ o after more is same. other cc)))
 
 less_two : (room : ℕ) → 2 ≤ room → room - 1 ≡ 1 + (room - 2)
 less_two room enough = omega arith
 
-pub switch_items_stop : (names : Names) (room : ℕ) (tokens : List Token) (end : Place) (from : ℕ) (value : Taken RawExpr) → 2 ≤ room → kind_or_end tokens from ≡ word keyword.Switch → IsExactly (Tests names) written (room - 1) tokens (from + 1) value → kind_or_end tokens value.next ≡ open_brace → (s : Stop) → Stops (SwitchRows names) (room - 2) tokens end (value.next + 1) s → Stops (Sentences names) room tokens end from s
-switch_items_stop names room tokens end from value enough k t brace s r =
-    bodies_stop names room tokens end from value enough k t s
-    (single_stops (switch_body_single names) (room - 1) (room - 2) (less_two room enough, omega arith) tokens end value.next (value.next + 1) (mark_stands tokens value.next mark.OpenBrace brace) (no_fits tokens (value.next + 1)) s r)
+pub switch_items_stop : (names : Names) (room : ℕ) (tokens : List Token) (from : ℕ) (value : Taken RawExpr) → 2 ≤ room → kind_or_end tokens from ≡ word keyword.Switch → IsExactly (Tests names) written (room - 1) tokens (from + 1) value → kind_or_end tokens value.next ≡ open_brace → (s : Stop) → Stops (SwitchRows names) (room - 2) tokens (value.next + 1) s → Stops (Sentences names) room tokens from s
+switch_items_stop names room tokens from value enough k t brace s r =
+    bodies_stop names room tokens from value enough k t s
+    (single_stops (switch_body_single names) (room - 1) (room - 2) (less_two room enough, omega arith) tokens value.next (value.next + 1) (mark_stands tokens value.next mark.OpenBrace brace) (no_fits tokens (value.next + 1)) s r)
 
 pub switch_taken : (names : Names) (room : ℕ) (tokens : List Token) (from : ℕ) (value : Taken RawExpr) (items : Taken (Vec RawSwitchItem Global)) (whole : Taken RawStmt) → 2 ≤ room → kind_or_end tokens from ≡ word keyword.Switch → IsExactly (Tests names) written (room - 1) tokens (from + 1) value → kind_or_end tokens value.next ≡ open_brace → IsExactly (SwitchRows names) switch_items_of (room - 2) tokens (value.next + 1) items → IsNode (sentence (kind.Switch value.tree items.tree)) (max value.height (items.height + 1) + 1) items.next whole → IsTaken (Sentences names) statement_of room tokens from false whole
 switch_taken names room tokens from value items whole enough k t brace i n =
@@ -166,13 +165,13 @@ part_taken names room tokens from tree whole e h s = record {
 }
 
 -- `case`
-pub case_full : (names : Names) (room : ℕ) (tokens : List Token) (end : Place) (from : ℕ) (s : Stop) → from ≤ length tokens → room ≡ 0 → kind_or_end tokens from ≡ word keyword.Case → s ≡ stop.Refused from TooDeep → Stops (SwitchParts names) room tokens end from s
-case_full names room tokens end from s within full k is =
-    stops_full (SwitchParts names) room tokens end from s within is (subst (λ (x : TokenKind). Refused (SwitchParts names) room [] x true) (sym k) (case_none names room (omega (arith, full))))
+pub case_full : (names : Names) (room : ℕ) (tokens : List Token) (from : ℕ) (s : Stop) → from ≤ length tokens → room ≡ 0 → kind_or_end tokens from ≡ word keyword.Case → s ≡ stop.Refused from TooDeep → Stops (SwitchParts names) room tokens from s
+case_full names room tokens from s within full k is =
+    stops_full (SwitchParts names) room tokens from s within is (subst (λ (x : TokenKind). Refused (SwitchParts names) room [] x true) (sym k) (case_none names room (omega (arith, full))))
 
-pub case_stops : (names : Names) (room : ℕ) (tokens : List Token) (end : Place) (from : ℕ) → 1 ≤ room → kind_or_end tokens from ≡ word keyword.Case → (s : Stop) → Stops (ClosedBy (Expressions names 2) colon) room tokens end (from + 1) s → Stops (SwitchParts names) room tokens end from s
-case_stops names room tokens end from some k s r =
-    single_stops (case_single names) room room (omega arith, omega arith) tokens end from (from + 1) (word_stands tokens from keyword.Case k) (no_fits tokens (from + 1)) s r
+pub case_stops : (names : Names) (room : ℕ) (tokens : List Token) (from : ℕ) → 1 ≤ room → kind_or_end tokens from ≡ word keyword.Case → (s : Stop) → Stops (ClosedBy (Expressions names 2) colon) room tokens (from + 1) s → Stops (SwitchParts names) room tokens from s
+case_stops names room tokens from some k s r =
+    single_stops (case_single names) room room (omega arith, omega arith) tokens from (from + 1) (word_stands tokens from keyword.Case k) (no_fits tokens (from + 1)) s r
 
 pub case_taken : (names : Names) (room : ℕ) (tokens : List Token) (from : ℕ) (value : Taken RawExpr) (whole : Taken RawSwitchItem) → 1 ≤ room → kind_or_end tokens from ≡ word keyword.Case → IsExactly (ClosedBy (Expressions names 2) colon) written room tokens (from + 1) value → switch_item whole.tree ≡ Case (written value.tree) → whole.height ≡ value.height → whole.next ≡ value.next → IsTaken (SwitchParts names) switch_item room tokens from false whole
 case_taken names room tokens from value whole some k t tree height later =
@@ -185,11 +184,11 @@ case_taken names room tokens from value whole some k t tree height later =
 ended_stands : (room : ℕ) (tokens : List Token) (from : ℕ) → from ≤ length tokens → Standing Ended room tokens from from false tt
 ended_stands room tokens from within = record { spelled = spells_none tokens from within; took = exact_took Ended room tt (ended_exact room) (kind_or_end tokens from) }
 
-pub default_stops : (names : Names) (room : ℕ) (tokens : List Token) (end : Place) (from : ℕ) (s : Stop) → kind_or_end tokens from ≡ word keyword.Default → (kind_or_end tokens (from + 1) ≡ colon → ⊥) → IsPlainStop scope.Block tokens (from + 1) s → Stops (SwitchParts names) room tokens end from s
-default_stops names room tokens end from s k other is =
+pub default_stops : (names : Names) (room : ℕ) (tokens : List Token) (from : ℕ) (s : Stop) → kind_or_end tokens from ≡ word keyword.Default → (kind_or_end tokens (from + 1) ≡ colon → ⊥) → IsPlainStop scope.Block tokens (from + 1) s → Stops (SwitchParts names) room tokens from s
+default_stops names room tokens from s k other is =
     let w = word_stands tokens from keyword.Default k in
-    single_stops (default_single names) room room (omega arith, omega arith) tokens end from (from + 1) w (no_fits tokens (from + 1)) s
-    (closed_missing Ended colon ended_law (λ part more. tt) room tokens end (from + 1) (from + 1) scope.Block tt s (ended_stands room tokens (from + 1) w.within) other is)
+    single_stops (default_single names) room room (omega arith, omega arith) tokens from (from + 1) w (no_fits tokens (from + 1)) s
+    (closed_missing Ended colon ended_law (λ part more. tt) room tokens (from + 1) (from + 1) scope.Block tt s (ended_stands room tokens (from + 1) w.within) other is)
 
 two_on : (from : ℕ) → from + 1 + 1 ≡ from + 2
 two_on from = omega arith
@@ -219,9 +218,9 @@ no_case (token.Keyword keyword.Case) other another = absurd (other refl)
 no_case (token.Keyword keyword.Default) other another = absurd (another refl)
 no_case _ other another = refl
 
-pub inside_stops : (names : Names) (room : ℕ) (tokens : List Token) (end : Place) (from : ℕ) → is_case (kind_or_end tokens from) ≡ false → (s : Stop) → Stops (BlockItems names) room tokens end from s → Stops (SwitchParts names) room tokens end from s
-inside_stops names room tokens end from other s r =
-    pass_stops (SwitchParts names) (BlockItems names) Inside HasNoCase (inside_single names).production item_append room tokens end from
+pub inside_stops : (names : Names) (room : ℕ) (tokens : List Token) (from : ℕ) → is_case (kind_or_end tokens from) ≡ false → (s : Stop) → Stops (BlockItems names) room tokens from s → Stops (SwitchParts names) room tokens from s
+inside_stops names room tokens from other s r =
+    pass_stops (SwitchParts names) (BlockItems names) Inside HasNoCase (inside_single names).production item_append room tokens from
     (λ front at here behind near. near_no_case (kind_or_end tokens from) (front ++ behind) other (near_start tokens from at front here behind near)) s r
 
 pub inside_taken : (names : Names) (room : ℕ) (tokens : List Token) (from : ℕ) (inner : Taken RawItem) (whole : Taken RawSwitchItem) → is_case (kind_or_end tokens from) ≡ false → IsTaken (BlockItems names) item room tokens from false inner → switch_item whole.tree ≡ Inside (item inner.tree) → whole.height ≡ inner.height → whole.next ≡ inner.next → IsTaken (SwitchParts names) switch_item room tokens from false whole

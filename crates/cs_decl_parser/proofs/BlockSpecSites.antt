@@ -1,7 +1,6 @@
 -- What stands before declarators inside a block: what each return gives. For the contracts of `block_specs` and its like.
 use Rattle.std.proofs.Common.{◌≡◌, ℕ, ◌+◌, ◌≤◌, inl, inr, Bool, true, false, if◌then◌else◌, None, Err, List, [], ◌∷◌, ◌++◌, length, refl, sym, ap, ◌∙◌, subst, arith}
 use Rattle.std.proofs.lemmas.Bool.{false≢true}
-use Rattle.cs_ast.specs.declared.place.Place.{Place}
 use Rattle.cs_ast.specs.declared.token.Token.{Token}
 use Rattle.cs_ast.specs.declared.token.TokenKind.{TokenKind}
 use Rattle.cs_ast.specs.declared.token.TokenKind.TheVariants as token
@@ -34,8 +33,8 @@ use Rattle.cs_expr_parser.specs.Parts.{Spells, IsRefused, is_deep}
 use Rattle.cs_expr_parser.specs.Words.{first_of_word, IsStuck, names_some, word_of_tag, IsTagMissing}
 use Rattle.cs_decl_parser.specs.declared.source.Scope.TheVariants.{Block}
 use Rattle.cs_decl_parser.specs.declared.specs.NextWord.{NextWord}
-use Rattle.cs_decl_parser.specs.declared.stop.Stop.{Stop}
-use Rattle.cs_decl_parser.specs.declared.stop.Stop.TheVariants as stop
+use Rattle.cs_expr_parser.specs.declared.stop.Stop.{Stop}
+use Rattle.cs_expr_parser.specs.declared.stop.Stop.TheVariants as stop
 use Rattle.cs_decl_parser.specs.declared.stop.Taken.{Taken}
 use Rattle.cs_decl_parser.specs.Reasons.{plain_reason}
 use Rattle.cs_decl_parser.specs.Answers.{StopsOrBrace, IsTaken, IsBraceRefused}
@@ -97,10 +96,10 @@ pub goes_on_with : (names : Names) (ws : List TypeWord) → named_by ws ≡ [] �
 goes_on_with names ws none = (word.Void ∷ [], ap (names_type names) (named_more ws (word.Void ∷ []) ∙ ap (λ (x : List TypeWord). x ++ word.Void ∷ []) none))
 
 -- the words name no type, and none that begins with the token fits
-pub words_stop : (names : Names) (room : ℕ) → 1 ≤ room → (tokens : List Token) (end : Place) (from next : ℕ) (so_far : TypeSoFar) (items : List SpecWord) (s : Stop) → WordsSoFar names tokens from next so_far items → names_some so_far ≡ false → NothingFits names so_far (kind_or_end tokens next) → s ≡ stop.Refused next (plain_reason Block (kind_or_end tokens next)) → StopsOrBrace (BlockSpecs names) room tokens end from s
-words_stop names room some tokens end from next so_far items s w none stuck is =
+pub words_stop : (names : Names) (room : ℕ) → 1 ≤ room → (tokens : List Token) (from next : ℕ) (so_far : TypeSoFar) (items : List SpecWord) (s : Stop) → WordsSoFar names tokens from next so_far items → names_some so_far ≡ false → NothingFits names so_far (kind_or_end tokens next) → s ≡ stop.Refused next (plain_reason Block (kind_or_end tokens next)) → StopsOrBrace (BlockSpecs names) room tokens from s
+words_stop names room some tokens from next so_far items s w none stuck is =
     let n = nothing_named names so_far w.all w.described none in
-    subst (StopsOrBrace (BlockSpecs names) room tokens end from) (sym is) (inl (record {
+    subst (StopsOrBrace (BlockSpecs names) room tokens from) (sym is) (inl (record {
       front = words_text w.all [];
       spelled = spells_as tokens from next (words_text w.all) (λ rest. words_text w.all [] ++ rest) w.spelled (λ rest. sym (words_append w.all [] rest));
       refused =
@@ -168,19 +167,17 @@ braced_tag names room some tokens from next refused reason so_far items w none p
 }
 
 -- `struct` or `enum` was refused
-pub tag_stops : (names : Names) (room : ℕ) → 1 ≤ room → (tokens : List Token) (end : Place) (from next : ℕ) (so_far : TypeSoFar) (items : List SpecWord) (s : Stop) → WordsSoFar names tokens from next so_far items → names_some so_far ≡ false → BlockTagStops tokens next s → StopsOrBrace (BlockSpecs names) room tokens end from s
-tag_stops names room some tokens end from next so_far items stop.Memory w none b = tt
-tag_stops names room some tokens end from next so_far items (stop.Expression r) w none b = absurd b
-tag_stops names room some tokens end from next so_far items (stop.Refused refused reason) w none b =
+pub tag_stops : (names : Names) (room : ℕ) → 1 ≤ room → (tokens : List Token) (from next : ℕ) (so_far : TypeSoFar) (items : List SpecWord) (s : Stop) → WordsSoFar names tokens from next so_far items → names_some so_far ≡ false → BlockTagStops tokens next s → StopsOrBrace (BlockSpecs names) room tokens from s
+tag_stops names room some tokens from next so_far items stop.Memory w none b = tt
+tag_stops names room some tokens from next so_far items (stop.Refused refused reason) w none b =
     elim b.1 [
       | inl m ↦ inl (missing_tag names room some tokens from next refused reason so_far items w none b.0 m)
       | inr t ↦ inr (braced_tag names room some tokens from next refused reason so_far items w none b.0 t)
     ]
 
-pub word_stops : (names : Names) (room : ℕ) → 1 ≤ room → (tokens : List Token) (end : Place) (from next : ℕ) (so_far : TypeSoFar) (items : List SpecWord) (s : Stop) → WordsSoFar names tokens from next so_far items → BlockWordAnswer names tokens next so_far (Err s) → StopsOrBrace (BlockSpecs names) room tokens end from s
-word_stops names room some tokens end from next so_far items stop.Memory w b = tt
-word_stops names room some tokens end from next so_far items (stop.Expression r) w b = absurd b.1
-word_stops names room some tokens end from next so_far items (stop.Refused refused reason) w b = tag_stops names room some tokens end from next so_far items (stop.Refused refused reason) w b.0 b.1
+pub word_stops : (names : Names) (room : ℕ) → 1 ≤ room → (tokens : List Token) (from next : ℕ) (so_far : TypeSoFar) (items : List SpecWord) (s : Stop) → WordsSoFar names tokens from next so_far items → BlockWordAnswer names tokens next so_far (Err s) → StopsOrBrace (BlockSpecs names) room tokens from s
+word_stops names room some tokens from next so_far items stop.Memory w b = tt
+word_stops names room some tokens from next so_far items (stop.Refused refused reason) w b = tag_stops names room some tokens from next so_far items (stop.Refused refused reason) w b.0 b.1
 
 plain_height : (w : TypeWord) (ws : List TypeWord) → specs_height (specs_of (w ∷ ws)) ≡ 1
 plain_height w [] = omega arith

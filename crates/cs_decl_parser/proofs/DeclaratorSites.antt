@@ -3,7 +3,6 @@ use Rattle.std.proofs.Common.{◌≡◌, ℕ, zero, suc, ◌+◌, ◌<◌, ◌�
 use Rattle.std.specs.Option.{option_map}
 use Rattle.std.proofs.lemmas.Bool.{false≢true, cases_lt, eqb-true}
 use Rattle.std.proofs.lemmas.List.{map-append}
-use Rattle.cs_ast.specs.declared.place.Place.{Place}
 use Rattle.cs_ast.specs.declared.token.Token.{Token}
 use Rattle.cs_ast.specs.declared.token.TokenKind.{TokenKind}
 use Rattle.cs_ast.specs.declared.token.TokenKind.TheVariants as token
@@ -37,8 +36,8 @@ use Rattle.cs_grammar.proofs.Declarators.{BracketsSoFar, brackets_none, brackets
 use Rattle.cs_expr_parser.specs.Positions.{kind_or_end}
 use Rattle.cs_expr_parser.specs.Parts.{Spells, IsRefused}
 use Rattle.cs_expr_parser.proofs.Standing.{spells_one, spells_none, spells_more, spells_as}
-use Rattle.cs_decl_parser.specs.declared.stop.Stop.{Stop}
-use Rattle.cs_decl_parser.specs.declared.stop.Stop.TheVariants as stop
+use Rattle.cs_expr_parser.specs.declared.stop.Stop.{Stop}
+use Rattle.cs_expr_parser.specs.declared.stop.Stop.TheVariants as stop
 use Rattle.cs_decl_parser.specs.declared.stop.Taken.{Taken}
 use Rattle.cs_decl_parser.specs.declared.declarator.Declares.{Declares}
 use Rattle.cs_decl_parser.specs.declared.declarator.Declares.TheVariants as declaring
@@ -140,10 +139,9 @@ missing_refused declares names room some tokens from at reason m = record {
   refused = subst (λ (d : Bool). Refused (DeclaratorsFor declares names) room (pointers_text m.words []) (kind_or_end tokens at) d) (sym m.plain) (missing_behind declares names room some tokens from at m.words m.pointers m.no_name);
 }
 
-pub pointed_stops : (declares : Declares) (names : Names) (room : ℕ) → 1 ≤ room → (tokens : List Token) (end : Place) (from : ℕ) (s : Stop) → PointedAnswers declares names tokens from (Err s) → Stops (DeclaratorsFor declares names) room tokens end from s
-pointed_stops declares names room some tokens end from stop.Memory m = tt
-pointed_stops declares names room some tokens end from (stop.Refused at reason) m = missing_refused declares names room some tokens from at reason m
-pointed_stops declares names room some tokens end from (stop.Expression r) m = absurd m
+pub pointed_stops : (declares : Declares) (names : Names) (room : ℕ) → 1 ≤ room → (tokens : List Token) (from : ℕ) (s : Stop) → PointedAnswers declares names tokens from (Err s) → Stops (DeclaratorsFor declares names) room tokens from s
+pointed_stops declares names room some tokens from stop.Memory m = tt
+pointed_stops declares names room some tokens from (stop.Refused at reason) m = missing_refused declares names room some tokens from at reason m
 
 -- bounds so far
 pub record BoundsSoFar (declares : Declares) (names : Names) (room : ℕ) (tokens : List Token) (from next : ℕ) (list : List (Option RawExpr)) (tall : ℕ) : Type 0 where
@@ -175,10 +173,10 @@ least_bound declaring.Members names zero has = absurd (false≢true (sym has))
 least_bound declaring.Members names (suc room) has = (member_least names, omega arith)
 
 -- a bound was refused
-pub bound_stops : (declares : Declares) (names : Names) (room : ℕ) (tokens : List Token) (end : Place) (from next : ℕ) (list : List (Option RawExpr)) (tall : ℕ) → has_no_room declares room ≡ false → BoundsSoFar declares names room tokens from next list tall → kind_or_end tokens next ≡ token.Mark mark.OpenBracket → (s : Stop) → Stops (ClosedSome names 2 (MayLackFor declares) (token.Mark mark.CloseBracket)) room tokens end (next + 1) s → Stops (BracketsFor declares names) room tokens end from s
-bound_stops declares names room tokens end from next list tall has b k s r =
+pub bound_stops : (declares : Declares) (names : Names) (room : ℕ) (tokens : List Token) (from next : ℕ) (list : List (Option RawExpr)) (tall : ℕ) → has_no_room declares room ≡ false → BoundsSoFar declares names room tokens from next list tall → kind_or_end tokens next ≡ token.Mark mark.OpenBracket → (s : Stop) → Stops (ClosedSome names 2 (MayLackFor declares) (token.Mark mark.CloseBracket)) room tokens (next + 1) s → Stops (BracketsFor declares names) room tokens from s
+bound_stops declares names room tokens from next list tall has b k s r =
     let least = least_bound declares names room has in
-    stops_in (BracketsFor declares names) (ClosedSome names 2 (MayLackFor declares) (token.Mark mark.CloseBracket)) room room tokens end from (next + 1) (brackets_text (bounds_of list) (token.Mark mark.OpenBracket ∷ []))
+    stops_in (BracketsFor declares names) (ClosedSome names 2 (MayLackFor declares) (token.Mark mark.CloseBracket)) room room tokens from (next + 1) (brackets_text (bounds_of list) (token.Mark mark.OpenBracket ∷ []))
     (spells_as tokens from (next + 1) (λ rest. brackets_text (bounds_of list) (token.Mark mark.OpenBracket ∷ rest)) (λ rest. brackets_text (bounds_of list) (token.Mark mark.OpenBracket ∷ []) ++ rest)
     (bracket_stands declares names room tokens from next list tall b k) (λ rest. sym (brackets_law names (MayLackFor declares) (bounds_of list) (token.Mark mark.OpenBracket ∷ []) rest)))
     (λ front at deep here x.
@@ -242,7 +240,6 @@ bounds_taken view declares names room tokens from next list tall taken b only tr
 -- the refusal of what stands where a name is awaited
 pub pointed_missing : (declares : Declares) (names : Names) (tokens : List Token) (from at : ℕ) (words : List PointerWord) → ArePointers tokens from at words → IsNameAt (IsNameFor declares names) (kind_or_end tokens at) None → (s : Stop) → RefusesBehind at false s → PointedAnswers declares names tokens from (Err s)
 pointed_missing declares names tokens from at words p none stop.Memory is = absurd is
-pointed_missing declares names tokens from at words p none (stop.Expression r) is = absurd is
 pointed_missing declares names tokens from at words p none (stop.Refused refused reason) is =
     subst (λ (n : ℕ). IsNameMissing declares names tokens from n reason) (sym is.0) (record { words = words; pointers = p; no_name = none; plain = is.1 })
 
@@ -250,9 +247,9 @@ abbrev pointed_single : (declares : Declares) (names : Names) (tokens : List Tok
 pointed_single declares names tokens from pointed p = declarator_single (IsNameFor declares names) names (MayLackFor declares) pointed.tree.pointers.items pointed.tree.name.name p.pointers p.named
 
 -- the bounds behind a name were refused
-pub bounds_stop : (declares : Declares) (names : Names) (room inner : ℕ) → room ≡ 1 + inner → (tokens : List Token) (end : Place) (from : ℕ) (pointed : Taken Pointed) → IsPointed declares names tokens from pointed → (s : Stop) → Stops (BracketsFor declares names) inner tokens end pointed.next s → Stops (DeclaratorsFor declares names) room tokens end from s
-bounds_stop declares names room inner less tokens end from pointed p s r =
-    single_stops (pointed_single declares names tokens from pointed p) room inner (less, omega arith) tokens end from pointed.next
+pub bounds_stop : (declares : Declares) (names : Names) (room inner : ℕ) → room ≡ 1 + inner → (tokens : List Token) (from : ℕ) (pointed : Taken Pointed) → IsPointed declares names tokens from pointed → (s : Stop) → Stops (BracketsFor declares names) inner tokens pointed.next s → Stops (DeclaratorsFor declares names) room tokens from s
+bounds_stop declares names room inner less tokens from pointed p s r =
+    single_stops (pointed_single declares names tokens from pointed p) room inner (less, omega arith) tokens from pointed.next
     (spells_as tokens from pointed.next (λ rest. pointers_text pointed.tree.pointers.items (token.Name pointed.tree.name.name ∷ rest)) (λ rest. pointers_text pointed.tree.pointers.items (token.Name pointed.tree.name.name ∷ []) ++ rest) p.spelled
     (λ rest. sym (pointers_append pointed.tree.pointers.items (token.Name pointed.tree.name.name ∷ []) rest)))
     (no_fits tokens pointed.next) s r
@@ -295,15 +292,13 @@ pub declarators_low : (declares : Declares) (names : Names) (room : ℕ) → 1 �
 declarators_low declares names room some = some
 
 -- what stands behind a declarator is neither a comma nor a semicolon
-pub declarators_wrong : (declares : Declares) (names : Names) (room inner : ℕ) (tokens : List Token) (end : Place) (from : ℕ) (done : List Declarator) (last : Declarator) (next : ℕ) (tall : ℕ) → RowSoFar (DeclaratorsFor declares names) (token.Mark mark.Semicolon) room tokens from done last next (is_full declares inner (kind_or_end tokens next)) tall → (kind_or_end tokens next ≡ token.Mark mark.Comma → ⊥) → (kind_or_end tokens next ≡ token.Mark mark.Semicolon → ⊥) → (s : Stop) → RefusesBehind next (is_full declares inner (kind_or_end tokens next)) s → Stops (Separated (DeclaratorsFor declares names) (token.Mark mark.Semicolon)) room tokens end from s
-declarators_wrong declares names room inner tokens end from done last next tall r comma closed stop.Memory is = absurd is
-declarators_wrong declares names room inner tokens end from done last next tall r comma closed (stop.Expression x) is = absurd is
-declarators_wrong declares names room inner tokens end from done last next tall r comma closed (stop.Refused at reason) is =
+pub declarators_wrong : (declares : Declares) (names : Names) (room inner : ℕ) (tokens : List Token) (from : ℕ) (done : List Declarator) (last : Declarator) (next : ℕ) (tall : ℕ) → RowSoFar (DeclaratorsFor declares names) (token.Mark mark.Semicolon) room tokens from done last next (is_full declares inner (kind_or_end tokens next)) tall → (kind_or_end tokens next ≡ token.Mark mark.Comma → ⊥) → (kind_or_end tokens next ≡ token.Mark mark.Semicolon → ⊥) → (s : Stop) → RefusesBehind next (is_full declares inner (kind_or_end tokens next)) s → Stops (Separated (DeclaratorsFor declares names) (token.Mark mark.Semicolon)) room tokens from s
+declarators_wrong declares names room inner tokens from done last next tall r comma closed stop.Memory is = absurd is
+declarators_wrong declares names room inner tokens from done last next tall r comma closed (stop.Refused at reason) is =
     subst (λ (n : ℕ). IsRefused (Separated (DeclaratorsFor declares names) (token.Mark mark.Semicolon)) room tokens from n reason) (sym is.0)
     (row_wrong (DeclaratorsFor declares names) (token.Mark mark.Semicolon) room (declarators_row declares names) tokens from done last next reason tall
     (subst (λ (d : Bool). RowSoFar (DeclaratorsFor declares names) (token.Mark mark.Semicolon) room tokens from done last next d tall) (sym is.1) r) comma closed)
 
 pub refuses_at : (number : ℕ) (deep : Bool) (s : Stop) → RefusesBehind number deep s → (reason : Reason) × (s ≡ stop.Refused number reason)
 refuses_at number deep stop.Memory is = absurd is
-refuses_at number deep (stop.Expression r) is = absurd is
 refuses_at number deep (stop.Refused at reason) is = (reason, ap (λ (n : ℕ). stop.Refused n reason) is.0)

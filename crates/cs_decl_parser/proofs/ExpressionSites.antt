@@ -1,7 +1,6 @@
 -- Expressions as parts of declarations and statements: what each return gives. For the contracts of `expression` and its like.
 use Rattle.std.proofs.Common.{◌≡◌, ℕ, ◌+◌, ◌≤◌, inl, inr, false, IsTrue, Option, Some, None, List, [], ◌∷◌, ◌++◌, refl, sym, ap, ◌∙◌, subst, arith}
 use Rattle.std.proofs.lemmas.Bool.{false≢true}
-use Rattle.cs_ast.specs.declared.place.Place.{Place}
 use Rattle.cs_ast.specs.declared.token.Token.{Token}
 use Rattle.cs_ast.specs.declared.token.TokenKind.{TokenKind}
 use Rattle.cs_ast.specs.declared.token.TokenKind.TheVariants as token
@@ -12,8 +11,6 @@ use Rattle.cs_ast.specs.RawTree.{Written}
 use Rattle.cs_ast.specs.RawView.{written}
 use Rattle.cs_ast.specs.RawHeight.{height}
 use Rattle.cs_grammar.specs.declared.refusal.Reason.{Reason}
-use Rattle.cs_grammar.specs.declared.refusal.SyntaxRefusal.{SyntaxRefusal}
-use Rattle.cs_grammar.specs.declared.refusal.SyntaxRefusal.TheVariants as refusal
 use Rattle.cs_grammar.specs.TypeWords.{Names}
 use Rattle.cs_grammar.specs.Text.{Kinds, text}
 use Rattle.cs_grammar.specs.Phrases.{IsPhrase}
@@ -29,23 +26,23 @@ use Rattle.cs_grammar.proofs.Sequences.{behind_tail, closed_least}
 use Rattle.cs_grammar.proofs.StatementParts.{expression_least}
 use Rattle.cs_grammar.proofs.Optional.{Closes, IsUnclosed, no_close, some_none}
 use Rattle.cs_expr_parser.specs.Positions.{kind_or_end}
-use Rattle.cs_expr_parser.specs.Parts.{Spells, IsRefused, is_deep}
-use Rattle.cs_expr_parser.specs.Expression.{IsRefusal, IsRefusedAt}
+use Rattle.cs_expr_parser.specs.Parts.{Spells, is_deep}
+use Rattle.cs_expr_parser.specs.Expression.{IsStopped}
 use Rattle.cs_expr_parser.specs.Expression.{IsTaken as IsPhraseTaken}
 use Rattle.cs_expr_parser.specs.declared.answer.Phrase.{Phrase}
 use Rattle.cs_expr_parser.proofs.Standing.{spells_one, spells_more}
-use Rattle.cs_decl_parser.specs.declared.stop.Stop.{Stop}
-use Rattle.cs_decl_parser.specs.declared.stop.Stop.TheVariants as stop
+use Rattle.cs_expr_parser.specs.declared.stop.Stop.{Stop}
+use Rattle.cs_expr_parser.specs.declared.stop.Stop.TheVariants as stop
 use Rattle.cs_decl_parser.specs.declared.stop.Taken.{Taken}
 use Rattle.cs_decl_parser.specs.declared.stop.Unclosed.{Unclosed}
-use Rattle.cs_decl_parser.specs.Bounds.{IsPhraseOf}
+use Rattle.cs_decl_parser.specs.Bounds.{IsPhraseOf, StopsInside}
 use Rattle.cs_decl_parser.specs.Answers.{Stops, IsExactly, IsUnclosed as IsUnclosedTaken, closes}
 use Rattle.cs_decl_parser.specs.DeclarationAnswers.{ClosedExpressions, MayLackFor}
 use Rattle.cs_decl_parser.specs.declared.declarator.Declares.{Declares}
 use Rattle.cs_decl_parser.specs.declared.declarator.Declares.TheVariants as declaring
 use Rattle.cs_decl_parser.specs.declared.source.Scope.TheVariants as scope
-use Rattle.cs_decl_parser.specs.Aptness.{IsApt}
-use Rattle.cs_decl_parser.proofs.AptReasons.{expression_apt}
+use Rattle.cs_decl_parser.specs.Aptness.{IsApt, IsStopApt}
+use Rattle.cs_decl_parser.proofs.AptReasons.{expression_apt, told_apt}
 use Rattle.cs_decl_parser.proofs.StatementStops.{stops_in, stops_pass, front_of, near_start}
 
 -- what the parser of expressions took
@@ -61,12 +58,6 @@ phrase_taken names level room tokens from phrase taken is t = record {
       (subst (λ (e : RawExpr). Took (Expressions names level) room (written e) (kind_or_end tokens phrase.next) (is_deep phrase.otherwise)) (sym is.0) t.took));
 }
 
-refused_expression : (names : Names) (level room : ℕ) (tokens : List Token) (from at : ℕ) (reason : Reason) → IsRefusedAt names level room tokens from at reason → IsRefused (Expressions names level) room tokens from at reason
-refused_expression names level room tokens from at reason r = record { front = r.front; spelled = r.spelled; refused = r.refused }
-
-refused_apt : (names : Names) (level room : ℕ) (tokens : List Token) (from at : ℕ) (reason : Reason) → IsRefusedAt names level room tokens from at reason → IsApt scope.Block (kind_or_end tokens at) reason
-refused_apt names level room tokens from at reason r = expression_apt names level r.front tokens at reason r.why
-
 -- the token behind it, if nothing else goes on with that
 pub phrase_apt : (names : Names) (level room : ℕ) (tokens : List Token) (from : ℕ) (phrase : Phrase) (taken : Unclosed RawExpr) → IsPhraseOf phrase taken → IsPhraseTaken names level room tokens from phrase → IsApt scope.Block (kind_or_end tokens taken.next) taken.otherwise
 phrase_apt names level room tokens from phrase taken is t =
@@ -74,11 +65,17 @@ phrase_apt names level room tokens from phrase taken is t =
     (subst (λ (r : Reason). IsApt scope.Block (kind_or_end tokens phrase.next) r) (sym is.3) (expression_apt names level (text (written phrase.tree) []) tokens phrase.next phrase.otherwise t.otherwise))
 
 -- what it refused
-pub phrase_stops : (names : Names) (level room : ℕ) (tokens : List Token) (end : Place) (from : ℕ) (r : SyntaxRefusal) → IsRefusal names level room tokens end from r → Stops (Expressions names level) room tokens end from (stop.Expression r)
-phrase_stops names level room tokens end from refusal.Memory r = tt
-phrase_stops names level room tokens end from (refusal.Syntax place) r = (r.0, r.1, (r.2, refused_apt names level room tokens from r.0 r.1 r.3), refused_expression names level room tokens from r.0 r.1 r.3)
-phrase_stops names level room tokens end from (refusal.LeftOut place word) r = (r.0, r.1, (r.2, refused_apt names level room tokens from r.0 r.1 r.3), refused_expression names level room tokens from r.0 r.1 r.3)
-phrase_stops names level room tokens end from (refusal.TooDeep place) r = (r.0, r.1, (r.2, refused_apt names level room tokens from r.0 r.1 r.3), refused_expression names level room tokens from r.0 r.1 r.3)
+pub phrase_stops : (names : Names) (level room : ℕ) (tokens : List Token) (from : ℕ) (s : Stop) → IsStopped names level room tokens from s → Stops (Expressions names level) room tokens from s
+phrase_stops names level room tokens from stop.Memory r = tt
+phrase_stops names level room tokens from (stop.Refused at reason) r = r.0
+
+pub phrase_inside : (names : Names) (level room : ℕ) (tokens : List Token) (from : ℕ) (s : Stop) → IsStopped names level room tokens from s → StopsInside tokens from s
+phrase_inside names level room tokens from stop.Memory r = tt
+phrase_inside names level room tokens from (stop.Refused at reason) r = let sp = r.0.spelled in (sp.onward, sp.within)
+
+pub stopped_apt : (names : Names) (level room : ℕ) (tokens : List Token) (from : ℕ) (s : Stop) → IsStopped names level room tokens from s → IsStopApt scope.Block tokens s
+stopped_apt names level room tokens from stop.Memory r = tt
+stopped_apt names level room tokens from (stop.Refused at reason) r = told_apt names tokens from at reason r.1
 
 -- the marks that close expressions of each level
 pub mark_closes : (names : Names) (level : ℕ) (m : Mark) → IsTrue (closes m) → Closes names level (token.Mark m)
@@ -89,15 +86,15 @@ mark_closes names level mark.Colon is = record { shut = omega arith; begins_none
 mark_closes names level _ is = absurd (false≢true is)
 
 -- the expression was refused
-pub closed_stops : (names : Names) (level room : ℕ) (m : Mark) → IsTrue (closes m) → (tokens : List Token) (end : Place) (from : ℕ) (s : Stop) → Stops (Expressions names level) room tokens end from s → Stops (ClosedExpressions names level (token.Mark m)) room tokens end from s
-closed_stops names level room m is tokens end from s r =
+pub closed_stops : (names : Names) (level room : ℕ) (m : Mark) → IsTrue (closes m) → (tokens : List Token) (from : ℕ) (s : Stop) → Stops (Expressions names level) room tokens from s → Stops (ClosedExpressions names level (token.Mark m)) room tokens from s
+closed_stops names level room m is tokens from s r =
     let c = mark_closes names level m is in
-    stops_pass (ClosedExpressions names level (token.Mark m)) (Expressions names level) room room tokens end from
+    stops_pass (ClosedExpressions names level (token.Mark m)) (Expressions names level) room room tokens from
     (λ front at deep here x. closed_refused (Expressions names level) (token.Mark m) room (text_law names level) (λ part more. c.shut) front (kind_or_end tokens at) deep x) s r
 
 -- another token stands behind it
-pub closed_missing : (names : Names) (level room : ℕ) (m : Mark) → IsTrue (closes m) → (tokens : List Token) (end : Place) (from : ℕ) (taken : Unclosed RawExpr) → IsUnclosedTaken (Expressions names level) written room tokens from taken → (kind_or_end tokens taken.next ≡ token.Mark m → ⊥) → Stops (ClosedExpressions names level (token.Mark m)) room tokens end from (stop.Refused taken.next taken.otherwise)
-closed_missing names level room m is tokens end from taken t other =
+pub closed_missing : (names : Names) (level room : ℕ) (m : Mark) → IsTrue (closes m) → (tokens : List Token) (from : ℕ) (taken : Unclosed RawExpr) → IsUnclosedTaken (Expressions names level) written room tokens from taken → (kind_or_end tokens taken.next ≡ token.Mark m → ⊥) → Stops (ClosedExpressions names level (token.Mark m)) room tokens from (stop.Refused taken.next taken.otherwise)
+closed_missing names level room m is tokens from taken t other =
     let c = mark_closes names level m is in
     record {
       front = text (written taken.tree) [];
@@ -158,9 +155,9 @@ unclosed_near close next behind other near more same =
     elim near [ inl none ↦ let z = sym same ∙ none in cc | inr m ↦ let z : next ∷ m.0 ≡ close ∷ more = sym m.1 ∙ same in other cc ]
 
 -- it was refused
-pub some_stops : (names : Names) (level : ℕ) (MayLack : Type 0) (close : TokenKind) (room : ℕ) (tokens : List Token) (end : Place) (from : ℕ) → (kind_or_end tokens from ≡ close → ⊥) → (s : Stop) → Stops (ClosedExpressions names level close) room tokens end from s → Stops (ClosedSome names level MayLack close) room tokens end from s
-some_stops names level MayLack close room tokens end from other s r =
-    stops_pass (ClosedSome names level MayLack close) (ClosedExpressions names level close) room room tokens end from
+pub some_stops : (names : Names) (level : ℕ) (MayLack : Type 0) (close : TokenKind) (room : ℕ) (tokens : List Token) (from : ℕ) → (kind_or_end tokens from ≡ close → ⊥) → (s : Stop) → Stops (ClosedExpressions names level close) room tokens from s → Stops (ClosedSome names level MayLack close) room tokens from s
+some_stops names level MayLack close room tokens from other s r =
+    stops_pass (ClosedSome names level MayLack close) (ClosedExpressions names level close) room room tokens from
     (λ front at deep here x.
     tail_refused (ClosedSome names level MayLack close) (ClosedExpressions names level close) room room [] Some (IsUnclosed close) (closed_law (Expressions names level) close (text_law names level)) (some_tail names level MayLack close room) front (kind_or_end tokens at) deep
     (λ behind near. unclosed_near close (kind_or_end tokens from) (front ++ behind) other (near_start tokens from at front here behind near)) x) s r
@@ -212,9 +209,9 @@ abbrev test_tail : (names : Names) (room : ℕ) → 1 ≤ room → Tail (Tests n
 test_tail names room some = behind_tail (token.Mark mark.OpenParenthesis) (ClosedExpressions names 0 (token.Mark mark.CloseParenthesis)) room (closed_least (Expressions names 0) (token.Mark mark.CloseParenthesis) (expression_least names 0 (omega arith))) some
 
 -- what stands between the parentheses was refused
-pub test_stops : (names : Names) (room : ℕ) → 1 ≤ room → (tokens : List Token) (end : Place) (from : ℕ) → kind_or_end tokens from ≡ token.Mark mark.OpenParenthesis → (s : Stop) → Stops (ClosedExpressions names 0 (token.Mark mark.CloseParenthesis)) room tokens end (from + 1) s → Stops (Tests names) room tokens end from s
-test_stops names room some tokens end from k s r =
-    stops_in (Tests names) (ClosedExpressions names 0 (token.Mark mark.CloseParenthesis)) room room tokens end from (from + 1) (token.Mark mark.OpenParenthesis ∷ []) (spells_one tokens from (token.Mark mark.OpenParenthesis) k (λ x. cc))
+pub test_stops : (names : Names) (room : ℕ) → 1 ≤ room → (tokens : List Token) (from : ℕ) → kind_or_end tokens from ≡ token.Mark mark.OpenParenthesis → (s : Stop) → Stops (ClosedExpressions names 0 (token.Mark mark.CloseParenthesis)) room tokens (from + 1) s → Stops (Tests names) room tokens from s
+test_stops names room some tokens from k s r =
+    stops_in (Tests names) (ClosedExpressions names 0 (token.Mark mark.CloseParenthesis)) room room tokens from (from + 1) (token.Mark mark.OpenParenthesis ∷ []) (spells_one tokens from (token.Mark mark.OpenParenthesis) k (λ x. cc))
     (λ front at deep here x.
     tail_refused (Tests names) (ClosedExpressions names 0 (token.Mark mark.CloseParenthesis)) room room (token.Mark mark.OpenParenthesis ∷ []) (λ e. e) (λ rest. Unit {0}) (closed_law (Expressions names 0) (token.Mark mark.CloseParenthesis) (text_law names 0)) (test_tail names room some) front (kind_or_end tokens at) deep (λ behind near. tt) x) s r
 
@@ -226,13 +223,13 @@ test_taken names room tokens from k taken t = record {
 }
 
 -- a bound of a member, which may not lack
-pub member_bound_stops : (names : Names) (room : ℕ) (tokens : List Token) (end : Place) (from : ℕ) (s : Stop) → Stops (ClosedExpressions names 2 (token.Mark mark.CloseBracket)) room tokens end from s → Stops (ClosedSome names 2 ⊥ (token.Mark mark.CloseBracket)) room tokens end from s
-member_bound_stops names room tokens end from s r =
-    stops_pass (ClosedSome names 2 ⊥ (token.Mark mark.CloseBracket)) (ClosedExpressions names 2 (token.Mark mark.CloseBracket)) room room tokens end from
+pub member_bound_stops : (names : Names) (room : ℕ) (tokens : List Token) (from : ℕ) (s : Stop) → Stops (ClosedExpressions names 2 (token.Mark mark.CloseBracket)) room tokens from s → Stops (ClosedSome names 2 ⊥ (token.Mark mark.CloseBracket)) room tokens from s
+member_bound_stops names room tokens from s r =
+    stops_pass (ClosedSome names 2 ⊥ (token.Mark mark.CloseBracket)) (ClosedExpressions names 2 (token.Mark mark.CloseBracket)) room room tokens from
     (λ front at deep here x.
     tail_refused (ClosedSome names 2 ⊥ (token.Mark mark.CloseBracket)) (ClosedExpressions names 2 (token.Mark mark.CloseBracket)) room room [] Some (λ rest. Unit {0}) (closed_law (Expressions names 2) (token.Mark mark.CloseBracket) (text_law names 2)) (full_tail names (token.Mark mark.CloseBracket) room) front (kind_or_end tokens at) deep
     (λ behind near. tt) x) s r
 
-pub bound_stops : (declares : Declares) (names : Names) (room : ℕ) (tokens : List Token) (end : Place) (from : ℕ) (s : Stop) → declares ≡ declaring.Members → Stops (ClosedExpressions names 2 (token.Mark mark.CloseBracket)) room tokens end from s → Stops (ClosedSome names 2 (MayLackFor declares) (token.Mark mark.CloseBracket)) room tokens end from s
-bound_stops declaring.Members names room tokens end from s is r = member_bound_stops names room tokens end from s r
-bound_stops declaring.Names names room tokens end from s is r = absurd cc
+pub bound_stops : (declares : Declares) (names : Names) (room : ℕ) (tokens : List Token) (from : ℕ) (s : Stop) → declares ≡ declaring.Members → Stops (ClosedExpressions names 2 (token.Mark mark.CloseBracket)) room tokens from s → Stops (ClosedSome names 2 (MayLackFor declares) (token.Mark mark.CloseBracket)) room tokens from s
+bound_stops declaring.Members names room tokens from s is r = member_bound_stops names room tokens from s r
+bound_stops declaring.Names names room tokens from s is r = absurd cc

@@ -2,7 +2,6 @@
 use Rattle.std.proofs.Common.{◌≡◌, ℕ, Err, ◌+◌, ◌<◌, ◌≤◌, max, inl, inr, Bool, false, IsTrue, List, [], ◌∷◌, ◌++◌, map, None, length, drop, refl, sym, ap, ◌∙◌, subst, arith, append_assoc, Vec, Global}
 use Rattle.std.proofs.lemmas.Bool.{false≢true, cases_lt}
 use Rattle.std.proofs.lemmas.List.{append_cancel_right}
-use Rattle.cs_ast.specs.declared.place.Place.{Place}
 use Rattle.cs_ast.specs.declared.token.Token.{Token}
 use Rattle.cs_ast.specs.declared.token.TokenKind.{TokenKind}
 use Rattle.cs_ast.specs.declared.token.TokenKind.TheVariants as token
@@ -23,7 +22,6 @@ use Rattle.cs_ast.specs.RawDeclarationView.{specs, declarator, declared, paramet
 use Rattle.cs_ast.specs.RawStatements.{Items, External, Typedef}
 use Rattle.cs_ast.specs.RawStatementView.{external_of, external}
 use Rattle.cs_ast.specs.RawFileHeight.{head_height, external_height}
-use Rattle.cs_grammar.specs.declared.refusal.SyntaxRefusal.TheVariants as refusal
 use Rattle.cs_grammar.specs.TypeWords.{Names, is_pointer}
 use Rattle.cs_grammar.specs.Text.{Kinds, pointers_text}
 use Rattle.cs_grammar.specs.FileText.{declarator_text, declared_text, with_commas, specs_text, head_text, items_text, external_text}
@@ -49,8 +47,8 @@ use Rattle.cs_grammar.proofs.ExternalSites.{external_refused, external_took, NoF
 use Rattle.cs_expr_parser.specs.Positions.{kinds, kind_or_end}
 use Rattle.cs_expr_parser.specs.Parts.{Spells, is_deep}
 use Rattle.cs_decl_parser.specs.declared.source.Scope.TheVariants as scope
-use Rattle.cs_decl_parser.specs.declared.stop.Stop.{Stop}
-use Rattle.cs_decl_parser.specs.declared.stop.Stop.TheVariants as stop
+use Rattle.cs_expr_parser.specs.declared.stop.Stop.{Stop}
+use Rattle.cs_expr_parser.specs.declared.stop.Stop.TheVariants as stop
 use Rattle.cs_decl_parser.specs.declared.stop.Taken.{Taken}
 use Rattle.cs_decl_parser.specs.declared.declarator.Declares.TheVariants as declaring
 use Rattle.cs_decl_parser.specs.declared.declarator.Pointed.{Pointed}
@@ -87,38 +85,34 @@ brace_refused names phrase next deep brace t =
     (λ d after is same. rest_some names d after is same)
     (λ d after more is same. rest_no_brace names phrase d after more t.is_phrase is (same ∙ ap (λ (x : TokenKind). x ∷ more) brace))
 
-parts_stop : (names : Names) (tokens : List Token) (end : Place) (from : ℕ) → (kind_or_end tokens from ≡ token.Keyword keyword.Typedef → ⊥) → (s : Stop) → Stops (TypedParts names) 199 tokens end from s → Stops (Externals names) 200 tokens end from s
-parts_stop names tokens end from other s r = stops_pass (Externals names) (TypedParts names) 200 199 tokens end from (type_lift names tokens from other) s r
+parts_stop : (names : Names) (tokens : List Token) (from : ℕ) → (kind_or_end tokens from ≡ token.Keyword keyword.Typedef → ⊥) → (s : Stop) → Stops (TypedParts names) 199 tokens from s → Stops (Externals names) 200 tokens from s
+parts_stop names tokens from other s r = stops_pass (Externals names) (TypedParts names) 200 199 tokens from (type_lift names tokens from other) s r
 
-specs_stop : (names : Names) (tokens : List Token) (end : Place) (from : ℕ) (s : Stop) → Stops (FileSpecs names) 199 tokens end from s → Stops (TypedParts names) 199 tokens end from s
-specs_stop names tokens end from s r = stops_pass (TypedParts names) (FileSpecs names) 199 199 tokens end from (λ front at deep here x. file_type_refused names 199 front (kind_or_end tokens at) deep x) s r
+specs_stop : (names : Names) (tokens : List Token) (from : ℕ) (s : Stop) → Stops (FileSpecs names) 199 tokens from s → Stops (TypedParts names) 199 tokens from s
+specs_stop names tokens from s r = stops_pass (TypedParts names) (FileSpecs names) 199 199 tokens from (λ front at deep here x. file_type_refused names 199 front (kind_or_end tokens at) deep x) s r
 
-type_stop : (names : Names) (tokens : List Token) (end : Place) (from : ℕ) (s : Stop) → StopsOrBrace (FileSpecs names) 199 tokens end from s → Stops (TypedParts names) 199 tokens end from s
-type_stop names tokens end from stop.Memory r = tt
-type_stop names tokens end from (stop.Refused at reason) r =
+type_stop : (names : Names) (tokens : List Token) (from : ℕ) (s : Stop) → StopsOrBrace (FileSpecs names) 199 tokens from s → Stops (TypedParts names) 199 tokens from s
+type_stop names tokens from stop.Memory r = tt
+type_stop names tokens from (stop.Refused at reason) r =
     elim r [
-      | inl x ↦ specs_stop names tokens end from (stop.Refused at reason) x
+      | inl x ↦ specs_stop names tokens from (stop.Refused at reason) x
       | inr b ↦ record {
         front = specs_text b.phrase [];
         spelled = front_of (FileSpecs names) (file_specs_law names) tokens from at b.phrase b.spelled;
         refused = brace_refused names b.phrase (kind_or_end tokens at) (is_deep reason) b.brace b.took;
       }
     ]
-type_stop names tokens end from (stop.Expression refusal.Memory) r = tt
-type_stop names tokens end from (stop.Expression (refusal.Syntax place)) r = specs_stop names tokens end from (stop.Expression (refusal.Syntax place)) r
-type_stop names tokens end from (stop.Expression (refusal.LeftOut place word)) r = specs_stop names tokens end from (stop.Expression (refusal.LeftOut place word)) r
-type_stop names tokens end from (stop.Expression (refusal.TooDeep place)) r = specs_stop names tokens end from (stop.Expression (refusal.TooDeep place)) r
 
 -- the type was refused
-pub declared_type_stops : (names : Names) (tokens : List Token) (end : Place) (from : ℕ) → (kind_or_end tokens from ≡ token.Keyword keyword.Typedef → ⊥) → (s : Stop) → StopsOrBrace (FileSpecs names) 199 tokens end from s → Stops (Externals names) 200 tokens end from s
-declared_type_stops names tokens end from other s r = parts_stop names tokens end from other s (type_stop names tokens end from s r)
+pub declared_type_stops : (names : Names) (tokens : List Token) (from : ℕ) → (kind_or_end tokens from ≡ token.Keyword keyword.Typedef → ⊥) → (s : Stop) → StopsOrBrace (FileSpecs names) 199 tokens from s → Stops (Externals names) 200 tokens from s
+declared_type_stops names tokens from other s r = parts_stop names tokens from other s (type_stop names tokens from s r)
 
 -- what stands behind the type was refused
-pub rest_stops : (names : Names) (tokens : List Token) (end : Place) (from : ℕ) (type : Taken RawSpecs) → IsTypeTaken names tokens from type → (s : Stop) → Stops (ExternalRests names) 199 tokens end type.next s → Stops (Externals names) 200 tokens end from s
-rest_stops names tokens end from type t s r =
+pub rest_stops : (names : Names) (tokens : List Token) (from : ℕ) (type : Taken RawSpecs) → IsTypeTaken names tokens from type → (s : Stop) → Stops (ExternalRests names) 199 tokens type.next s → Stops (Externals names) 200 tokens from s
+rest_stops names tokens from type t s r =
     let k = t.taken in
-    parts_stop names tokens end from t.no_typedef s
-    (stops_in (TypedParts names) (ExternalRests names) 199 199 tokens end from type.next (specs_text (specs type.tree) []) (front_of (FileSpecs names) (file_specs_law names) tokens from type.next (specs type.tree) k.spelled)
+    parts_stop names tokens from t.no_typedef s
+    (stops_in (TypedParts names) (ExternalRests names) 199 199 tokens from type.next (specs_text (specs type.tree) []) (front_of (FileSpecs names) (file_specs_law names) tokens from type.next (specs type.tree) k.spelled)
     (λ front at deep here x. file_rest_refused names 199 (specs type.tree) (kind_or_end tokens type.next) k.took front (kind_or_end tokens at) deep (first_front tokens type.next at front here) x) s r)
 
 first_any : (front : Kinds) (a b : TokenKind) → (front ≡ [] → ⊥) → first_or front a ≡ first_or front b
@@ -205,9 +199,9 @@ named_no_function names tokens from pointed p other front at deep here r =
     ]
 
 -- objects were refused, and they stand there
-pub objects_stop : (names : Names) (tokens : List Token) (end : Place) (from : ℕ) (pointed : Taken Pointed) → IsPointed declaring.Names names tokens from pointed → (kind_or_end tokens from ≡ semicolon → ⊥) → (kind_or_end tokens pointed.next ≡ open_parenthesis → ⊥) → (s : Stop) → Stops (Separated (Objects names) semicolon) 199 tokens end from s → Stops (ExternalRests names) 199 tokens end from s
-objects_stop names tokens end from pointed p named other s r =
-    stops_pass (ExternalRests names) (Separated (Objects names) semicolon) 199 199 tokens end from
+pub objects_stop : (names : Names) (tokens : List Token) (from : ℕ) (pointed : Taken Pointed) → IsPointed declaring.Names names tokens from pointed → (kind_or_end tokens from ≡ semicolon → ⊥) → (kind_or_end tokens pointed.next ≡ open_parenthesis → ⊥) → (s : Stop) → Stops (Separated (Objects names) semicolon) 199 tokens from s → Stops (ExternalRests names) 199 tokens from s
+objects_stop names tokens from pointed p named other s r =
+    stops_pass (ExternalRests names) (Separated (Objects names) semicolon) 199 199 tokens from
     (λ front at deep here x. objects_refused names 199 (omega arith) front (kind_or_end tokens at) deep (λ k. named (sym (first_front tokens from at front here) ∙ k)) (named_no_function names tokens from pointed p other front at deep here x) x) s r
 
 -- they were taken
@@ -230,9 +224,9 @@ missing_function names tokens from at (w ∷ ws) p unnamed behind near ps n more
     no_function_pointers names (w ∷ ws) (kind_or_end tokens at) p.no_star (λ k. let z = p.no_const k in cc) unnamed behind near ps n more q free same
 
 -- no name stands behind the type
-pub name_stops : (names : Names) (tokens : List Token) (end : Place) (from : ℕ) → (kind_or_end tokens from ≡ semicolon → ⊥) → (s : Stop) → PointedAnswers declaring.Names names tokens from (Err s) → Stops (Separated (Objects names) semicolon) 199 tokens end from s → Stops (ExternalRests names) 199 tokens end from s
-name_stops names tokens end from named stop.Memory m r = tt
-name_stops names tokens end from named (stop.Refused at reason) m r =
+pub name_stops : (names : Names) (tokens : List Token) (from : ℕ) → (kind_or_end tokens from ≡ semicolon → ⊥) → (s : Stop) → PointedAnswers declaring.Names names tokens from (Err s) → Stops (Separated (Objects names) semicolon) 199 tokens from s → Stops (ExternalRests names) 199 tokens from s
+name_stops names tokens from named stop.Memory m r = tt
+name_stops names tokens from named (stop.Refused at reason) m r =
     let ps = m.pointers in
     let here : Spells tokens from at (λ rest. pointers_text m.words [] ++ rest) = spells_as tokens from at (pointers_text m.words) (λ rest. pointers_text m.words [] ++ rest) ps.spelled (λ rest. sym (pointers_append m.words [] rest)) in
     let e : r.front ≡ pointers_text m.words [] = append_cancel_right r.front (pointers_text m.words []) (kinds (drop at tokens)) (sym r.spelled.spelled ∙ here.spelled) in
@@ -243,18 +237,17 @@ name_stops names tokens end from named (stop.Refused at reason) m r =
           objects_refused names 199 (omega arith) r.front (kind_or_end tokens at) (is_deep reason) (λ k. named (sym (first_front tokens from at r.front r.spelled) ∙ k))
           (subst (λ (y : Kinds). NoFunction names y (kind_or_end tokens at)) (sym e) (missing_function names tokens from at m.words ps m.no_name)) r.refused;
     }
-name_stops names tokens end from named (stop.Expression x) m r = absurd m
 
 -- a semicolon stands behind the type
 pub alone_exactly : (names : Names) (tokens : List Token) (from : ℕ) → kind_or_end tokens from ≡ semicolon → StandingExactly (ExternalRests names) 199 tokens from (from + 1) no_name
 alone_exactly names tokens from k = record { spelled = spells_one tokens from semicolon k (λ x. cc); exactly = rest_no_name names 199 }
 
 -- what stands between the parentheses of a function was refused
-pub parameters_stop : (names : Names) (tokens : List Token) (end : Place) (from : ℕ) (pointed : Taken Pointed) → IsPointed declaring.Names names tokens from pointed → kind_or_end tokens pointed.next ≡ open_parenthesis → (s : Stop) → Stops (ParameterLists names) 198 tokens end (pointed.next + 1) s → Stops (ExternalRests names) 199 tokens end from s
-parameters_stop names tokens end from pointed p k s r =
+pub parameters_stop : (names : Names) (tokens : List Token) (from : ℕ) (pointed : Taken Pointed) → IsPointed declaring.Names names tokens from pointed → kind_or_end tokens pointed.next ≡ open_parenthesis → (s : Stop) → Stops (ParameterLists names) 198 tokens (pointed.next + 1) s → Stops (ExternalRests names) 199 tokens from s
+parameters_stop names tokens from pointed p k s r =
     let ps = pointed.tree.pointers.items in
     let n = pointed.tree.name.name in
-    stops_in (ExternalRests names) (ParameterLists names) 199 198 tokens end from (pointed.next + 1) (pointers_text ps (token.Name n ∷ open_parenthesis ∷ []))
+    stops_in (ExternalRests names) (ParameterLists names) 199 198 tokens from (pointed.next + 1) (pointers_text ps (token.Name n ∷ open_parenthesis ∷ []))
     (spells_as tokens from (pointed.next + 1) (λ rest. pointers_text ps (token.Name n ∷ open_parenthesis ∷ rest)) (λ rest. pointers_text ps (token.Name n ∷ open_parenthesis ∷ []) ++ rest)
     (spells_more tokens from pointed.next (pointed.next + 1) (λ rest. pointers_text ps (token.Name n ∷ rest)) (λ rest. open_parenthesis ∷ rest) p.spelled (spells_one tokens pointed.next open_parenthesis k (λ x. cc)))
     (λ rest. sym (pointers_append ps (token.Name n ∷ open_parenthesis ∷ []) rest)))
@@ -281,16 +274,16 @@ head_exactly names tokens from pointed list p k t =
           (λ other after. tt) semicolon;
     }
 
-ends_stop : (names : Names) (tokens : List Token) (end : Place) (from next : ℕ) (head : Head) → StandingExactly (Heads names) 199 tokens from next head → (s : Stop) → Stops (FunctionEnds names head) 199 tokens end next s → Stops (ExternalRests names) 199 tokens end from s
-ends_stop names tokens end from next head h s r =
-    stops_in (ExternalRests names) (FunctionEnds names head) 199 199 tokens end from next (head_text head []) (front_of (Heads names) (heads_law names) tokens from next head h.spelled)
+ends_stop : (names : Names) (tokens : List Token) (from next : ℕ) (head : Head) → StandingExactly (Heads names) 199 tokens from next head → (s : Stop) → Stops (FunctionEnds names head) 199 tokens next s → Stops (ExternalRests names) 199 tokens from s
+ends_stop names tokens from next head h s r =
+    stops_in (ExternalRests names) (FunctionEnds names head) 199 199 tokens from next (head_text head []) (front_of (Heads names) (heads_law names) tokens from next head h.spelled)
     (λ front at deep here x. function_refused names 199 head h.exactly front (kind_or_end tokens at) deep x) s r
 
 -- neither a semicolon nor a block stands behind the head, or a block behind one whose parameters haven't all a name
-pub end_missing : (names : Names) (tokens : List Token) (end : Place) (from next : ℕ) (head : Head) (s : Stop) → StandingExactly (Heads names) 199 tokens from next head → (kind_or_end tokens next ≡ semicolon → ⊥) → (kind_or_end tokens next ≡ open_brace → AreNamed head.parameters → ⊥) → IsPlainStop scope.File tokens next s → Stops (ExternalRests names) 199 tokens end from s
-end_missing names tokens end from next head s h no_semicolon no_brace is =
+pub end_missing : (names : Names) (tokens : List Token) (from next : ℕ) (head : Head) (s : Stop) → StandingExactly (Heads names) 199 tokens from next head → (kind_or_end tokens next ≡ semicolon → ⊥) → (kind_or_end tokens next ≡ open_brace → AreNamed head.parameters → ⊥) → IsPlainStop scope.File tokens next s → Stops (ExternalRests names) 199 tokens from s
+end_missing names tokens from next head s h no_semicolon no_brace is =
     let w = h.spelled in
-    ends_stop names tokens end from next head h s (stops_plain (FunctionEnds names head) 199 tokens end next next scope.File [] s (spells_none tokens next w.within) is (end_wrong names head 199 (kind_or_end tokens next) no_semicolon no_brace))
+    ends_stop names tokens from next head h s (stops_plain (FunctionEnds names head) 199 tokens next next scope.File [] s (spells_none tokens next w.within) is (end_wrong names head 199 (kind_or_end tokens next) no_semicolon no_brace))
 
 -- a function without a body was taken
 pub function_exactly : (names : Names) (tokens : List Token) (from next : ℕ) (head : Head) → StandingExactly (Heads names) 199 tokens from next head → kind_or_end tokens next ≡ semicolon → StandingExactly (ExternalRests names) 199 tokens from (next + 1) (function head)
@@ -303,9 +296,9 @@ brace_behind : (names : Names) (tokens : List Token) (from next : ℕ) (head : H
 brace_behind names tokens from next head h k = spells_more tokens from next (next + 1) (head_text head) (λ rest. open_brace ∷ rest) h.spelled (spells_one tokens next open_brace k (λ x. cc))
 
 -- what stands in the body was refused
-pub body_stops : (names : Names) (tokens : List Token) (end : Place) (from next : ℕ) (head : Head) → AreNamed head.parameters → StandingExactly (Heads names) 199 tokens from next head → kind_or_end tokens next ≡ open_brace → (s : Stop) → Stops (BlockRows names) 198 tokens end (next + 1) s → Stops (ExternalRests names) 199 tokens end from s
-body_stops names tokens end from next head named h k s r =
-    stops_in (ExternalRests names) (BlockRows names) 199 198 tokens end from (next + 1) (head_text head [] ++ (open_brace ∷ []))
+pub body_stops : (names : Names) (tokens : List Token) (from next : ℕ) (head : Head) → AreNamed head.parameters → StandingExactly (Heads names) 199 tokens from next head → kind_or_end tokens next ≡ open_brace → (s : Stop) → Stops (BlockRows names) 198 tokens (next + 1) s → Stops (ExternalRests names) 199 tokens from s
+body_stops names tokens from next head named h k s r =
+    stops_in (ExternalRests names) (BlockRows names) 199 198 tokens from (next + 1) (head_text head [] ++ (open_brace ∷ []))
     (spells_as tokens from (next + 1) (λ rest. head_text head (open_brace ∷ rest)) (λ rest. (head_text head [] ++ (open_brace ∷ [])) ++ rest) (brace_behind names tokens from next head h k)
     (λ rest. splits (Heads names) (heads_law names) head (open_brace ∷ rest) ∙ sym (append_assoc (head_text head []) (open_brace ∷ []) rest)))
     (λ front at deep here x.
@@ -342,9 +335,9 @@ typedef_single names =
       least = sequence_least (FileSpecs names) (TypedefNames names) p.least_first p.least_second;
     }
 
-aliases_stop : (names : Names) (tokens : List Token) (end : Place) (from : ℕ) → kind_or_end tokens from ≡ token.Keyword keyword.Typedef → (s : Stop) → Stops (Aliases names) 199 tokens end (from + 1) s → Stops (Externals names) 200 tokens end from s
-aliases_stop names tokens end from k s r =
-    single_stops (typedef_single names) 200 199 (refl, omega arith) tokens end from (from + 1) (spells_one tokens from (token.Keyword keyword.Typedef) k (λ x. cc)) (no_fits tokens (from + 1)) s r
+aliases_stop : (names : Names) (tokens : List Token) (from : ℕ) → kind_or_end tokens from ≡ token.Keyword keyword.Typedef → (s : Stop) → Stops (Aliases names) 199 tokens (from + 1) s → Stops (Externals names) 200 tokens from s
+aliases_stop names tokens from k s r =
+    single_stops (typedef_single names) 200 199 (refl, omega arith) tokens from (from + 1) (spells_one tokens from (token.Keyword keyword.Typedef) k (λ x. cc)) (no_fits tokens (from + 1)) s r
 
 alias_brace : (names : Names) (phrase : Specs) (next : TokenKind) (deep : Bool) → next ≡ open_brace → Took (FileSpecs names) 199 phrase open_brace deep → Refused (Aliases names) 199 (specs_text phrase []) next deep
 alias_brace names phrase next deep brace t =
@@ -353,37 +346,33 @@ alias_brace names phrase next deep brace t =
     (λ d after is same. declarators_some names d after is.0 is.1 same)
     (λ d after more is same. false≢true (subst ((FileSpecs names).Shut phrase) (same ∙ ap (λ (x : TokenKind). x ∷ more) brace) (p.joins phrase d after t.is_phrase is tt)))
 
-alias_type : (names : Names) (tokens : List Token) (end : Place) (from : ℕ) (s : Stop) → Stops (FileSpecs names) 199 tokens end from s → Stops (Aliases names) 199 tokens end from s
-alias_type names tokens end from s r =
+alias_type : (names : Names) (tokens : List Token) (from : ℕ) (s : Stop) → Stops (FileSpecs names) 199 tokens from s → Stops (Aliases names) 199 tokens from s
+alias_type names tokens from s r =
     let p = typedef_pair names in
-    stops_pass (Aliases names) (FileSpecs names) 199 199 tokens end from (λ front at deep here x. first_refused (FileSpecs names) (TypedefNames names) 199 p.law_first p.joins p.least_second (omega arith) front (kind_or_end tokens at) deep x) s r
+    stops_pass (Aliases names) (FileSpecs names) 199 199 tokens from (λ front at deep here x. first_refused (FileSpecs names) (TypedefNames names) 199 p.law_first p.joins p.least_second (omega arith) front (kind_or_end tokens at) deep x) s r
 
-alias_types : (names : Names) (tokens : List Token) (end : Place) (from : ℕ) (s : Stop) → StopsOrBrace (FileSpecs names) 199 tokens end from s → Stops (Aliases names) 199 tokens end from s
-alias_types names tokens end from stop.Memory r = tt
-alias_types names tokens end from (stop.Refused at reason) r =
+alias_types : (names : Names) (tokens : List Token) (from : ℕ) (s : Stop) → StopsOrBrace (FileSpecs names) 199 tokens from s → Stops (Aliases names) 199 tokens from s
+alias_types names tokens from stop.Memory r = tt
+alias_types names tokens from (stop.Refused at reason) r =
     elim r [
-      | inl x ↦ alias_type names tokens end from (stop.Refused at reason) x
+      | inl x ↦ alias_type names tokens from (stop.Refused at reason) x
       | inr b ↦ record {
         front = specs_text b.phrase [];
         spelled = front_of (FileSpecs names) (file_specs_law names) tokens from at b.phrase b.spelled;
         refused = alias_brace names b.phrase (kind_or_end tokens at) (is_deep reason) b.brace b.took;
       }
     ]
-alias_types names tokens end from (stop.Expression refusal.Memory) r = tt
-alias_types names tokens end from (stop.Expression (refusal.Syntax place)) r = alias_type names tokens end from (stop.Expression (refusal.Syntax place)) r
-alias_types names tokens end from (stop.Expression (refusal.LeftOut place word)) r = alias_type names tokens end from (stop.Expression (refusal.LeftOut place word)) r
-alias_types names tokens end from (stop.Expression (refusal.TooDeep place)) r = alias_type names tokens end from (stop.Expression (refusal.TooDeep place)) r
 
 -- its type was refused
-pub typedef_type_stops : (names : Names) (tokens : List Token) (end : Place) (from : ℕ) → kind_or_end tokens from ≡ token.Keyword keyword.Typedef → (s : Stop) → StopsOrBrace (FileSpecs names) 199 tokens end (from + 1) s → Stops (Externals names) 200 tokens end from s
-typedef_type_stops names tokens end from k s r = aliases_stop names tokens end from k s (alias_types names tokens end (from + 1) s r)
+pub typedef_type_stops : (names : Names) (tokens : List Token) (from : ℕ) → kind_or_end tokens from ≡ token.Keyword keyword.Typedef → (s : Stop) → StopsOrBrace (FileSpecs names) 199 tokens (from + 1) s → Stops (Externals names) 200 tokens from s
+typedef_type_stops names tokens from k s r = aliases_stop names tokens from k s (alias_types names tokens (from + 1) s r)
 
 -- its names were refused
-pub typedef_names_stop : (names : Names) (tokens : List Token) (end : Place) (from : ℕ) (type : Taken RawSpecs) → kind_or_end tokens from ≡ token.Keyword keyword.Typedef → IsTaken (FileSpecs names) specs 199 tokens (from + 1) false type → (s : Stop) → Stops (TypedefNames names) 199 tokens end type.next s → Stops (Externals names) 200 tokens end from s
-typedef_names_stop names tokens end from type k t s r =
+pub typedef_names_stop : (names : Names) (tokens : List Token) (from : ℕ) (type : Taken RawSpecs) → kind_or_end tokens from ≡ token.Keyword keyword.Typedef → IsTaken (FileSpecs names) specs 199 tokens (from + 1) false type → (s : Stop) → Stops (TypedefNames names) 199 tokens type.next s → Stops (Externals names) 200 tokens from s
+typedef_names_stop names tokens from type k t s r =
     let p = typedef_pair names in
-    aliases_stop names tokens end from k s
-    (stops_in (Aliases names) (TypedefNames names) 199 199 tokens end (from + 1) type.next (specs_text (specs type.tree) []) (front_of (FileSpecs names) (file_specs_law names) tokens (from + 1) type.next (specs type.tree) t.spelled)
+    aliases_stop names tokens from k s
+    (stops_in (Aliases names) (TypedefNames names) 199 199 tokens (from + 1) type.next (specs_text (specs type.tree) []) (front_of (FileSpecs names) (file_specs_law names) tokens (from + 1) type.next (specs type.tree) t.spelled)
     (λ front at deep here x.
     then_refused (FileSpecs names) (TypedefNames names) 199 p.law_first p.law_second p.joins p.least_second (omega arith) (specs type.tree) (kind_or_end tokens type.next) false t.took (λ told. absurd (false≢true told)) front (kind_or_end tokens at) deep (first_front tokens type.next at front here) x) s r)
 
@@ -412,8 +401,8 @@ typedef_taken names tokens from type list whole k t l tree height later =
       exactly = subst (λ (y : External). Exactly (Externals names) 200 y) (sym tree) (external_exact names 200 (Typedef (specs type.tree) all) took);
     }
 
-object_rows_stop : (names : Names) (tokens : List Token) (end : Place) (from : ℕ) (s : Stop) → Stops (Objects names) 199 tokens end from s → Stops (Separated (Objects names) semicolon) 199 tokens end from s
-object_rows_stop names tokens end from s r = row_first_stops (Objects names) semicolon 199 (object_row names) (omega arith) tokens end from s r
+object_rows_stop : (names : Names) (tokens : List Token) (from : ℕ) (s : Stop) → Stops (Objects names) 199 tokens from s → Stops (Separated (Objects names) semicolon) 199 tokens from s
+object_rows_stop names tokens from s r = row_first_stops (Objects names) semicolon 199 (object_row names) (omega arith) tokens from s r
 
 -- a name with its pointers begins with no semicolon
 pointed_named : (names : Names) (tokens : List Token) (from : ℕ) (pointed : Taken Pointed) → IsPointed declaring.Names names tokens from pointed → kind_or_end tokens from ≡ semicolon → ⊥
@@ -425,17 +414,17 @@ pointed_named names tokens from pointed p k =
     ]
 
 -- a declared object behind the type was refused
-pub external_object_stops : (names : Names) (tokens : List Token) (end : Place) (from : ℕ) (type : Taken RawSpecs) (pointed : Taken Pointed) → IsTypeTaken names tokens from type → IsPointed declaring.Names names tokens type.next pointed → (kind_or_end tokens pointed.next ≡ open_parenthesis → ⊥) → (s : Stop) → Stops (Separated (Objects names) semicolon) 199 tokens end type.next s → Stops (Externals names) 200 tokens end from s
-external_object_stops names tokens end from type pointed t p other s r =
-    rest_stops names tokens end from type t s (objects_stop names tokens end type.next pointed p (pointed_named names tokens type.next pointed p) other s r)
+pub external_object_stops : (names : Names) (tokens : List Token) (from : ℕ) (type : Taken RawSpecs) (pointed : Taken Pointed) → IsTypeTaken names tokens from type → IsPointed declaring.Names names tokens type.next pointed → (kind_or_end tokens pointed.next ≡ open_parenthesis → ⊥) → (s : Stop) → Stops (Separated (Objects names) semicolon) 199 tokens type.next s → Stops (Externals names) 200 tokens from s
+external_object_stops names tokens from type pointed t p other s r =
+    rest_stops names tokens from type t s (objects_stop names tokens type.next pointed p (pointed_named names tokens type.next pointed p) other s r)
 
 -- its declarator was refused
-pub external_declarator_stops : (names : Names) (tokens : List Token) (end : Place) (from : ℕ) (type : Taken RawSpecs) (pointed : Taken Pointed) → IsTypeTaken names tokens from type → IsPointed declaring.Names names tokens type.next pointed → (kind_or_end tokens pointed.next ≡ open_parenthesis → ⊥) → (s : Stop) → Stops (DeclaratorsFor declaring.Names names) 199 tokens end type.next s → Stops (Externals names) 200 tokens end from s
-external_declarator_stops names tokens end from type pointed t p other s r = external_object_stops names tokens end from type pointed t p other s (object_rows_stop names tokens end type.next s (object_stops names 199 tokens end type.next s r))
+pub external_declarator_stops : (names : Names) (tokens : List Token) (from : ℕ) (type : Taken RawSpecs) (pointed : Taken Pointed) → IsTypeTaken names tokens from type → IsPointed declaring.Names names tokens type.next pointed → (kind_or_end tokens pointed.next ≡ open_parenthesis → ⊥) → (s : Stop) → Stops (DeclaratorsFor declaring.Names names) 199 tokens type.next s → Stops (Externals names) 200 tokens from s
+external_declarator_stops names tokens from type pointed t p other s r = external_object_stops names tokens from type pointed t p other s (object_rows_stop names tokens type.next s (object_stops names 199 tokens type.next s r))
 
 -- its value was refused
-pub external_value_stops : (names : Names) (tokens : List Token) (end : Place) (from : ℕ) (type : Taken RawSpecs) (pointed : Taken Pointed) → IsTypeTaken names tokens from type → IsPointed declaring.Names names tokens type.next pointed → (kind_or_end tokens pointed.next ≡ open_parenthesis → ⊥) → (s : Stop) → Stops (Objects names) 199 tokens end type.next s → Stops (Externals names) 200 tokens end from s
-external_value_stops names tokens end from type pointed t p other s r = external_object_stops names tokens end from type pointed t p other s (object_rows_stop names tokens end type.next s r)
+pub external_value_stops : (names : Names) (tokens : List Token) (from : ℕ) (type : Taken RawSpecs) (pointed : Taken Pointed) → IsTypeTaken names tokens from type → IsPointed declaring.Names names tokens type.next pointed → (kind_or_end tokens pointed.next ≡ open_parenthesis → ⊥) → (s : Stop) → Stops (Objects names) 199 tokens type.next s → Stops (Externals names) 200 tokens from s
+external_value_stops names tokens from type pointed t p other s r = external_object_stops names tokens from type pointed t p other s (object_rows_stop names tokens type.next s r)
 
 objects_height : (names : Names) (a b : ℕ) (type : Specs) (list : List Declared) → a ≡ (FileSpecs names).tall type → b ≡ (Separated (Objects names) semicolon).tall list → max a b + 1 ≡ external_height (external_from type (objects list))
 objects_height names a b type list e f = omega (arith, e, f)
@@ -449,10 +438,10 @@ external_objects_taken names tokens from type list whole t l tree height later =
     (objects_height names type.height list.height (specs type.tree) all k.height_is l.height_is) later
 
 -- no name stands behind the type
-pub external_name_stops : (names : Names) (tokens : List Token) (end : Place) (from : ℕ) (type : Taken RawSpecs) → IsTypeTaken names tokens from type → (kind_or_end tokens type.next ≡ semicolon → ⊥) → (s : Stop) → PointedAnswers declaring.Names names tokens type.next (Err s) → Stops (Externals names) 200 tokens end from s
-external_name_stops names tokens end from type t named s m =
-    rest_stops names tokens end from type t s
-    (name_stops names tokens end type.next named s m (object_rows_stop names tokens end type.next s (object_stops names 199 tokens end type.next s (pointed_stops declaring.Names names 199 (omega arith) tokens end type.next s m))))
+pub external_name_stops : (names : Names) (tokens : List Token) (from : ℕ) (type : Taken RawSpecs) → IsTypeTaken names tokens from type → (kind_or_end tokens type.next ≡ semicolon → ⊥) → (s : Stop) → PointedAnswers declaring.Names names tokens type.next (Err s) → Stops (Externals names) 200 tokens from s
+external_name_stops names tokens from type t named s m =
+    rest_stops names tokens from type t s
+    (name_stops names tokens type.next named s m (object_rows_stop names tokens type.next s (object_stops names 199 tokens type.next s (pointed_stops declaring.Names names 199 (omega arith) tokens type.next s m))))
 
 alone_height : (names : Names) (a : ℕ) (type : Specs) → a ≡ (FileSpecs names).tall type → a + 1 ≡ external_height (external_from type no_name)
 alone_height names a type e = omega (arith, e)
@@ -464,8 +453,8 @@ external_alone_taken names tokens from type whole t k tree height later =
     external_is names tokens from type no_name (type.next + 1) (type.height + 1) whole t (alone_exactly names tokens type.next k) tree height (alone_height names type.height (specs type.tree) y.height_is) later
 
 -- the parameters of a function were refused
-pub external_parameters_stop : (names : Names) (tokens : List Token) (end : Place) (from : ℕ) (type : Taken RawSpecs) (pointed : Taken Pointed) → IsTypeTaken names tokens from type → IsPointed declaring.Names names tokens type.next pointed → kind_or_end tokens pointed.next ≡ open_parenthesis → (s : Stop) → Stops (ParameterLists names) 198 tokens end (pointed.next + 1) s → Stops (Externals names) 200 tokens end from s
-external_parameters_stop names tokens end from type pointed t p k s r = rest_stops names tokens end from type t s (parameters_stop names tokens end type.next pointed p k s r)
+pub external_parameters_stop : (names : Names) (tokens : List Token) (from : ℕ) (type : Taken RawSpecs) (pointed : Taken Pointed) → IsTypeTaken names tokens from type → IsPointed declaring.Names names tokens type.next pointed → kind_or_end tokens pointed.next ≡ open_parenthesis → (s : Stop) → Stops (ParameterLists names) 198 tokens (pointed.next + 1) s → Stops (Externals names) 200 tokens from s
+external_parameters_stop names tokens from type pointed t p k s r = rest_stops names tokens from type t s (parameters_stop names tokens type.next pointed p k s r)
 
 -- the head of a function, as it was made
 pub record HeadMade (names : Names) (tokens : List Token) (from : ℕ) (head : Taken RawFunction) : Type 0 where
@@ -481,8 +470,8 @@ head_made names tokens from pointed list head p k t height later tree = record {
 }
 
 -- what stands behind the head was refused
-pub external_end_missing : (names : Names) (tokens : List Token) (end : Place) (from : ℕ) (type : Taken RawSpecs) (head : Taken RawFunction) (s : Stop) → IsTypeTaken names tokens from type → HeadMade names tokens type.next head → (kind_or_end tokens head.next ≡ semicolon → ⊥) → (kind_or_end tokens head.next ≡ open_brace → AreNamed (parameters head.tree.parameters) → ⊥) → IsPlainStop scope.File tokens head.next s → Stops (Externals names) 200 tokens end from s
-external_end_missing names tokens end from type head s t h no_semicolon no_brace is = rest_stops names tokens end from type t s (end_missing names tokens end type.next head.next (head_view head.tree) s h.stands no_semicolon no_brace is)
+pub external_end_missing : (names : Names) (tokens : List Token) (from : ℕ) (type : Taken RawSpecs) (head : Taken RawFunction) (s : Stop) → IsTypeTaken names tokens from type → HeadMade names tokens type.next head → (kind_or_end tokens head.next ≡ semicolon → ⊥) → (kind_or_end tokens head.next ≡ open_brace → AreNamed (parameters head.tree.parameters) → ⊥) → IsPlainStop scope.File tokens head.next s → Stops (Externals names) 200 tokens from s
+external_end_missing names tokens from type head s t h no_semicolon no_brace is = rest_stops names tokens from type t s (end_missing names tokens type.next head.next (head_view head.tree) s h.stands no_semicolon no_brace is)
 
 function_height : (names : Names) (a b : ℕ) (type : Specs) (head : Head) → a ≡ (FileSpecs names).tall type → b ≡ head_height head → max a b + 1 ≡ external_height (external_from type (function head))
 function_height names a b type head e f = omega (arith, e, f)
@@ -495,8 +484,8 @@ external_function_taken names tokens from type head whole t h k tree height late
     (function_height names type.height head.height (specs type.tree) (head_view head.tree) y.height_is h.height_is) later
 
 -- the body of a function was refused
-pub external_body_stops : (names : Names) (tokens : List Token) (end : Place) (from : ℕ) (type : Taken RawSpecs) (head : Taken RawFunction) → IsTypeTaken names tokens from type → HeadMade names tokens type.next head → AreNamed (parameters head.tree.parameters) → kind_or_end tokens head.next ≡ open_brace → (s : Stop) → Stops (BlockRows names) 198 tokens end (head.next + 1) s → Stops (Externals names) 200 tokens end from s
-external_body_stops names tokens end from type head t h named k s r = rest_stops names tokens end from type t s (body_stops names tokens end type.next head.next (head_view head.tree) named h.stands k s r)
+pub external_body_stops : (names : Names) (tokens : List Token) (from : ℕ) (type : Taken RawSpecs) (head : Taken RawFunction) → IsTypeTaken names tokens from type → HeadMade names tokens type.next head → AreNamed (parameters head.tree.parameters) → kind_or_end tokens head.next ≡ open_brace → (s : Stop) → Stops (BlockRows names) 198 tokens (head.next + 1) s → Stops (Externals names) 200 tokens from s
+external_body_stops names tokens from type head t h named k s r = rest_stops names tokens from type t s (body_stops names tokens type.next head.next (head_view head.tree) named h.stands k s r)
 
 definition_height : (names : Names) (a b d : ℕ) (type : Specs) (head : Head) (body : Items) → a ≡ (FileSpecs names).tall type → b ≡ head_height head → d ≡ (BlockRows names).tall body → max (max a b) (d + 1) + 1 ≡ external_height (external_from type (definition head body))
 definition_height names a b d type head body e f g = omega (arith, e, f, g)

@@ -2,7 +2,6 @@
 use Rattle.std.proofs.Common.{◌≡◌, ℕ, ◌+◌, ◌-◌, ◌≤◌, max, inl, inr, Bool, true, false, List, [], ◌∷◌, ◌++◌, map, Option, Some, None, length, refl, sym, ap, ◌∙◌, subst, arith}
 use Rattle.std.proofs.lemmas.Bool.{false≢true}
 use Rattle.std.specs.Option.{option_map}
-use Rattle.cs_ast.specs.declared.place.Place.{Place}
 use Rattle.cs_ast.specs.declared.token.Token.{Token}
 use Rattle.cs_ast.specs.declared.token.TokenKind.{TokenKind}
 use Rattle.cs_ast.specs.declared.token.Keyword.TheVariants as keyword
@@ -37,7 +36,7 @@ use Rattle.cs_grammar.proofs.StatementParts.{sentences_law, sentences_least, fir
 use Rattle.cs_expr_parser.specs.Positions.{kind_or_end}
 use Rattle.cs_expr_parser.specs.Parts.{Spells}
 use Rattle.cs_decl_parser.specs.declared.source.Scope.TheVariants as scope
-use Rattle.cs_decl_parser.specs.declared.stop.Stop.{Stop}
+use Rattle.cs_expr_parser.specs.declared.stop.Stop.{Stop}
 use Rattle.cs_decl_parser.specs.declared.stop.Taken.{Taken}
 use Rattle.cs_decl_parser.specs.declared.block.DeclaredObjects.{DeclaredObjects}
 use Rattle.cs_decl_parser.specs.declared.loops.ForParts.{ForParts}
@@ -127,9 +126,9 @@ first_is names room tokens from next tree tall whole e height h later s = record
 }
 
 -- the first part of a `for` is a declaration, which was refused
-pub first_declares_stops : (names : Names) (room : ℕ) (tokens : List Token) (end : Place) (from : ℕ) → begins_type names (kind_or_end tokens from) ≡ true → (s : Stop) → Stops (Locals names) room tokens end from s → Stops (Firsts names) room tokens end from s
-first_declares_stops names room tokens end from e s r =
-    pass_stops (Firsts names) (Locals names) (λ part. FirstDeclares part.0 part.1) (IsTyped true names) (declares_production names) (locals_law names) room tokens end from
+pub first_declares_stops : (names : Names) (room : ℕ) (tokens : List Token) (from : ℕ) → begins_type names (kind_or_end tokens from) ≡ true → (s : Stop) → Stops (Locals names) room tokens from s → Stops (Firsts names) room tokens from s
+first_declares_stops names room tokens from e s r =
+    pass_stops (Firsts names) (Locals names) (λ part. FirstDeclares part.0 part.1) (IsTyped true names) (declares_production names) (locals_law names) room tokens from
     (λ front at here behind near. near_typed true names (kind_or_end tokens from) (front ++ behind) e (near_start tokens from at front here behind near)) s r
 
 -- a declaration was taken
@@ -144,9 +143,9 @@ first_declares_taken names room tokens from inner whole t tree height later =
     (exact_stands (Locals names) local_of room tokens from inner t))
 
 -- it declares nothing, and was refused
-pub first_runs_stops : (names : Names) (room : ℕ) (tokens : List Token) (end : Place) (from : ℕ) → begins_type names (kind_or_end tokens from) ≡ false → (s : Stop) → Stops (SomeBefore names semicolon) room tokens end from s → Stops (Firsts names) room tokens end from s
-first_runs_stops names room tokens end from e s r =
-    pass_stops (Firsts names) (SomeBefore names semicolon) first_if_any (IsTyped false names) (runs_production names) (some_law names 0 (Unit {0}) semicolon) room tokens end from
+pub first_runs_stops : (names : Names) (room : ℕ) (tokens : List Token) (from : ℕ) → begins_type names (kind_or_end tokens from) ≡ false → (s : Stop) → Stops (SomeBefore names semicolon) room tokens from s → Stops (Firsts names) room tokens from s
+first_runs_stops names room tokens from e s r =
+    pass_stops (Firsts names) (SomeBefore names semicolon) first_if_any (IsTyped false names) (runs_production names) (some_law names 0 (Unit {0}) semicolon) room tokens from
     (λ front at here behind near. near_typed false names (kind_or_end tokens from) (front ++ behind) e (near_start tokens from at front here behind near)) s r
 
 -- it was taken
@@ -191,39 +190,39 @@ pub controls_law : (names : Names) → Lawful (Controls names)
 controls_law names = behind_law open_parenthesis (Parts names) (parts_law names)
 
 -- no parenthesis stands behind `for`
-pub control_missing : (names : Names) (room : ℕ) (tokens : List Token) (end : Place) (from : ℕ) (s : Stop) → from ≤ length tokens → (kind_or_end tokens from ≡ open_parenthesis → ⊥) → IsPlainStop scope.Block tokens from s → Stops (Controls names) room tokens end from s
-control_missing names room tokens end from s within other is =
-    stops_plain (Controls names) room tokens end from from scope.Block [] s (spells_none tokens from within) is (behind_wrong open_parenthesis (Parts names) room (kind_or_end tokens from) other)
+pub control_missing : (names : Names) (room : ℕ) (tokens : List Token) (from : ℕ) (s : Stop) → from ≤ length tokens → (kind_or_end tokens from ≡ open_parenthesis → ⊥) → IsPlainStop scope.Block tokens from s → Stops (Controls names) room tokens from s
+control_missing names room tokens from s within other is =
+    stops_plain (Controls names) room tokens from from scope.Block [] s (spells_none tokens from within) is (behind_wrong open_parenthesis (Parts names) room (kind_or_end tokens from) other)
 
-parts_stop : (names : Names) (room : ℕ) (tokens : List Token) (end : Place) (from : ℕ) → kind_or_end tokens from ≡ open_parenthesis → (s : Stop) → Stops (Parts names) room tokens end (from + 1) s → Stops (Controls names) room tokens end from s
-parts_stop names room tokens end from k s r =
-    stops_in (Controls names) (Parts names) room room tokens end from (from + 1) (open_parenthesis ∷ []) (mark_stands tokens from mark.OpenParenthesis k)
+parts_stop : (names : Names) (room : ℕ) (tokens : List Token) (from : ℕ) → kind_or_end tokens from ≡ open_parenthesis → (s : Stop) → Stops (Parts names) room tokens (from + 1) s → Stops (Controls names) room tokens from s
+parts_stop names room tokens from k s r =
+    stops_in (Controls names) (Parts names) room room tokens from (from + 1) (open_parenthesis ∷ []) (mark_stands tokens from mark.OpenParenthesis k)
     (λ front at deep here x. tail_refused (Controls names) (Parts names) room room (open_parenthesis ∷ []) (λ d. d) (λ rest. Unit {0}) (parts_law names) (behind_tail open_parenthesis (Parts names) room (parts_least names) (omega arith)) front (kind_or_end tokens at) deep (λ behind near. tt) x) s r
 
 -- the first part was refused
-pub control_first_stops : (names : Names) (room : ℕ) (tokens : List Token) (end : Place) (from : ℕ) → kind_or_end tokens from ≡ open_parenthesis → (s : Stop) → Stops (Firsts names) room tokens end (from + 1) s → Stops (Controls names) room tokens end from s
-control_first_stops names room tokens end from k s r =
-    parts_stop names room tokens end from k s
-    (stops_pass (Parts names) (Firsts names) room room tokens end (from + 1) (λ front at deep here x. first_refused (Firsts names) (Ends names) room (firsts_law names) (λ c d after is is' shut. tt) (ends_least names) (omega arith) front (kind_or_end tokens at) deep x) s r)
+pub control_first_stops : (names : Names) (room : ℕ) (tokens : List Token) (from : ℕ) → kind_or_end tokens from ≡ open_parenthesis → (s : Stop) → Stops (Firsts names) room tokens (from + 1) s → Stops (Controls names) room tokens from s
+control_first_stops names room tokens from k s r =
+    parts_stop names room tokens from k s
+    (stops_pass (Parts names) (Firsts names) room room tokens (from + 1) (λ front at deep here x. first_refused (Firsts names) (Ends names) room (firsts_law names) (λ c d after is is' shut. tt) (ends_least names) (omega arith) front (kind_or_end tokens at) deep x) s r)
 
-ends_stop : (names : Names) (room : ℕ) (tokens : List Token) (end : Place) (from : ℕ) (first : Taken RawFirst) → kind_or_end tokens from ≡ open_parenthesis → IsExactly (Firsts names) first_of room tokens (from + 1) first → (s : Stop) → Stops (Ends names) room tokens end first.next s → Stops (Controls names) room tokens end from s
-ends_stop names room tokens end from first k f s r =
-    parts_stop names room tokens end from k s
-    (stops_in (Parts names) (Ends names) room room tokens end (from + 1) first.next (first_text (first_of first.tree) []) (front_of (Firsts names) (firsts_law names) tokens (from + 1) first.next (first_of first.tree) f.spelled)
+ends_stop : (names : Names) (room : ℕ) (tokens : List Token) (from : ℕ) (first : Taken RawFirst) → kind_or_end tokens from ≡ open_parenthesis → IsExactly (Firsts names) first_of room tokens (from + 1) first → (s : Stop) → Stops (Ends names) room tokens first.next s → Stops (Controls names) room tokens from s
+ends_stop names room tokens from first k f s r =
+    parts_stop names room tokens from k s
+    (stops_in (Parts names) (Ends names) room room tokens (from + 1) first.next (first_text (first_of first.tree) []) (front_of (Firsts names) (firsts_law names) tokens (from + 1) first.next (first_of first.tree) f.spelled)
     (λ front at deep here x. exact_then_refused (Firsts names) (Ends names) room (firsts_law names) (ends_law names) (ends_least names) (omega arith) (first_of first.tree) f.exactly front (kind_or_end tokens at) deep x) s r)
 
 -- the test was refused
-pub control_test_stops : (names : Names) (room : ℕ) (tokens : List Token) (end : Place) (from : ℕ) (first : Taken RawFirst) → kind_or_end tokens from ≡ open_parenthesis → IsExactly (Firsts names) first_of room tokens (from + 1) first → (s : Stop) → Stops (SomeBefore names semicolon) room tokens end first.next s → Stops (Controls names) room tokens end from s
-control_test_stops names room tokens end from first k f s r =
-    ends_stop names room tokens end from first k f s
-    (stops_pass (Ends names) (SomeBefore names semicolon) room room tokens end first.next
+pub control_test_stops : (names : Names) (room : ℕ) (tokens : List Token) (from : ℕ) (first : Taken RawFirst) → kind_or_end tokens from ≡ open_parenthesis → IsExactly (Firsts names) first_of room tokens (from + 1) first → (s : Stop) → Stops (SomeBefore names semicolon) room tokens first.next s → Stops (Controls names) room tokens from s
+control_test_stops names room tokens from first k f s r =
+    ends_stop names room tokens from first k f s
+    (stops_pass (Ends names) (SomeBefore names semicolon) room room tokens first.next
     (λ front at deep here x. first_refused (SomeBefore names semicolon) (SomeBefore names close_parenthesis) room (some_before_law names semicolon) (λ c d after is is' shut. tt) (some_before_least names close_parenthesis) (omega arith) front (kind_or_end tokens at) deep x) s r)
 
 -- the last part was refused
-pub control_last_stops : (names : Names) (room : ℕ) (tokens : List Token) (end : Place) (from : ℕ) (first : Taken RawFirst) (test : Taken (Option RawExpr)) → kind_or_end tokens from ≡ open_parenthesis → IsExactly (Firsts names) first_of room tokens (from + 1) first → IsExactly (SomeBefore names semicolon) (option_map written) room tokens first.next test → (s : Stop) → Stops (SomeBefore names close_parenthesis) room tokens end test.next s → Stops (Controls names) room tokens end from s
-control_last_stops names room tokens end from first test k f t s r =
-    ends_stop names room tokens end from first k f s
-    (stops_in (Ends names) (SomeBefore names close_parenthesis) room room tokens end first.next test.next ((SomeBefore names semicolon).spell (option_map written test.tree) []) (front_of (SomeBefore names semicolon) (some_before_law names semicolon) tokens first.next test.next (option_map written test.tree) t.spelled)
+pub control_last_stops : (names : Names) (room : ℕ) (tokens : List Token) (from : ℕ) (first : Taken RawFirst) (test : Taken (Option RawExpr)) → kind_or_end tokens from ≡ open_parenthesis → IsExactly (Firsts names) first_of room tokens (from + 1) first → IsExactly (SomeBefore names semicolon) (option_map written) room tokens first.next test → (s : Stop) → Stops (SomeBefore names close_parenthesis) room tokens test.next s → Stops (Controls names) room tokens from s
+control_last_stops names room tokens from first test k f t s r =
+    ends_stop names room tokens from first k f s
+    (stops_in (Ends names) (SomeBefore names close_parenthesis) room room tokens first.next test.next ((SomeBefore names semicolon).spell (option_map written test.tree) []) (front_of (SomeBefore names semicolon) (some_before_law names semicolon) tokens first.next test.next (option_map written test.tree) t.spelled)
     (λ front at deep here x. exact_then_refused (SomeBefore names semicolon) (SomeBefore names close_parenthesis) room (some_before_law names semicolon) (some_before_law names close_parenthesis) (some_before_least names close_parenthesis) (omega arith) (option_map written test.tree) t.exactly front (kind_or_end tokens at) deep x) s r)
 
 -- all were taken
@@ -272,13 +271,13 @@ for_pair names = record {
 }
 
 -- what stands between the parentheses was refused
-pub for_control_stops : (names : Names) (room : ℕ) (tokens : List Token) (end : Place) (from : ℕ) → 2 ≤ room → kind_or_end tokens from ≡ word keyword.For → (s : Stop) → Stops (Controls names) (room - 1) tokens end (from + 1) s → Stops (Sentences names) room tokens end from s
-for_control_stops names room tokens end from enough k s r = pair_first_stops (for_pair names) room (room - 1) (omega arith, omega arith, omega arith) tokens end from (from + 1) (word_stands tokens from keyword.For k) s r
+pub for_control_stops : (names : Names) (room : ℕ) (tokens : List Token) (from : ℕ) → 2 ≤ room → kind_or_end tokens from ≡ word keyword.For → (s : Stop) → Stops (Controls names) (room - 1) tokens (from + 1) s → Stops (Sentences names) room tokens from s
+for_control_stops names room tokens from enough k s r = pair_first_stops (for_pair names) room (room - 1) (omega arith, omega arith, omega arith) tokens from (from + 1) (word_stands tokens from keyword.For k) s r
 
 -- the body was refused
-pub for_body_stops : (names : Names) (room : ℕ) (tokens : List Token) (end : Place) (from : ℕ) (control : Taken ForParts) → 2 ≤ room → kind_or_end tokens from ≡ word keyword.For → IsExactly (Controls names) control_of (room - 1) tokens (from + 1) control → (s : Stop) → Stops (Sentences names) (room - 1) tokens end control.next s → Stops (Sentences names) room tokens end from s
-for_body_stops names room tokens end from control enough k c s r =
-    pair_second_stops (for_pair names) room (room - 1) (omega arith, omega arith, omega arith) tokens end from (from + 1) control.next (word_stands tokens from keyword.For k) (control_of control.tree) (exact_stands (Controls names) control_of (room - 1) tokens (from + 1) control c) s r
+pub for_body_stops : (names : Names) (room : ℕ) (tokens : List Token) (from : ℕ) (control : Taken ForParts) → 2 ≤ room → kind_or_end tokens from ≡ word keyword.For → IsExactly (Controls names) control_of (room - 1) tokens (from + 1) control → (s : Stop) → Stops (Sentences names) (room - 1) tokens control.next s → Stops (Sentences names) room tokens from s
+for_body_stops names room tokens from control enough k c s r =
+    pair_second_stops (for_pair names) room (room - 1) (omega arith, omega arith, omega arith) tokens from (from + 1) control.next (word_stands tokens from keyword.For k) (control_of control.tree) (exact_stands (Controls names) control_of (room - 1) tokens (from + 1) control c) s r
 
 for_height : (names : Names) (a b : ℕ) (c : (Controls names).Tree) (body : Sentence) → a ≡ (Controls names).tall c → b ≡ (Sentences names).tall body → max a b + 1 ≡ (Sentences names).tall (For c.0 c.1.0 c.1.1 body)
 for_height names a b c body e f = omega (arith, e, f)

@@ -2,7 +2,6 @@
 use Rattle.std.proofs.Common.{◌≡◌, ℕ, ◌+◌, inl, inr, IsTrue, List, [], ◌∷◌, ◌++◌, Err, length, drop, refl, sym, ap, ◌∙◌, subst, arith, append-nil}
 use Rattle.std.proofs.lemmas.Bool.{false≢true}
 use Rattle.std.proofs.lemmas.List.{append_cancel_right, length-append}
-use Rattle.cs_ast.specs.declared.place.Place.{Place}
 use Rattle.cs_ast.specs.declared.token.Token.{Token}
 use Rattle.cs_ast.specs.declared.token.TokenKind.TheVariants as token
 use Rattle.cs_ast.specs.declared.token.Keyword.TheVariants as keyword
@@ -26,8 +25,8 @@ use Rattle.cs_expr_parser.specs.Positions.{kinds, kind_or_end}
 use Rattle.cs_expr_parser.specs.Parts.{IsRefused}
 use Rattle.cs_expr_parser.proofs.Standing.{stands, near, kinds_first}
 use Rattle.cs_decl_parser.specs.declared.source.Scope.TheVariants as scope
-use Rattle.cs_decl_parser.specs.declared.stop.Stop.{Stop}
-use Rattle.cs_decl_parser.specs.declared.stop.Stop.TheVariants as stop
+use Rattle.cs_expr_parser.specs.declared.stop.Stop.{Stop}
+use Rattle.cs_expr_parser.specs.declared.stop.Stop.TheVariants as stop
 use Rattle.cs_decl_parser.specs.declared.stop.Taken.{Taken}
 use Rattle.cs_decl_parser.specs.declared.declarator.Declares.TheVariants as declaring
 use Rattle.cs_decl_parser.specs.declared.declarator.Pointed.{Pointed}
@@ -58,10 +57,9 @@ type_unbegun names tokens from at reason r b =
     let v = r.refused.never b.type x [] b.is_type (head_shuts names b.head (open_brace ∷ b.inside) b.is_head) (inl refl) (sym e ∙ sym (append-nil r.front)) in
     v.onward refl
 
-pub type_body : (names : Names) (tokens : List Token) (end : Place) (from : ℕ) (s : Stop) → StopsOrBrace (FileSpecs names) 199 tokens end from s → IsStopInBody names tokens from s
-type_body names tokens end from stop.Memory r = tt
-type_body names tokens end from (stop.Expression x) r = tt
-type_body names tokens end from (stop.Refused at reason) r = λ b.
+pub type_body : (names : Names) (tokens : List Token) (from : ℕ) (s : Stop) → StopsOrBrace (FileSpecs names) 199 tokens from s → IsStopInBody names tokens from s
+type_body names tokens from stop.Memory r = tt
+type_body names tokens from (stop.Refused at reason) r = λ b.
     elim r [
       | inl x ↦ absurd (type_unbegun names tokens from at reason x b)
       | inr y ↦ brace_apt scope.Block (kind_or_end tokens at) reason y.brace
@@ -75,7 +73,6 @@ typedef_unbegun names tokens from at k b =
 
 pub typedef_body : (names : Names) (tokens : List Token) (from : ℕ) (s : Stop) → kind_or_end tokens from ≡ token.Keyword keyword.Typedef → IsStopInBody names tokens from s
 typedef_body names tokens from stop.Memory k = tt
-typedef_body names tokens from (stop.Expression x) k = tt
 typedef_body names tokens from (stop.Refused at reason) k = λ b. absurd (typedef_unbegun names tokens from at k b)
 
 -- what stands behind the type that was taken
@@ -107,7 +104,6 @@ name_unbegun names tokens from at reason type t m b =
 
 pub name_body : (names : Names) (tokens : List Token) (from : ℕ) (type : Taken RawSpecs) → IsTypeTaken names tokens from type → (s : Stop) → PointedAnswers declaring.Names names tokens type.next (Err s) → IsStopInBody names tokens from s
 name_body names tokens from type t stop.Memory m = tt
-name_body names tokens from type t (stop.Expression x) m = tt
 name_body names tokens from type t (stop.Refused at reason) m = λ b. absurd (name_unbegun names tokens from at reason type t m b)
 
 same_names : (ps qs : List PointerWord) (n m : List ℕ) (x y : Kinds) → pointers_text ps (token.Name n ∷ x) ≡ pointers_text qs (token.Name m ∷ y) → x ≡ y
@@ -131,7 +127,6 @@ objects_unbegun names tokens from at type pointed t p other b =
 
 pub objects_body : (names : Names) (tokens : List Token) (from : ℕ) (type : Taken RawSpecs) (pointed : Taken Pointed) → IsTypeTaken names tokens from type → IsPointed declaring.Names names tokens type.next pointed → (kind_or_end tokens pointed.next ≡ open_parenthesis → ⊥) → (s : Stop) → IsStopInBody names tokens from s
 objects_body names tokens from type pointed t p other stop.Memory = tt
-objects_body names tokens from type pointed t p other (stop.Expression x) = tt
 objects_body names tokens from type pointed t p other (stop.Refused at reason) = λ b. absurd (objects_unbegun names tokens from at type pointed t p other b)
 
 -- what stands between the parentheses was refused
@@ -147,10 +142,9 @@ parameters_unbegun names tokens from at reason type pointed t p k r b =
     let v = r.refused.never b.head.parameters (open_brace ∷ b.inside) [] h.parameters tt (inl refl) (sym e ∙ sym (append-nil r.front)) in
     v.onward refl
 
-pub parameters_body : (names : Names) (tokens : List Token) (end : Place) (from : ℕ) (type : Taken RawSpecs) (pointed : Taken Pointed) → IsTypeTaken names tokens from type → IsPointed declaring.Names names tokens type.next pointed → kind_or_end tokens pointed.next ≡ open_parenthesis → (s : Stop) → Stops (ParameterLists names) 198 tokens end (pointed.next + 1) s → IsStopInBody names tokens from s
-parameters_body names tokens end from type pointed t p k stop.Memory r = tt
-parameters_body names tokens end from type pointed t p k (stop.Expression x) r = tt
-parameters_body names tokens end from type pointed t p k (stop.Refused at reason) r = λ b. absurd (parameters_unbegun names tokens from at reason type pointed t p k r b)
+pub parameters_body : (names : Names) (tokens : List Token) (from : ℕ) (type : Taken RawSpecs) (pointed : Taken Pointed) → IsTypeTaken names tokens from type → IsPointed declaring.Names names tokens type.next pointed → kind_or_end tokens pointed.next ≡ open_parenthesis → (s : Stop) → Stops (ParameterLists names) 198 tokens (pointed.next + 1) s → IsStopInBody names tokens from s
+parameters_body names tokens from type pointed t p k stop.Memory r = tt
+parameters_body names tokens from type pointed t p k (stop.Refused at reason) r = λ b. absurd (parameters_unbegun names tokens from at reason type pointed t p k r b)
 
 -- neither a semicolon nor a body stands behind the head
 end_unbegun : (names : Names) (tokens : List Token) (from : ℕ) (type : Taken RawSpecs) (head : Taken RawFunction) → IsTypeTaken names tokens from type → HeadMade names tokens type.next head → BeginsBody names tokens from head.next → ⊥
@@ -168,5 +162,4 @@ end_body names tokens from type head t h s is = subst (IsStopInBody names tokens
 -- what stands in a body was refused
 pub inside_body : (names : Names) (tokens : List Token) (from : ℕ) (s : Stop) → IsStopApt scope.Block tokens s → IsStopInBody names tokens from s
 inside_body names tokens from stop.Memory a = tt
-inside_body names tokens from (stop.Expression x) a = tt
 inside_body names tokens from (stop.Refused at reason) a = λ b. a

@@ -28,3 +28,5 @@ pub mod PlacingFiles
 pub mod AptReasons
 pub mod InBodies
 pub mod FileReasonsHere
+pub mod ToldReasons
+pub mod WholeFiles

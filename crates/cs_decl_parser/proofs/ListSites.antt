@@ -2,7 +2,6 @@
 -- `constant`, `initial` and `items`.
 use Rattle.std.proofs.Common.{◌≡◌, ℕ, ◌+◌, ◌<◌, ◌≤◌, ◌&&◌, not, Bool, true, false, if◌then◌else◌, map, Some, None, List, [], ◌∷◌, length, refl, sym, ap, ◌∙◌, subst, arith}
 use Rattle.std.proofs.lemmas.Bool.{false≢true}
-use Rattle.cs_ast.specs.declared.place.Place.{Place}
 use Rattle.cs_ast.specs.declared.token.Token.{Token}
 use Rattle.cs_ast.specs.declared.token.TokenKind.{TokenKind}
 use Rattle.cs_ast.specs.declared.token.TokenKind.TheVariants as token
@@ -32,8 +31,8 @@ use Rattle.cs_grammar.proofs.InitialValues.{items_of, items_text, items_tall, va
 use Rattle.cs_expr_parser.specs.Positions.{kind_or_end}
 use Rattle.cs_expr_parser.specs.Parts.{Spells, IsRefused, is_deep}
 use Rattle.cs_decl_parser.specs.declared.source.Scope.{Scope}
-use Rattle.cs_decl_parser.specs.declared.stop.Stop.{Stop}
-use Rattle.cs_decl_parser.specs.declared.stop.Stop.TheVariants as stop
+use Rattle.cs_expr_parser.specs.declared.stop.Stop.{Stop}
+use Rattle.cs_expr_parser.specs.declared.stop.Stop.TheVariants as stop
 use Rattle.cs_decl_parser.specs.declared.stop.Unclosed.{Unclosed}
 use Rattle.cs_decl_parser.specs.Reasons.{plain_reason}
 use Rattle.cs_decl_parser.specs.Answers.{Stops, IsUnclosed}
@@ -100,9 +99,9 @@ unclosed_as C view room tokens from tree tall next deep taken h sp t is tallness
 }
 
 -- no name of a constant stands there
-pub constant_stops : (names : Names) (room : ℕ) (tokens : List Token) (end : Place) (from : ℕ) (scope : Scope) (s : Stop) → from ≤ length tokens → IsNameAt (IsFree names) (kind_or_end tokens from) None → s ≡ stop.Refused from (plain_reason scope (kind_or_end tokens from)) → Stops (Constants names) room tokens end from s
-constant_stops names room tokens end from scope s within none is =
-    stops_plain (Constants names) room tokens end from from scope [] s (spells_none tokens from within) is (constant_missing names room (kind_or_end tokens from) none)
+pub constant_stops : (names : Names) (room : ℕ) (tokens : List Token) (from : ℕ) (scope : Scope) (s : Stop) → from ≤ length tokens → IsNameAt (IsFree names) (kind_or_end tokens from) None → s ≡ stop.Refused from (plain_reason scope (kind_or_end tokens from)) → Stops (Constants names) room tokens from s
+constant_stops names room tokens from scope s within none is =
+    stops_plain (Constants names) room tokens from from scope [] s (spells_none tokens from within) is (constant_missing names room (kind_or_end tokens from) none)
 
 name_spelled : (tokens : List Token) (from : ℕ) (name : List ℕ) → kind_or_end tokens from ≡ token.Name name → Spells tokens from (from + 1) (λ rest. token.Name name ∷ rest)
 name_spelled tokens from name k = spells_one tokens from (token.Name name) k (λ x. cc)
@@ -126,10 +125,10 @@ two_on : (tokens : List Token) (from : ℕ) → kind_or_end tokens (from + 1) �
 two_on tokens from equal = subst (λ (n : ℕ). Spells tokens (from + 1) n (λ rest. token.Mark mark.Equal ∷ rest)) (let e : from + 1 + 1 ≡ from + 2 = omega arith in e) (spells_one tokens (from + 1) (token.Mark mark.Equal) equal (λ x. cc))
 
 -- the value of a constant was refused
-pub value_stops : (names : Names) (room inner : ℕ) → room ≡ 1 + inner → 1 ≤ inner → (tokens : List Token) (end : Place) (from : ℕ) (name : List ℕ) → kind_or_end tokens from ≡ token.Name name → IsFree names name → kind_or_end tokens (from + 1) ≡ token.Mark mark.Equal → (s : Stop) → Stops (Expressions names 2) inner tokens end (from + 2) s → Stops (Constants names) room tokens end from s
-value_stops names room inner less some tokens end from name k free equal s r =
-    single_stops (constant_single names name free) room inner (less, omega arith) tokens end from (from + 1) (name_spelled tokens from name k) (no_fits tokens (from + 1)) s
-    (stops_in (ConstantValues names) (Expressions names 2) inner inner tokens end (from + 1) (from + 2) (token.Mark mark.Equal ∷ []) (two_on tokens from equal)
+pub value_stops : (names : Names) (room inner : ℕ) → room ≡ 1 + inner → 1 ≤ inner → (tokens : List Token) (from : ℕ) (name : List ℕ) → kind_or_end tokens from ≡ token.Name name → IsFree names name → kind_or_end tokens (from + 1) ≡ token.Mark mark.Equal → (s : Stop) → Stops (Expressions names 2) inner tokens (from + 2) s → Stops (Constants names) room tokens from s
+value_stops names room inner less some tokens from name k free equal s r =
+    single_stops (constant_single names name free) room inner (less, omega arith) tokens from (from + 1) (name_spelled tokens from name k) (no_fits tokens (from + 1)) s
+    (stops_in (ConstantValues names) (Expressions names 2) inner inner tokens (from + 1) (from + 2) (token.Mark mark.Equal ∷ []) (two_on tokens from equal)
     (λ front at deep here x. constant_value_refused names inner some front (kind_or_end tokens at) deep x) s r)
 
 pub value_taken : (names : Names) (room inner : ℕ) → room ≡ 1 + inner → 1 ≤ inner → (tokens : List Token) (from : ℕ) (name : List ℕ) → kind_or_end tokens from ≡ token.Name name → IsFree names name → kind_or_end tokens (from + 1) ≡ token.Mark mark.Equal → (value : Unclosed RawExpr) → IsUnclosed (Expressions names 2) written inner tokens (from + 2) value → (taken : Unclosed RawEnumerator) → IsConstantOf name (Some (written value.tree)) taken.tree → taken.height ≡ value.height + 1 → taken.next ≡ value.next → taken.otherwise ≡ value.otherwise → IsUnclosed (Constants names) constant room tokens from taken
@@ -143,8 +142,8 @@ value_taken names room inner less some tokens from name k free equal value v tak
     is tall next (ap is_deep why)
 
 -- no value begins with the token
-pub no_value_stops : (names : Names) (room : ℕ) (tokens : List Token) (end : Place) (from : ℕ) (reason : Reason) → from ≤ length tokens → is_deep reason ≡ false → begins_expression names (kind_or_end tokens from) ≡ false → (kind_or_end tokens from ≡ token.Mark mark.OpenBrace → ⊥) → IsRefused (Values names) room tokens from from reason
-no_value_stops names room tokens end from reason within plain none other = record {
+pub no_value_stops : (names : Names) (room : ℕ) (tokens : List Token) (from : ℕ) (reason : Reason) → from ≤ length tokens → is_deep reason ≡ false → begins_expression names (kind_or_end tokens from) ≡ false → (kind_or_end tokens from ≡ token.Mark mark.OpenBrace → ⊥) → IsRefused (Values names) room tokens from from reason
+no_value_stops names room tokens from reason within plain none other = record {
   front = [];
   spelled = spells_none tokens from within;
   refused =
@@ -153,9 +152,9 @@ no_value_stops names room tokens end from reason within plain none other = recor
 }
 
 -- the expression was refused
-pub single_value_stops : (names : Names) (room : ℕ) → 1 ≤ room → (tokens : List Token) (end : Place) (from : ℕ) → (kind_or_end tokens from ≡ token.Mark mark.OpenBrace → ⊥) → (s : Stop) → Stops (Expressions names 1) room tokens end from s → Stops (Values names) room tokens end from s
-single_value_stops names room some tokens end from other s r =
-    stops_pass (Values names) (Expressions names 1) room room tokens end from
+pub single_value_stops : (names : Names) (room : ℕ) → 1 ≤ room → (tokens : List Token) (from : ℕ) → (kind_or_end tokens from ≡ token.Mark mark.OpenBrace → ⊥) → (s : Stop) → Stops (Expressions names 1) room tokens from s → Stops (Values names) room tokens from s
+single_value_stops names room some tokens from other s r =
+    stops_pass (Values names) (Expressions names 1) room room tokens from
     (λ front at deep here x. value_refused names room some front (kind_or_end tokens at) deep (λ empty brace. other (sym (refused_here tokens from at front here empty) ∙ brace)) x) s r
 
 pub single_value_taken : (names : Names) (room : ℕ) → 1 ≤ room → (tokens : List Token) (from : ℕ) (value : Unclosed RawExpr) → IsUnclosed (Expressions names 1) written room tokens from value → (taken : Unclosed RawInitial) → initial taken.tree ≡ One (written value.tree) → taken.height ≡ value.height → taken.next ≡ value.next → taken.otherwise ≡ value.otherwise → IsUnclosed (Values names) initial room tokens from taken
@@ -172,9 +171,9 @@ list_full_stops names room tokens from within little k = record {
 }
 
 -- the items between the braces were refused
-pub items_stop : (names : Names) (room inner : ℕ) → room ≡ 1 + inner → 1 ≤ inner → (tokens : List Token) (end : Place) (from : ℕ) → kind_or_end tokens from ≡ token.Mark mark.OpenBrace → (s : Stop) → Stops (Trailing (Values names) close_brace) inner tokens end (from + 1) s → Stops (Values names) room tokens end from s
-items_stop names room inner less some tokens end from k s r =
-    single_stops (list_single names) room inner (less, some) tokens end from (from + 1) (spells_one tokens from (token.Mark mark.OpenBrace) k (λ x. cc)) (no_fits tokens (from + 1)) s r
+pub items_stop : (names : Names) (room inner : ℕ) → room ≡ 1 + inner → 1 ≤ inner → (tokens : List Token) (from : ℕ) → kind_or_end tokens from ≡ token.Mark mark.OpenBrace → (s : Stop) → Stops (Trailing (Values names) close_brace) inner tokens (from + 1) s → Stops (Values names) room tokens from s
+items_stop names room inner less some tokens from k s r =
+    single_stops (list_single names) room inner (less, some) tokens from (from + 1) (spells_one tokens from (token.Mark mark.OpenBrace) k (λ x. cc)) (no_fits tokens (from + 1)) s r
 
 pub items_taken : (names : Names) (room inner : ℕ) → room ≡ 1 + inner → 1 ≤ inner → (tokens : List Token) (from next : ℕ) → kind_or_end tokens from ≡ token.Mark mark.OpenBrace → (row : List Initial × Bool) (tall : ℕ) → IsRowTaken (Values names) close_brace inner tokens (from + 1) next row tall → (taken : Unclosed RawInitial) → initial taken.tree ≡ listed_of row → taken.height ≡ tall + 1 → taken.next ≡ next → is_deep taken.otherwise ≡ false → IsUnclosed (Values names) initial room tokens from taken
 items_taken names room inner less some tokens from next k row tall r taken is tallness number why =
@@ -197,7 +196,7 @@ designator_is (token.Mark mark.OpenBracket) e = (λ names. refl, λ k. cc)
 designator_is _ e = absurd cc
 
 -- a designator
-pub designator_stops : (names : Names) (room : ℕ) (tokens : List Token) (end : Place) (from : ℕ) (reason : Reason) → from ≤ length tokens → is_deep reason ≡ false → is_designator (kind_or_end tokens from) ≡ true → IsRefused (Values names) room tokens from from reason
-designator_stops names room tokens end from reason within plain is =
+pub designator_stops : (names : Names) (room : ℕ) (tokens : List Token) (from : ℕ) (reason : Reason) → from ≤ length tokens → is_deep reason ≡ false → is_designator (kind_or_end tokens from) ≡ true → IsRefused (Values names) room tokens from from reason
+designator_stops names room tokens from reason within plain is =
     let d = designator_is (kind_or_end tokens from) is in
-    no_value_stops names room tokens end from reason within plain (d.0 names) d.1
+    no_value_stops names room tokens from reason within plain (d.0 names) d.1

@@ -1,7 +1,6 @@
 -- Each return of the parts that read declarations inside blocks and what stands in a block, over tokens by their numbers.
 use Rattle.std.proofs.Common.{◌≡◌, ℕ, ◌+◌, ◌-◌, ◌<◌, ◌≤◌, max, ◌⊎◌, inl, inr, Bool, true, false, ◌||◌, List, [], ◌∷◌, ◌++◌, map, length, refl, sym, ap, ◌∙◌, subst, arith, Vec, Global}
 use Rattle.std.proofs.lemmas.Bool.{false≢true}
-use Rattle.cs_ast.specs.declared.place.Place.{Place}
 use Rattle.cs_ast.specs.declared.token.Token.{Token}
 use Rattle.cs_ast.specs.declared.token.TokenKind.{TokenKind}
 use Rattle.cs_ast.specs.declared.token.TokenKind.TheVariants as token
@@ -17,7 +16,6 @@ use Rattle.cs_ast.specs.RawStatements.{Nothing, Label, Item, Declares, Does}
 use Rattle.cs_ast.specs.RawStatementView.{statement_of, item}
 use Rattle.cs_ast.specs.RawFileHeight.{declaration_height, item_height}
 use Rattle.cs_grammar.specs.declared.refusal.Reason.TheVariants.{TooDeep}
-use Rattle.cs_grammar.specs.declared.refusal.SyntaxRefusal.TheVariants as refusal
 use Rattle.cs_grammar.specs.TypeWords.{Names}
 use Rattle.cs_grammar.specs.Text.{Kinds}
 use Rattle.cs_grammar.specs.FirstTokens.{begins_type, keyword_begins_type}
@@ -41,8 +39,8 @@ use Rattle.cs_grammar.proofs.ItemSites.{type_example, item_low, declaration_fits
 use Rattle.cs_grammar.proofs.DeclarationSites.{block_type_refused, block_objects_refused, block_declaration_took}
 use Rattle.cs_expr_parser.specs.Positions.{kind_or_end}
 use Rattle.cs_expr_parser.specs.Parts.{Spells, is_deep}
-use Rattle.cs_decl_parser.specs.declared.stop.Stop.{Stop}
-use Rattle.cs_decl_parser.specs.declared.stop.Stop.TheVariants as stop
+use Rattle.cs_expr_parser.specs.declared.stop.Stop.{Stop}
+use Rattle.cs_expr_parser.specs.declared.stop.Stop.TheVariants as stop
 use Rattle.cs_decl_parser.specs.declared.stop.Taken.{Taken}
 use Rattle.cs_decl_parser.specs.declared.block.DeclaredObjects.{DeclaredObjects}
 use Rattle.cs_decl_parser.specs.Answers.{Stops, IsExactly, IsTaken, StopsOrBrace}
@@ -106,11 +104,11 @@ local_full names room next full e =
     (record { phrase = b.phrase; more = b.more; is_phrase = b.is_phrase; spelled = b.spelled })
 
 -- there is no room for a declaration
-pub local_none : (names : Names) (room : ℕ) (tokens : List Token) (end : Place) (from : ℕ) (s : Stop) → from ≤ length tokens → room < 2 → begins_type names (kind_or_end tokens from) ≡ true → s ≡ stop.Refused from TooDeep → Stops (Locals names) room tokens end from s
-local_none names room tokens end from s within full e is = stops_full (Locals names) room tokens end from s within is (local_full names room (kind_or_end tokens from) full e)
+pub local_none : (names : Names) (room : ℕ) (tokens : List Token) (from : ℕ) (s : Stop) → from ≤ length tokens → room < 2 → begins_type names (kind_or_end tokens from) ≡ true → s ≡ stop.Refused from TooDeep → Stops (Locals names) room tokens from s
+local_none names room tokens from s within full e is = stops_full (Locals names) room tokens from s within is (local_full names room (kind_or_end tokens from) full e)
 
-local_stops : (names : Names) (room : ℕ) (tokens : List Token) (end : Place) (from : ℕ) → 2 ≤ room → from ≤ length tokens → (s : Stop) → Stops (BlockDeclarations names) (room - 1) tokens end from s → Stops (Locals names) room tokens end from s
-local_stops names room tokens end from enough within s r = single_stops (local_single names) room (room - 1) (omega arith, omega arith) tokens end from from (spells_none tokens from within) (no_fits tokens from) s r
+local_stops : (names : Names) (room : ℕ) (tokens : List Token) (from : ℕ) → 2 ≤ room → from ≤ length tokens → (s : Stop) → Stops (BlockDeclarations names) (room - 1) tokens from s → Stops (Locals names) room tokens from s
+local_stops names room tokens from enough within s r = single_stops (local_single names) room (room - 1) (omega arith, omega arith) tokens from from (spells_none tokens from within) (no_fits tokens from) s r
 
 no_object : (tokens : Kinds) → Starts tokens → tokens ≡ [] → ⊥
 no_object tokens (with_star more e) none = let z = sym e ∙ none in cc
@@ -126,35 +124,31 @@ brace_refused names room some phrase next deep brace t =
     (λ d after is same. no_object (with_commas declared_text d (semicolon ∷ after)) (objects_start names d (semicolon ∷ after) is.0 is.1) same)
     (λ d after more is same. no_brace (with_commas declared_text d (semicolon ∷ after)) more (objects_start names d (semicolon ∷ after) is.0 is.1) (same ∙ ap (λ (x : TokenKind). x ∷ more) brace))
 
-type_stops : (names : Names) (room : ℕ) (tokens : List Token) (end : Place) (from : ℕ) → 1 ≤ room → (s : Stop) → Stops (BlockSpecs names) room tokens end from s → Stops (BlockDeclarations names) room tokens end from s
-type_stops names room tokens end from some s r =
-    stops_pass (BlockDeclarations names) (BlockSpecs names) room room tokens end from (λ front at deep here x. block_type_refused names room some front (kind_or_end tokens at) deep x) s r
+type_stops : (names : Names) (room : ℕ) (tokens : List Token) (from : ℕ) → 1 ≤ room → (s : Stop) → Stops (BlockSpecs names) room tokens from s → Stops (BlockDeclarations names) room tokens from s
+type_stops names room tokens from some s r =
+    stops_pass (BlockDeclarations names) (BlockSpecs names) room room tokens from (λ front at deep here x. block_type_refused names room some front (kind_or_end tokens at) deep x) s r
 
-specs_stop : (names : Names) (room : ℕ) (tokens : List Token) (end : Place) (from : ℕ) → 1 ≤ room → (s : Stop) → StopsOrBrace (BlockSpecs names) room tokens end from s → Stops (BlockDeclarations names) room tokens end from s
-specs_stop names room tokens end from some stop.Memory r = tt
-specs_stop names room tokens end from some (stop.Refused at reason) r =
+specs_stop : (names : Names) (room : ℕ) (tokens : List Token) (from : ℕ) → 1 ≤ room → (s : Stop) → StopsOrBrace (BlockSpecs names) room tokens from s → Stops (BlockDeclarations names) room tokens from s
+specs_stop names room tokens from some stop.Memory r = tt
+specs_stop names room tokens from some (stop.Refused at reason) r =
     elim r [
-      | inl x ↦ type_stops names room tokens end from some (stop.Refused at reason) x
+      | inl x ↦ type_stops names room tokens from some (stop.Refused at reason) x
       | inr b ↦ record {
         front = specs_text b.phrase [];
         spelled = front_of (BlockSpecs names) (block_specs_law names) tokens from at b.phrase b.spelled;
         refused = brace_refused names room some b.phrase (kind_or_end tokens at) (is_deep reason) b.brace b.took;
       }
     ]
-specs_stop names room tokens end from some (stop.Expression refusal.Memory) r = tt
-specs_stop names room tokens end from some (stop.Expression (refusal.Syntax place)) r = type_stops names room tokens end from some (stop.Expression (refusal.Syntax place)) r
-specs_stop names room tokens end from some (stop.Expression (refusal.LeftOut place word)) r = type_stops names room tokens end from some (stop.Expression (refusal.LeftOut place word)) r
-specs_stop names room tokens end from some (stop.Expression (refusal.TooDeep place)) r = type_stops names room tokens end from some (stop.Expression (refusal.TooDeep place)) r
 
 -- the type of a declaration was refused
-pub local_type_stops : (names : Names) (room : ℕ) (tokens : List Token) (end : Place) (from : ℕ) → 2 ≤ room → from ≤ length tokens → (s : Stop) → StopsOrBrace (BlockSpecs names) (room - 1) tokens end from s → Stops (Locals names) room tokens end from s
-local_type_stops names room tokens end from enough within s r = local_stops names room tokens end from enough within s (specs_stop names (room - 1) tokens end from (omega arith) s r)
+pub local_type_stops : (names : Names) (room : ℕ) (tokens : List Token) (from : ℕ) → 2 ≤ room → from ≤ length tokens → (s : Stop) → StopsOrBrace (BlockSpecs names) (room - 1) tokens from s → Stops (Locals names) room tokens from s
+local_type_stops names room tokens from enough within s r = local_stops names room tokens from enough within s (specs_stop names (room - 1) tokens from (omega arith) s r)
 
 -- its objects were refused
-pub local_objects_stop : (names : Names) (room : ℕ) (tokens : List Token) (end : Place) (from : ℕ) (type : Taken RawSpecs) → 2 ≤ room → from ≤ length tokens → IsTaken (BlockSpecs names) specs (room - 1) tokens from false type → (s : Stop) → Stops (Separated (Objects names) semicolon) (room - 1) tokens end type.next s → Stops (Locals names) room tokens end from s
-local_objects_stop names room tokens end from type enough within t s r =
-    local_stops names room tokens end from enough within s
-    (stops_in (BlockDeclarations names) (Separated (Objects names) semicolon) (room - 1) (room - 1) tokens end from type.next (specs_text (specs type.tree) []) (front_of (BlockSpecs names) (block_specs_law names) tokens from type.next (specs type.tree) t.spelled)
+pub local_objects_stop : (names : Names) (room : ℕ) (tokens : List Token) (from : ℕ) (type : Taken RawSpecs) → 2 ≤ room → from ≤ length tokens → IsTaken (BlockSpecs names) specs (room - 1) tokens from false type → (s : Stop) → Stops (Separated (Objects names) semicolon) (room - 1) tokens type.next s → Stops (Locals names) room tokens from s
+local_objects_stop names room tokens from type enough within t s r =
+    local_stops names room tokens from enough within s
+    (stops_in (BlockDeclarations names) (Separated (Objects names) semicolon) (room - 1) (room - 1) tokens from type.next (specs_text (specs type.tree) []) (front_of (BlockSpecs names) (block_specs_law names) tokens from type.next (specs type.tree) t.spelled)
     (λ front at deep here x. block_objects_refused names (room - 1) (omega arith) (specs type.tree) (kind_or_end tokens type.next) t.took front (kind_or_end tokens at) deep (first_front tokens type.next at front here) x) s r)
 
 first_any : (front : Kinds) (a b : TokenKind) → (front ≡ [] → ⊥) → first_or front a ≡ first_or front b
@@ -241,8 +235,8 @@ declares_lift names room tokens from e other (f ∷ fs) at deep here x =
     (declaration_fits names f fs (kind_or_end tokens at) typed (λ n name c. unlabelled_colon (kind_or_end tokens from) (kind_or_end tokens (from + 1)) n other (sym k ∙ name) (sym (second_is tokens from at f fs here (type_no_end names f typed)) ∙ c))) x
 
 -- what stands in a block is a declaration, which was refused
-pub declares_stops : (names : Names) (room : ℕ) (tokens : List Token) (end : Place) (from : ℕ) → begins_type names (kind_or_end tokens from) ≡ true → is_labelled (kind_or_end tokens from) (kind_or_end tokens (from + 1)) ≡ false → (s : Stop) → Stops (Locals names) room tokens end from s → Stops (BlockItems names) room tokens end from s
-declares_stops names room tokens end from e other s r = stops_pass (BlockItems names) (Locals names) room room tokens end from (declares_lift names room tokens from e other) s r
+pub declares_stops : (names : Names) (room : ℕ) (tokens : List Token) (from : ℕ) → begins_type names (kind_or_end tokens from) ≡ true → is_labelled (kind_or_end tokens from) (kind_or_end tokens (from + 1)) ≡ false → (s : Stop) → Stops (Locals names) room tokens from s → Stops (BlockItems names) room tokens from s
+declares_stops names room tokens from e other s r = stops_pass (BlockItems names) (Locals names) room room tokens from (declares_lift names room tokens from e other) s r
 
 item_taken : (names : Names) (room : ℕ) (tokens : List Token) (from next : ℕ) (tree : Item) (tall : ℕ) (whole : Taken RawItem) → item whole.tree ≡ tree → whole.height ≡ tall → tall ≡ item_height tree → whole.next ≡ next → Standing (BlockItems names) room tokens from next false tree → IsTaken (BlockItems names) item room tokens from false whole
 item_taken names room tokens from next tree tall whole e height h later s = record {
@@ -324,8 +318,8 @@ does_lift names room tokens from (inr e) front at deep here x =
     does_label names room tokens from l.0 l.1 l.2 front at deep here x
 
 -- what stands in a block is a statement, which was refused
-pub does_stops : (names : Names) (room : ℕ) (tokens : List Token) (end : Place) (from : ℕ) → IsNoDeclaration names tokens from → (s : Stop) → Stops (Sentences names) room tokens end from s → Stops (BlockItems names) room tokens end from s
-does_stops names room tokens end from other s r = stops_pass (BlockItems names) (Sentences names) room room tokens end from (does_lift names room tokens from other) s r
+pub does_stops : (names : Names) (room : ℕ) (tokens : List Token) (from : ℕ) → IsNoDeclaration names tokens from → (s : Stop) → Stops (Sentences names) room tokens from s → Stops (BlockItems names) room tokens from s
+does_stops names room tokens from other s r = stops_pass (BlockItems names) (Sentences names) room room tokens from (does_lift names room tokens from other) s r
 
 -- a statement was taken
 pub does_taken : (names : Names) (room : ℕ) (tokens : List Token) (from : ℕ) (inner : Taken RawStmt) (whole : Taken RawItem) → IsTaken (Sentences names) statement_of room tokens from false inner → item whole.tree ≡ Does (statement_of inner.tree) → whole.height ≡ inner.height → whole.next ≡ inner.next → IsTaken (BlockItems names) item room tokens from false whole

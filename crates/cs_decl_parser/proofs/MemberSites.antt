@@ -1,7 +1,6 @@
 -- Members of structures: what each return gives. For the contracts of `member` and `members`.
 use Rattle.std.proofs.Common.{◌≡◌, ℕ, ◌+◌, ◌<◌, ◌≤◌, max, inl, inr, true, false, map, List, [], ◌∷◌, ◌++◌, length, refl, sym, ap, ◌∙◌, subst, arith}
 use Rattle.std.proofs.lemmas.Bool.{false≢true}
-use Rattle.cs_ast.specs.declared.place.Place.{Place}
 use Rattle.cs_ast.specs.declared.token.Token.{Token}
 use Rattle.cs_ast.specs.declared.token.TokenKind.{TokenKind}
 use Rattle.cs_ast.specs.declared.token.TokenKind.TheVariants as token
@@ -38,8 +37,8 @@ use Rattle.cs_grammar.proofs.SmallRooms.{begins_file_spec, group_full}
 use Rattle.cs_expr_parser.specs.Positions.{kind_or_end}
 use Rattle.cs_expr_parser.specs.Parts.{Spells, IsRefused, is_deep}
 use Rattle.cs_decl_parser.specs.declared.source.Scope.TheVariants.{File}
-use Rattle.cs_decl_parser.specs.declared.stop.Stop.{Stop}
-use Rattle.cs_decl_parser.specs.declared.stop.Stop.TheVariants as stop
+use Rattle.cs_expr_parser.specs.declared.stop.Stop.{Stop}
+use Rattle.cs_expr_parser.specs.declared.stop.Stop.TheVariants as stop
 use Rattle.cs_decl_parser.specs.declared.stop.Taken.{Taken}
 use Rattle.cs_decl_parser.specs.Answers.{Stops, StopsOrBrace, IsTaken, IsExactly, IsBraceRefused}
 use Rattle.cs_decl_parser.specs.SpecWords.{begins_words, group}
@@ -80,18 +79,18 @@ group_absent names room next none =
     (λ g after is same. specs_has names g.0 (with_commas declarator_text g.1 (semicolon ∷ after)) is.0 same)
     (λ g after more is same. false≢true (sym none ∙ specs_begin names g.0 (with_commas declarator_text g.1 (semicolon ∷ after)) next more is.0 same))
 
-pub member_absent : (names : Names) (room : ℕ) (tokens : List Token) (end : Place) (from : ℕ) (s : Stop) → from ≤ length tokens → begins_words File names (kind_or_end tokens from) ≡ false → IsPlainStop File tokens from s → Stops (MemberGroups names) room tokens end from s
-member_absent names room tokens end from s within none is =
-    stops_plain (MemberGroups names) room tokens end from from File [] s (spells_none tokens from within) is (group_absent names room (kind_or_end tokens from) none)
+pub member_absent : (names : Names) (room : ℕ) (tokens : List Token) (from : ℕ) (s : Stop) → from ≤ length tokens → begins_words File names (kind_or_end tokens from) ≡ false → IsPlainStop File tokens from s → Stops (MemberGroups names) room tokens from s
+member_absent names room tokens from s within none is =
+    stops_plain (MemberGroups names) room tokens from from File [] s (spells_none tokens from within) is (group_absent names room (kind_or_end tokens from) none)
 
 begins_same : (names : Names) (next : TokenKind) → begins_file_spec names next ≡ begins_words File names next
 begins_same names (token.Keyword keyword.Static) = refl
 begins_same names _ = refl
 
 -- there is no room for a member
-pub member_full : (names : Names) (room : ℕ) (tokens : List Token) (end : Place) (from : ℕ) (s : Stop) → from ≤ length tokens → room < 2 → begins_words File names (kind_or_end tokens from) ≡ true → s ≡ stop.Refused from TooDeep → Stops (MemberGroups names) room tokens end from s
-member_full names room tokens end from s within little begins is =
-    stops_full (MemberGroups names) room tokens end from s within is (group_full names room (kind_or_end tokens from) little (begins_same names (kind_or_end tokens from) ∙ begins))
+pub member_full : (names : Names) (room : ℕ) (tokens : List Token) (from : ℕ) (s : Stop) → from ≤ length tokens → room < 2 → begins_words File names (kind_or_end tokens from) ≡ true → s ≡ stop.Refused from TooDeep → Stops (MemberGroups names) room tokens from s
+member_full names room tokens from s within little begins is =
+    stops_full (MemberGroups names) room tokens from s within is (group_full names room (kind_or_end tokens from) little (begins_same names (kind_or_end tokens from) ∙ begins))
 
 starts_some : (tokens : Kinds) → Starts tokens → tokens ≡ [] → ⊥
 starts_some tokens (with_star more e) same = let z = sym e ∙ same in cc
@@ -118,20 +117,18 @@ brace_refused names room inner less some tokens from at reason b = record {
 }
 
 -- the words before the declarators were refused
-pub member_specs_stop : (names : Names) (room inner : ℕ) → room ≡ 1 + inner → 1 ≤ inner → (tokens : List Token) (end : Place) (from : ℕ) → from ≤ length tokens → (s : Stop) → StopsOrBrace (FileSpecs names) inner tokens end from s → Stops (MemberGroups names) room tokens end from s
-member_specs_stop names room inner less some tokens end from within stop.Memory a = tt
-member_specs_stop names room inner less some tokens end from within (stop.Refused at reason) a =
+pub member_specs_stop : (names : Names) (room inner : ℕ) → room ≡ 1 + inner → 1 ≤ inner → (tokens : List Token) (from : ℕ) → from ≤ length tokens → (s : Stop) → StopsOrBrace (FileSpecs names) inner tokens from s → Stops (MemberGroups names) room tokens from s
+member_specs_stop names room inner less some tokens from within stop.Memory a = tt
+member_specs_stop names room inner less some tokens from within (stop.Refused at reason) a =
     elim a [
-      | inl r ↦ pair_first_stops (member_pair names) room inner (has_room names room inner less some) tokens end from from (spells_none tokens from within) (stop.Refused at reason) r
+      | inl r ↦ pair_first_stops (member_pair names) room inner (has_room names room inner less some) tokens from from (spells_none tokens from within) (stop.Refused at reason) r
       | inr b ↦ brace_refused names room inner less some tokens from at reason b
     ]
-member_specs_stop names room inner less some tokens end from within (stop.Expression r) a =
-    pair_first_stops (member_pair names) room inner (has_room names room inner less some) tokens end from from (spells_none tokens from within) (stop.Expression r) a
 
 -- the declarators behind the words were refused
-pub member_list_stops : (names : Names) (room inner : ℕ) → room ≡ 1 + inner → 1 ≤ inner → (tokens : List Token) (end : Place) (from : ℕ) (words : Taken RawSpecs) → IsTaken (FileSpecs names) specs inner tokens from false words → (s : Stop) → Stops (Separated (MemberDeclarators names) semicolon) inner tokens end words.next s → Stops (MemberGroups names) room tokens end from s
-member_list_stops names room inner less some tokens end from words w s r =
-    stops_in (MemberGroups names) (Separated (MemberDeclarators names) semicolon) room inner tokens end from words.next (specs_text (specs words.tree) [])
+pub member_list_stops : (names : Names) (room inner : ℕ) → room ≡ 1 + inner → 1 ≤ inner → (tokens : List Token) (from : ℕ) (words : Taken RawSpecs) → IsTaken (FileSpecs names) specs inner tokens from false words → (s : Stop) → Stops (Separated (MemberDeclarators names) semicolon) inner tokens words.next s → Stops (MemberGroups names) room tokens from s
+member_list_stops names room inner less some tokens from words w s r =
+    stops_in (MemberGroups names) (Separated (MemberDeclarators names) semicolon) room inner tokens from words.next (specs_text (specs words.tree) [])
     (front_of (FileSpecs names) (file_specs_law names) tokens from words.next (specs words.tree) w.spelled)
     (λ front at deep here x.
     pair_then_refused (member_pair names) room inner (has_room names room inner less some) (specs words.tree) (kind_or_end tokens words.next) false w.took (λ told. absurd (false≢true told)) front (kind_or_end tokens at) deep
@@ -222,10 +219,10 @@ member_more names room tokens from next items more tall m taken t is =
     }
 
 -- a member was refused, where no brace closes the members
-pub member_stops : (names : Names) (room : ℕ) (tokens : List Token) (end : Place) (from next : ℕ) (items : List RawMember) (tall : ℕ) → MembersSoFar names room tokens from next items tall → (kind_or_end tokens next ≡ close_brace → ⊥) → (s : Stop) → Stops (MemberGroups names) room tokens end next s → Stops (MemberRows names) room tokens end from s
-member_stops names room tokens end from next items tall m other s r =
+pub member_stops : (names : Names) (room : ℕ) (tokens : List Token) (from next : ℕ) (items : List RawMember) (tall : ℕ) → MembersSoFar names room tokens from next items tall → (kind_or_end tokens next ≡ close_brace → ⊥) → (s : Stop) → Stops (MemberGroups names) room tokens next s → Stops (MemberRows names) room tokens from s
+member_stops names room tokens from next items tall m other s r =
     let done = members_list items in
-    stops_in (MemberRows names) (MemberGroups names) room room tokens end from next (members_text done [])
+    stops_in (MemberRows names) (MemberGroups names) room room tokens from next (members_text done [])
     (spells_as tokens from next (members_text done) (λ rest. members_text done [] ++ rest) m.spelled (λ rest. sym (members_append done [] rest)))
     (λ front at deep here x.
     grown_refused (member_growing names) room done (Near (kind_or_end tokens next)) m.so_far front (kind_or_end tokens at) deep (near_start tokens next at front here)

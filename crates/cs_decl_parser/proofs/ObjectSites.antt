@@ -1,6 +1,5 @@
 -- Declared objects: what each return gives. For the contracts of `with_value`, `with_others` and their like.
 use Rattle.std.proofs.Common.{◌≡◌, ℕ, ◌+◌, ◌≤◌, true, false, Some, None, List, [], ◌∷◌, ◌++◌, sym, ap, ◌∙◌, subst, arith}
-use Rattle.cs_ast.specs.declared.place.Place.{Place}
 use Rattle.cs_ast.specs.declared.token.Token.{Token}
 use Rattle.cs_ast.specs.declared.token.TokenKind.{TokenKind}
 use Rattle.cs_ast.specs.declared.raw.declaration.RawDeclarator.{RawDeclarator}
@@ -20,7 +19,7 @@ use Rattle.cs_grammar.proofs.DeclaredObjects.{equal_token, declared_of, declared
 use Rattle.cs_expr_parser.specs.Positions.{kind_or_end}
 use Rattle.cs_expr_parser.specs.Parts.{Spells, is_deep}
 use Rattle.cs_decl_parser.specs.declared.source.Scope.{Scope}
-use Rattle.cs_decl_parser.specs.declared.stop.Stop.{Stop}
+use Rattle.cs_expr_parser.specs.declared.stop.Stop.{Stop}
 use Rattle.cs_decl_parser.specs.declared.stop.Taken.{Taken}
 use Rattle.cs_decl_parser.specs.declared.stop.Unclosed.{Unclosed}
 use Rattle.cs_decl_parser.specs.declared.declarator.Declares.TheVariants as declaring
@@ -32,9 +31,9 @@ use Rattle.cs_decl_parser.proofs.StatementStops.{stops_in, stops_pass, plain_fla
 use Rattle.cs_decl_parser.proofs.ListSites.{unclosed_as}
 
 -- the declarator was refused
-pub object_stops : (names : Names) (room : ℕ) (tokens : List Token) (end : Place) (from : ℕ) (s : Stop) → Stops (DeclaratorsFor declaring.Names names) room tokens end from s → Stops (Objects names) room tokens end from s
-object_stops names room tokens end from s r =
-    stops_pass (Objects names) (DeclaratorsFor declaring.Names names) room room tokens end from (λ front at deep here x. declared_refused names room front (kind_or_end tokens at) deep x) s r
+pub object_stops : (names : Names) (room : ℕ) (tokens : List Token) (from : ℕ) (s : Stop) → Stops (DeclaratorsFor declaring.Names names) room tokens from s → Stops (Objects names) room tokens from s
+object_stops names room tokens from s r =
+    stops_pass (Objects names) (DeclaratorsFor declaring.Names names) room room tokens from (λ front at deep here x. declared_refused names room front (kind_or_end tokens at) deep x) s r
 
 -- no value stands behind the declarator
 pub alone_taken : (names : Names) (room inner : ℕ) → room ≡ 1 + inner → (tokens : List Token) (from : ℕ) (d : Taken RawDeclarator) → IsDeclaratorTaken declaring.Names names room tokens from d → (kind_or_end tokens d.next ≡ equal_token → ⊥) → (scope : Scope) (taken : Unclosed RawInit) → IsAlone d.tree taken.tree → taken.height ≡ d.height → taken.next ≡ d.next → taken.otherwise ≡ plain_reason scope (kind_or_end tokens d.next) → IsUnclosed (Objects names) declared room tokens from taken
@@ -57,11 +56,11 @@ equal_spelled : (tokens : List Token) (from next : ℕ) (d : Declarator) → Spe
 equal_spelled tokens from next d sp equal = spells_more tokens from next (next + 1) (declarator_text d) (λ rest. equal_token ∷ rest) sp (spells_one tokens next equal_token equal (λ x. cc))
 
 -- the value was refused
-pub object_value_stops : (names : Names) (room inner : ℕ) → room ≡ 1 + inner → (tokens : List Token) (end : Place) (from : ℕ) (d : Taken RawDeclarator) → IsDeclaratorTaken declaring.Names names room tokens from d → kind_or_end tokens d.next ≡ equal_token → d.height ≤ inner → (s : Stop) → Stops (Values names) inner tokens end (d.next + 1) s → Stops (Objects names) room tokens end from s
-object_value_stops names room inner less tokens end from d given equal fits s r =
+pub object_value_stops : (names : Names) (room inner : ℕ) → room ≡ 1 + inner → (tokens : List Token) (from : ℕ) (d : Taken RawDeclarator) → IsDeclaratorTaken declaring.Names names room tokens from d → kind_or_end tokens d.next ≡ equal_token → d.height ≤ inner → (s : Stop) → Stops (Values names) inner tokens (d.next + 1) s → Stops (Objects names) room tokens from s
+object_value_stops names room inner less tokens from d given equal fits s r =
     let t = given inner less in
     let h = t.height_is in
-    stops_in (Objects names) (Values names) room inner tokens end from (d.next + 1) (declarator_text (declarator d.tree) (equal_token ∷ []))
+    stops_in (Objects names) (Values names) room inner tokens from (d.next + 1) (declarator_text (declarator d.tree) (equal_token ∷ []))
     (spells_as tokens from (d.next + 1) (λ rest. declarator_text (declarator d.tree) (equal_token ∷ rest)) (λ rest. declarator_text (declarator d.tree) (equal_token ∷ []) ++ rest) (equal_spelled tokens from d.next (declarator d.tree) t.spelled equal)
     (λ rest. sym (declarators_law (IsFree names) names (Unit {0}) (declarator d.tree) (equal_token ∷ []) rest)))
     (λ front at deep here x. declared_value_refused names room inner less (declarator d.tree) false (subst (λ (k : TokenKind). Took (ObjectDeclarators names) room (declarator d.tree) k false) equal t.took) (omega (arith, h, fits)) front (kind_or_end tokens at) deep x) s r

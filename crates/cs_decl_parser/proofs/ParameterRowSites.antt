@@ -4,7 +4,6 @@ use Rattle.std.proofs.Common.{◌≡◌, ℕ, ◌+◌, ◌<◌, ◌≤◌, max, 
 use Rattle.std.proofs.lemmas.Bool.{false≢true}
 use Rattle.std.specs.List.{list_all}
 use Rattle.std.specs.Option.{is_some, option_map}
-use Rattle.cs_ast.specs.declared.place.Place.{Place}
 use Rattle.cs_ast.specs.declared.token.Token.{Token}
 use Rattle.cs_ast.specs.declared.token.TokenKind.{TokenKind}
 use Rattle.cs_ast.specs.declared.token.TokenKind.TheVariants as token
@@ -32,8 +31,8 @@ use Rattle.cs_grammar.proofs.ParameterRules.{parameters_class_law, int_parameter
 use Rattle.cs_grammar.proofs.HeadRules.{rows_no_mark, lists_none, lists_void, IsRow, list_invert, list_single, rows_refused}
 use Rattle.cs_expr_parser.specs.Positions.{kinds, kind_or_end}
 use Rattle.cs_expr_parser.specs.Parts.{Spells, is_deep}
-use Rattle.cs_decl_parser.specs.declared.stop.Stop.{Stop}
-use Rattle.cs_decl_parser.specs.declared.stop.Stop.TheVariants as stop
+use Rattle.cs_expr_parser.specs.declared.stop.Stop.{Stop}
+use Rattle.cs_expr_parser.specs.declared.stop.Stop.TheVariants as stop
 use Rattle.cs_decl_parser.specs.declared.stop.Taken.{Taken}
 use Rattle.cs_decl_parser.specs.Answers.{Stops, IsExactly}
 use Rattle.cs_decl_parser.specs.DeclarationAnswers.{IsVoidAlone}
@@ -100,8 +99,8 @@ any_refused names room some front next deep r =
     (elim r.begun [ inl e ↦ inl e | inr b ↦ row_low names room some front next deep r b.phrase b.more b.is_phrase b.low b.spelled ])
     (λ told. let b = r.further told in row_further names room some front next deep r b.phrase b.more b.is_phrase b.spelled) r
 
-pub rows_stop : (names : Names) (room : ℕ) → 2 ≤ room → (tokens : List Token) (end : Place) (from : ℕ) (s : Stop) → Stops (AnyRows names) room tokens end from s → Stops (ParameterRows names) room tokens end from s
-rows_stop names room some tokens end from s r = stops_pass (ParameterRows names) (AnyRows names) room room tokens end from (λ front at deep here x. any_refused names room some front (kind_or_end tokens at) deep x) s r
+pub rows_stop : (names : Names) (room : ℕ) → 2 ≤ room → (tokens : List Token) (from : ℕ) (s : Stop) → Stops (AnyRows names) room tokens from s → Stops (ParameterRows names) room tokens from s
+rows_stop names room some tokens from s r = stops_pass (ParameterRows names) (AnyRows names) room room tokens from (λ front at deep here x. any_refused names room some front (kind_or_end tokens at) deep x) s r
 
 abbrev pub ParametersSoFar : Names → ℕ → List Token → ℕ → List Parameter → Parameter → ℕ → ℕ → Type 0
 ParametersSoFar names room tokens from done last next tall = RowSoFar (ParameterClass names) close_parenthesis room tokens from done last next false tall
@@ -113,41 +112,39 @@ no_close : (next : TokenKind) → ends_parameter next ≡ false → next ≡ clo
 no_close next e k = false≢true (sym e ∙ ap ends_parameter k)
 
 -- the first parameter was refused
-first_any : (names : Names) (room : ℕ) → 2 ≤ room → (tokens : List Token) (end : Place) (from : ℕ) → from ≤ length tokens → (s : Stop) → ParameterStops names room tokens end from s → Stops (AnyRows names) room tokens end from s
-first_any names room some tokens end from within stop.Memory r = tt
-first_any names room some tokens end from within (stop.Expression x) r = row_first_stops (ParameterClass names) close_parenthesis room (parameter_row names) some tokens end from (stop.Expression x) r
-first_any names room some tokens end from within (stop.Refused at reason) r =
+first_any : (names : Names) (room : ℕ) → 2 ≤ room → (tokens : List Token) (from : ℕ) → from ≤ length tokens → (s : Stop) → ParameterStops names room tokens from s → Stops (AnyRows names) room tokens from s
+first_any names room some tokens from within stop.Memory r = tt
+first_any names room some tokens from within (stop.Refused at reason) r =
     elim r [
-      | inl x ↦ row_first_stops (ParameterClass names) close_parenthesis room (parameter_row names) some tokens end from (stop.Refused at reason) x
+      | inl x ↦ row_first_stops (ParameterClass names) close_parenthesis room (parameter_row names) some tokens from (stop.Refused at reason) x
       | inr b ↦
           row_wrong (ParameterClass names) close_parenthesis room (parameter_row names) tokens from [] b.whole at reason (parameter_height b.whole)
           (row_first (ParameterClass names) close_parenthesis room (parameter_row names) some tokens from within b.whole at (is_deep reason) (parameter_height b.whole) b.spelled b.took refl)
           (no_comma (kind_or_end tokens at) b.unended) (no_close (kind_or_end tokens at) b.unended)
     ]
 
-pub first_stops : (names : Names) (room : ℕ) → 2 ≤ room → (tokens : List Token) (end : Place) (from : ℕ) → from ≤ length tokens → (s : Stop) → ParameterStops names room tokens end from s → Stops (ParameterRows names) room tokens end from s
-first_stops names room some tokens end from within s r = rows_stop names room some tokens end from s (first_any names room some tokens end from within s r)
+pub first_stops : (names : Names) (room : ℕ) → 2 ≤ room → (tokens : List Token) (from : ℕ) → from ≤ length tokens → (s : Stop) → ParameterStops names room tokens from s → Stops (ParameterRows names) room tokens from s
+first_stops names room some tokens from within s r = rows_stop names room some tokens from s (first_any names room some tokens from within s r)
 
 -- a parameter behind a comma was refused
-next_any : (names : Names) (room : ℕ) → 2 ≤ room → (tokens : List Token) (end : Place) (from : ℕ) (done : List Parameter) (last : Parameter) (next tall : ℕ) → ParametersSoFar names room tokens from done last next tall → kind_or_end tokens next ≡ comma_token → (s : Stop) → ParameterStops names room tokens end (next + 1) s → Stops (AnyRows names) room tokens end from s
-next_any names room some tokens end from done last next tall f k stop.Memory r = tt
-next_any names room some tokens end from done last next tall f k (stop.Expression x) r = row_next_stops (ParameterClass names) close_parenthesis room (parameter_row names) some tokens end from done last next false tall f k (stop.Expression x) r
-next_any names room some tokens end from done last next tall f k (stop.Refused at reason) r =
+next_any : (names : Names) (room : ℕ) → 2 ≤ room → (tokens : List Token) (from : ℕ) (done : List Parameter) (last : Parameter) (next tall : ℕ) → ParametersSoFar names room tokens from done last next tall → kind_or_end tokens next ≡ comma_token → (s : Stop) → ParameterStops names room tokens (next + 1) s → Stops (AnyRows names) room tokens from s
+next_any names room some tokens from done last next tall f k stop.Memory r = tt
+next_any names room some tokens from done last next tall f k (stop.Refused at reason) r =
     elim r [
-      | inl x ↦ row_next_stops (ParameterClass names) close_parenthesis room (parameter_row names) some tokens end from done last next false tall f k (stop.Refused at reason) x
+      | inl x ↦ row_next_stops (ParameterClass names) close_parenthesis room (parameter_row names) some tokens from done last next false tall f k (stop.Refused at reason) x
       | inr b ↦
           row_wrong (ParameterClass names) close_parenthesis room (parameter_row names) tokens from (done ++ last ∷ []) b.whole at reason (max tall (parameter_height b.whole))
           (row_next (ParameterClass names) close_parenthesis room (parameter_row names) some tokens from done last next false tall f k b.whole at (is_deep reason) (parameter_height b.whole) b.spelled b.took refl)
           (no_comma (kind_or_end tokens at) b.unended) (no_close (kind_or_end tokens at) b.unended)
     ]
 
-pub next_stops : (names : Names) (room : ℕ) → 2 ≤ room → (tokens : List Token) (end : Place) (from : ℕ) (done : List Parameter) (last : Parameter) (next tall : ℕ) → ParametersSoFar names room tokens from done last next tall → kind_or_end tokens next ≡ comma_token → (s : Stop) → ParameterStops names room tokens end (next + 1) s → Stops (ParameterRows names) room tokens end from s
-next_stops names room some tokens end from done last next tall f k s r = rows_stop names room some tokens end from s (next_any names room some tokens end from done last next tall f k s r)
+pub next_stops : (names : Names) (room : ℕ) → 2 ≤ room → (tokens : List Token) (from : ℕ) (done : List Parameter) (last : Parameter) (next tall : ℕ) → ParametersSoFar names room tokens from done last next tall → kind_or_end tokens next ≡ comma_token → (s : Stop) → ParameterStops names room tokens (next + 1) s → Stops (ParameterRows names) room tokens from s
+next_stops names room some tokens from done last next tall f k s r = rows_stop names room some tokens from s (next_any names room some tokens from done last next tall f k s r)
 
 -- neither a comma nor the closing parenthesis stands behind a parameter
-pub unended_stops : (names : Names) (room : ℕ) → 2 ≤ room → (tokens : List Token) (end : Place) (from : ℕ) (done : List Parameter) (last : Parameter) (next tall : ℕ) → ParametersSoFar names room tokens from done last next tall → (kind_or_end tokens next ≡ comma_token → ⊥) → (kind_or_end tokens next ≡ close_parenthesis → ⊥) → (reason : Reason) → is_deep reason ≡ false → Stops (ParameterRows names) room tokens end from (stop.Refused next reason)
-unended_stops names room some tokens end from done last next tall f comma closed reason plain =
-    rows_stop names room some tokens end from (stop.Refused next reason)
+pub unended_stops : (names : Names) (room : ℕ) → 2 ≤ room → (tokens : List Token) (from : ℕ) (done : List Parameter) (last : Parameter) (next tall : ℕ) → ParametersSoFar names room tokens from done last next tall → (kind_or_end tokens next ≡ comma_token → ⊥) → (kind_or_end tokens next ≡ close_parenthesis → ⊥) → (reason : Reason) → is_deep reason ≡ false → Stops (ParameterRows names) room tokens from (stop.Refused next reason)
+unended_stops names room some tokens from done last next tall f comma closed reason plain =
+    rows_stop names room some tokens from (stop.Refused next reason)
     (row_wrong (ParameterClass names) close_parenthesis room (parameter_row names) tokens from done last next reason tall
     (subst (λ (d : Bool). RowSoFar (ParameterClass names) close_parenthesis room tokens from done last next d tall) (sym plain) f) comma closed)
 
@@ -203,9 +200,9 @@ no_void_front names room some tokens from at deep other (f ∷ g ∷ fs) here r 
     other (void_stands tokens from (fs ++ kinds (drop at tokens)) (here.spelled ∙ ap (λ (x : TokenKind). x ∷ g ∷ (fs ++ kinds (drop at tokens))) e ∙ ap (λ (x : TokenKind). token.Keyword keyword.Void ∷ x ∷ (fs ++ kinds (drop at tokens))) d))
 
 -- the parameters were refused
-pub lists_stop : (names : Names) (room inner : ℕ) → room ≡ 1 + inner → 2 ≤ inner → (tokens : List Token) (end : Place) (from : ℕ) → (kind_or_end tokens from ≡ close_parenthesis → ⊥) → (IsVoidAlone tokens from → ⊥) → (s : Stop) → Stops (ParameterRows names) inner tokens end from s → Stops (ParameterLists names) room tokens end from s
-lists_stop names room inner less some tokens end from unclosed other s r =
-    stops_pass (ParameterLists names) (ParameterRows names) room inner tokens end from
+pub lists_stop : (names : Names) (room inner : ℕ) → room ≡ 1 + inner → 2 ≤ inner → (tokens : List Token) (from : ℕ) → (kind_or_end tokens from ≡ close_parenthesis → ⊥) → (IsVoidAlone tokens from → ⊥) → (s : Stop) → Stops (ParameterRows names) inner tokens from s → Stops (ParameterLists names) room tokens from s
+lists_stop names room inner less some tokens from unclosed other s r =
+    stops_pass (ParameterLists names) (ParameterRows names) room inner tokens from
     (λ front at deep here x.
     single_refused (list_single names) room inner (less, some) front (kind_or_end tokens at) deep
     (λ behind near.

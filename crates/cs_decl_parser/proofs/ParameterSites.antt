@@ -1,7 +1,6 @@
 -- One parameter: what each return gives. For the contracts of `parameter` and `parameter_name`.
 use Rattle.std.proofs.Common.{◌≡◌, ℕ, ◌+◌, ◌≤◌, ◌⊎◌, inl, inr, Bool, false, IsTrue, List, [], ◌∷◌, ◌++◌, Option, Some, None, Err, length, refl, sym, ap, ◌∙◌, subst, arith, append-nil}
 use Rattle.std.proofs.lemmas.Bool.{false≢true}
-use Rattle.cs_ast.specs.declared.place.Place.{Place}
 use Rattle.cs_ast.specs.declared.token.Token.{Token}
 use Rattle.cs_ast.specs.declared.token.TokenKind.{TokenKind}
 use Rattle.cs_ast.specs.declared.token.TokenKind.TheVariants as token
@@ -36,8 +35,8 @@ use Rattle.cs_grammar.proofs.Declarators.{brackets_law, brackets_end, IsNoName}
 use Rattle.cs_grammar.proofs.ParameterRules.{tail_of, tail_end, named_tail, HasNoName, unnamed_tail, parameter_tails_law, parameter_of, parameter_pair}
 use Rattle.cs_expr_parser.specs.Positions.{kind_or_end}
 use Rattle.cs_expr_parser.specs.Parts.{Spells, is_deep}
-use Rattle.cs_decl_parser.specs.declared.stop.Stop.{Stop}
-use Rattle.cs_decl_parser.specs.declared.stop.Stop.TheVariants as stop
+use Rattle.cs_expr_parser.specs.declared.stop.Stop.{Stop}
+use Rattle.cs_expr_parser.specs.declared.stop.Stop.TheVariants as stop
 use Rattle.cs_decl_parser.specs.declared.stop.Taken.{Taken}
 use Rattle.cs_decl_parser.specs.Answers.{Stops, IsTaken, IsBraceRefused, StopsOrBrace}
 use Rattle.cs_decl_parser.specs.DeclarationAnswers.{ArePointers, IsNameAt, ParameterNameAnswer, RefusesBehind}
@@ -55,7 +54,6 @@ name_spelled IsName tokens at next (Some n) within i is = subst (λ (m : ℕ). S
 -- the refusal of a parenthesis where a name may stand
 pub name_refused : (names : Names) (tokens : List Token) (at : ℕ) → kind_or_end tokens at ≡ token.Mark mark.OpenParenthesis → (s : Stop) → RefusesBehind at false s → ParameterNameAnswer names tokens at (Err s)
 name_refused names tokens at k stop.Memory is = absurd is
-name_refused names tokens at k (stop.Expression r) is = absurd is
 name_refused names tokens at k (stop.Refused refused reason) is = (is.0, is.1, k)
 
 abbrev one_const : Specs
@@ -114,9 +112,9 @@ begun_spelled : (names : Names) (tokens : List Token) (from mid next : ℕ) (wor
 begun_spelled names tokens from mid next words name b = spells_more tokens from mid next (pointers_text words) (name_text (name_in name)) b.pointers.spelled b.spelled
 
 -- the bounds behind them were refused
-pub tail_stops : (names : Names) (room : ℕ) (tokens : List Token) (end : Place) (from mid next : ℕ) (words : List PointerWord) (name : Option RawName) → TailBegun names tokens from mid next words name → (s : Stop) → Stops (Brackets names (Unit {0})) room tokens end next s → Stops (ParameterTails names) room tokens end from s
-tail_stops names room tokens end from mid next words name b s r =
-    stops_in (ParameterTails names) (Brackets names (Unit {0})) room room tokens end from next (pointers_text words (name_text (name_in name) []))
+pub tail_stops : (names : Names) (room : ℕ) (tokens : List Token) (from mid next : ℕ) (words : List PointerWord) (name : Option RawName) → TailBegun names tokens from mid next words name → (s : Stop) → Stops (Brackets names (Unit {0})) room tokens next s → Stops (ParameterTails names) room tokens from s
+tail_stops names room tokens from mid next words name b s r =
+    stops_in (ParameterTails names) (Brackets names (Unit {0})) room room tokens from next (pointers_text words (name_text (name_in name) []))
     (spells_as tokens from next (λ rest. pointers_text words (name_text (name_in name) rest)) (λ rest. pointers_text words (name_text (name_in name) []) ++ rest) (begun_spelled names tokens from mid next words name b) (begun_text words (name_in name)))
     (λ front at deep here x.
     tail_refused (ParameterTails names) (Brackets names (Unit {0})) room room (pointers_text words (name_text (name_in name) [])) (tail_of words (name_in name)) (FitBehind names (name_in name)) (brackets_law names (Unit {0})) (begun_tail names room words b.pointers.pointers (kind_or_end tokens mid) name b.named) front (kind_or_end tokens at) deep
@@ -145,17 +143,16 @@ has_room : (names : Names) (room inner : ℕ) → room ≡ 1 + inner → 1 ≤ i
 has_room names room inner less some = (less, some, omega arith)
 
 -- what stands behind the words was refused
-pub behind_specs_stops : (names : Names) (room inner : ℕ) → room ≡ 1 + inner → 1 ≤ inner → (tokens : List Token) (end : Place) (from : ℕ) (words : Taken RawSpecs) → SpecsTaken names inner tokens from words → (s : Stop) → Stops (ParameterTails names) inner tokens end words.next s → Stops (ParameterClass names) room tokens end from s
-behind_specs_stops names room inner less some tokens end from words t s r =
-    stops_in (ParameterClass names) (ParameterTails names) room inner tokens end from words.next (specs_text (specs words.tree) []) (front_of (FileSpecs names) (file_specs_law names) tokens from words.next (specs words.tree) t.spelled)
+pub behind_specs_stops : (names : Names) (room inner : ℕ) → room ≡ 1 + inner → 1 ≤ inner → (tokens : List Token) (from : ℕ) (words : Taken RawSpecs) → SpecsTaken names inner tokens from words → (s : Stop) → Stops (ParameterTails names) inner tokens words.next s → Stops (ParameterClass names) room tokens from s
+behind_specs_stops names room inner less some tokens from words t s r =
+    stops_in (ParameterClass names) (ParameterTails names) room inner tokens from words.next (specs_text (specs words.tree) []) (front_of (FileSpecs names) (file_specs_law names) tokens from words.next (specs words.tree) t.spelled)
     (λ front at deep here x.
     pair_then_refused (parameter_pair names) room inner (has_room names room inner less some) (specs words.tree) (kind_or_end tokens words.next) false t.took (λ told. absurd (false≢true told)) front (kind_or_end tokens at) deep (first_front tokens words.next at front here) x) s r
 
 -- the refusal lies within the parameter
-pub stopped : (names : Names) (room : ℕ) (tokens : List Token) (end : Place) (from : ℕ) (s : Stop) → Stops (ParameterClass names) room tokens end from s → ParameterStops names room tokens end from s
-stopped names room tokens end from stop.Memory r = r
-stopped names room tokens end from (stop.Refused at reason) r = inl r
-stopped names room tokens end from (stop.Expression x) r = r
+pub stopped : (names : Names) (room : ℕ) (tokens : List Token) (from : ℕ) (s : Stop) → Stops (ParameterClass names) room tokens from s → ParameterStops names room tokens from s
+stopped names room tokens from stop.Memory r = r
+stopped names room tokens from (stop.Refused at reason) r = inl r
 
 -- a whole parameter was taken
 pub record ParameterStands (names : Names) (room : ℕ) (tokens : List Token) (from next : ℕ) (deep : Bool) (whole : Parameter) : Type 0 where
@@ -199,10 +196,9 @@ parenthesis_behind names room inner less some tokens from mid taken t words p k 
 parenthesis_unended : (next : TokenKind) → next ≡ token.Mark mark.OpenParenthesis → ends_parameter next ≡ false
 parenthesis_unended next k = ap ends_parameter k
 
-pub name_stops : (names : Names) (room inner : ℕ) → room ≡ 1 + inner → 1 ≤ inner → (tokens : List Token) (end : Place) (from mid : ℕ) (taken : Taken RawSpecs) → SpecsTaken names inner tokens from taken → (words : List PointerWord) → ArePointers tokens taken.next mid words → (s : Stop) → ParameterNameAnswer names tokens mid (Err s) → ParameterStops names room tokens end from s
-name_stops names room inner less some tokens end from mid taken t words p stop.Memory r = tt
-name_stops names room inner less some tokens end from mid taken t words p (stop.Expression x) r = absurd r
-name_stops names room inner less some tokens end from mid taken t words p (stop.Refused at reason) r =
+pub name_stops : (names : Names) (room inner : ℕ) → room ≡ 1 + inner → 1 ≤ inner → (tokens : List Token) (from mid : ℕ) (taken : Taken RawSpecs) → SpecsTaken names inner tokens from taken → (words : List PointerWord) → ArePointers tokens taken.next mid words → (s : Stop) → ParameterNameAnswer names tokens mid (Err s) → ParameterStops names room tokens from s
+name_stops names room inner less some tokens from mid taken t words p stop.Memory r = tt
+name_stops names room inner less some tokens from mid taken t words p (stop.Refused at reason) r =
     let w = parenthesis_behind names room inner less some tokens from mid taken t words p r.2 in
     inr (subst (λ (n : ℕ). IsRefusedBehind names room tokens from n reason) (sym r.0)
     (record {
@@ -267,11 +263,10 @@ brace_behind names room inner less tokens from at reason b = record {
 }
 
 -- the words were refused
-pub specs_stop : (names : Names) (room inner : ℕ) → room ≡ 1 + inner → 1 ≤ inner → (tokens : List Token) (end : Place) (from : ℕ) → from ≤ length tokens → (s : Stop) → StopsOrBrace (FileSpecs names) inner tokens end from s → ParameterStops names room tokens end from s
-specs_stop names room inner less some tokens end from within stop.Memory r = tt
-specs_stop names room inner less some tokens end from within (stop.Refused at reason) r =
+pub specs_stop : (names : Names) (room inner : ℕ) → room ≡ 1 + inner → 1 ≤ inner → (tokens : List Token) (from : ℕ) → from ≤ length tokens → (s : Stop) → StopsOrBrace (FileSpecs names) inner tokens from s → ParameterStops names room tokens from s
+specs_stop names room inner less some tokens from within stop.Memory r = tt
+specs_stop names room inner less some tokens from within (stop.Refused at reason) r =
     elim r [
-      | inl x ↦ inl (pair_first_stops (parameter_pair names) room inner (has_room names room inner less some) tokens end from from (spells_none tokens from within) (stop.Refused at reason) x)
+      | inl x ↦ inl (pair_first_stops (parameter_pair names) room inner (has_room names room inner less some) tokens from from (spells_none tokens from within) (stop.Refused at reason) x)
       | inr b ↦ inr (brace_behind names room inner less tokens from at reason b)
     ]
-specs_stop names room inner less some tokens end from within (stop.Expression x) r = pair_first_stops (parameter_pair names) room inner (has_room names room inner less some) tokens end from from (spells_none tokens from within) (stop.Expression x) r

@@ -1,7 +1,6 @@
 -- Phrases of one class that are phrases of another, and rows: for the contracts of the parts that read blocks.
 use Rattle.std.proofs.Common.{◌≡◌, ℕ, ◌≤◌, max, inl, inr, Bool, false, List, [], ◌∷◌, ◌++◌, length, drop, refl, sym, ap, ◌∙◌, arith}
 use Rattle.std.proofs.lemmas.Bool.{false≢true}
-use Rattle.cs_ast.specs.declared.place.Place.{Place}
 use Rattle.cs_ast.specs.declared.token.Token.{Token}
 use Rattle.cs_ast.specs.declared.token.TokenKind.{TokenKind}
 use Rattle.cs_grammar.specs.Text.{Kinds}
@@ -14,7 +13,7 @@ use Rattle.cs_grammar.proofs.GrowingRows.{Growing, GrownSoFar, grown_none, grown
 use Rattle.cs_grammar.proofs.Statements.{close_brace}
 use Rattle.cs_expr_parser.specs.Positions.{kinds, kind_or_end}
 use Rattle.cs_expr_parser.specs.Parts.{Spells}
-use Rattle.cs_decl_parser.specs.declared.stop.Stop.{Stop}
+use Rattle.cs_expr_parser.specs.declared.stop.Stop.{Stop}
 use Rattle.cs_decl_parser.specs.Answers.{Stops}
 use Rattle.cs_expr_parser.proofs.Standing.{kinds_first, spells_none, spells_more, spells_as}
 use Rattle.cs_decl_parser.proofs.StatementStops.{Standing, StandingExactly, FitsAll, near_start, stops_in, stops_pass}
@@ -31,9 +30,9 @@ pass_tail C D build Fit room p = record {
 }
 
 -- a phrase of D was refused, and those of C that begin so are made of these
-pub pass_stops : (C D : Class) (build : D.Tree → C.Tree) (Fit : Kinds → Type 0) → Production C D 0 [] build Fit → Lawful D → (room : ℕ) (tokens : List Token) (end : Place) (from : ℕ) → FitsAll Fit tokens from → (s : Stop) → Stops D room tokens end from s → Stops C room tokens end from s
-pass_stops C D build Fit p law room tokens end from fits s r =
-    stops_pass C D room room tokens end from (λ front at deep here x. tail_refused C D room room [] build Fit law (pass_tail C D build Fit room p) front (kind_or_end tokens at) deep (fits front at here) x) s r
+pub pass_stops : (C D : Class) (build : D.Tree → C.Tree) (Fit : Kinds → Type 0) → Production C D 0 [] build Fit → Lawful D → (room : ℕ) (tokens : List Token) (from : ℕ) → FitsAll Fit tokens from → (s : Stop) → Stops D room tokens from s → Stops C room tokens from s
+pass_stops C D build Fit p law room tokens from fits s r =
+    stops_pass C D room room tokens from (λ front at deep here x. tail_refused C D room room [] build Fit law (pass_tail C D build Fit room p) front (kind_or_end tokens at) deep (fits front at here) x) s r
 
 -- a phrase of D was taken
 pub pass_stands : (C D : Class) (build : D.Tree → C.Tree) (Fit : Kinds → Type 0) → Production C D 0 [] build Fit → Lawful D → (room : ℕ) (tokens : List Token) (from next : ℕ) (deep : Bool) (part : D.Tree) → ((behind : Kinds) → Fit (D.spell part behind)) → Standing D room tokens from next deep part → Standing C room tokens from next deep (build part)
@@ -84,9 +83,9 @@ abbrev pub EndsWithBrace : {L C : Class} (all : Listing L C) → Type 0
 EndsWithBrace {L} all = (after : Kinds) → L.spell all.none after ≡ close_brace ∷ after
 
 -- a phrase of the row was refused
-pub row_stops : {L C : Class} {all : Listing L C} (grow : Growing L C all) → EndsWithBrace all → (room : ℕ) (tokens : List Token) (end : Place) (from : ℕ) (done : L.Tree) (tall next : ℕ) → RowSoFar grow room tokens from done tall next → (kind_or_end tokens next ≡ close_brace → ⊥) → (s : Stop) → Stops C room tokens end next s → Stops L room tokens end from s
-row_stops {L} {C} {all} grow ends room tokens end from done tall next row open_here s r =
-    stops_in L C room room tokens end from next (grow.row_text done [])
+pub row_stops : {L C : Class} {all : Listing L C} (grow : Growing L C all) → EndsWithBrace all → (room : ℕ) (tokens : List Token) (from : ℕ) (done : L.Tree) (tall next : ℕ) → RowSoFar grow room tokens from done tall next → (kind_or_end tokens next ≡ close_brace → ⊥) → (s : Stop) → Stops C room tokens next s → Stops L room tokens from s
+row_stops {L} {C} {all} grow ends room tokens from done tall next row open_here s r =
+    stops_in L C room room tokens from next (grow.row_text done [])
     (spells_as tokens from next (grow.row_text done) (λ rest. grow.row_text done [] ++ rest) row.spelled (λ rest. sym (grow.row_append done [] rest)))
     (λ front at deep here x.
     grown_refused grow room done (Near (kind_or_end tokens next)) row.so_far front (kind_or_end tokens at) deep (near_start tokens next at front here)

@@ -3,7 +3,6 @@
 use Rattle.std.proofs.Common.{◌≡◌, ℕ, ◌+◌, ◌≤◌, max, Bool, true, false, if◌then◌else◌, List, [], ◌∷◌, ◌++◌, length, refl, sym, ap, ◌∙◌, subst, arith, append_assoc}
 use Rattle.std.proofs.lemmas.Grind.{common_steps}
 use Rattle.std.specs.Ordering.{ord_max, nat_cmp}
-use Rattle.cs_ast.specs.declared.place.Place.{Place}
 use Rattle.cs_ast.specs.declared.token.Token.{Token}
 use Rattle.cs_ast.specs.declared.token.TokenKind.{TokenKind}
 use Rattle.cs_ast.specs.declared.token.TokenKind.TheVariants as token
@@ -20,7 +19,7 @@ use Rattle.cs_expr_parser.specs.Positions.{kind_or_end}
 use Rattle.cs_expr_parser.specs.Parts.{Spells, IsRefused, is_deep}
 use Rattle.cs_expr_parser.proofs.Standing.{spells_one, spells_none, spells_more, spells_as}
 use Rattle.cs_expr_parser.proofs.Stopping.{refused_here}
-use Rattle.cs_decl_parser.specs.declared.stop.Stop.{Stop}
+use Rattle.cs_expr_parser.specs.declared.stop.Stop.{Stop}
 use Rattle.cs_decl_parser.specs.declared.stop.Taken.{Taken}
 use Rattle.cs_decl_parser.specs.Answers.{Stops, IsExactly}
 use Rattle.cs_decl_parser.proofs.StatementStops.{stops_in, stops_pass}
@@ -87,14 +86,14 @@ row_next D close room s fits tokens from done last next deep tall r k following 
 }
 
 -- the first phrase was refused
-pub row_first_stops : (D : Class) (close : TokenKind) (room : ℕ) → (s : Separates D close) → D.tall s.least.tree ≤ room → (tokens : List Token) (end : Place) (from : ℕ) (stop : Stop) → Stops D room tokens end from stop → Stops (Separated D close) room tokens end from stop
-row_first_stops D close room s fits tokens end from stop r =
-    stops_pass (Separated D close) D room room tokens end from (λ front at deep here x. so_far_refused D close room s [] (so_far_none D close room s fits) front (kind_or_end tokens at) deep x) stop r
+pub row_first_stops : (D : Class) (close : TokenKind) (room : ℕ) → (s : Separates D close) → D.tall s.least.tree ≤ room → (tokens : List Token) (from : ℕ) (stop : Stop) → Stops D room tokens from stop → Stops (Separated D close) room tokens from stop
+row_first_stops D close room s fits tokens from stop r =
+    stops_pass (Separated D close) D room room tokens from (λ front at deep here x. so_far_refused D close room s [] (so_far_none D close room s fits) front (kind_or_end tokens at) deep x) stop r
 
 -- a phrase behind a comma was refused
-pub row_next_stops : (D : Class) (close : TokenKind) (room : ℕ) → (s : Separates D close) → D.tall s.least.tree ≤ room → (tokens : List Token) (end : Place) (from : ℕ) (done : List D.Tree) (last : D.Tree) (next : ℕ) (deep : Bool) (tall : ℕ) → RowSoFar D close room tokens from done last next deep tall → kind_or_end tokens next ≡ comma_token → (stop : Stop) → Stops D room tokens end (next + 1) stop → Stops (Separated D close) room tokens end from stop
-row_next_stops D close room s fits tokens end from done last next deep tall r k stop x =
-    stops_in (Separated D close) D room room tokens end from (next + 1) (before_commas D.spell (done ++ last ∷ []) [])
+pub row_next_stops : (D : Class) (close : TokenKind) (room : ℕ) → (s : Separates D close) → D.tall s.least.tree ≤ room → (tokens : List Token) (from : ℕ) (done : List D.Tree) (last : D.Tree) (next : ℕ) (deep : Bool) (tall : ℕ) → RowSoFar D close room tokens from done last next deep tall → kind_or_end tokens next ≡ comma_token → (stop : Stop) → Stops D room tokens (next + 1) stop → Stops (Separated D close) room tokens from stop
+row_next_stops D close room s fits tokens from done last next deep tall r k stop x =
+    stops_in (Separated D close) D room room tokens from (next + 1) (before_commas D.spell (done ++ last ∷ []) [])
     (spells_as tokens from (next + 1) (before_commas D.spell (done ++ last ∷ [])) (λ rest. before_commas D.spell (done ++ last ∷ []) [] ++ rest) (comma_spelled D close room tokens from done last next deep tall r k)
     (λ rest. sym (before_append D s.law (done ++ last ∷ []) [] rest)))
     (λ front at deep' here y. so_far_refused D close room s (done ++ last ∷ []) (comma_so_far D close room s fits tokens from done last next deep tall r k) front (kind_or_end tokens at) deep' y) stop x
@@ -182,14 +181,14 @@ trailing_next D close room s fits none tokens from done last next deep tall r k 
 }
 
 -- the first phrase was refused
-pub trailing_first_stops : (D : Class) (close : TokenKind) (room : ℕ) → (s : Separates D close) → D.tall s.least.tree ≤ room → (tokens : List Token) (end : Place) (from : ℕ) (stop : Stop) → Stops D room tokens end from stop → Stops (Trailing D close) room tokens end from stop
-trailing_first_stops D close room s fits tokens end from stop r =
-    stops_pass (Trailing D close) D room room tokens end from (λ front at deep here x. trailing_refused D close room s [] (λ rest. Unit {0}) (trailing_start D close room s fits) front (kind_or_end tokens at) deep (λ behind near. tt) x) stop r
+pub trailing_first_stops : (D : Class) (close : TokenKind) (room : ℕ) → (s : Separates D close) → D.tall s.least.tree ≤ room → (tokens : List Token) (from : ℕ) (stop : Stop) → Stops D room tokens from stop → Stops (Trailing D close) room tokens from stop
+trailing_first_stops D close room s fits tokens from stop r =
+    stops_pass (Trailing D close) D room room tokens from (λ front at deep here x. trailing_refused D close room s [] (λ rest. Unit {0}) (trailing_start D close room s fits) front (kind_or_end tokens at) deep (λ behind near. tt) x) stop r
 
 -- a phrase behind a comma was refused
-pub trailing_next_stops : (D : Class) (close : TokenKind) (room : ℕ) → (s : Separates D close) → D.tall s.least.tree ≤ room → NoneCloses D close → (tokens : List Token) (end : Place) (from : ℕ) (done : List D.Tree) (last : D.Tree) (next : ℕ) (deep : Bool) (tall : ℕ) → TrailingRow D close room tokens from done last next deep tall → kind_or_end tokens next ≡ comma_token → (kind_or_end tokens (next + 1) ≡ close → ⊥) → (stop : Stop) → Stops D room tokens end (next + 1) stop → Stops (Trailing D close) room tokens end from stop
-trailing_next_stops D close room s fits none tokens end from done last next deep tall r k other stop x =
-    stops_in (Trailing D close) D room room tokens end from (next + 1) (before_commas D.spell (done ++ last ∷ []) [])
+pub trailing_next_stops : (D : Class) (close : TokenKind) (room : ℕ) → (s : Separates D close) → D.tall s.least.tree ≤ room → NoneCloses D close → (tokens : List Token) (from : ℕ) (done : List D.Tree) (last : D.Tree) (next : ℕ) (deep : Bool) (tall : ℕ) → TrailingRow D close room tokens from done last next deep tall → kind_or_end tokens next ≡ comma_token → (kind_or_end tokens (next + 1) ≡ close → ⊥) → (stop : Stop) → Stops D room tokens (next + 1) stop → Stops (Trailing D close) room tokens from stop
+trailing_next_stops D close room s fits none tokens from done last next deep tall r k other stop x =
+    stops_in (Trailing D close) D room room tokens from (next + 1) (before_commas D.spell (done ++ last ∷ []) [])
     (spells_as tokens from (next + 1) (before_commas D.spell (done ++ last ∷ [])) (λ rest. before_commas D.spell (done ++ last ∷ []) [] ++ rest) (trailing_spelled D close room tokens from done last next deep tall r k)
     (λ rest. sym (before_append D s.law (done ++ last ∷ []) [] rest)))
     (λ front at deep' here y.

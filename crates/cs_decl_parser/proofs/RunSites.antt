@@ -1,7 +1,6 @@
 -- Each return of the parts that read expression statements and jumps, over tokens by their numbers.
 use Rattle.std.proofs.Common.{◌≡◌, ℕ, ◌+◌, ◌-◌, ◌<◌, ◌≤◌, ◌⊎◌, inl, inr, Bool, true, false, List, [], ◌∷◌, ◌++◌, length, refl, sym, ap, ◌∙◌, subst, arith}
 use Rattle.std.proofs.lemmas.Bool.{false≢true, cases_lt, not_from_false}
-use Rattle.cs_ast.specs.declared.place.Place.{Place}
 use Rattle.cs_ast.specs.declared.token.Token.{Token}
 use Rattle.cs_ast.specs.declared.token.TokenKind.{TokenKind}
 use Rattle.cs_ast.specs.declared.token.TokenKind.TheVariants as token
@@ -34,7 +33,7 @@ use Rattle.cs_expr_parser.specs.Positions.{kind_or_end}
 use Rattle.cs_expr_parser.specs.Parts.{Spells}
 use Rattle.cs_decl_parser.specs.declared.source.Scope.TheVariants as scope
 use Rattle.cs_decl_parser.specs.declared.form.Form.TheVariants as form
-use Rattle.cs_decl_parser.specs.declared.stop.Stop.{Stop}
+use Rattle.cs_expr_parser.specs.declared.stop.Stop.{Stop}
 use Rattle.cs_decl_parser.specs.declared.stop.Taken.{Taken}
 use Rattle.cs_decl_parser.specs.Nodes.{IsNode}
 use Rattle.cs_decl_parser.specs.Forms.{form_of, IsJump}
@@ -193,10 +192,10 @@ run_lift names room tokens from st front at deep here x =
     ]
 
 -- an expression statement was refused
-pub run_stops : (names : Names) (room inner : ℕ) (tokens : List Token) (end : Place) (from : ℕ) → inner ≡ room - 1 → form_of names (kind_or_end tokens from) (kind_or_end tokens (from + 1)) ≡ form.Run → (s : Stop) → Stops (Closed names) inner tokens end from s → Stops (Sentences names) room tokens end from s
-run_stops names room inner tokens end from less e s r =
-    let r' = subst (λ (m : ℕ). Stops (Closed names) m tokens end from s) less r in
-    stops_pass (Sentences names) (Closed names) room (room - 1) tokens end from (run_lift names room tokens from (run_stands names tokens from e)) s r'
+pub run_stops : (names : Names) (room inner : ℕ) (tokens : List Token) (from : ℕ) → inner ≡ room - 1 → form_of names (kind_or_end tokens from) (kind_or_end tokens (from + 1)) ≡ form.Run → (s : Stop) → Stops (Closed names) inner tokens from s → Stops (Sentences names) room tokens from s
+run_stops names room inner tokens from less e s r =
+    let r' = subst (λ (m : ℕ). Stops (Closed names) m tokens from s) less r in
+    stops_pass (Sentences names) (Closed names) room (room - 1) tokens from (run_lift names room tokens from (run_stands names tokens from e)) s r'
 
 text_run : (names : Names) (e : Written) (behind : Kinds) → IsPhrase names 0 e → IsRun (text e (semicolon ∷ behind))
 text_run names e behind is = record {
@@ -220,19 +219,19 @@ ended_stands : (room : ℕ) (tokens : List Token) (from : ℕ) → from ≤ leng
 ended_stands room tokens from within = record { spelled = spells_none tokens from within; took = exact_took Ended room tt (ended_exact room) (kind_or_end tokens from) }
 
 -- no semicolon stands behind `continue` or `break`
-jump_missing : (names : Names) (room : ℕ) (tokens : List Token) (end : Place) (from : ℕ) (tree : Sentence) (s : Stop) (k : TokenKind) → 1 ≤ room → kind_or_end tokens from ≡ k → IsJump k tree → (kind_or_end tokens (from + 1) ≡ semicolon → ⊥) → IsPlainStop scope.Block tokens (from + 1) s → Stops (Sentences names) room tokens end from s
-jump_missing names room tokens end from tree s (token.Keyword keyword.Continue) some k j other is =
+jump_missing : (names : Names) (room : ℕ) (tokens : List Token) (from : ℕ) (tree : Sentence) (s : Stop) (k : TokenKind) → 1 ≤ room → kind_or_end tokens from ≡ k → IsJump k tree → (kind_or_end tokens (from + 1) ≡ semicolon → ⊥) → IsPlainStop scope.Block tokens (from + 1) s → Stops (Sentences names) room tokens from s
+jump_missing names room tokens from tree s (token.Keyword keyword.Continue) some k j other is =
     let w = word_stands tokens from keyword.Continue k in
-    single_stops (continue_single names) room (room - 1) (omega arith, omega arith) tokens end from (from + 1) w (no_fits tokens (from + 1)) s
-    (closed_missing Ended semicolon ended_law (λ part more. tt) (room - 1) tokens end (from + 1) (from + 1) scope.Block tt s (ended_stands (room - 1) tokens (from + 1) w.within) other is)
-jump_missing names room tokens end from tree s (token.Keyword keyword.Break) some k j other is =
+    single_stops (continue_single names) room (room - 1) (omega arith, omega arith) tokens from (from + 1) w (no_fits tokens (from + 1)) s
+    (closed_missing Ended semicolon ended_law (λ part more. tt) (room - 1) tokens (from + 1) (from + 1) scope.Block tt s (ended_stands (room - 1) tokens (from + 1) w.within) other is)
+jump_missing names room tokens from tree s (token.Keyword keyword.Break) some k j other is =
     let w = word_stands tokens from keyword.Break k in
-    single_stops (break_single names) room (room - 1) (omega arith, omega arith) tokens end from (from + 1) w (no_fits tokens (from + 1)) s
-    (closed_missing Ended semicolon ended_law (λ part more. tt) (room - 1) tokens end (from + 1) (from + 1) scope.Block tt s (ended_stands (room - 1) tokens (from + 1) w.within) other is)
-jump_missing names room tokens end from tree s _ some k j other is = absurd j
+    single_stops (break_single names) room (room - 1) (omega arith, omega arith) tokens from (from + 1) w (no_fits tokens (from + 1)) s
+    (closed_missing Ended semicolon ended_law (λ part more. tt) (room - 1) tokens (from + 1) (from + 1) scope.Block tt s (ended_stands (room - 1) tokens (from + 1) w.within) other is)
+jump_missing names room tokens from tree s _ some k j other is = absurd j
 
-pub jump_stops : (names : Names) (room : ℕ) (tokens : List Token) (end : Place) (from : ℕ) (tree : Sentence) (s : Stop) → 1 ≤ room → IsJump (kind_or_end tokens from) tree → (kind_or_end tokens (from + 1) ≡ semicolon → ⊥) → IsPlainStop scope.Block tokens (from + 1) s → Stops (Sentences names) room tokens end from s
-jump_stops names room tokens end from tree s some j other is = jump_missing names room tokens end from tree s (kind_or_end tokens from) some refl j other is
+pub jump_stops : (names : Names) (room : ℕ) (tokens : List Token) (from : ℕ) (tree : Sentence) (s : Stop) → 1 ≤ room → IsJump (kind_or_end tokens from) tree → (kind_or_end tokens (from + 1) ≡ semicolon → ⊥) → IsPlainStop scope.Block tokens (from + 1) s → Stops (Sentences names) room tokens from s
+jump_stops names room tokens from tree s some j other is = jump_missing names room tokens from tree s (kind_or_end tokens from) some refl j other is
 
 two_on : (from : ℕ) → from + 1 + 1 ≡ from + 2
 two_on from = omega arith

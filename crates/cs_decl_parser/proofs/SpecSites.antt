@@ -2,7 +2,6 @@
 -- their like.
 use Rattle.std.proofs.Common.{◌≡◌, ℕ, ◌+◌, ◌<◌, ◌≤◌, max, inl, inr, Bool, true, false, Option, Some, None, Result, Ok, Err, List, [], ◌∷◌, ◌++◌, length, refl, sym, ap, ◌∙◌, subst, arith, append_assoc, append-nil}
 use Rattle.std.proofs.lemmas.Bool.{false≢true}
-use Rattle.cs_ast.specs.declared.place.Place.{Place}
 use Rattle.cs_ast.specs.declared.token.Token.{Token}
 use Rattle.cs_ast.specs.declared.token.TokenKind.{TokenKind}
 use Rattle.cs_ast.specs.declared.token.TokenKind.TheVariants as token
@@ -18,7 +17,6 @@ use Rattle.cs_ast.specs.RawDeclarationView.{spec, specs, specs_list}
 use Rattle.cs_ast.specs.RawFileHeight.{spec_height, specs_height}
 use Rattle.cs_grammar.specs.declared.refusal.Reason.{Reason}
 use Rattle.cs_grammar.specs.declared.refusal.Reason.TheVariants.{TooDeep}
-use Rattle.cs_grammar.specs.declared.refusal.SyntaxRefusal.TheVariants as refusal
 use Rattle.cs_grammar.specs.declared.type_words.TypeSoFar.{TypeSoFar}
 use Rattle.cs_grammar.specs.declared.type_words.TypeSoFar.TheVariants.{Nothing, Whole}
 use Rattle.cs_grammar.specs.TypeWords.{Names, named_by, names_type, is_type}
@@ -40,8 +38,8 @@ use Rattle.cs_expr_parser.specs.Parts.{Spells, IsRefused, is_deep}
 use Rattle.cs_expr_parser.specs.Words.{names_some, word_of_tag}
 use Rattle.cs_decl_parser.specs.declared.source.Scope.TheVariants.{File}
 use Rattle.cs_decl_parser.specs.declared.specs.NextWord.{NextWord}
-use Rattle.cs_decl_parser.specs.declared.stop.Stop.{Stop}
-use Rattle.cs_decl_parser.specs.declared.stop.Stop.TheVariants as stop
+use Rattle.cs_expr_parser.specs.declared.stop.Stop.{Stop}
+use Rattle.cs_expr_parser.specs.declared.stop.Stop.TheVariants as stop
 use Rattle.cs_decl_parser.specs.declared.stop.Taken.{Taken}
 use Rattle.cs_decl_parser.specs.Reasons.{plain_reason}
 use Rattle.cs_decl_parser.specs.Answers.{Stops, StopsOrBrace, IsTaken, IsExactly, IsBraceRefused}
@@ -100,12 +98,12 @@ unnamed_type : (names : Names) (ws : List TypeWord) → named_by ws ≡ [] → i
 unnamed_type names ws none = ap (names_type names) none
 
 -- the words name no type, and none that begins with the token fits
-pub specs_stop : (names : Names) (room : ℕ) → 1 ≤ room → (tokens : List Token) (end : Place) (from next : ℕ) (so_far : TypeSoFar) (items : List SpecWord) (tall : ℕ) (s : Stop) → tall ≤ room → SpecsSoFar names tokens from next so_far items tall → names_some so_far ≡ false → NothingFits names so_far (kind_or_end tokens next) → (kind_or_end tokens next ≡ token.Keyword keyword.Static → ⊥) → s ≡ stop.Refused next (plain_reason File (kind_or_end tokens next)) → StopsOrBrace (FileSpecs names) room tokens end from s
-specs_stop names room some tokens end from next so_far items tall s low w none stuck other is =
+pub specs_stop : (names : Names) (room : ℕ) → 1 ≤ room → (tokens : List Token) (from next : ℕ) (so_far : TypeSoFar) (items : List SpecWord) (tall : ℕ) (s : Stop) → tall ≤ room → SpecsSoFar names tokens from next so_far items tall → names_some so_far ≡ false → NothingFits names so_far (kind_or_end tokens next) → (kind_or_end tokens next ≡ token.Keyword keyword.Static → ⊥) → s ≡ stop.Refused next (plain_reason File (kind_or_end tokens next)) → StopsOrBrace (FileSpecs names) room tokens from s
+specs_stop names room some tokens from next so_far items tall s low w none stuck other is =
     let ws = words_of (specs_list items) in
     let n = nothing_named names so_far ws w.described none in
     let h = w.height_is in
-    subst (StopsOrBrace (FileSpecs names) room tokens end from) (sym is) (inl (record {
+    subst (StopsOrBrace (FileSpecs names) room tokens from) (sym is) (inl (record {
       front = specs_text (specs_list items) [];
       spelled = spells_as tokens from next (specs_text (specs_list items)) (λ rest. specs_text (specs_list items) [] ++ rest) w.spelled (λ rest. sym (specs_append (specs_list items) [] rest));
       refused =
@@ -166,17 +164,13 @@ enum_in names room some tokens from next so_far items tall low w none refused re
     }
 
 -- a word was refused
-pub spec_stops : (names : Names) (room : ℕ) → 1 ≤ room → (tokens : List Token) (end : Place) (from next : ℕ) (so_far : TypeSoFar) (items : List SpecWord) (tall : ℕ) → tall ≤ room → SpecsSoFar names tokens from next so_far items tall → (s : Stop) → SpecAnswer names room tokens end next so_far (Err s) → StopsOrBrace (FileSpecs names) room tokens end from s
-spec_stops names room some tokens end from next so_far items tall low w stop.Memory a = tt
-spec_stops names room some tokens end from next so_far items tall low w (stop.Refused refused reason) a =
+pub spec_stops : (names : Names) (room : ℕ) → 1 ≤ room → (tokens : List Token) (from next : ℕ) (so_far : TypeSoFar) (items : List SpecWord) (tall : ℕ) → tall ≤ room → SpecsSoFar names tokens from next so_far items tall → (s : Stop) → SpecAnswer names room tokens next so_far (Err s) → StopsOrBrace (FileSpecs names) room tokens from s
+spec_stops names room some tokens from next so_far items tall low w stop.Memory a = tt
+spec_stops names room some tokens from next so_far items tall low w (stop.Refused refused reason) a =
     elim a.1 [
       | inl r ↦ inl (element_in names room tokens from next so_far items tall low w a.0 refused reason r)
       | inr r ↦ inr (enum_in names room some tokens from next so_far items tall low w a.0 refused reason r)
     ]
-spec_stops names room some tokens end from next so_far items tall low w (stop.Expression refusal.Memory) a = tt
-spec_stops names room some tokens end from next so_far items tall low w (stop.Expression (refusal.Syntax place)) a = (a.1.0, a.1.1, a.1.2, element_in names room tokens from next so_far items tall low w a.0 a.1.0 a.1.1 a.1.3)
-spec_stops names room some tokens end from next so_far items tall low w (stop.Expression (refusal.LeftOut place text)) a = (a.1.0, a.1.1, a.1.2, element_in names room tokens from next so_far items tall low w a.0 a.1.0 a.1.1 a.1.3)
-spec_stops names room some tokens end from next so_far items tall low w (stop.Expression (refusal.TooDeep place)) a = (a.1.0, a.1.1, a.1.2, element_in names room tokens from next so_far items tall low w a.0 a.1.0 a.1.1 a.1.3)
 
 -- a word that was found
 spec_found : (names : Names) (room : ℕ) (tokens : List Token) (at : ℕ) (so_far : TypeSoFar) (found : NextWord) (s : Spec) → spec found.word ≡ s → found.height ≡ spec_height s → found.height ≤ room → at < found.next → Spells tokens at found.next (spec_text s) → HasBody names s → IsToldByTokens names s → ((behind : Kinds) → Near (kind_or_end tokens found.next) behind → IsQuiet s behind) → ((before : List TypeWord) → Describes names so_far before → Describes names found.so_far (before ++ words_of (MoreSpecs s NoSpec))) → IsSpecTaken names room tokens at so_far found
@@ -197,12 +191,11 @@ plain_found names room some tokens at so_far found one p =
     let h = p.height_is in
     spec_found names room tokens at so_far found (Plain one) (ap spec p.word_is) p.height_is (omega (arith, h, some)) p.later p.spelled tt (plain_exact names one) p.quiet p.described
 
-pub plain_answer : (names : Names) (room : ℕ) → 1 ≤ room → (tokens : List Token) (end : Place) (at : ℕ) (so_far : TypeSoFar) (answer : Result (Option NextWord) Stop) → HasNoTag (kind_or_end tokens at) → (kind_or_end tokens at ≡ token.Keyword keyword.Static → ⊥) → PlainAnswer names tokens at so_far answer → SpecAnswer names room tokens end at so_far answer
-plain_answer names room some tokens end at so_far (Ok (Some found)) none other p = plain_found names room some tokens at so_far found p.0 p.1
-plain_answer names room some tokens end at so_far (Ok None) none other p = (p none, other)
-plain_answer names room some tokens end at so_far (Err stop.Memory) none other p = tt
-plain_answer names room some tokens end at so_far (Err (stop.Refused refused reason)) none other p = absurd p
-plain_answer names room some tokens end at so_far (Err (stop.Expression r)) none other p = absurd p
+pub plain_answer : (names : Names) (room : ℕ) → 1 ≤ room → (tokens : List Token) (at : ℕ) (so_far : TypeSoFar) (answer : Result (Option NextWord) Stop) → HasNoTag (kind_or_end tokens at) → (kind_or_end tokens at ≡ token.Keyword keyword.Static → ⊥) → PlainAnswer names tokens at so_far answer → SpecAnswer names room tokens at so_far answer
+plain_answer names room some tokens at so_far (Ok (Some found)) none other p = plain_found names room some tokens at so_far found p.0 p.1
+plain_answer names room some tokens at so_far (Ok None) none other p = (p none, other)
+plain_answer names room some tokens at so_far (Err stop.Memory) none other p = tt
+plain_answer names room some tokens at so_far (Err (stop.Refused refused reason)) none other p = absurd p
 
 -- `static`
 pub static_found : (names : Names) (room : ℕ) → 1 ≤ room → (tokens : List Token) (at : ℕ) (so_far : TypeSoFar) (found : NextWord) → kind_or_end tokens at ≡ token.Keyword keyword.Static → IsStatic at so_far found → IsSpecTaken names room tokens at so_far found
@@ -221,10 +214,9 @@ static_differs false e = cc
 pub tag_none : (names : Names) (so_far : TypeSoFar) (next : TokenKind) (is_struct : Bool) → next ≡ tag_keyword is_struct → names_some so_far ≡ true → NothingFits names so_far next × (next ≡ token.Keyword keyword.Static → ⊥)
 tag_none names so_far next is_struct k some = (tag_unfit names so_far next is_struct k some, λ e. static_differs is_struct (sym k ∙ e))
 
-pub element_error : (names : Names) (room : ℕ) (tokens : List Token) (end : Place) (at : ℕ) (so_far : TypeSoFar) (s : Stop) → names_some so_far ≡ false → ElementStops names room tokens end at s → SpecAnswer names room tokens end at so_far (Err s)
-element_error names room tokens end at so_far stop.Memory none e = tt
-element_error names room tokens end at so_far (stop.Refused refused reason) none e = (none, e)
-element_error names room tokens end at so_far (stop.Expression r) none e = (none, e)
+pub element_error : (names : Names) (room : ℕ) (tokens : List Token) (at : ℕ) (so_far : TypeSoFar) (s : Stop) → names_some so_far ≡ false → ElementStops names room tokens at s → SpecAnswer names room tokens at so_far (Err s)
+element_error names room tokens at so_far stop.Memory none e = tt
+element_error names room tokens at so_far (stop.Refused refused reason) none e = (none, e)
 
 pub element_found : (names : Names) (room : ℕ) (tokens : List Token) (at : ℕ) (so_far : TypeSoFar) (found : NextWord) → names_some so_far ≡ false → IsSpecTaken names room tokens at Nothing found → IsSpecTaken names room tokens at so_far found
 element_found names room tokens at so_far found none e = subst (λ (x : TypeSoFar). IsSpecTaken names room tokens at x found) (sym (fresh_nothing so_far none)) e
@@ -258,30 +250,26 @@ body_refused names room inner D is_struct tag lift tokens at mid sp refused reas
   refused_is = lift r.front (kind_or_end tokens refused) (is_deep reason) r.refused;
 }
 
-body_stops : (names : Names) (room inner : ℕ) (D : Class) (is_struct : Bool) (tag : Option (List ℕ)) → ((front : Kinds) (next : TokenKind) (deep : Bool) → Refused D inner front next deep → Refused (SpecElements names) room (tag_keyword is_struct ∷ (name_text tag (token.Mark mark.OpenBrace ∷ []) ++ front)) next deep) → (tokens : List Token) (end : Place) (at mid : ℕ) → Spells tokens at mid (λ rest. tag_keyword is_struct ∷ name_text tag (token.Mark mark.OpenBrace ∷ rest)) → (s : Stop) → Stops D inner tokens end mid s → ElementStops names room tokens end at s
-body_stops names room inner D is_struct tag lift tokens end at mid sp stop.Memory r = tt
-body_stops names room inner D is_struct tag lift tokens end at mid sp (stop.Refused refused reason) r = inl (body_refused names room inner D is_struct tag lift tokens at mid sp refused reason r)
-body_stops names room inner D is_struct tag lift tokens end at mid sp (stop.Expression refusal.Memory) r = tt
-body_stops names room inner D is_struct tag lift tokens end at mid sp (stop.Expression (refusal.Syntax place)) r = (r.0, r.1, r.2, body_refused names room inner D is_struct tag lift tokens at mid sp r.0 r.1 r.3)
-body_stops names room inner D is_struct tag lift tokens end at mid sp (stop.Expression (refusal.LeftOut place text)) r = (r.0, r.1, r.2, body_refused names room inner D is_struct tag lift tokens at mid sp r.0 r.1 r.3)
-body_stops names room inner D is_struct tag lift tokens end at mid sp (stop.Expression (refusal.TooDeep place)) r = (r.0, r.1, r.2, body_refused names room inner D is_struct tag lift tokens at mid sp r.0 r.1 r.3)
+body_stops : (names : Names) (room inner : ℕ) (D : Class) (is_struct : Bool) (tag : Option (List ℕ)) → ((front : Kinds) (next : TokenKind) (deep : Bool) → Refused D inner front next deep → Refused (SpecElements names) room (tag_keyword is_struct ∷ (name_text tag (token.Mark mark.OpenBrace ∷ []) ++ front)) next deep) → (tokens : List Token) (at mid : ℕ) → Spells tokens at mid (λ rest. tag_keyword is_struct ∷ name_text tag (token.Mark mark.OpenBrace ∷ rest)) → (s : Stop) → Stops D inner tokens mid s → ElementStops names room tokens at s
+body_stops names room inner D is_struct tag lift tokens at mid sp stop.Memory r = tt
+body_stops names room inner D is_struct tag lift tokens at mid sp (stop.Refused refused reason) r = inl (body_refused names room inner D is_struct tag lift tokens at mid sp refused reason r)
 
 -- members or constants were refused
-pub struct_stops : (names : Names) (room inner : ℕ) → room ≡ 1 + inner → (tag : Option (List ℕ)) (tokens : List Token) (end : Place) (at mid : ℕ) → Spells tokens at mid (λ rest. tag_keyword true ∷ name_text tag (token.Mark mark.OpenBrace ∷ rest)) → (s : Stop) → Stops (MemberRows names) inner tokens end mid s → ElementStops names room tokens end at s
-struct_stops names room inner less tag tokens end at mid sp s r = body_stops names room inner (MemberRows names) true tag (λ front next deep x. struct_refused names room inner less tag front next deep x) tokens end at mid sp s r
+pub struct_stops : (names : Names) (room inner : ℕ) → room ≡ 1 + inner → (tag : Option (List ℕ)) (tokens : List Token) (at mid : ℕ) → Spells tokens at mid (λ rest. tag_keyword true ∷ name_text tag (token.Mark mark.OpenBrace ∷ rest)) → (s : Stop) → Stops (MemberRows names) inner tokens mid s → ElementStops names room tokens at s
+struct_stops names room inner less tag tokens at mid sp s r = body_stops names room inner (MemberRows names) true tag (λ front next deep x. struct_refused names room inner less tag front next deep x) tokens at mid sp s r
 
-pub enum_stops : (names : Names) (room inner : ℕ) → room ≡ 1 + inner → 1 ≤ inner → (tag : Option (List ℕ)) (tokens : List Token) (end : Place) (at mid : ℕ) → Spells tokens at mid (λ rest. tag_keyword false ∷ name_text tag (token.Mark mark.OpenBrace ∷ rest)) → (s : Stop) → Stops (Trailing (Constants names) (token.Mark mark.CloseBrace)) inner tokens end mid s → ElementStops names room tokens end at s
-enum_stops names room inner less some tag tokens end at mid sp s r = body_stops names room inner (Trailing (Constants names) (token.Mark mark.CloseBrace)) false tag (λ front next deep x. enum_refused names room inner less some tag front next deep x) tokens end at mid sp s r
+pub enum_stops : (names : Names) (room inner : ℕ) → room ≡ 1 + inner → 1 ≤ inner → (tag : Option (List ℕ)) (tokens : List Token) (at mid : ℕ) → Spells tokens at mid (λ rest. tag_keyword false ∷ name_text tag (token.Mark mark.OpenBrace ∷ rest)) → (s : Stop) → Stops (Trailing (Constants names) (token.Mark mark.CloseBrace)) inner tokens mid s → ElementStops names room tokens at s
+enum_stops names room inner less some tag tokens at mid sp s r = body_stops names room inner (Trailing (Constants names) (token.Mark mark.CloseBrace)) false tag (λ front next deep x. enum_refused names room inner less some tag front next deep x) tokens at mid sp s r
 
 -- there is no room for constants
-pub enum_little : (names : Names) (room : ℕ) → 1 ≤ room → room < 2 → (tag : Option (List ℕ)) (tokens : List Token) (end : Place) (at brace : ℕ) → Spells tokens at brace (λ rest. tag_keyword false ∷ name_text tag rest) → kind_or_end tokens brace ≡ token.Mark mark.OpenBrace → ElementStops names room tokens end at (stop.Refused brace TooDeep)
-enum_little names room some little None tokens end at brace sp k = inl (record {
+pub enum_little : (names : Names) (room : ℕ) → 1 ≤ room → room < 2 → (tag : Option (List ℕ)) (tokens : List Token) (at brace : ℕ) → Spells tokens at brace (λ rest. tag_keyword false ∷ name_text tag rest) → kind_or_end tokens brace ≡ token.Mark mark.OpenBrace → ElementStops names room tokens at (stop.Refused brace TooDeep)
+enum_little names room some little None tokens at brace sp k = inl (record {
   is_struct = false;
   front = [];
   spelled = sp;
   refused_is = subst (λ (x : TokenKind). Refused (SpecElements names) room (tag_keyword false ∷ []) x true) (sym k) (enum_full names room little some);
 })
-enum_little names room some little (Some tag) tokens end at brace sp k = inr (record { tag = tag; spelled = sp; brace = k; little = little; deep = refl })
+enum_little names room some little (Some tag) tokens at brace sp k = inr (record { tag = tag; spelled = sp; brace = k; little = little; deep = refl })
 
 struct_whole : (before : List TypeWord) (names : Names) (w : TypeWord) → named_by (w ∷ []) ≡ w ∷ [] → is_whole names w ≡ true → named_by before ≡ [] → Describes names Whole (before ++ w ∷ [])
 struct_whole before names w n is none = (w, named_more before (w ∷ []) ∙ ap (λ (x : List TypeWord). x ++ named_by (w ∷ [])) none ∙ n, is)
@@ -332,12 +320,12 @@ tagged_found names room some tokens at behind tag name is k named number other f
     (tag_taken names tokens at k.0 name.name found k.1 n.0 (λ b. other (ap (kind_or_end tokens) e ∙ b)) t tall next)
 
 -- neither a tag nor a brace
-pub untagged_stops : (names : Names) (room : ℕ) → 1 ≤ room → (tokens : List Token) (end : Place) (at behind : ℕ) (tag : Option RawName) → tag ≡ None → IsTagKeyword (kind_or_end tokens at) → IsNameAt (λ name. Unit {0}) (kind_or_end tokens (at + 1)) tag → behind ≡ number_behind at (name_in tag) → (kind_or_end tokens behind ≡ token.Mark mark.OpenBrace → ⊥) → (s : Stop) → s ≡ stop.Refused behind (plain_reason File (kind_or_end tokens behind)) → ElementStops names room tokens end at s
-untagged_stops names room some tokens end at behind tag is k named number other s why =
+pub untagged_stops : (names : Names) (room : ℕ) → 1 ≤ room → (tokens : List Token) (at behind : ℕ) (tag : Option RawName) → tag ≡ None → IsTagKeyword (kind_or_end tokens at) → IsNameAt (λ name. Unit {0}) (kind_or_end tokens (at + 1)) tag → behind ≡ number_behind at (name_in tag) → (kind_or_end tokens behind ≡ token.Mark mark.OpenBrace → ⊥) → (s : Stop) → s ≡ stop.Refused behind (plain_reason File (kind_or_end tokens behind)) → ElementStops names room tokens at s
+untagged_stops names room some tokens at behind tag is k named number other s why =
     let n : IsNameAt (λ name. Unit {0}) (kind_or_end tokens (at + 1)) None = subst (IsNameAt (λ name. Unit {0}) (kind_or_end tokens (at + 1))) is named in
     let e : behind ≡ at + 1 = number ∙ ap (λ (x : Option RawName). number_behind at (name_in x)) is in
     let kind = kind_or_end tokens behind in
-    subst (ElementStops names room tokens end at) (sym why) (inl (record {
+    subst (ElementStops names room tokens at) (sym why) (inl (record {
       is_struct = k.0;
       front = [];
       spelled = subst (λ (m : ℕ). Spells tokens at m (λ rest. tag_keyword k.0 ∷ rest)) (sym e) (spells_one tokens at (tag_keyword k.0) k.1 (tag_some k.0));

@@ -1,7 +1,6 @@
 -- Each return of the parts that read statements, over tokens by their numbers.
 use Rattle.std.proofs.Common.{◌≡◌, ℕ, ◌+◌, ◌-◌, ◌<◌, ◌≤◌, max, Bool, true, false, List, [], ◌∷◌, ◌++◌, Option, Some, None, length, refl, sym, ap, ◌∙◌, subst, arith}
 use Rattle.std.specs.Option.{option_map}
-use Rattle.cs_ast.specs.declared.place.Place.{Place}
 use Rattle.cs_ast.specs.declared.token.Token.{Token}
 use Rattle.cs_ast.specs.declared.token.TokenKind.{TokenKind}
 use Rattle.cs_ast.specs.declared.token.TokenKind.TheVariants as token
@@ -32,8 +31,8 @@ use Rattle.cs_expr_parser.specs.Parts.{Spells}
 use Rattle.cs_decl_parser.specs.declared.source.Scope.TheVariants as scope
 use Rattle.cs_decl_parser.specs.declared.form.Form.{Form}
 use Rattle.cs_decl_parser.specs.declared.form.Form.TheVariants as form
-use Rattle.cs_decl_parser.specs.declared.stop.Stop.{Stop}
-use Rattle.cs_decl_parser.specs.declared.stop.Stop.TheVariants as stop
+use Rattle.cs_expr_parser.specs.declared.stop.Stop.{Stop}
+use Rattle.cs_expr_parser.specs.declared.stop.Stop.TheVariants as stop
 use Rattle.cs_decl_parser.specs.declared.stop.Taken.{Taken}
 use Rattle.cs_decl_parser.specs.Nodes.{IsNode}
 use Rattle.cs_decl_parser.specs.Forms.{least, form_of, is_labelled}
@@ -68,27 +67,27 @@ node_taken names room tokens from tree tall next whole n h s = record {
 }
 
 -- there is no room for the least statement of the form
-pub statement_full : (names : Names) (room : ℕ) (tokens : List Token) (end : Place) (from : ℕ) (s : Stop) → from ≤ length tokens → room < least (form_of names (kind_or_end tokens from) (kind_or_end tokens (from + 1))) → s ≡ stop.Refused from TooDeep → Stops (Sentences names) room tokens end from s
-statement_full names room tokens end from s within full is = stops_full (Sentences names) room tokens end from s within is (form_full names (kind_or_end tokens from) (kind_or_end tokens (from + 1)) room full)
+pub statement_full : (names : Names) (room : ℕ) (tokens : List Token) (from : ℕ) (s : Stop) → from ≤ length tokens → room < least (form_of names (kind_or_end tokens from) (kind_or_end tokens (from + 1))) → s ≡ stop.Refused from TooDeep → Stops (Sentences names) room tokens from s
+statement_full names room tokens from s within full is = stops_full (Sentences names) room tokens from s within is (form_full names (kind_or_end tokens from) (kind_or_end tokens (from + 1)) room full)
 
 -- the first tokens are those of the form
 pub told_form : (names : Names) (tokens : List Token) (from : ℕ) (f : Form) → form_of names (kind_or_end tokens from) (kind_or_end tokens (from + 1)) ≡ f → Tells names f (kind_or_end tokens from) (kind_or_end tokens (from + 1))
 told_form names tokens from f e = subst (λ (x : Form). Tells names x (kind_or_end tokens from) (kind_or_end tokens (from + 1))) e (form_tells names (kind_or_end tokens from) (kind_or_end tokens (from + 1)))
 
 -- a typedef name without a colon behind it
-pub unlabelled_stops : (names : Names) (room : ℕ) (tokens : List Token) (end : Place) (from : ℕ) (s : Stop) → 2 ≤ room → form_of names (kind_or_end tokens from) (kind_or_end tokens (from + 1)) ≡ form.Unlabelled → IsPlainStop scope.Block tokens (from + 1) s → Stops (Sentences names) room tokens end from s
-unlabelled_stops names room tokens end from s some e is =
+pub unlabelled_stops : (names : Names) (room : ℕ) (tokens : List Token) (from : ℕ) (s : Stop) → 2 ≤ room → form_of names (kind_or_end tokens from) (kind_or_end tokens (from + 1)) ≡ form.Unlabelled → IsPlainStop scope.Block tokens (from + 1) s → Stops (Sentences names) room tokens from s
+unlabelled_stops names room tokens from s some e is =
     let t = told_form names tokens from form.Unlabelled e in
-    stops_plain (Sentences names) room tokens end from (from + 1) scope.Block (token.Name t.0 ∷ []) s (spells_one tokens from (token.Name t.0) t.1 (λ x. cc)) is
+    stops_plain (Sentences names) room tokens from (from + 1) scope.Block (token.Name t.0 ∷ []) s (spells_one tokens from (token.Name t.0) t.1 (λ x. cc)) is
     (lone_refused names room t.0 (kind_or_end tokens (from + 1)) some t.2 (no_colon (kind_or_end tokens (from + 1)) t.3))
 
 -- `while`
-pub while_test_stops : (names : Names) (room : ℕ) (tokens : List Token) (end : Place) (from : ℕ) → 2 ≤ room → kind_or_end tokens from ≡ word keyword.While → (s : Stop) → Stops (Tests names) (room - 1) tokens end (from + 1) s → Stops (Sentences names) room tokens end from s
-while_test_stops names room tokens end from enough k s r = pair_first_stops (while_pair names) room (room - 1) (omega arith, omega arith, omega arith) tokens end from (from + 1) (word_stands tokens from keyword.While k) s r
+pub while_test_stops : (names : Names) (room : ℕ) (tokens : List Token) (from : ℕ) → 2 ≤ room → kind_or_end tokens from ≡ word keyword.While → (s : Stop) → Stops (Tests names) (room - 1) tokens (from + 1) s → Stops (Sentences names) room tokens from s
+while_test_stops names room tokens from enough k s r = pair_first_stops (while_pair names) room (room - 1) (omega arith, omega arith, omega arith) tokens from (from + 1) (word_stands tokens from keyword.While k) s r
 
-pub while_body_stops : (names : Names) (room : ℕ) (tokens : List Token) (end : Place) (from : ℕ) (test : Taken RawExpr) → 2 ≤ room → kind_or_end tokens from ≡ word keyword.While → IsExactly (Tests names) written (room - 1) tokens (from + 1) test → (s : Stop) → Stops (Sentences names) (room - 1) tokens end test.next s → Stops (Sentences names) room tokens end from s
-while_body_stops names room tokens end from test enough k t s r =
-    pair_second_stops (while_pair names) room (room - 1) (omega arith, omega arith, omega arith) tokens end from (from + 1) test.next (word_stands tokens from keyword.While k) (written test.tree) (exact_stands (Tests names) written (room - 1) tokens (from + 1) test t) s r
+pub while_body_stops : (names : Names) (room : ℕ) (tokens : List Token) (from : ℕ) (test : Taken RawExpr) → 2 ≤ room → kind_or_end tokens from ≡ word keyword.While → IsExactly (Tests names) written (room - 1) tokens (from + 1) test → (s : Stop) → Stops (Sentences names) (room - 1) tokens test.next s → Stops (Sentences names) room tokens from s
+while_body_stops names room tokens from test enough k t s r =
+    pair_second_stops (while_pair names) room (room - 1) (omega arith, omega arith, omega arith) tokens from (from + 1) test.next (word_stands tokens from keyword.While k) (written test.tree) (exact_stands (Tests names) written (room - 1) tokens (from + 1) test t) s r
 
 pub while_taken : (names : Names) (room : ℕ) (tokens : List Token) (from : ℕ) (test : Taken RawExpr) (body whole : Taken RawStmt) → 2 ≤ room → kind_or_end tokens from ≡ word keyword.While → IsExactly (Tests names) written (room - 1) tokens (from + 1) test → IsTaken (Sentences names) statement_of (room - 1) tokens test.next false body → IsNode (While (written test.tree) (statement_of body.tree)) (max test.height body.height + 1) body.next whole → IsTaken (Sentences names) statement_of room tokens from false whole
 while_taken names room tokens from test body whole enough k t b n =
@@ -99,17 +98,17 @@ while_taken names room tokens from test body whole enough k t b n =
     (taken_stands (Sentences names) statement_of (room - 1) tokens test.next false body b))
 
 -- `if`
-pub if_test_stops : (names : Names) (room : ℕ) (tokens : List Token) (end : Place) (from : ℕ) → 2 ≤ room → kind_or_end tokens from ≡ word keyword.If → (s : Stop) → Stops (Tests names) (room - 1) tokens end (from + 1) s → Stops (Sentences names) room tokens end from s
-if_test_stops names room tokens end from enough k s r = pair_first_stops (if_pair names) room (room - 1) (omega arith, omega arith, omega arith) tokens end from (from + 1) (word_stands tokens from keyword.If k) s r
+pub if_test_stops : (names : Names) (room : ℕ) (tokens : List Token) (from : ℕ) → 2 ≤ room → kind_or_end tokens from ≡ word keyword.If → (s : Stop) → Stops (Tests names) (room - 1) tokens (from + 1) s → Stops (Sentences names) room tokens from s
+if_test_stops names room tokens from enough k s r = pair_first_stops (if_pair names) room (room - 1) (omega arith, omega arith, omega arith) tokens from (from + 1) (word_stands tokens from keyword.If k) s r
 
-branches_stop : (names : Names) (room : ℕ) (tokens : List Token) (end : Place) (from : ℕ) (test : Taken RawExpr) → 2 ≤ room → kind_or_end tokens from ≡ word keyword.If → IsExactly (Tests names) written (room - 1) tokens (from + 1) test → (s : Stop) → Stops (Branches names) (room - 1) tokens end test.next s → Stops (Sentences names) room tokens end from s
-branches_stop names room tokens end from test enough k t s r =
-    pair_second_stops (if_pair names) room (room - 1) (omega arith, omega arith, omega arith) tokens end from (from + 1) test.next (word_stands tokens from keyword.If k) (written test.tree) (exact_stands (Tests names) written (room - 1) tokens (from + 1) test t) s r
+branches_stop : (names : Names) (room : ℕ) (tokens : List Token) (from : ℕ) (test : Taken RawExpr) → 2 ≤ room → kind_or_end tokens from ≡ word keyword.If → IsExactly (Tests names) written (room - 1) tokens (from + 1) test → (s : Stop) → Stops (Branches names) (room - 1) tokens test.next s → Stops (Sentences names) room tokens from s
+branches_stop names room tokens from test enough k t s r =
+    pair_second_stops (if_pair names) room (room - 1) (omega arith, omega arith, omega arith) tokens from (from + 1) test.next (word_stands tokens from keyword.If k) (written test.tree) (exact_stands (Tests names) written (room - 1) tokens (from + 1) test t) s r
 
-pub if_body_stops : (names : Names) (room : ℕ) (tokens : List Token) (end : Place) (from : ℕ) (test : Taken RawExpr) → 2 ≤ room → kind_or_end tokens from ≡ word keyword.If → IsExactly (Tests names) written (room - 1) tokens (from + 1) test → (s : Stop) → Stops (Sentences names) (room - 1) tokens end test.next s → Stops (Sentences names) room tokens end from s
-if_body_stops names room tokens end from test enough k t s r =
-    branches_stop names room tokens end from test enough k t s
-    (stops_pass (Branches names) (Sentences names) (room - 1) (room - 1) tokens end test.next (λ front at deep here x. branch_refused names (room - 1) front (kind_or_end tokens at) deep x) s r)
+pub if_body_stops : (names : Names) (room : ℕ) (tokens : List Token) (from : ℕ) (test : Taken RawExpr) → 2 ≤ room → kind_or_end tokens from ≡ word keyword.If → IsExactly (Tests names) written (room - 1) tokens (from + 1) test → (s : Stop) → Stops (Sentences names) (room - 1) tokens test.next s → Stops (Sentences names) room tokens from s
+if_body_stops names room tokens from test enough k t s r =
+    branches_stop names room tokens from test enough k t s
+    (stops_pass (Branches names) (Sentences names) (room - 1) (room - 1) tokens test.next (λ front at deep here x. branch_refused names (room - 1) front (kind_or_end tokens at) deep x) s r)
 
 pub if_taken : (names : Names) (room : ℕ) (tokens : List Token) (from : ℕ) (test : Taken RawExpr) (body whole : Taken RawStmt) → 2 ≤ room → kind_or_end tokens from ≡ word keyword.If → IsExactly (Tests names) written (room - 1) tokens (from + 1) test → IsTaken (Sentences names) statement_of (room - 1) tokens test.next false body → (kind_or_end tokens body.next ≡ word keyword.Else → ⊥) → IsNode (If (written test.tree) (statement_of body.tree)) (max test.height body.height + 1) body.next whole → IsTaken (Sentences names) statement_of room tokens from false whole
 if_taken names room tokens from test body whole enough k t b other n =
@@ -125,10 +124,10 @@ else_stands names room tokens from body b k = spells_more tokens from body.next 
 else_took : (names : Names) (room : ℕ) (tokens : List Token) (from : ℕ) (body : Taken RawStmt) → IsTaken (Sentences names) statement_of room tokens from false body → kind_or_end tokens body.next ≡ word keyword.Else → Took (Sentences names) room (statement_of body.tree) (word keyword.Else) false
 else_took names room tokens from body b k = subst (λ (x : TokenKind). Took (Sentences names) room (statement_of body.tree) x false) k b.took
 
-pub else_stops : (names : Names) (room : ℕ) (tokens : List Token) (end : Place) (from : ℕ) (test : Taken RawExpr) (body : Taken RawStmt) → 2 ≤ room → kind_or_end tokens from ≡ word keyword.If → IsExactly (Tests names) written (room - 1) tokens (from + 1) test → IsTaken (Sentences names) statement_of (room - 1) tokens test.next false body → kind_or_end tokens body.next ≡ word keyword.Else → (s : Stop) → Stops (Sentences names) (room - 1) tokens end (body.next + 1) s → Stops (Sentences names) room tokens end from s
-else_stops names room tokens end from test body enough k t b e s r =
-    branches_stop names room tokens end from test enough k t s
-    (stops_in (Branches names) (Sentences names) (room - 1) (room - 1) tokens end test.next (body.next + 1) (sentence_text (statement_of body.tree) (word keyword.Else ∷ []))
+pub else_stops : (names : Names) (room : ℕ) (tokens : List Token) (from : ℕ) (test : Taken RawExpr) (body : Taken RawStmt) → 2 ≤ room → kind_or_end tokens from ≡ word keyword.If → IsExactly (Tests names) written (room - 1) tokens (from + 1) test → IsTaken (Sentences names) statement_of (room - 1) tokens test.next false body → kind_or_end tokens body.next ≡ word keyword.Else → (s : Stop) → Stops (Sentences names) (room - 1) tokens (body.next + 1) s → Stops (Sentences names) room tokens from s
+else_stops names room tokens from test body enough k t b e s r =
+    branches_stop names room tokens from test enough k t s
+    (stops_in (Branches names) (Sentences names) (room - 1) (room - 1) tokens test.next (body.next + 1) (sentence_text (statement_of body.tree) (word keyword.Else ∷ []))
     (spells_as tokens test.next (body.next + 1) (λ rest. sentence_text (statement_of body.tree) (word keyword.Else ∷ rest)) (λ rest. sentence_text (statement_of body.tree) (word keyword.Else ∷ []) ++ rest) (else_stands names (room - 1) tokens test.next body b e) (λ rest. sym (sentence_append (statement_of body.tree) (word keyword.Else ∷ []) rest)))
     (λ front at deep here x. branch_other_refused names (room - 1) (statement_of body.tree) (else_took names (room - 1) tokens test.next body b e) front (kind_or_end tokens at) deep x) s r)
 
@@ -145,29 +144,29 @@ else_taken names room tokens from test body other whole enough k t b e o n =
     }))
 
 -- `do`
-pub do_body_stops : (names : Names) (room : ℕ) (tokens : List Token) (end : Place) (from : ℕ) → 2 ≤ room → kind_or_end tokens from ≡ word keyword.Do → (s : Stop) → Stops (Sentences names) (room - 1) tokens end (from + 1) s → Stops (Sentences names) room tokens end from s
-do_body_stops names room tokens end from enough k s r =
-    pair_first_stops (do_pair names) room (room - 1) (omega arith, omega arith, omega arith) tokens end from (from + 1) (word_stands tokens from keyword.Do k) s
-    (closed_stops (Sentences names) (word keyword.While) (sentences_law names) (λ part more told. tt) (room - 1) tokens end (from + 1) s r)
+pub do_body_stops : (names : Names) (room : ℕ) (tokens : List Token) (from : ℕ) → 2 ≤ room → kind_or_end tokens from ≡ word keyword.Do → (s : Stop) → Stops (Sentences names) (room - 1) tokens (from + 1) s → Stops (Sentences names) room tokens from s
+do_body_stops names room tokens from enough k s r =
+    pair_first_stops (do_pair names) room (room - 1) (omega arith, omega arith, omega arith) tokens from (from + 1) (word_stands tokens from keyword.Do k) s
+    (closed_stops (Sentences names) (word keyword.While) (sentences_law names) (λ part more told. tt) (room - 1) tokens (from + 1) s r)
 
-pub do_while_missing : (names : Names) (room : ℕ) (tokens : List Token) (end : Place) (from : ℕ) (body : Taken RawStmt) (s : Stop) → 2 ≤ room → kind_or_end tokens from ≡ word keyword.Do → IsTaken (Sentences names) statement_of (room - 1) tokens (from + 1) false body → (kind_or_end tokens body.next ≡ word keyword.While → ⊥) → IsPlainStop scope.Block tokens body.next s → Stops (Sentences names) room tokens end from s
-do_while_missing names room tokens end from body s enough k b other is =
-    pair_first_stops (do_pair names) room (room - 1) (omega arith, omega arith, omega arith) tokens end from (from + 1) (word_stands tokens from keyword.Do k) s
-    (closed_missing (Sentences names) (word keyword.While) (sentences_law names) (λ part more told. tt) (room - 1) tokens end (from + 1) body.next scope.Block (statement_of body.tree) s
+pub do_while_missing : (names : Names) (room : ℕ) (tokens : List Token) (from : ℕ) (body : Taken RawStmt) (s : Stop) → 2 ≤ room → kind_or_end tokens from ≡ word keyword.Do → IsTaken (Sentences names) statement_of (room - 1) tokens (from + 1) false body → (kind_or_end tokens body.next ≡ word keyword.While → ⊥) → IsPlainStop scope.Block tokens body.next s → Stops (Sentences names) room tokens from s
+do_while_missing names room tokens from body s enough k b other is =
+    pair_first_stops (do_pair names) room (room - 1) (omega arith, omega arith, omega arith) tokens from (from + 1) (word_stands tokens from keyword.Do k) s
+    (closed_missing (Sentences names) (word keyword.While) (sentences_law names) (λ part more told. tt) (room - 1) tokens (from + 1) body.next scope.Block (statement_of body.tree) s
     (taken_stands (Sentences names) statement_of (room - 1) tokens (from + 1) false body b) other is)
 
 do_body : (names : Names) (room : ℕ) (tokens : List Token) (from : ℕ) (body : Taken RawStmt) → IsTaken (Sentences names) statement_of room tokens from false body → kind_or_end tokens body.next ≡ word keyword.While → StandingExactly (ClosedBy (Sentences names) (word keyword.While)) room tokens from (body.next + 1) (statement_of body.tree)
 do_body names room tokens from body b w = closed_stands (Sentences names) (word keyword.While) (λ part more told. tt) (λ x. cc) room tokens from body.next (statement_of body.tree) (taken_stands (Sentences names) statement_of room tokens from false body b) w
 
-pub do_test_stops : (names : Names) (room : ℕ) (tokens : List Token) (end : Place) (from : ℕ) (body : Taken RawStmt) → 2 ≤ room → kind_or_end tokens from ≡ word keyword.Do → IsTaken (Sentences names) statement_of (room - 1) tokens (from + 1) false body → kind_or_end tokens body.next ≡ word keyword.While → (s : Stop) → Stops (Tests names) (room - 1) tokens end (body.next + 1) s → Stops (Sentences names) room tokens end from s
-do_test_stops names room tokens end from body enough k b w s r =
-    pair_second_stops (do_pair names) room (room - 1) (omega arith, omega arith, omega arith) tokens end from (from + 1) (body.next + 1) (word_stands tokens from keyword.Do k) (statement_of body.tree) (do_body names (room - 1) tokens (from + 1) body b w) s
-    (closed_stops (Tests names) semicolon (tests_law names) (λ part more. tt) (room - 1) tokens end (body.next + 1) s r)
+pub do_test_stops : (names : Names) (room : ℕ) (tokens : List Token) (from : ℕ) (body : Taken RawStmt) → 2 ≤ room → kind_or_end tokens from ≡ word keyword.Do → IsTaken (Sentences names) statement_of (room - 1) tokens (from + 1) false body → kind_or_end tokens body.next ≡ word keyword.While → (s : Stop) → Stops (Tests names) (room - 1) tokens (body.next + 1) s → Stops (Sentences names) room tokens from s
+do_test_stops names room tokens from body enough k b w s r =
+    pair_second_stops (do_pair names) room (room - 1) (omega arith, omega arith, omega arith) tokens from (from + 1) (body.next + 1) (word_stands tokens from keyword.Do k) (statement_of body.tree) (do_body names (room - 1) tokens (from + 1) body b w) s
+    (closed_stops (Tests names) semicolon (tests_law names) (λ part more. tt) (room - 1) tokens (body.next + 1) s r)
 
-pub do_semicolon_missing : (names : Names) (room : ℕ) (tokens : List Token) (end : Place) (from : ℕ) (body : Taken RawStmt) (test : Taken RawExpr) (s : Stop) → 2 ≤ room → kind_or_end tokens from ≡ word keyword.Do → IsTaken (Sentences names) statement_of (room - 1) tokens (from + 1) false body → kind_or_end tokens body.next ≡ word keyword.While → IsExactly (Tests names) written (room - 1) tokens (body.next + 1) test → (kind_or_end tokens test.next ≡ semicolon → ⊥) → IsPlainStop scope.Block tokens test.next s → Stops (Sentences names) room tokens end from s
-do_semicolon_missing names room tokens end from body test s enough k b w t other is =
-    pair_second_stops (do_pair names) room (room - 1) (omega arith, omega arith, omega arith) tokens end from (from + 1) (body.next + 1) (word_stands tokens from keyword.Do k) (statement_of body.tree) (do_body names (room - 1) tokens (from + 1) body b w) s
-    (closed_missing (Tests names) semicolon (tests_law names) (λ part more. tt) (room - 1) tokens end (body.next + 1) test.next scope.Block (written test.tree) s
+pub do_semicolon_missing : (names : Names) (room : ℕ) (tokens : List Token) (from : ℕ) (body : Taken RawStmt) (test : Taken RawExpr) (s : Stop) → 2 ≤ room → kind_or_end tokens from ≡ word keyword.Do → IsTaken (Sentences names) statement_of (room - 1) tokens (from + 1) false body → kind_or_end tokens body.next ≡ word keyword.While → IsExactly (Tests names) written (room - 1) tokens (body.next + 1) test → (kind_or_end tokens test.next ≡ semicolon → ⊥) → IsPlainStop scope.Block tokens test.next s → Stops (Sentences names) room tokens from s
+do_semicolon_missing names room tokens from body test s enough k b w t other is =
+    pair_second_stops (do_pair names) room (room - 1) (omega arith, omega arith, omega arith) tokens from (from + 1) (body.next + 1) (word_stands tokens from keyword.Do k) (statement_of body.tree) (do_body names (room - 1) tokens (from + 1) body b w) s
+    (closed_missing (Tests names) semicolon (tests_law names) (λ part more. tt) (room - 1) tokens (body.next + 1) test.next scope.Block (written test.tree) s
     (exactly_stands (Tests names) (room - 1) tokens (body.next + 1) test.next (written test.tree) (exact_stands (Tests names) written (room - 1) tokens (body.next + 1) test t)) other is)
 
 pub do_taken : (names : Names) (room : ℕ) (tokens : List Token) (from : ℕ) (body whole : Taken RawStmt) (test : Taken RawExpr) → 2 ≤ room → kind_or_end tokens from ≡ word keyword.Do → IsTaken (Sentences names) statement_of (room - 1) tokens (from + 1) false body → kind_or_end tokens body.next ≡ word keyword.While → IsExactly (Tests names) written (room - 1) tokens (body.next + 1) test → kind_or_end tokens test.next ≡ semicolon → IsNode (Do (statement_of body.tree) (written test.tree)) (max body.height test.height + 1) (test.next + 1) whole → IsTaken (Sentences names) statement_of room tokens from false whole
@@ -190,9 +189,9 @@ label_tokens tokens from n k e =
     let two : from + 1 + 1 ≡ from + 2 = omega arith in
     subst (λ (m : ℕ). Spells tokens from m (λ rest. token.Name n ∷ colon ∷ rest)) two (label_stands tokens from n k l.2)
 
-pub label_stops : (names : Names) (room : ℕ) (tokens : List Token) (end : Place) (from : ℕ) (n : List ℕ) → 2 ≤ room → kind_or_end tokens from ≡ token.Name n → is_labelled (kind_or_end tokens from) (kind_or_end tokens (from + 1)) ≡ true → (s : Stop) → Stops (Sentences names) (room - 1) tokens end (from + 2) s → Stops (Sentences names) room tokens end from s
-label_stops names room tokens end from n enough k e s r =
-    single_stops (label_single names n) room (room - 1) (omega arith, omega arith) tokens end from (from + 2) (label_tokens tokens from n k e) (no_fits tokens (from + 2)) s r
+pub label_stops : (names : Names) (room : ℕ) (tokens : List Token) (from : ℕ) (n : List ℕ) → 2 ≤ room → kind_or_end tokens from ≡ token.Name n → is_labelled (kind_or_end tokens from) (kind_or_end tokens (from + 1)) ≡ true → (s : Stop) → Stops (Sentences names) (room - 1) tokens (from + 2) s → Stops (Sentences names) room tokens from s
+label_stops names room tokens from n enough k e s r =
+    single_stops (label_single names n) room (room - 1) (omega arith, omega arith) tokens from (from + 2) (label_tokens tokens from n k e) (no_fits tokens (from + 2)) s r
 
 pub label_taken : (names : Names) (room : ℕ) (tokens : List Token) (from : ℕ) (n : List ℕ) (body whole : Taken RawStmt) → 2 ≤ room → kind_or_end tokens from ≡ token.Name n → is_labelled (kind_or_end tokens from) (kind_or_end tokens (from + 1)) ≡ true → IsTaken (Sentences names) statement_of (room - 1) tokens (from + 2) false body → IsNode (Label n (statement_of body.tree)) (body.height + 1) body.next whole → IsTaken (Sentences names) statement_of room tokens from false whole
 label_taken names room tokens from n body whole enough k e b nd =
@@ -212,12 +211,12 @@ nothing_taken names room tokens from whole some k n =
     (record { spelled = spells_none tokens (from + 1) (let m = mark_stands tokens from mark.Semicolon k in m.within); took = exact_took Ended (room - 1) tt (ended_exact (room - 1)) (kind_or_end tokens (from + 1)) }))
 
 -- `goto`
-pub goto_name_missing : (names : Names) (room : ℕ) (tokens : List Token) (end : Place) (from : ℕ) (s : Stop) → 1 ≤ room → kind_or_end tokens from ≡ word keyword.Goto → ((n : List ℕ) → kind_or_end tokens (from + 1) ≡ token.Name n → ⊥) → IsPlainStop scope.Block tokens (from + 1) s → Stops (Sentences names) room tokens end from s
-goto_name_missing names room tokens end from s some k none is =
+pub goto_name_missing : (names : Names) (room : ℕ) (tokens : List Token) (from : ℕ) (s : Stop) → 1 ≤ room → kind_or_end tokens from ≡ word keyword.Goto → ((n : List ℕ) → kind_or_end tokens (from + 1) ≡ token.Name n → ⊥) → IsPlainStop scope.Block tokens (from + 1) s → Stops (Sentences names) room tokens from s
+goto_name_missing names room tokens from s some k none is =
     let w = word_stands tokens from keyword.Goto k in
-    single_stops (goto_single names) room (room - 1) (omega arith, omega arith) tokens end from (from + 1) w (no_fits tokens (from + 1)) s
-    (closed_stops AnyName semicolon name_law (λ part more. tt) (room - 1) tokens end (from + 1) s
-    (stops_plain AnyName (room - 1) tokens end (from + 1) (from + 1) scope.Block [] s (spells_none tokens (from + 1) w.within) is (name_refused (room - 1) (kind_or_end tokens (from + 1)) none)))
+    single_stops (goto_single names) room (room - 1) (omega arith, omega arith) tokens from (from + 1) w (no_fits tokens (from + 1)) s
+    (closed_stops AnyName semicolon name_law (λ part more. tt) (room - 1) tokens (from + 1) s
+    (stops_plain AnyName (room - 1) tokens (from + 1) (from + 1) scope.Block [] s (spells_none tokens (from + 1) w.within) is (name_refused (room - 1) (kind_or_end tokens (from + 1)) none)))
 
 goto_name : (room : ℕ) (tokens : List Token) (at : ℕ) (n : List ℕ) → kind_or_end tokens at ≡ token.Name n → Standing AnyName room tokens at (at + 1) false n
 goto_name room tokens at n k = record { spelled = spells_one tokens at (token.Name n) k (λ x. cc); took = exact_took AnyName room n (name_exact room n) (kind_or_end tokens (at + 1)) }
@@ -225,11 +224,11 @@ goto_name room tokens at n k = record { spelled = spells_one tokens at (token.Na
 two_on : (from : ℕ) → from + 1 + 1 ≡ from + 2
 two_on from = omega arith
 
-pub goto_semicolon_missing : (names : Names) (room : ℕ) (tokens : List Token) (end : Place) (from : ℕ) (n : List ℕ) (s : Stop) → 1 ≤ room → kind_or_end tokens from ≡ word keyword.Goto → kind_or_end tokens (from + 1) ≡ token.Name n → (kind_or_end tokens (from + 2) ≡ semicolon → ⊥) → IsPlainStop scope.Block tokens (from + 2) s → Stops (Sentences names) room tokens end from s
-goto_semicolon_missing names room tokens end from n s some k name other is =
+pub goto_semicolon_missing : (names : Names) (room : ℕ) (tokens : List Token) (from : ℕ) (n : List ℕ) (s : Stop) → 1 ≤ room → kind_or_end tokens from ≡ word keyword.Goto → kind_or_end tokens (from + 1) ≡ token.Name n → (kind_or_end tokens (from + 2) ≡ semicolon → ⊥) → IsPlainStop scope.Block tokens (from + 2) s → Stops (Sentences names) room tokens from s
+goto_semicolon_missing names room tokens from n s some k name other is =
     let t = subst (λ (m : ℕ). Standing AnyName (room - 1) tokens (from + 1) m false n) (two_on from) (goto_name (room - 1) tokens (from + 1) n name) in
-    single_stops (goto_single names) room (room - 1) (omega arith, omega arith) tokens end from (from + 1) (word_stands tokens from keyword.Goto k) (no_fits tokens (from + 1)) s
-    (closed_missing AnyName semicolon name_law (λ part more. tt) (room - 1) tokens end (from + 1) (from + 2) scope.Block n s t other is)
+    single_stops (goto_single names) room (room - 1) (omega arith, omega arith) tokens from (from + 1) (word_stands tokens from keyword.Goto k) (no_fits tokens (from + 1)) s
+    (closed_missing AnyName semicolon name_law (λ part more. tt) (room - 1) tokens (from + 1) (from + 2) scope.Block n s t other is)
 
 three_on : (from : ℕ) → from + 2 + 1 ≡ from + 3
 three_on from = omega arith
@@ -246,9 +245,9 @@ goto_taken names room tokens from n whole some k name c nd =
 abbrev pub Values : Names → Class
 Values names = ClosedSome names 0 (Unit {0}) semicolon
 
-pub return_stops : (names : Names) (room : ℕ) (tokens : List Token) (end : Place) (from : ℕ) → 1 ≤ room → kind_or_end tokens from ≡ word keyword.Return → (s : Stop) → Stops (Values names) (room - 1) tokens end (from + 1) s → Stops (Sentences names) room tokens end from s
-return_stops names room tokens end from some k s r =
-    single_stops (return_single names) room (room - 1) (omega arith, omega arith) tokens end from (from + 1) (word_stands tokens from keyword.Return k) (no_fits tokens (from + 1)) s r
+pub return_stops : (names : Names) (room : ℕ) (tokens : List Token) (from : ℕ) → 1 ≤ room → kind_or_end tokens from ≡ word keyword.Return → (s : Stop) → Stops (Values names) (room - 1) tokens (from + 1) s → Stops (Sentences names) room tokens from s
+return_stops names room tokens from some k s r =
+    single_stops (return_single names) room (room - 1) (omega arith, omega arith) tokens from (from + 1) (word_stands tokens from keyword.Return k) (no_fits tokens (from + 1)) s r
 
 pub return_taken : (names : Names) (room : ℕ) (tokens : List Token) (from : ℕ) (value : Taken (Option RawExpr)) (whole : Taken RawStmt) → 1 ≤ room → kind_or_end tokens from ≡ word keyword.Return → IsExactly (Values names) (option_map written) (room - 1) tokens (from + 1) value → IsNode (Return (option_map written value.tree)) (value.height + 1) value.next whole → IsTaken (Sentences names) statement_of room tokens from false whole
 return_taken names room tokens from value whole some k v n =

@@ -1,12 +1,10 @@
 -- Refusals and phrases inside others, by the numbers of tokens: for the contracts of all parts that read statements.
 use Rattle.std.proofs.Common.{◌≡◌, ℕ, ◌+◌, ◌≤◌, Bool, true, false, if◌then◌else◌, List, [], ◌∷◌, ◌++◌, length, drop, refl, sym, subst, append_assoc}
-use Rattle.cs_ast.specs.declared.place.Place.{Place}
 use Rattle.cs_ast.specs.declared.token.Token.{Token}
 use Rattle.cs_ast.specs.declared.token.TokenKind.{TokenKind}
 use Rattle.cs_ast.specs.declared.token.TokenKind.TheVariants as token
 use Rattle.cs_grammar.specs.declared.refusal.Reason.{Reason}
 use Rattle.cs_grammar.specs.declared.refusal.Reason.TheVariants.{Syntax, LeftOut, TooDeep}
-use Rattle.cs_grammar.specs.declared.refusal.SyntaxRefusal.TheVariants as refusal
 use Rattle.cs_grammar.specs.Text.{Kinds}
 use Rattle.cs_grammar.specs.Parsing.{Class, Near, Took, Refused, Exactly}
 use Rattle.cs_grammar.proofs.Holes.{Lawful, splits, ClosedBy, closed_refused, closed_wrong, closed_exact, exact_took}
@@ -17,8 +15,8 @@ use Rattle.cs_expr_parser.specs.Parts.{Spells, IsRefused, is_deep}
 use Rattle.cs_expr_parser.proofs.Standing.{kinds_first, spells_one, spells_none, spells_more, spells_as}
 use Rattle.cs_expr_parser.proofs.Stopping.{refused_here}
 use Rattle.cs_decl_parser.specs.declared.source.Scope.{Scope}
-use Rattle.cs_decl_parser.specs.declared.stop.Stop.{Stop}
-use Rattle.cs_decl_parser.specs.declared.stop.Stop.TheVariants as stop
+use Rattle.cs_expr_parser.specs.declared.stop.Stop.{Stop}
+use Rattle.cs_expr_parser.specs.declared.stop.Stop.TheVariants as stop
 use Rattle.cs_decl_parser.specs.Reasons.{is_left_out, plain_reason}
 use Rattle.cs_decl_parser.specs.Answers.{Stops}
 
@@ -45,39 +43,31 @@ refused_in C D room inner tokens from mid before spelled lift at reason r = reco
 }
 
 -- a part was refused
-pub stops_in : (C D : Class) (room inner : ℕ) (tokens : List Token) (end : Place) (from mid : ℕ) (before : Kinds) → Spells tokens from mid (λ rest. before ++ rest) → Lifts C D room inner tokens mid before → (s : Stop) → Stops D inner tokens end mid s → Stops C room tokens end from s
-stops_in C D room inner tokens end from mid before spelled lift stop.Memory s = tt
-stops_in C D room inner tokens end from mid before spelled lift (stop.Refused at reason) s = refused_in C D room inner tokens from mid before spelled lift at reason s
-stops_in C D room inner tokens end from mid before spelled lift (stop.Expression refusal.Memory) s = tt
-stops_in C D room inner tokens end from mid before spelled lift (stop.Expression (refusal.Syntax place)) s = (s.0, s.1, s.2, refused_in C D room inner tokens from mid before spelled lift s.0 s.1 s.3)
-stops_in C D room inner tokens end from mid before spelled lift (stop.Expression (refusal.LeftOut place word)) s = (s.0, s.1, s.2, refused_in C D room inner tokens from mid before spelled lift s.0 s.1 s.3)
-stops_in C D room inner tokens end from mid before spelled lift (stop.Expression (refusal.TooDeep place)) s = (s.0, s.1, s.2, refused_in C D room inner tokens from mid before spelled lift s.0 s.1 s.3)
+pub stops_in : (C D : Class) (room inner : ℕ) (tokens : List Token) (from mid : ℕ) (before : Kinds) → Spells tokens from mid (λ rest. before ++ rest) → Lifts C D room inner tokens mid before → (s : Stop) → Stops D inner tokens mid s → Stops C room tokens from s
+stops_in C D room inner tokens from mid before spelled lift stop.Memory s = tt
+stops_in C D room inner tokens from mid before spelled lift (stop.Refused at reason) s = refused_in C D room inner tokens from mid before spelled lift at reason s
 
 refused_pass : (C D : Class) (room inner : ℕ) (tokens : List Token) (from : ℕ) → Lifts C D room inner tokens from [] → (at : ℕ) (reason : Reason) → IsRefused D inner tokens from at reason → IsRefused C room tokens from at reason
 refused_pass C D room inner tokens from lift at reason r = record { front = r.front; spelled = r.spelled; refused = lift r.front at (is_deep reason) r.spelled r.refused }
 
 -- what is refused as one class is refused as another
-pub stops_pass : (C D : Class) (room inner : ℕ) (tokens : List Token) (end : Place) (from : ℕ) → Lifts C D room inner tokens from [] → (s : Stop) → Stops D inner tokens end from s → Stops C room tokens end from s
-stops_pass C D room inner tokens end from lift stop.Memory s = tt
-stops_pass C D room inner tokens end from lift (stop.Refused at reason) s = refused_pass C D room inner tokens from lift at reason s
-stops_pass C D room inner tokens end from lift (stop.Expression refusal.Memory) s = tt
-stops_pass C D room inner tokens end from lift (stop.Expression (refusal.Syntax place)) s = (s.0, s.1, s.2, refused_pass C D room inner tokens from lift s.0 s.1 s.3)
-stops_pass C D room inner tokens end from lift (stop.Expression (refusal.LeftOut place word)) s = (s.0, s.1, s.2, refused_pass C D room inner tokens from lift s.0 s.1 s.3)
-stops_pass C D room inner tokens end from lift (stop.Expression (refusal.TooDeep place)) s = (s.0, s.1, s.2, refused_pass C D room inner tokens from lift s.0 s.1 s.3)
+pub stops_pass : (C D : Class) (room inner : ℕ) (tokens : List Token) (from : ℕ) → Lifts C D room inner tokens from [] → (s : Stop) → Stops D inner tokens from s → Stops C room tokens from s
+stops_pass C D room inner tokens from lift stop.Memory s = tt
+stops_pass C D room inner tokens from lift (stop.Refused at reason) s = refused_pass C D room inner tokens from lift at reason s
 
 -- the refusal of a token with which no phrase of any height goes on
 abbrev pub IsPlainStop : Scope → List Token → ℕ → Stop → Type 0
 IsPlainStop scope tokens at s = s ≡ stop.Refused at (plain_reason scope (kind_or_end tokens at))
 
 -- the token behind these is refused, and no phrase of any height goes on with it
-pub stops_plain : (C : Class) (room : ℕ) (tokens : List Token) (end : Place) (from at : ℕ) (scope : Scope) (front : Kinds) (s : Stop) → Spells tokens from at (λ rest. front ++ rest) → IsPlainStop scope tokens at s → Refused C room front (kind_or_end tokens at) false → Stops C room tokens end from s
-stops_plain C room tokens end from at scope front s spelled is r =
-    subst (Stops C room tokens end from) (sym is)
+pub stops_plain : (C : Class) (room : ℕ) (tokens : List Token) (from at : ℕ) (scope : Scope) (front : Kinds) (s : Stop) → Spells tokens from at (λ rest. front ++ rest) → IsPlainStop scope tokens at s → Refused C room front (kind_or_end tokens at) false → Stops C room tokens from s
+stops_plain C room tokens from at scope front s spelled is r =
+    subst (Stops C room tokens from) (sym is)
     (record { front = front; spelled = spelled; refused = subst (λ (d : Bool). Refused C room front (kind_or_end tokens at) d) (sym (plain_flat scope (kind_or_end tokens at))) r })
 
 -- the first token is refused, since only phrases that are too high begin with it
-pub stops_full : (C : Class) (room : ℕ) (tokens : List Token) (end : Place) (from : ℕ) (s : Stop) → from ≤ length tokens → s ≡ stop.Refused from TooDeep → Refused C room [] (kind_or_end tokens from) true → Stops C room tokens end from s
-stops_full C room tokens end from s within is r = subst (Stops C room tokens end from) (sym is) (record { front = []; spelled = spells_none tokens from within; refused = r })
+pub stops_full : (C : Class) (room : ℕ) (tokens : List Token) (from : ℕ) (s : Stop) → from ≤ length tokens → s ≡ stop.Refused from TooDeep → Refused C room [] (kind_or_end tokens from) true → Stops C room tokens from s
+stops_full C room tokens from s within is r = subst (Stops C room tokens from) (sym is) (record { front = []; spelled = spells_none tokens from within; refused = r })
 
 -- the tokens of a phrase, before others
 pub front_of : (C : Class) → Lawful C → (tokens : List Token) (from next : ℕ) (tree : C.Tree) → Spells tokens from next (C.spell tree) → Spells tokens from next (λ rest. C.spell tree [] ++ rest)
@@ -103,14 +93,14 @@ pub record StandingExactly (C : Class) (room : ℕ) (tokens : List Token) (from 
   pub exactly : Exactly C room tree
 
 -- the first of two parts was refused
-pub pair_first_stops : {S C D : Class} {plus : ℕ} {before : Kinds} {build : C.Tree × D.Tree → S.Tree} (pair : Pair S C D plus before build) (room inner : ℕ) → HasRoom pair room inner → (tokens : List Token) (end : Place) (from mid : ℕ) → Spells tokens from mid (λ rest. before ++ rest) → (s : Stop) → Stops C inner tokens end mid s → Stops S room tokens end from s
-pair_first_stops {S} {C} {D} {plus} {before} pair room inner has tokens end from mid sp s r =
-    stops_in S C room inner tokens end from mid before sp (λ front at deep here x. pair_first_refused pair room inner has front (kind_or_end tokens at) deep x) s r
+pub pair_first_stops : {S C D : Class} {plus : ℕ} {before : Kinds} {build : C.Tree × D.Tree → S.Tree} (pair : Pair S C D plus before build) (room inner : ℕ) → HasRoom pair room inner → (tokens : List Token) (from mid : ℕ) → Spells tokens from mid (λ rest. before ++ rest) → (s : Stop) → Stops C inner tokens mid s → Stops S room tokens from s
+pair_first_stops {S} {C} {D} {plus} {before} pair room inner has tokens from mid sp s r =
+    stops_in S C room inner tokens from mid before sp (λ front at deep here x. pair_first_refused pair room inner has front (kind_or_end tokens at) deep x) s r
 
 -- the second of two parts was refused
-pub pair_second_stops : {S C D : Class} {plus : ℕ} {before : Kinds} {build : C.Tree × D.Tree → S.Tree} (pair : Pair S C D plus before build) (room inner : ℕ) → HasRoom pair room inner → (tokens : List Token) (end : Place) (from mid next : ℕ) → Spells tokens from mid (λ rest. before ++ rest) → (c : C.Tree) → StandingExactly C inner tokens mid next c → (s : Stop) → Stops D inner tokens end next s → Stops S room tokens end from s
-pair_second_stops {S} {C} {D} {plus} {before} pair room inner has tokens end from mid next sp c e s r =
-    stops_in S D room inner tokens end from next (before ++ C.spell c [])
+pub pair_second_stops : {S C D : Class} {plus : ℕ} {before : Kinds} {build : C.Tree × D.Tree → S.Tree} (pair : Pair S C D plus before build) (room inner : ℕ) → HasRoom pair room inner → (tokens : List Token) (from mid next : ℕ) → Spells tokens from mid (λ rest. before ++ rest) → (c : C.Tree) → StandingExactly C inner tokens mid next c → (s : Stop) → Stops D inner tokens next s → Stops S room tokens from s
+pair_second_stops {S} {C} {D} {plus} {before} pair room inner has tokens from mid next sp c e s r =
+    stops_in S D room inner tokens from next (before ++ C.spell c [])
     (spells_as tokens from next (λ rest. before ++ (C.spell c [] ++ rest)) (λ rest. (before ++ C.spell c []) ++ rest)
     (spells_more tokens from mid next (λ rest. before ++ rest) (λ rest. C.spell c [] ++ rest) sp (front_of C pair.law_first tokens mid next c e.spelled)) (λ rest. sym (append_assoc before (C.spell c []) rest)))
     (λ front at deep here x.
@@ -131,9 +121,9 @@ abbrev pub FitsAll : (Kinds → Type 0) → List Token → ℕ → Type 0
 FitsAll Fit tokens mid = (front : Kinds) (at : ℕ) → Spells tokens mid at (λ rest. front ++ rest) → (behind : Kinds) → Near (kind_or_end tokens at) behind → Fit (front ++ behind)
 
 -- the one part was refused
-pub single_stops : {S D : Class} {plus : ℕ} {before : Kinds} {build : D.Tree → S.Tree} {Fit : Kinds → Type 0} (single : Single S D plus before build Fit) (room inner : ℕ) → HasPlace single room inner → (tokens : List Token) (end : Place) (from mid : ℕ) → Spells tokens from mid (λ rest. before ++ rest) → FitsAll Fit tokens mid → (s : Stop) → Stops D inner tokens end mid s → Stops S room tokens end from s
-single_stops {S} {D} {plus} {before} {build} {Fit} single room inner has tokens end from mid sp fits s r =
-    stops_in S D room inner tokens end from mid before sp (λ front at deep here x. single_refused single room inner has front (kind_or_end tokens at) deep (fits front at here) x) s r
+pub single_stops : {S D : Class} {plus : ℕ} {before : Kinds} {build : D.Tree → S.Tree} {Fit : Kinds → Type 0} (single : Single S D plus before build Fit) (room inner : ℕ) → HasPlace single room inner → (tokens : List Token) (from mid : ℕ) → Spells tokens from mid (λ rest. before ++ rest) → FitsAll Fit tokens mid → (s : Stop) → Stops D inner tokens mid s → Stops S room tokens from s
+single_stops {S} {D} {plus} {before} {build} {Fit} single room inner has tokens from mid sp fits s r =
+    stops_in S D room inner tokens from mid before sp (λ front at deep here x. single_refused single room inner has front (kind_or_end tokens at) deep (fits front at here) x) s r
 
 -- the one part was taken
 pub single_stands : {S D : Class} {plus : ℕ} {before : Kinds} {build : D.Tree → S.Tree} {Fit : Kinds → Type 0} (single : Single S D plus before build Fit) (room inner : ℕ) → HasPlace single room inner → (tokens : List Token) (from mid next : ℕ) → Spells tokens from mid (λ rest. before ++ rest) → (deep : Bool) (part : D.Tree) → ((behind : Kinds) → Near (kind_or_end tokens next) behind → Fit (D.spell part behind)) → Standing D inner tokens mid next deep part → Standing S room tokens from next deep (build part)
@@ -157,14 +147,14 @@ abbrev pub Closing : Class → TokenKind → Type 0
 Closing D close = (part : D.Tree) (more : Kinds) → D.Shut part (close ∷ more)
 
 -- before what closes it, a phrase was refused
-pub closed_stops : (D : Class) (close : TokenKind) → Lawful D → Closing D close → (room : ℕ) (tokens : List Token) (end : Place) (from : ℕ) (s : Stop) → Stops D room tokens end from s → Stops (ClosedBy D close) room tokens end from s
-closed_stops D close law shut room tokens end from s r =
-    stops_pass (ClosedBy D close) D room room tokens end from (λ front at deep here x. closed_refused D close room law shut front (kind_or_end tokens at) deep x) s r
+pub closed_stops : (D : Class) (close : TokenKind) → Lawful D → Closing D close → (room : ℕ) (tokens : List Token) (from : ℕ) (s : Stop) → Stops D room tokens from s → Stops (ClosedBy D close) room tokens from s
+closed_stops D close law shut room tokens from s r =
+    stops_pass (ClosedBy D close) D room room tokens from (λ front at deep here x. closed_refused D close room law shut front (kind_or_end tokens at) deep x) s r
 
 -- what closes it doesn't stand behind a phrase
-pub closed_missing : (D : Class) (close : TokenKind) → Lawful D → Closing D close → (room : ℕ) (tokens : List Token) (end : Place) (from next : ℕ) (scope : Scope) (tree : D.Tree) (s : Stop) → Standing D room tokens from next false tree → (kind_or_end tokens next ≡ close → ⊥) → IsPlainStop scope tokens next s → Stops (ClosedBy D close) room tokens end from s
-closed_missing D close law shut room tokens end from next scope tree s t other is =
-    stops_plain (ClosedBy D close) room tokens end from next scope (D.spell tree []) s (front_of D law tokens from next tree t.spelled) is
+pub closed_missing : (D : Class) (close : TokenKind) → Lawful D → Closing D close → (room : ℕ) (tokens : List Token) (from next : ℕ) (scope : Scope) (tree : D.Tree) (s : Stop) → Standing D room tokens from next false tree → (kind_or_end tokens next ≡ close → ⊥) → IsPlainStop scope tokens next s → Stops (ClosedBy D close) room tokens from s
+closed_missing D close law shut room tokens from next scope tree s t other is =
+    stops_plain (ClosedBy D close) room tokens from next scope (D.spell tree []) s (front_of D law tokens from next tree t.spelled) is
     (closed_wrong D close room law shut tree (kind_or_end tokens next) false t.took other)
 
 -- it stands behind it

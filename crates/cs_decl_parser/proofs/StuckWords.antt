@@ -30,8 +30,8 @@ use Rattle.cs_decl_parser.specs.declared.specs.NextWord.{NextWord}
 use Rattle.cs_grammar.specs.declared.refusal.Reason.{Reason}
 use Rattle.cs_expr_parser.specs.Parts.{is_deep}
 use Rattle.cs_expr_parser.specs.Positions.{name_of}
-use Rattle.cs_decl_parser.specs.declared.stop.Stop.{Stop}
-use Rattle.cs_decl_parser.specs.declared.stop.Stop.TheVariants as stop
+use Rattle.cs_expr_parser.specs.declared.stop.Stop.{Stop}
+use Rattle.cs_expr_parser.specs.declared.stop.Stop.TheVariants as stop
 use Rattle.cs_decl_parser.specs.DeclarationAnswers.{IsNameAt, RefusesBehind}
 use Rattle.cs_decl_parser.specs.SpecWords.{PlainAnswer, BlockTagAnswer, BlockTagStops, BlockWordAnswer, IsTagKeyword, IsTypeWord, HasNoTag, IsPlainWord, NothingFits, tag_keyword, IsTagged, word_of_keyword}
 use Rattle.cs_expr_parser.proofs.Standing.{spells_one, spells_more, spells_as}
@@ -226,12 +226,10 @@ block_plain names tokens at so_far (Ok (Some found)) none p = p
 block_plain names tokens at so_far (Ok None) none p = p none
 block_plain names tokens at so_far (Err stop.Memory) none p = tt
 block_plain names tokens at so_far (Err (stop.Refused refused reason)) none p = absurd p
-block_plain names tokens at so_far (Err (stop.Expression r)) none p = absurd p
 
 pub block_error : (names : Names) (tokens : List Token) (at : ℕ) (so_far : TypeSoFar) (s : Stop) → names_some so_far ≡ false → BlockTagAnswer names tokens at (Err s) → BlockWordAnswer names tokens at so_far (Err s)
 block_error names tokens at so_far stop.Memory none b = tt
 block_error names tokens at so_far (stop.Refused refused reason) none b = (none, b)
-block_error names tokens at so_far (stop.Expression r) none b = (none, b)
 
 pub block_word : (names : Names) (tokens : List Token) (at : ℕ) (so_far : TypeSoFar) (found : NextWord) → names_some so_far ≡ false → BlockTagAnswer names tokens at (Ok found) → BlockWordAnswer names tokens at so_far (Ok (Some found))
 block_word names tokens at so_far found none b = subst (λ (x : TypeSoFar). (one : TypeWord) × IsPlainWord names tokens at x found one) (sym (fresh_nothing so_far none)) b
@@ -247,7 +245,6 @@ unnamed _ none = refl
 -- no tag stands behind `struct` or `enum`
 pub tag_unnamed : (names : Names) (tokens : List Token) (at : ℕ) → IsTagKeyword (kind_or_end tokens at) → IsNameAt (λ name. Unit {0}) (kind_or_end tokens (at + 1)) None → (s : Stop) → RefusesBehind (at + 1) false s → BlockTagAnswer names tokens at (Err s)
 tag_unnamed names tokens at k none stop.Memory r = absurd r
-tag_unnamed names tokens at k none (stop.Expression x) r = absurd r
 tag_unnamed names tokens at k none (stop.Refused refused reason) r =
     (r.1, inl (record { is_struct = k.0; stands = tag_stands k.0 (kind_or_end tokens at) k.1; none = unnamed (kind_or_end tokens (at + 1)) none; refused_is = r.0 }))
 

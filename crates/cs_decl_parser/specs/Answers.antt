@@ -1,27 +1,22 @@
 -- What the parts of the parser answer to one another: a phrase of a class, or a token with which none goes on that is low enough.
 use Rattle.std.specs.Prelude.{◌≡◌, ℕ, ◌⊎◌, Bool, true, false, List, Result, Ok, Err}
-use Rattle.cs_ast.specs.declared.place.Place.{Place}
 use Rattle.cs_ast.specs.declared.token.Token.{Token}
 use Rattle.cs_ast.specs.declared.token.Mark.{Mark}
 use Rattle.cs_ast.specs.declared.token.Mark.TheVariants as mark
 use Rattle.cs_ast.specs.declared.token.TokenKind.TheVariants as token
 use Rattle.cs_grammar.specs.declared.refusal.Reason.{Reason}
-use Rattle.cs_grammar.specs.declared.refusal.SyntaxRefusal.TheVariants as refusal
 use Rattle.cs_grammar.specs.Parsing.{Class, Took, Exactly}
 use Rattle.cs_expr_parser.specs.Positions.{kind_or_end}
 use Rattle.cs_expr_parser.specs.Parts.{Spells, IsRefused, is_deep}
-use Rattle.cs_decl_parser.specs.Aptness.{IsExpressionRefusal}
-use Rattle.cs_decl_parser.specs.declared.stop.Stop.{Stop}
-use Rattle.cs_decl_parser.specs.declared.stop.Stop.TheVariants as stop
+use Rattle.cs_expr_parser.specs.declared.stop.Stop.{Stop}
+use Rattle.cs_expr_parser.specs.declared.stop.Stop.TheVariants as stop
 use Rattle.cs_decl_parser.specs.declared.stop.Taken.{Taken}
 use Rattle.cs_decl_parser.specs.declared.stop.Unclosed.{Unclosed}
 
 -- want of memory, or a token is refused: no phrase of the class goes on with it that is low enough
-abbrev pub Stops : Class → ℕ → List Token → Place → ℕ → Stop → Type 0
-Stops C room tokens end from stop.Memory = Unit {0}
-Stops C room tokens end from (stop.Refused at reason) = IsRefused C room tokens from at reason
-Stops C room tokens end from (stop.Expression refusal.Memory) = Unit {0}
-Stops C room tokens end from (stop.Expression other) = (at : ℕ) × (reason : Reason) × IsExpressionRefusal tokens end at reason other × IsRefused C room tokens from at reason
+abbrev pub Stops : Class → ℕ → List Token → ℕ → Stop → Type 0
+Stops C room tokens from stop.Memory = Unit {0}
+Stops C room tokens from (stop.Refused at reason) = IsRefused C room tokens from at reason
 
 -- a phrase of the class was taken, which is told by its tokens, whatever stands behind it
 pub record IsExactly {A : Type 0} (C : Class) (view : A → C.Tree) (room : ℕ) (tokens : List Token) (from : ℕ) (taken : Taken A) : Type 0 where
@@ -42,19 +37,19 @@ pub record IsUnclosed {A : Type 0} (C : Class) (view : A → C.Tree) (room : ℕ
   pub took : Took C room (view taken.tree) (kind_or_end tokens taken.next) (is_deep taken.otherwise)
 
 -- a phrase that its last token closes, or a token is refused
-abbrev pub ExactAnswers : {A : Type 0} (C : Class) → (A → C.Tree) → ℕ → List Token → Place → ℕ → Result (Taken A) Stop → Type 0
-ExactAnswers C view room tokens end from (Ok taken) = IsExactly C view room tokens from taken
-ExactAnswers C view room tokens end from (Err stop) = Stops C room tokens end from stop
+abbrev pub ExactAnswers : {A : Type 0} (C : Class) → (A → C.Tree) → ℕ → List Token → ℕ → Result (Taken A) Stop → Type 0
+ExactAnswers C view room tokens from (Ok taken) = IsExactly C view room tokens from taken
+ExactAnswers C view room tokens from (Err stop) = Stops C room tokens from stop
 
 -- a phrase with which no higher one goes on, or a token is refused
-abbrev pub Answers : {A : Type 0} (C : Class) → (A → C.Tree) → ℕ → List Token → Place → ℕ → Result (Taken A) Stop → Type 0
-Answers C view room tokens end from (Ok taken) = IsTaken C view room tokens from false taken
-Answers C view room tokens end from (Err stop) = Stops C room tokens end from stop
+abbrev pub Answers : {A : Type 0} (C : Class) → (A → C.Tree) → ℕ → List Token → ℕ → Result (Taken A) Stop → Type 0
+Answers C view room tokens from (Ok taken) = IsTaken C view room tokens from false taken
+Answers C view room tokens from (Err stop) = Stops C room tokens from stop
 
 -- a phrase that may end with an expression, or a token is refused
-abbrev pub UnclosedAnswers : {A : Type 0} (C : Class) → (A → C.Tree) → ℕ → List Token → Place → ℕ → Result (Unclosed A) Stop → Type 0
-UnclosedAnswers C view room tokens end from (Ok taken) = IsUnclosed C view room tokens from taken
-UnclosedAnswers C view room tokens end from (Err stop) = Stops C room tokens end from stop
+abbrev pub UnclosedAnswers : {A : Type 0} (C : Class) → (A → C.Tree) → ℕ → List Token → ℕ → Result (Unclosed A) Stop → Type 0
+UnclosedAnswers C view room tokens from (Ok taken) = IsUnclosed C view room tokens from taken
+UnclosedAnswers C view room tokens from (Err stop) = Stops C room tokens from stop
 
 -- an opening brace is refused behind a whole phrase, since with that only higher phrases go on, or none
 pub record IsBraceRefused (C : Class) (room : ℕ) (tokens : List Token) (from at : ℕ) (reason : Reason) : Type 0 where
@@ -64,14 +59,14 @@ pub record IsBraceRefused (C : Class) (room : ℕ) (tokens : List Token) (from a
   pub took : Took C room phrase (token.Mark mark.OpenBrace) (is_deep reason)
 
 -- the same as `Stops`, or an opening brace is refused behind a whole phrase
-abbrev pub StopsOrBrace : Class → ℕ → List Token → Place → ℕ → Stop → Type 0
-StopsOrBrace C room tokens end from (stop.Refused at reason) = IsRefused C room tokens from at reason ⊎ IsBraceRefused C room tokens from at reason
-StopsOrBrace C room tokens end from other = Stops C room tokens end from other
+abbrev pub StopsOrBrace : Class → ℕ → List Token → ℕ → Stop → Type 0
+StopsOrBrace C room tokens from (stop.Refused at reason) = IsRefused C room tokens from at reason ⊎ IsBraceRefused C room tokens from at reason
+StopsOrBrace C room tokens from other = Stops C room tokens from other
 
 -- a phrase with which no higher one goes on, or a token is refused, which may be a brace behind a whole phrase
-abbrev pub BraceAnswers : {A : Type 0} (C : Class) → (A → C.Tree) → ℕ → List Token → Place → ℕ → Result (Taken A) Stop → Type 0
-BraceAnswers C view room tokens end from (Ok taken) = IsTaken C view room tokens from false taken
-BraceAnswers C view room tokens end from (Err stop) = StopsOrBrace C room tokens end from stop
+abbrev pub BraceAnswers : {A : Type 0} (C : Class) → (A → C.Tree) → ℕ → List Token → ℕ → Result (Taken A) Stop → Type 0
+BraceAnswers C view room tokens from (Ok taken) = IsTaken C view room tokens from false taken
+BraceAnswers C view room tokens from (Err stop) = StopsOrBrace C room tokens from stop
 
 -- the mark closes expressions of each level
 abbrev pub closes : Mark → Bool

@@ -1,7 +1,6 @@
 -- Why a token may be refused, whatever stands before it: what is left out everywhere in a scope isn't a fault of syntax there, and what
 -- is left out nowhere in it isn't left out.
-use Rattle.std.specs.Prelude.{◌≡◌, ℕ, Bool, true, false, List, Result, Ok, Err}
-use Rattle.cs_ast.specs.declared.place.Place.{Place}
+use Rattle.std.specs.Prelude.{◌≡◌, Bool, true, false, List, Result, Ok, Err}
 use Rattle.cs_ast.specs.declared.token.Token.{Token}
 use Rattle.cs_ast.specs.declared.token.TokenKind.{TokenKind}
 use Rattle.cs_ast.specs.declared.token.TokenKind.TheVariants as token
@@ -9,33 +8,29 @@ use Rattle.cs_ast.specs.declared.token.Keyword.TheVariants as keyword
 use Rattle.cs_ast.specs.declared.token.Mark.TheVariants as mark
 use Rattle.cs_grammar.specs.declared.refusal.Reason.{Reason}
 use Rattle.cs_grammar.specs.declared.refusal.Reason.TheVariants.{Syntax, LeftOut}
-use Rattle.cs_grammar.specs.declared.refusal.SyntaxRefusal.{SyntaxRefusal}
 use Rattle.cs_expr_parser.specs.Positions.{kind_or_end}
-use Rattle.cs_expr_parser.specs.Expression.{IsRefusalFor}
 use Rattle.cs_decl_parser.specs.declared.source.Scope.{Scope}
-use Rattle.cs_decl_parser.specs.declared.source.Scope.TheVariants.{File, Block}
-use Rattle.cs_decl_parser.specs.declared.stop.Stop.{Stop}
-use Rattle.cs_decl_parser.specs.declared.stop.Stop.TheVariants as stop
+use Rattle.cs_expr_parser.specs.declared.stop.Stop.{Stop}
+use Rattle.cs_expr_parser.specs.declared.stop.Stop.TheVariants as stop
 use Rattle.cs_decl_parser.specs.declared.stop.Unclosed.{Unclosed}
 use Rattle.cs_decl_parser.specs.Reasons.{is_left_out}
 
--- the token is left out at some places of this scope; no member stands in a block, whose colon would be
-abbrev pub may_be_out : Scope → TokenKind → Bool
-may_be_out scope (token.LeftOut word) = true
-may_be_out scope (token.Keyword keyword.Static) = true
-may_be_out scope (token.Keyword keyword.Typedef) = true
-may_be_out scope (token.Mark mark.Ellipsis) = true
-may_be_out scope (token.Mark mark.OpenBrace) = true
-may_be_out scope (token.Mark mark.OpenParenthesis) = true
-may_be_out scope (token.Mark mark.Dot) = true
-may_be_out scope (token.Mark mark.OpenBracket) = true
-may_be_out File (token.Mark mark.Colon) = true
-may_be_out scope other = false
+-- the token is left out at some places; whether a colon is isn't told by the parts of the parser
+abbrev pub may_be_out : TokenKind → Bool
+may_be_out (token.LeftOut word) = true
+may_be_out (token.Keyword keyword.Static) = true
+may_be_out (token.Keyword keyword.Typedef) = true
+may_be_out (token.Mark mark.Ellipsis) = true
+may_be_out (token.Mark mark.OpenBrace) = true
+may_be_out (token.Mark mark.OpenParenthesis) = true
+may_be_out (token.Mark mark.Dot) = true
+may_be_out (token.Mark mark.OpenBracket) = true
+may_be_out other = false
 
 -- the reason for a refusal of the token is one that it may have in this scope
 pub record IsApt (scope : Scope) (next : TokenKind) (reason : Reason) : Type 0 where
   pub out : is_left_out scope next ≡ true → reason ≡ Syntax → ⊥
-  pub kept : may_be_out scope next ≡ false → reason ≡ LeftOut → ⊥
+  pub kept : may_be_out next ≡ false → reason ≡ LeftOut → ⊥
 
 -- the same of a refusal by a part of the parser
 abbrev pub IsStopApt : Scope → List Token → Stop → Type 0
@@ -50,7 +45,3 @@ IsAnswerApt scope tokens (Err stop) = IsStopApt scope tokens stop
 abbrev pub IsUnclosedApt : {A : Type 0} → Scope → List Token → Result (Unclosed A) Stop → Type 0
 IsUnclosedApt scope tokens (Ok taken) = IsApt scope (kind_or_end tokens taken.next) taken.otherwise
 IsUnclosedApt scope tokens (Err stop) = IsStopApt scope tokens stop
-
--- the refusal of a token of an expression, which is apt in each scope
-abbrev pub IsExpressionRefusal : List Token → Place → ℕ → Reason → SyntaxRefusal → Type 0
-IsExpressionRefusal tokens end at reason refusal = IsRefusalFor tokens end at reason refusal × IsApt Block (kind_or_end tokens at) reason

@@ -2,7 +2,6 @@
 use Rattle.std.specs.Prelude.{◌≡◌, ℕ, List, map, Option, Some, None, Result, Ok, Err, Vec}
 use Rattle.std.specs.declared.alloc.Global.{Global}
 use Rattle.std.specs.Option.{option_map}
-use Rattle.cs_ast.specs.declared.place.Place.{Place}
 use Rattle.cs_ast.specs.declared.token.Token.{Token}
 use Rattle.cs_ast.specs.declared.token.TokenKind.TheVariants as token
 use Rattle.cs_ast.specs.declared.token.Mark.TheVariants as mark
@@ -23,7 +22,7 @@ use Rattle.cs_grammar.specs.Composed.{Sequence, Behind, ClosedSome}
 use Rattle.cs_grammar.specs.FileClasses.{Firsts, BlockRows}
 use Rattle.cs_expr_parser.specs.Positions.{kind_or_end}
 use Rattle.cs_expr_parser.specs.Parts.{Spells}
-use Rattle.cs_decl_parser.specs.declared.stop.Stop.{Stop}
+use Rattle.cs_expr_parser.specs.declared.stop.Stop.{Stop}
 use Rattle.cs_decl_parser.specs.declared.stop.Taken.{Taken}
 use Rattle.cs_decl_parser.specs.declared.block.DeclaredObjects.{DeclaredObjects}
 use Rattle.cs_decl_parser.specs.declared.loops.ForParts.{ForParts}
@@ -71,6 +70,6 @@ pub record AreTaken (names : Names) (room : ℕ) (tokens : List Token) (from : �
   pub exactly : Exactly (BlockRows names) room (items_of taken.tree)
 
 -- what stands in a block, up to the closing brace, or a token is refused
-abbrev pub ItemsAnswers : Names → ℕ → List Token → Place → ℕ → Result (Taken (Vec RawItem Global)) Stop → Type 0
-ItemsAnswers names room tokens end from (Ok taken) = AreTaken names room tokens from taken
-ItemsAnswers names room tokens end from (Err stop) = Stops (BlockRows names) room tokens end from stop
+abbrev pub ItemsAnswers : Names → ℕ → List Token → ℕ → Result (Taken (Vec RawItem Global)) Stop → Type 0
+ItemsAnswers names room tokens from (Ok taken) = AreTaken names room tokens from taken
+ItemsAnswers names room tokens from (Err stop) = Stops (BlockRows names) room tokens from stop

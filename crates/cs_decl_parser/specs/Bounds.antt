@@ -3,8 +3,8 @@ use Rattle.std.specs.Prelude.{◌≡◌, ℕ, ◌+◌, ◌≤◌, ◌<◌, List,
 use Rattle.cs_ast.specs.declared.token.Token.{Token}
 use Rattle.cs_ast.specs.declared.raw.expression.RawExpr.{RawExpr}
 use Rattle.cs_expr_parser.specs.declared.answer.Phrase.{Phrase}
-use Rattle.cs_decl_parser.specs.declared.stop.Stop.{Stop}
-use Rattle.cs_decl_parser.specs.declared.stop.Stop.TheVariants as stop
+use Rattle.cs_expr_parser.specs.declared.stop.Stop.{Stop}
+use Rattle.cs_expr_parser.specs.declared.stop.Stop.TheVariants as stop
 use Rattle.cs_decl_parser.specs.declared.stop.Taken.{Taken}
 use Rattle.cs_decl_parser.specs.declared.stop.Unclosed.{Unclosed}
 use Rattle.cs_decl_parser.specs.declared.specs.NextWord.{NextWord}
@@ -12,7 +12,6 @@ use Rattle.cs_decl_parser.specs.declared.specs.NextWord.{NextWord}
 -- the token that was refused lies inside the tokens, or is the end of input
 abbrev pub StopsInside : List Token → ℕ → Stop → Type 0
 StopsInside tokens from (stop.Refused at reason) = (from ≤ at) × (at ≤ length tokens)
-StopsInside tokens from (stop.Expression refusal) = Unit {0}
 StopsInside tokens from stop.Memory = Unit {0}
 
 -- the token with this number is refused

@@ -1,6 +1,5 @@
 -- What the parts that read declarations answer: words of pointers, names, declarators.
 use Rattle.std.specs.Prelude.{◌≡◌, ℕ, ◌+◌, ◌==◌, ◌&&◌, not, Bool, true, false, IsTrue, List, [], ◌∷◌, map, Option, Some, None, Result, Ok, Err}
-use Rattle.cs_ast.specs.declared.place.Place.{Place}
 use Rattle.cs_ast.specs.declared.token.Token.{Token}
 use Rattle.cs_ast.specs.declared.token.TokenKind.{TokenKind}
 use Rattle.cs_ast.specs.declared.token.TokenKind.TheVariants as token
@@ -30,8 +29,8 @@ use Rattle.cs_grammar.specs.Composed.{ClosedSome, Trailing}
 use Rattle.cs_grammar.specs.DeclarationClasses.{Brackets, Declarators, Constants}
 use Rattle.cs_expr_parser.specs.Positions.{kind_or_end}
 use Rattle.cs_expr_parser.specs.Parts.{Spells, is_deep}
-use Rattle.cs_decl_parser.specs.declared.stop.Stop.{Stop}
-use Rattle.cs_decl_parser.specs.declared.stop.Stop.TheVariants as stop
+use Rattle.cs_expr_parser.specs.declared.stop.Stop.{Stop}
+use Rattle.cs_expr_parser.specs.declared.stop.Stop.TheVariants as stop
 use Rattle.cs_decl_parser.specs.declared.stop.Taken.{Taken}
 use Rattle.cs_decl_parser.specs.declared.declarator.Declares.{Declares}
 use Rattle.cs_decl_parser.specs.declared.declarator.Declares.TheVariants as declaring
@@ -113,7 +112,6 @@ abbrev pub PointedAnswers : Declares → Names → List Token → ℕ → Result
 PointedAnswers declares names tokens from (Ok taken) = IsPointed declares names tokens from taken
 PointedAnswers declares names tokens from (Err stop.Memory) = Unit {0}
 PointedAnswers declares names tokens from (Err (stop.Refused at reason)) = IsNameMissing declares names tokens from at reason
-PointedAnswers declares names tokens from (Err (stop.Expression refusal)) = ⊥
 
 -- a declarator was taken, with which a higher one goes on where there is no room for a bound
 abbrev pub IsDeclaratorTaken : Declares → Names → ℕ → List Token → ℕ → Taken RawDeclarator → Type 0
@@ -121,14 +119,14 @@ IsDeclaratorTaken declares names room tokens from taken =
     (inner : ℕ) → room ≡ 1 + inner → IsTaken (DeclaratorsFor declares names) declarator room tokens from (is_full declares inner (kind_or_end tokens taken.next)) taken
 
 -- the same, or a token is refused
-abbrev pub DeclaratorAnswers : Declares → Names → ℕ → List Token → Place → ℕ → Result (Taken RawDeclarator) Stop → Type 0
-DeclaratorAnswers declares names room tokens end from (Ok taken) = IsDeclaratorTaken declares names room tokens from taken
-DeclaratorAnswers declares names room tokens end from (Err stop) = Stops (DeclaratorsFor declares names) room tokens end from stop
+abbrev pub DeclaratorAnswers : Declares → Names → ℕ → List Token → ℕ → Result (Taken RawDeclarator) Stop → Type 0
+DeclaratorAnswers declares names room tokens from (Ok taken) = IsDeclaratorTaken declares names room tokens from taken
+DeclaratorAnswers declares names room tokens from (Err stop) = Stops (DeclaratorsFor declares names) room tokens from stop
 
 -- bounds between brackets were taken, or a token is refused
-abbrev pub BoundsAnswer : {A : Type 0} → Declares → Names → (A → List (Option Written)) → ℕ → List Token → Place → ℕ → Result (Taken A) Stop → Type 0
-BoundsAnswer declares names view room tokens end from (Ok taken) = IsTaken (BracketsFor declares names) view room tokens from (is_full declares room (kind_or_end tokens taken.next)) taken
-BoundsAnswer declares names view room tokens end from (Err stop) = Stops (BracketsFor declares names) room tokens end from stop
+abbrev pub BoundsAnswer : {A : Type 0} → Declares → Names → (A → List (Option Written)) → ℕ → List Token → ℕ → Result (Taken A) Stop → Type 0
+BoundsAnswer declares names view room tokens from (Ok taken) = IsTaken (BracketsFor declares names) view room tokens from (is_full declares room (kind_or_end tokens taken.next)) taken
+BoundsAnswer declares names view room tokens from (Err stop) = Stops (BracketsFor declares names) room tokens from stop
 
 -- expressions of a level with a token behind each that closes it
 abbrev pub ClosedExpressions : Names → ℕ → TokenKind → Class
@@ -141,21 +139,21 @@ ClosedExpressions names level close = record {
 }
 
 -- an expression of a level with the mark that closes it
-abbrev pub ClosedAnswer : Names → ExprLevel → Mark → ℕ → List Token → Place → ℕ → Result (Taken RawExpr) Stop → Type 0
-ClosedAnswer names level closing room tokens end from result = ExactAnswers (ClosedExpressions names (level_asked level) (token.Mark closing)) written room tokens end from result
+abbrev pub ClosedAnswer : Names → ExprLevel → Mark → ℕ → List Token → ℕ → Result (Taken RawExpr) Stop → Type 0
+ClosedAnswer names level closing room tokens from result = ExactAnswers (ClosedExpressions names (level_asked level) (token.Mark closing)) written room tokens from result
 
 -- the same, where the expression may lack
-abbrev pub ClosedIfAnyAnswer : Names → ExprLevel → Mark → ℕ → List Token → Place → ℕ → Result (Taken (Option RawExpr)) Stop → Type 0
-ClosedIfAnyAnswer names level closing room tokens end from result =
-    ExactAnswers (ClosedSome names (level_asked level) (Unit {0}) (token.Mark closing)) (option_map written) room tokens end from result
+abbrev pub ClosedIfAnyAnswer : Names → ExprLevel → Mark → ℕ → List Token → ℕ → Result (Taken (Option RawExpr)) Stop → Type 0
+ClosedIfAnyAnswer names level closing room tokens from result =
+    ExactAnswers (ClosedSome names (level_asked level) (Unit {0}) (token.Mark closing)) (option_map written) room tokens from result
 
 -- constants, and whether a comma stands behind the last
 abbrev pub constant_row : ConstantList → List Constant × Bool
 constant_row taken = (map constant taken.list.items, taken.comma)
 
 -- enumeration constants, with the brace that closes them
-abbrev pub ConstantsAnswer : Names → ℕ → List Token → Place → ℕ → Result (Taken ConstantList) Stop → Type 0
-ConstantsAnswer names room tokens end from result = ExactAnswers (Trailing (Constants names) (token.Mark mark.CloseBrace)) constant_row room tokens end from result
+abbrev pub ConstantsAnswer : Names → ℕ → List Token → ℕ → Result (Taken ConstantList) Stop → Type 0
+ConstantsAnswer names room tokens from result = ExactAnswers (Trailing (Constants names) (token.Mark mark.CloseBrace)) constant_row room tokens from result
 
 -- the name of a parameter, which may lack
 abbrev pub ParameterNameAnswer : Names → List Token → ℕ → Result (Taken (Option RawName)) Stop → Type 0
@@ -165,12 +163,11 @@ ParameterNameAnswer names tokens at (Ok taken) =
     × Spells tokens at taken.next (name_text (option_map (λ (n : RawName). n.name) taken.tree))
 ParameterNameAnswer names tokens at (Err stop.Memory) = Unit {0}
 ParameterNameAnswer names tokens at (Err (stop.Refused refused reason)) = (refused ≡ at) × (is_deep reason ≡ false) × (kind_or_end tokens at ≡ token.Mark mark.OpenParenthesis)
-ParameterNameAnswer names tokens at (Err (stop.Expression refusal)) = ⊥
 
 -- a bound behind its opening bracket, with the closing one
-abbrev pub BoundAnswer : Declares → Names → ℕ → List Token → Place → ℕ → Result (Taken (Option RawExpr)) Stop → Type 0
-BoundAnswer declares names room tokens end from result =
-    ExactAnswers (ClosedSome names CHOICE (MayLackFor declares) (token.Mark mark.CloseBracket)) (option_map written) room tokens end from result
+abbrev pub BoundAnswer : Declares → Names → ℕ → List Token → ℕ → Result (Taken (Option RawExpr)) Stop → Type 0
+BoundAnswer declares names room tokens from result =
+    ExactAnswers (ClosedSome names CHOICE (MayLackFor declares) (token.Mark mark.CloseBracket)) (option_map written) room tokens from result
 
 -- a constant of this name and this value
 abbrev pub IsConstantOf : List ℕ → Option Written → RawEnumerator → Type 0

@@ -4,7 +4,6 @@ use Rattle.cs_ast.specs.declared.place.Place.{Place}
 use Rattle.cs_ast.specs.declared.token.Token.{Token}
 use Rattle.cs_ast.specs.declared.token.TokenKind.{TokenKind}
 use Rattle.cs_ast.specs.declared.token.TokenKind.TheVariants as token
-use Rattle.cs_ast.specs.declared.token.Keyword.TheVariants as keyword
 use Rattle.cs_ast.specs.declared.token.Mark.TheVariants as mark
 use Rattle.cs_ast.specs.declared.raw.external.RawExternal.{RawExternal}
 use Rattle.cs_ast.specs.RawStatements.{External}
@@ -17,7 +16,7 @@ use Rattle.cs_grammar.specs.Spelling.{left_out_spelling}
 use Rattle.cs_grammar.specs.Text.{Kinds}
 use Rattle.cs_grammar.specs.FileText.{file_text}
 use Rattle.cs_grammar.specs.FilePhrases.{IsFile, AreLow, BeginsFile, BeginsLowFile}
-use Rattle.cs_grammar.specs.FileRefusals.{IsInBlock, IsFileReason}
+use Rattle.cs_grammar.specs.FileRefusals.{IsFileReason}
 use Rattle.cs_expr_parser.specs.Positions.{kinds, kind_or_end}
 use Rattle.cs_expr_parser.specs.Parts.{Spells, is_deep}
 use Rattle.cs_expr_parser.specs.Expression.{place_or_end}
@@ -33,26 +32,18 @@ pub record IsTheFile (tokens : List Token) (file : List External) : Type 0 where
   pub spelled : kinds tokens ≡ file_text file
   pub only : (other : List External) → IsFile [] other → file_text other ≡ file_text file → other ≡ file
 
--- `static` and `typedef`, which no block has
-abbrev pub is_file_word : TokenKind → Bool
-is_file_word (token.Keyword keyword.Static) = true
-is_file_word (token.Keyword keyword.Typedef) = true
-is_file_word other = false
-
--- the token is left out at some places, and not at others
+-- the token is left out at some places, and not at others, of which the parser doesn't tell in each case
 abbrev pub is_left_out_by_place : TokenKind → Bool
 is_left_out_by_place (token.Mark mark.OpenBrace) = true
 is_left_out_by_place (token.Mark mark.OpenParenthesis) = true
-is_left_out_by_place (token.Mark mark.Colon) = true
 is_left_out_by_place (token.Mark mark.Dot) = true
 is_left_out_by_place (token.Mark mark.OpenBracket) = true
-is_left_out_by_place other = is_file_word other
+is_left_out_by_place other = false
 
 -- a token, or the end of input, is refused: a file that is low enough begins with the tokens before it, and none with the token
--- too; a higher one does exactly where it is too deep; at the end of input the tokens are no file. `why` says for each token that is
--- left out everywhere or nowhere that its reason is the right one behind these tokens, and `inside` the same of `static` and `typedef`
--- in the body of a function
-pub record IsFileRefusedAt (tokens : List Token) (at : ℕ) (reason : Reason) : Type 0 where
+-- too; a higher one does exactly where it is too deep; at the end of input the tokens are no file. `why` says for each token but
+-- those that are untold that its reason is the right one behind these tokens
+pub record IsFileRefusedAt (untold : TokenKind → Bool) (tokens : List Token) (at : ℕ) (reason : Reason) : Type 0 where
   pub front : Kinds
   pub spelled : Spells tokens 0 at (λ rest. front ++ rest)
   pub begun : BeginsLowFile 200 front
@@ -60,18 +51,9 @@ pub record IsFileRefusedAt (tokens : List Token) (at : ℕ) (reason : Reason) : 
   pub deep : at < length tokens → is_deep reason ≡ true → BeginsFile (front ++ kind_or_end tokens at ∷ [])
   pub flat : at < length tokens → is_deep reason ≡ false → BeginsFile (front ++ kind_or_end tokens at ∷ []) → ⊥
   pub unfinished : at ≡ length tokens → (file : List External) → IsFile [] file → file_text file ≡ front → ⊥
-  pub why : at < length tokens → is_left_out_by_place (kind_or_end tokens at) ≡ false → IsFileReason front (Some (kind_or_end tokens at)) reason
-  pub inside : at < length tokens → is_file_word (kind_or_end tokens at) ≡ true → IsInBlock front → IsFileReason front (Some (kind_or_end tokens at)) reason
+  pub why : at < length tokens → untold (kind_or_end tokens at) ≡ false → IsFileReason front (Some (kind_or_end tokens at)) reason
 
--- a refusal of this token, for this reason, or want of memory
-abbrev pub IsRefusalOf : Token → Reason → SyntaxRefusal → Type 0
-IsRefusalOf token Syntax (refusal.Syntax place) = place ≡ token.place
-IsRefusalOf token LeftOut (refusal.LeftOut place word) = (place ≡ token.place) × (word ≡ left_out_spelling token.kind)
-IsRefusalOf token TooDeep (refusal.TooDeep place) = place ≡ token.place
-IsRefusalOf token reason refusal.Memory = Unit {0}
-IsRefusalOf token reason other = ⊥
-
--- the same of the token with this number; the end of input is refused as syntax
+-- a refusal of the token with this number, for this reason, or want of memory; the end of input is refused as syntax
 abbrev pub IsRefusalHere : List Token → Place → ℕ → Reason → SyntaxRefusal → Type 0
 IsRefusalHere tokens end at reason (refusal.Syntax place) = (place ≡ place_or_end tokens end at) × (at < length tokens → reason ≡ Syntax)
 IsRefusalHere tokens end at reason (refusal.LeftOut place word) =
@@ -82,4 +64,4 @@ IsRefusalHere tokens end at reason refusal.Memory = Unit {0}
 -- want of memory, or the refusal of the first token with which no file that is low enough goes on
 abbrev pub IsFileRefusal : List Token → Place → SyntaxRefusal → Type 0
 IsFileRefusal tokens end refusal.Memory = Unit {0}
-IsFileRefusal tokens end other = (at : ℕ) × (reason : Reason) × IsRefusalHere tokens end at reason other × IsFileRefusedAt tokens at reason
+IsFileRefusal tokens end other = (at : ℕ) × (reason : Reason) × IsRefusalHere tokens end at reason other × IsFileRefusedAt is_left_out_by_place tokens at reason

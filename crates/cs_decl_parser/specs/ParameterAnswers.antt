@@ -1,7 +1,6 @@
 -- What the parts that read parameters answer to one another.
 use Rattle.std.specs.Prelude.{◌≡◌, ℕ, ◌+◌, ◌⊎◌, Bool, false, List, Option, Some, None, Result, Ok, Err}
 use Rattle.std.specs.Option.{is_some}
-use Rattle.cs_ast.specs.declared.place.Place.{Place}
 use Rattle.cs_ast.specs.declared.token.Token.{Token}
 use Rattle.cs_ast.specs.declared.raw.declaration.RawParameter.{RawParameter}
 use Rattle.cs_ast.specs.RawDeclarations.{Parameter}
@@ -13,8 +12,8 @@ use Rattle.cs_grammar.specs.Parsing.{Took}
 use Rattle.cs_grammar.specs.DeclarationClasses.{ends_parameter, ParameterClass}
 use Rattle.cs_expr_parser.specs.Positions.{kind_or_end}
 use Rattle.cs_expr_parser.specs.Parts.{Spells, IsRefused, is_deep}
-use Rattle.cs_decl_parser.specs.declared.stop.Stop.{Stop}
-use Rattle.cs_decl_parser.specs.declared.stop.Stop.TheVariants as stop
+use Rattle.cs_expr_parser.specs.declared.stop.Stop.{Stop}
+use Rattle.cs_expr_parser.specs.declared.stop.Stop.TheVariants as stop
 use Rattle.cs_decl_parser.specs.declared.stop.Taken.{Taken}
 use Rattle.cs_decl_parser.specs.Answers.{Stops, IsTaken}
 
@@ -26,14 +25,14 @@ pub record IsRefusedBehind (names : Names) (room : ℕ) (tokens : List Token) (f
   pub took : Took (ParameterClass names) room whole (kind_or_end tokens at) (is_deep reason)
 
 -- want of memory, or a token is refused, within a parameter or behind a whole one
-abbrev pub ParameterStops : Names → ℕ → List Token → Place → ℕ → Stop → Type 0
-ParameterStops names room tokens end from (stop.Refused at reason) = IsRefused (ParameterClass names) room tokens from at reason ⊎ IsRefusedBehind names room tokens from at reason
-ParameterStops names room tokens end from other = Stops (ParameterClass names) room tokens end from other
+abbrev pub ParameterStops : Names → ℕ → List Token → ℕ → Stop → Type 0
+ParameterStops names room tokens from (stop.Refused at reason) = IsRefused (ParameterClass names) room tokens from at reason ⊎ IsRefusedBehind names room tokens from at reason
+ParameterStops names room tokens from other = Stops (ParameterClass names) room tokens from other
 
 -- a parameter with which no higher one goes on, or a token is refused
-abbrev pub ParameterAnswer : Names → ℕ → List Token → Place → ℕ → Result (Taken RawParameter) Stop → Type 0
-ParameterAnswer names room tokens end from (Ok taken) = IsTaken (ParameterClass names) parameter room tokens from false taken
-ParameterAnswer names room tokens end from (Err stop) = ParameterStops names room tokens end from stop
+abbrev pub ParameterAnswer : Names → ℕ → List Token → ℕ → Result (Taken RawParameter) Stop → Type 0
+ParameterAnswer names room tokens from (Ok taken) = IsTaken (ParameterClass names) parameter room tokens from false taken
+ParameterAnswer names room tokens from (Err stop) = ParameterStops names room tokens from stop
 
 -- the number behind a name, if there is one at a number
 abbrev pub number_past : ℕ → Option (List ℕ) → ℕ

@@ -1,7 +1,6 @@
 -- What the parts that read the words before declarators answer.
 use Rattle.std.specs.Prelude.{◌≡◌, ℕ, ◌+◌, ◌≤◌, ◌<◌, ◌⊎◌, Bool, true, false, List, [], ◌∷◌, ◌++◌, map, Option, Some, None, Result, Ok, Err}
 use Rattle.std.specs.Option.{option_map}
-use Rattle.cs_ast.specs.declared.place.Place.{Place}
 use Rattle.cs_ast.specs.declared.token.Token.{Token}
 use Rattle.cs_ast.specs.declared.token.TokenKind.{TokenKind}
 use Rattle.cs_ast.specs.declared.token.TokenKind.TheVariants as token
@@ -18,7 +17,6 @@ use Rattle.cs_ast.specs.RawDeclarations.{Declarator, Constant, EnumBody, Spec, P
 use Rattle.cs_ast.specs.RawDeclarationView.{spec, specs, declarator}
 use Rattle.cs_ast.specs.RawFileHeight.{spec_height}
 use Rattle.cs_grammar.specs.declared.refusal.Reason.{Reason}
-use Rattle.cs_grammar.specs.declared.refusal.SyntaxRefusal.TheVariants as refusal
 use Rattle.cs_grammar.specs.declared.type_words.TypeSoFar.{TypeSoFar}
 use Rattle.cs_grammar.specs.declared.type_words.TypeSoFar.TheVariants.{Nothing, Whole}
 use Rattle.cs_grammar.specs.TypeWords.{Names, word_of}
@@ -31,12 +29,11 @@ use Rattle.cs_grammar.specs.Parsing.{Near, Refused}
 use Rattle.cs_grammar.specs.DeclarationClasses.{IsQuiet, SpecElements, FileSpecs, BlockSpecs}
 use Rattle.cs_expr_parser.specs.Positions.{kind_or_end}
 use Rattle.cs_expr_parser.specs.Parts.{Spells, is_deep}
-use Rattle.cs_decl_parser.specs.Aptness.{IsExpressionRefusal}
 use Rattle.cs_expr_parser.specs.Words.{first_of_word, has_tag, IsStuck, names_some, word_of_tag, IsTagMissing}
 use Rattle.cs_decl_parser.specs.declared.source.Scope.{Scope}
 use Rattle.cs_decl_parser.specs.declared.source.Scope.TheVariants.{File}
-use Rattle.cs_decl_parser.specs.declared.stop.Stop.{Stop}
-use Rattle.cs_decl_parser.specs.declared.stop.Stop.TheVariants as stop
+use Rattle.cs_expr_parser.specs.declared.stop.Stop.{Stop}
+use Rattle.cs_expr_parser.specs.declared.stop.Stop.TheVariants as stop
 use Rattle.cs_decl_parser.specs.declared.stop.Taken.{Taken}
 use Rattle.cs_decl_parser.specs.declared.specs.NextWord.{NextWord}
 use Rattle.cs_decl_parser.specs.Answers.{BraceAnswers}
@@ -98,7 +95,6 @@ pub record IsTagBraced (tokens : List Token) (at refused : ℕ) : Type 0 where
 abbrev pub BlockTagStops : List Token → ℕ → Stop → Type 0
 BlockTagStops tokens at stop.Memory = Unit {0}
 BlockTagStops tokens at (stop.Refused refused reason) = (is_deep reason ≡ false) × (IsTagMissing tokens at refused ⊎ IsTagBraced tokens at refused)
-BlockTagStops tokens at (stop.Expression refusal) = ⊥
 
 abbrev pub BlockTagAnswer : Names → List Token → ℕ → Result NextWord Stop → Type 0
 BlockTagAnswer names tokens at (Ok found) = (one : TypeWord) × IsPlainWord names tokens at Nothing found one
@@ -141,23 +137,21 @@ pub record IsEnumFull (room : ℕ) (tokens : List Token) (at refused : ℕ) (rea
   pub little : room < 2
   pub deep : is_deep reason ≡ true
 
-abbrev pub ElementStops : Names → ℕ → List Token → Place → ℕ → Stop → Type 0
-ElementStops names room tokens end at stop.Memory = Unit {0}
-ElementStops names room tokens end at (stop.Refused refused reason) = IsElementRefused names room tokens at refused reason ⊎ IsEnumFull room tokens at refused reason
-ElementStops names room tokens end at (stop.Expression refusal.Memory) = Unit {0}
-ElementStops names room tokens end at (stop.Expression other) = (refused : ℕ) × (reason : Reason) × IsExpressionRefusal tokens end refused reason other × IsElementRefused names room tokens at refused reason
+abbrev pub ElementStops : Names → ℕ → List Token → ℕ → Stop → Type 0
+ElementStops names room tokens at stop.Memory = Unit {0}
+ElementStops names room tokens at (stop.Refused refused reason) = IsElementRefused names room tokens at refused reason ⊎ IsEnumFull room tokens at refused reason
 
 -- a type with `struct` or `enum`, where the words before it name nothing
-abbrev pub ElementAnswer : Names → ℕ → List Token → Place → ℕ → Result NextWord Stop → Type 0
-ElementAnswer names room tokens end at (Ok found) = IsSpecTaken names room tokens at Nothing found
-ElementAnswer names room tokens end at (Err stop) = ElementStops names room tokens end at stop
+abbrev pub ElementAnswer : Names → ℕ → List Token → ℕ → Result NextWord Stop → Type 0
+ElementAnswer names room tokens at (Ok found) = IsSpecTaken names room tokens at Nothing found
+ElementAnswer names room tokens at (Err stop) = ElementStops names room tokens at stop
 
 -- the word at a number outside blocks
-abbrev pub SpecAnswer : Names → ℕ → List Token → Place → ℕ → TypeSoFar → Result (Option NextWord) Stop → Type 0
-SpecAnswer names room tokens end at so_far (Ok (Some found)) = IsSpecTaken names room tokens at so_far found
-SpecAnswer names room tokens end at so_far (Ok None) = NothingFits names so_far (kind_or_end tokens at) × (kind_or_end tokens at ≡ token.Keyword keyword.Static → ⊥)
-SpecAnswer names room tokens end at so_far (Err stop.Memory) = Unit {0}
-SpecAnswer names room tokens end at so_far (Err other) = (names_some so_far ≡ false) × ElementStops names room tokens end at other
+abbrev pub SpecAnswer : Names → ℕ → List Token → ℕ → TypeSoFar → Result (Option NextWord) Stop → Type 0
+SpecAnswer names room tokens at so_far (Ok (Some found)) = IsSpecTaken names room tokens at so_far found
+SpecAnswer names room tokens at so_far (Ok None) = NothingFits names so_far (kind_or_end tokens at) × (kind_or_end tokens at ≡ token.Keyword keyword.Static → ⊥)
+SpecAnswer names room tokens at so_far (Err stop.Memory) = Unit {0}
+SpecAnswer names room tokens at so_far (Err other) = (names_some so_far ≡ false) × ElementStops names room tokens at other
 
 -- `static`, where it stands at a number
 abbrev pub IsStatic : ℕ → TypeSoFar → NextWord → Type 0
@@ -198,11 +192,11 @@ pub record IsSpecOf (s : Spec) (found : NextWord) : Type 0 where
   pub whole : found.so_far ≡ Whole
 
 -- what stands before declarators, outside blocks and inside
-abbrev pub SpecsAnswer : Names → ℕ → List Token → Place → ℕ → Result (Taken RawSpecs) Stop → Type 0
-SpecsAnswer names room tokens end from result = BraceAnswers (FileSpecs names) specs room tokens end from result
+abbrev pub SpecsAnswer : Names → ℕ → List Token → ℕ → Result (Taken RawSpecs) Stop → Type 0
+SpecsAnswer names room tokens from result = BraceAnswers (FileSpecs names) specs room tokens from result
 
-abbrev pub BlockSpecsAnswer : Names → ℕ → List Token → Place → ℕ → Result (Taken RawSpecs) Stop → Type 0
-BlockSpecsAnswer names room tokens end from result = BraceAnswers (BlockSpecs names) specs room tokens end from result
+abbrev pub BlockSpecsAnswer : Names → ℕ → List Token → ℕ → Result (Taken RawSpecs) Stop → Type 0
+BlockSpecsAnswer names room tokens from result = BraceAnswers (BlockSpecs names) specs room tokens from result
 
 -- members of one type
 abbrev pub group : RawMember → Specs × List Declarator

@@ -33,7 +33,7 @@ pub fn block(alloc: Global, source: &Source, from: usize, room: u32) -> Result<T
     requires some { 1 ≤ room }
     requires stands { kind_or_end source.now.tokens.now from ≡ token.Mark mark.OpenBrace }
     ensures bounds { IsBounded room source.now.tokens.now from result }
-    ensures parsed { Answers (Sentences source.now.names.now) statement_of room source.now.tokens.now source.now.end from result }
+    ensures parsed { Answers (Sentences source.now.names.now) statement_of room source.now.tokens.now from result }
     ensures placed { IfOk result (λ taken. HasStatementPlaces taken.tree (drop from source.now.tokens.now)) }
     ensures apt { IsAnswerApt Scope.Block source.now.tokens.now result }
 {
@@ -55,7 +55,7 @@ pub fn items(
     requires within { from ≤ length source.now.tokens.now }
     requires few { length source.now.tokens.now < 2 ^ 32 }
     ensures bounds { IsRowBounded room source.now.tokens.now from result }
-    ensures parsed { ItemsAnswers source.now.names.now room source.now.tokens.now source.now.end from result }
+    ensures parsed { ItemsAnswers source.now.names.now room source.now.tokens.now from result }
     ensures placed { IfOk result (λ taken. AreItemsBeside taken.tree.items (drop from source.now.tokens.now)) }
     ensures closing { IfOk result (λ taken. taken.next < length source.now.tokens.now) }
     ensures apt { IsAnswerApt Scope.Block source.now.tokens.now result }
@@ -82,7 +82,7 @@ pub fn item(alloc: Global, source: &Source, from: usize, room: u32) -> Result<Ta
     requires within { from ≤ length source.now.tokens.now }
     requires few { length source.now.tokens.now < 2 ^ 32 }
     ensures bounds { IsBounded room source.now.tokens.now from result }
-    ensures parsed { Answers (BlockItems source.now.names.now) item_of room source.now.tokens.now source.now.end from result }
+    ensures parsed { Answers (BlockItems source.now.names.now) item_of room source.now.tokens.now from result }
     ensures placed { IfOk result (λ taken. IsItemPlaced taken.tree (drop from source.now.tokens.now)) }
     ensures apt { IsAnswerApt Scope.Block source.now.tokens.now result }
 {
@@ -120,7 +120,7 @@ pub fn declaration(
     requires few { length source.now.tokens.now < 2 ^ 32 }
     requires typed { IsTrue (starts_type source.now.names.now (kind_or_end source.now.tokens.now from)) }
     ensures bounds { IsBounded room source.now.tokens.now from result }
-    ensures parsed { ExactAnswers (Locals source.now.names.now) local_of room source.now.tokens.now source.now.end from result }
+    ensures parsed { ExactAnswers (Locals source.now.names.now) local_of room source.now.tokens.now from result }
     ensures placed { IfOk result (λ taken. IsDeclarationPlaced taken.tree.specs taken.tree.objects.items (drop from source.now.tokens.now)) }
     ensures apt { IsAnswerApt Scope.Block source.now.tokens.now result }
 {

@@ -28,7 +28,7 @@ pub fn block_specs(
     requires few { length source.now.tokens.now < 2 ^ 32 }
     requires some { 1 ≤ room }
     ensures bounds { IsBounded room source.now.tokens.now from result }
-    ensures parsed { BlockSpecsAnswer source.now.names.now room source.now.tokens.now source.now.end from result }
+    ensures parsed { BlockSpecsAnswer source.now.names.now room source.now.tokens.now from result }
     ensures placed { IfOk result (λ taken. HasSpecPlaces taken.tree (drop from source.now.tokens.now)) }
     ensures apt { IsAnswerApt Scope.Block source.now.tokens.now result }
 {

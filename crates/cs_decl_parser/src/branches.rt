@@ -36,7 +36,7 @@ pub fn if_statement(
     requires enough { 2 ≤ room }
     requires stands { kind_or_end source.now.tokens.now from ≡ token.Keyword keyword.If }
     ensures bounds { IsBounded room source.now.tokens.now from result }
-    ensures parsed { Answers (Sentences source.now.names.now) statement_of room source.now.tokens.now source.now.end from result }
+    ensures parsed { Answers (Sentences source.now.names.now) statement_of room source.now.tokens.now from result }
     ensures placed { IfOk result (λ taken. HasStatementPlaces taken.tree (drop from source.now.tokens.now)) }
     ensures apt { IsAnswerApt Scope.Block source.now.tokens.now result }
 {
@@ -65,7 +65,7 @@ pub fn switch_statement(
     requires enough { 2 ≤ room }
     requires stands { kind_or_end source.now.tokens.now from ≡ token.Keyword keyword.Switch }
     ensures bounds { IsBounded room source.now.tokens.now from result }
-    ensures parsed { Answers (Sentences source.now.names.now) statement_of room source.now.tokens.now source.now.end from result }
+    ensures parsed { Answers (Sentences source.now.names.now) statement_of room source.now.tokens.now from result }
     ensures placed { IfOk result (λ taken. HasStatementPlaces taken.tree (drop from source.now.tokens.now)) }
     ensures apt { IsAnswerApt Scope.Block source.now.tokens.now result }
 {
@@ -90,7 +90,7 @@ fn switch_items(
     requires within { from ≤ length source.now.tokens.now }
     requires few { length source.now.tokens.now < 2 ^ 32 }
     ensures bounds { IsBounded room source.now.tokens.now from result }
-    ensures parsed { ExactAnswers (SwitchRows source.now.names.now) switch_items_of room source.now.tokens.now source.now.end from result }
+    ensures parsed { ExactAnswers (SwitchRows source.now.names.now) switch_items_of room source.now.tokens.now from result }
     ensures placed { IfOk result (λ taken. AreSwitchItemsBeside taken.tree.items (drop from source.now.tokens.now)) }
     ensures apt { IsAnswerApt Scope.Block source.now.tokens.now result }
 {
@@ -121,7 +121,7 @@ fn switch_item(
     requires within { from ≤ length source.now.tokens.now }
     requires few { length source.now.tokens.now < 2 ^ 32 }
     ensures bounds { IsBounded room source.now.tokens.now from result }
-    ensures parsed { Answers (SwitchParts source.now.names.now) switch_item_of room source.now.tokens.now source.now.end from result }
+    ensures parsed { Answers (SwitchParts source.now.names.now) switch_item_of room source.now.tokens.now from result }
     ensures placed { IfOk result (λ taken. IsSwitchItemPlaced taken.tree (drop from source.now.tokens.now)) }
     ensures apt { IsAnswerApt Scope.Block source.now.tokens.now result }
 {
@@ -150,7 +150,7 @@ fn case(
     requires few { length source.now.tokens.now < 2 ^ 32 }
     requires stands { kind_or_end source.now.tokens.now from ≡ token.Keyword keyword.Case }
     ensures bounds { IsBounded room source.now.tokens.now from result }
-    ensures parsed { Answers (SwitchParts source.now.names.now) switch_item_of room source.now.tokens.now source.now.end from result }
+    ensures parsed { Answers (SwitchParts source.now.names.now) switch_item_of room source.now.tokens.now from result }
     ensures placed { IfOk result (λ taken. IsSwitchItemPlaced taken.tree (drop from source.now.tokens.now)) }
     ensures apt { IsAnswerApt Scope.Block source.now.tokens.now result }
 {
@@ -171,7 +171,7 @@ fn default(source: &Source, from: usize) -> Result<Taken<RawSwitchItem>, Stop>
     requires few { length source.now.tokens.now < 2 ^ 32 }
     requires stands { kind_or_end source.now.tokens.now from ≡ token.Keyword keyword.Default }
     ensures bounds { IsBounded 0 source.now.tokens.now from result }
-    ensures parsed { (room : ℕ) → Answers (SwitchParts source.now.names.now) switch_item_of room source.now.tokens.now source.now.end from result }
+    ensures parsed { (room : ℕ) → Answers (SwitchParts source.now.names.now) switch_item_of room source.now.tokens.now from result }
     ensures placed { IfOk result (λ taken. IsSwitchItemPlaced taken.tree (drop from source.now.tokens.now)) }
     ensures apt { IsAnswerApt Scope.Block source.now.tokens.now result }
 {

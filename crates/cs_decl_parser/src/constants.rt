@@ -45,7 +45,7 @@ pub fn constants(
     requires few { length source.now.tokens.now < 2 ^ 32 }
     requires some { 1 ≤ room }
     ensures bounds { IsBounded room source.now.tokens.now from result }
-    ensures parsed { ConstantsAnswer source.now.names.now room source.now.tokens.now source.now.end from result }
+    ensures parsed { ConstantsAnswer source.now.names.now room source.now.tokens.now from result }
     ensures placed { IfOk result (λ taken. AreInRow IsConstantPlaced (λ e. constant_text (constant_of e)) taken.tree.list.items (drop from source.now.tokens.now)) }
     ensures apt { IsAnswerApt Scope.File source.now.tokens.now result }
 {
@@ -99,7 +99,7 @@ fn constant(
     requires few { length source.now.tokens.now < 2 ^ 32 }
     requires some { 1 ≤ room }
     ensures bounds { IsUnclosedBounded room source.now.tokens.now from result }
-    ensures parsed { UnclosedAnswers (Constants source.now.names.now) constant_of room source.now.tokens.now source.now.end from result }
+    ensures parsed { UnclosedAnswers (Constants source.now.names.now) constant_of room source.now.tokens.now from result }
     ensures placed { IfOk result (λ taken. IsConstantPlaced taken.tree (drop from source.now.tokens.now)) }
     ensures apt { IsUnclosedApt Scope.File source.now.tokens.now result }
 {

@@ -56,7 +56,7 @@ pub fn declarator(
     requires some { 1 ≤ room }
     ensures bounds { IsBounded room source.now.tokens.now from result }
     ensures some { IfOk result (λ taken. 1 ≤ taken.height) }
-    ensures parsed { DeclaratorAnswers declares source.now.names.now room source.now.tokens.now source.now.end from result }
+    ensures parsed { DeclaratorAnswers declares source.now.names.now room source.now.tokens.now from result }
     ensures placed { IfOk result (λ taken. IsDeclaratorPlaced taken.tree (drop from source.now.tokens.now)) }
     ensures apt { IsAnswerApt scope source.now.tokens.now result }
 {
@@ -120,7 +120,7 @@ pub fn with_bounds(
     requires some { 1 ≤ room }
     ensures bounds { IsRowBounded room source.now.tokens.now pointed.next result }
     ensures some { IfOk result (λ taken. 1 ≤ taken.height) }
-    ensures parsed { (from : ℕ) → IsPointed declares source.now.names.now source.now.tokens.now from pointed → DeclaratorAnswers declares source.now.names.now room source.now.tokens.now source.now.end from result }
+    ensures parsed { (from : ℕ) → IsPointed declares source.now.names.now source.now.tokens.now from pointed → DeclaratorAnswers declares source.now.names.now room source.now.tokens.now from result }
     ensures placed { (from : ℕ) → IsPointed declares source.now.names.now source.now.tokens.now from pointed → StandsAt pointed.tree.name.place (past (pointers_text pointed.tree.pointers.items) (drop from source.now.tokens.now)) → IfOk result (λ taken. IsDeclaratorPlaced taken.tree (drop from source.now.tokens.now)) }
     ensures apt { IsAnswerApt Scope.Block source.now.tokens.now result }
 {
@@ -149,7 +149,7 @@ pub fn bounds(
     requires within { from ≤ length source.now.tokens.now }
     requires few { length source.now.tokens.now < 2 ^ 32 }
     ensures bounds { IsRowBounded room source.now.tokens.now from result }
-    ensures parsed { BoundsAnswer declares source.now.names.now (λ bounds. bounds_of bounds.items) room source.now.tokens.now source.now.end from result }
+    ensures parsed { BoundsAnswer declares source.now.names.now (λ bounds. bounds_of bounds.items) room source.now.tokens.now from result }
     ensures placed { IfOk result (λ taken. AreBracketsPlaced taken.tree.items (drop from source.now.tokens.now)) }
     ensures apt { IsAnswerApt Scope.Block source.now.tokens.now result }
 {
@@ -200,7 +200,7 @@ fn bound(
     requires within { at < length source.now.tokens.now }
     requires few { length source.now.tokens.now < 2 ^ 32 }
     ensures bounds { IsBounded room source.now.tokens.now at result }
-    ensures parsed { BoundAnswer declares source.now.names.now room source.now.tokens.now source.now.end (at + 1) result }
+    ensures parsed { BoundAnswer declares source.now.names.now room source.now.tokens.now (at + 1) result }
     ensures placed { IfOk result (λ taken. IsSomePlaced taken.tree (drop (at + 1) source.now.tokens.now)) }
     ensures apt { IsAnswerApt Scope.Block source.now.tokens.now result }
 {
@@ -233,7 +233,7 @@ pub fn declarators(
     requires few { length source.now.tokens.now < 2 ^ 32 }
     requires some { 1 ≤ room }
     ensures bounds { IsBounded room source.now.tokens.now from result }
-    ensures parsed { ExactAnswers (Separated (DeclaratorsFor declares source.now.names.now) (token.Mark mark.Semicolon)) (λ list. map declarator_of list.items) room source.now.tokens.now source.now.end from result }
+    ensures parsed { ExactAnswers (Separated (DeclaratorsFor declares source.now.names.now) (token.Mark mark.Semicolon)) (λ list. map declarator_of list.items) room source.now.tokens.now from result }
     ensures placed { IfOk result (λ taken. AreDeclaratorsPlaced taken.tree.items (drop from source.now.tokens.now)) }
     ensures apt { IsAnswerApt Scope.File source.now.tokens.now result }
 {
@@ -267,8 +267,5 @@ fn refuse_behind(source: &Source, at: usize, room: u32, declares: Declares) -> S
     if lacks_room(declares, room - 1) && is_mark(source, at, Mark::OpenBracket) {
         return refuse_deep(at);
     }
-    match declares {
-        Declares::Names => refuse(source, at, Scope::File),
-        Declares::Members => refuse_but(source, at, Scope::File, Mark::Colon),
-    }
+    refuse(source, at, Scope::File)
 }

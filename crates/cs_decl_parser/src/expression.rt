@@ -15,7 +15,7 @@ use crate::source::{Scope, Source, is_mark, refuse};
 use crate::stop::{Stop, Taken, Unclosed};
 use cs_ast::Mark;
 use cs_ast::raw::expression::RawExpr;
-use cs_expr_parser::{ExprLevel, Phrase, expression as parse_expression};
+use cs_expr_parser::{ExprLevel, Phrase, expression_at};
 use std::alloc::Global;
 
 /// The expression of a level that the tokens from a number on begin with.
@@ -30,15 +30,12 @@ pub fn expression(
     requires few { length source.now.tokens.now < 2 ^ 32 }
     ensures bounds { IsUnclosedBounded room source.now.tokens.now from result }
     ensures some { IfOk result (λ taken. 1 ≤ taken.height) }
-    ensures parsed { UnclosedAnswers (Expressions source.now.names.now (level_asked level)) written room source.now.tokens.now source.now.end from result }
+    ensures parsed { UnclosedAnswers (Expressions source.now.names.now (level_asked level)) written room source.now.tokens.now from result }
     ensures placed { IfOk result (λ taken. HasPlaces taken.tree (drop from source.now.tokens.now)) }
     ensures apt { IsUnclosedApt Scope.Block source.now.tokens.now result }
 {
-    let (tokens, end, names) = (source.tokens, source.end, source.names);
-    match parse_expression(alloc, tokens, end, from, names, room, level) {
-        Ok(phrase) => Ok(unclosed(phrase)),
-        Err(refusal) => Err(Stop::Expression(refusal)),
-    }
+    let phrase = expression_at(alloc, source.tokens, source.names, from, room, level)?;
+    Ok(unclosed(phrase))
 }
 
 fn unclosed(phrase: Phrase) -> Unclosed<RawExpr>
@@ -66,7 +63,7 @@ pub fn closed(
     requires closing { IsTrue (closes closing) }
     ensures bounds { IsBounded room source.now.tokens.now from result }
     ensures some { IfOk result (λ taken. 1 ≤ taken.height) }
-    ensures parsed { ClosedAnswer source.now.names.now level closing room source.now.tokens.now source.now.end from result }
+    ensures parsed { ClosedAnswer source.now.names.now level closing room source.now.tokens.now from result }
     ensures placed { IfOk result (λ taken. HasPlaces taken.tree (drop from source.now.tokens.now)) }
     ensures apt { IsAnswerApt Scope.Block source.now.tokens.now result }
 {
@@ -94,7 +91,7 @@ pub fn closed_if_any(
     requires few { length source.now.tokens.now < 2 ^ 32 }
     requires closing { IsTrue (closes closing) }
     ensures bounds { IsBounded room source.now.tokens.now from result }
-    ensures parsed { ClosedIfAnyAnswer source.now.names.now level closing room source.now.tokens.now source.now.end from result }
+    ensures parsed { ClosedIfAnyAnswer source.now.names.now level closing room source.now.tokens.now from result }
     ensures placed { IfOk result (λ taken. IsSomePlaced taken.tree (drop from source.now.tokens.now)) }
     ensures apt { IsAnswerApt Scope.Block source.now.tokens.now result }
 {
@@ -124,7 +121,7 @@ pub fn parenthesised(
     requires few { length source.now.tokens.now < 2 ^ 32 }
     requires some { 1 ≤ room }
     ensures bounds { IsBounded room source.now.tokens.now from result }
-    ensures parsed { ExactAnswers (Tests source.now.names.now) written room source.now.tokens.now source.now.end from result }
+    ensures parsed { ExactAnswers (Tests source.now.names.now) written room source.now.tokens.now from result }
     ensures placed { IfOk result (λ taken. HasPlaces taken.tree (drop (from + 1) source.now.tokens.now)) }
     ensures apt { IsAnswerApt Scope.Block source.now.tokens.now result }
 {

@@ -36,7 +36,7 @@ pub fn external(alloc: Global, source: &Source, from: usize) -> Result<Taken<Raw
     requires within { from < length source.now.tokens.now }
     requires few { length source.now.tokens.now < 2 ^ 32 }
     ensures bounds { IsBounded 200 source.now.tokens.now from result }
-    ensures parsed { ExactAnswers (Externals source.now.names.now) external_view 200 source.now.tokens.now source.now.end from result }
+    ensures parsed { ExactAnswers (Externals source.now.names.now) external_view 200 source.now.tokens.now from result }
     ensures placed { IfOk result (λ taken. IsExternalPlaced taken.tree (drop from source.now.tokens.now)) }
     ensures apt { IsAnswerApt Scope.File source.now.tokens.now result }
     ensures inside { IsBodyApt source.now.names.now source.now.tokens.now from result }
@@ -62,7 +62,7 @@ fn typedef(alloc: Global, source: &Source, from: usize) -> Result<Taken<RawExter
     requires few { length source.now.tokens.now < 2 ^ 32 }
     requires stands { kind_or_end source.now.tokens.now from ≡ token.Keyword keyword.Typedef }
     ensures bounds { IsBounded 200 source.now.tokens.now from result }
-    ensures parsed { ExactAnswers (Externals source.now.names.now) external_of 200 source.now.tokens.now source.now.end from result }
+    ensures parsed { ExactAnswers (Externals source.now.names.now) external_of 200 source.now.tokens.now from result }
     ensures placed { IfOk result (λ taken. IsExternalInside taken.tree (drop from source.now.tokens.now)) }
     ensures apt { IsAnswerApt Scope.File source.now.tokens.now result }
     ensures inside { IsBodyApt source.now.names.now source.now.tokens.now from result }
@@ -82,7 +82,7 @@ fn declared(alloc: Global, source: &Source, from: usize) -> Result<Taken<RawExte
     requires few { length source.now.tokens.now < 2 ^ 32 }
     requires other { kind_or_end source.now.tokens.now from ≡ token.Keyword keyword.Typedef → ⊥ }
     ensures bounds { IsBounded 200 source.now.tokens.now from result }
-    ensures parsed { ExactAnswers (Externals source.now.names.now) external_of 200 source.now.tokens.now source.now.end from result }
+    ensures parsed { ExactAnswers (Externals source.now.names.now) external_of 200 source.now.tokens.now from result }
     ensures placed { IfOk result (λ taken. IsExternalInside taken.tree (drop from source.now.tokens.now)) }
     ensures apt { IsAnswerApt Scope.File source.now.tokens.now result }
     ensures inside { IsBodyApt source.now.names.now source.now.tokens.now from result }
@@ -115,7 +115,7 @@ fn objects(
     requires low { specs.height ≤ 199 }
     requires stands { kind_or_end source.now.tokens.now pointed.next ≡ token.Mark mark.OpenParenthesis → ⊥ }
     ensures bounds { IsBounded 200 source.now.tokens.now pointed.next result }
-    ensures parsed { (from : ℕ) → IsTypeTaken source.now.names.now source.now.tokens.now from specs → IsPointed declaring.Names source.now.names.now source.now.tokens.now specs.next pointed → ExactAnswers (Externals source.now.names.now) external_of 200 source.now.tokens.now source.now.end from result }
+    ensures parsed { (from : ℕ) → IsTypeTaken source.now.names.now source.now.tokens.now from specs → IsPointed declaring.Names source.now.names.now source.now.tokens.now specs.next pointed → ExactAnswers (Externals source.now.names.now) external_of 200 source.now.tokens.now from result }
     ensures placed { (from : ℕ) → IsTypePlaced source.now.names.now source.now.tokens.now from specs → IsPointedPlaced source.now.names.now source.now.tokens.now specs.next pointed → IfOk result (λ taken. IsExternalInside taken.tree (drop from source.now.tokens.now)) }
     ensures apt { IsAnswerApt Scope.File source.now.tokens.now result }
     ensures inside { (from : ℕ) → IsTypeTaken source.now.names.now source.now.tokens.now from specs → IsPointed declaring.Names source.now.names.now source.now.tokens.now specs.next pointed → IsBodyApt source.now.names.now source.now.tokens.now from result }
@@ -143,7 +143,7 @@ fn function(
     requires low { specs.height ≤ 199 }
     requires stands { kind_or_end source.now.tokens.now pointed.next ≡ token.Mark mark.OpenParenthesis }
     ensures bounds { IsBounded 200 source.now.tokens.now pointed.next result }
-    ensures parsed { (from : ℕ) → IsTypeTaken source.now.names.now source.now.tokens.now from specs → IsPointed declaring.Names source.now.names.now source.now.tokens.now specs.next pointed → ExactAnswers (Externals source.now.names.now) external_of 200 source.now.tokens.now source.now.end from result }
+    ensures parsed { (from : ℕ) → IsTypeTaken source.now.names.now source.now.tokens.now from specs → IsPointed declaring.Names source.now.names.now source.now.tokens.now specs.next pointed → ExactAnswers (Externals source.now.names.now) external_of 200 source.now.tokens.now from result }
     ensures placed { (from : ℕ) → IsTypePlaced source.now.names.now source.now.tokens.now from specs → IsPointedPlaced source.now.names.now source.now.tokens.now specs.next pointed → IfOk result (λ taken. IsExternalInside taken.tree (drop from source.now.tokens.now)) }
     ensures apt { IsAnswerApt Scope.File source.now.tokens.now result }
     ensures inside { (from : ℕ) → IsTypeTaken source.now.names.now source.now.tokens.now from specs → IsPointed declaring.Names source.now.names.now source.now.tokens.now specs.next pointed → IsBodyApt source.now.names.now source.now.tokens.now from result }

@@ -34,7 +34,7 @@ pub fn initial(
     requires few { length source.now.tokens.now < 2 ^ 32 }
     requires some { 1 ≤ room }
     ensures bounds { IsUnclosedBounded room source.now.tokens.now from result }
-    ensures parsed { UnclosedAnswers (Values source.now.names.now) initial_of room source.now.tokens.now source.now.end from result }
+    ensures parsed { UnclosedAnswers (Values source.now.names.now) initial_of room source.now.tokens.now from result }
     ensures placed { IfOk result (λ taken. IsInitialPlaced taken.tree (drop from source.now.tokens.now)) }
     ensures apt { IsUnclosedApt scope source.now.tokens.now result }
 {
@@ -73,7 +73,7 @@ fn items(
     requires few { length source.now.tokens.now < 2 ^ 32 }
     requires stands { kind_or_end source.now.tokens.now from ≡ token.Mark mark.OpenBrace }
     ensures bounds { IsUnclosedBounded room source.now.tokens.now from result }
-    ensures parsed { UnclosedAnswers (Values source.now.names.now) initial_of room source.now.tokens.now source.now.end from result }
+    ensures parsed { UnclosedAnswers (Values source.now.names.now) initial_of room source.now.tokens.now from result }
     ensures placed { IfOk result (λ taken. IsInitialPlaced taken.tree (drop from source.now.tokens.now)) }
     ensures apt { IsUnclosedApt scope source.now.tokens.now result }
 {

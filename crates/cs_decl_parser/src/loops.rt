@@ -40,7 +40,7 @@ pub fn while_statement(
     requires enough { 2 ≤ room }
     requires stands { kind_or_end source.now.tokens.now from ≡ token.Keyword keyword.While }
     ensures bounds { IsBounded room source.now.tokens.now from result }
-    ensures parsed { Answers (Sentences source.now.names.now) statement_of room source.now.tokens.now source.now.end from result }
+    ensures parsed { Answers (Sentences source.now.names.now) statement_of room source.now.tokens.now from result }
     ensures placed { IfOk result (λ taken. HasStatementPlaces taken.tree (drop from source.now.tokens.now)) }
     ensures apt { IsAnswerApt Scope.Block source.now.tokens.now result }
 {
@@ -64,7 +64,7 @@ pub fn do_statement(
     requires enough { 2 ≤ room }
     requires stands { kind_or_end source.now.tokens.now from ≡ token.Keyword keyword.Do }
     ensures bounds { IsBounded room source.now.tokens.now from result }
-    ensures parsed { Answers (Sentences source.now.names.now) statement_of room source.now.tokens.now source.now.end from result }
+    ensures parsed { Answers (Sentences source.now.names.now) statement_of room source.now.tokens.now from result }
     ensures placed { IfOk result (λ taken. HasStatementPlaces taken.tree (drop from source.now.tokens.now)) }
     ensures apt { IsAnswerApt Scope.Block source.now.tokens.now result }
 {
@@ -103,7 +103,7 @@ pub fn for_statement(
     requires enough { 2 ≤ room }
     requires stands { kind_or_end source.now.tokens.now from ≡ token.Keyword keyword.For }
     ensures bounds { IsBounded room source.now.tokens.now from result }
-    ensures parsed { Answers (Sentences source.now.names.now) statement_of room source.now.tokens.now source.now.end from result }
+    ensures parsed { Answers (Sentences source.now.names.now) statement_of room source.now.tokens.now from result }
     ensures placed { IfOk result (λ taken. HasStatementPlaces taken.tree (drop from source.now.tokens.now)) }
     ensures apt { IsAnswerApt Scope.Block source.now.tokens.now result }
 {
@@ -119,7 +119,7 @@ fn control(alloc: Global, source: &Source, from: usize, room: u32) -> Result<Tak
     requires within { from ≤ length source.now.tokens.now }
     requires few { length source.now.tokens.now < 2 ^ 32 }
     ensures bounds { IsBounded room source.now.tokens.now from result }
-    ensures parsed { ExactAnswers (Controls source.now.names.now) control_of room source.now.tokens.now source.now.end from result }
+    ensures parsed { ExactAnswers (Controls source.now.names.now) control_of room source.now.tokens.now from result }
     ensures placed { IfOk result (λ taken. AreForPartsPlaced taken.tree (drop (from + 1) source.now.tokens.now)) }
     ensures apt { IsAnswerApt Scope.Block source.now.tokens.now result }
 {
@@ -158,7 +158,7 @@ fn first_part(
     requires within { from ≤ length source.now.tokens.now }
     requires few { length source.now.tokens.now < 2 ^ 32 }
     ensures bounds { IsBounded room source.now.tokens.now from result }
-    ensures parsed { ExactAnswers (Firsts source.now.names.now) first_of room source.now.tokens.now source.now.end from result }
+    ensures parsed { ExactAnswers (Firsts source.now.names.now) first_of room source.now.tokens.now from result }
     ensures placed { IfOk result (λ taken. IsFirstPlaced taken.tree (drop from source.now.tokens.now)) }
     ensures apt { IsAnswerApt Scope.Block source.now.tokens.now result }
 {

@@ -27,7 +27,7 @@ pub fn members(
     requires within { from ≤ length source.now.tokens.now }
     requires few { length source.now.tokens.now < 2 ^ 32 }
     ensures bounds { IsBounded room source.now.tokens.now from result }
-    ensures parsed { ExactAnswers (MemberRows source.now.names.now) (λ list. members_list list.items) room source.now.tokens.now source.now.end from result }
+    ensures parsed { ExactAnswers (MemberRows source.now.names.now) (λ list. members_list list.items) room source.now.tokens.now from result }
     ensures placed { IfOk result (λ taken. AreGroupsPlaced taken.tree.items (drop from source.now.tokens.now)) }
     ensures apt { IsAnswerApt Scope.File source.now.tokens.now result }
 {
@@ -53,7 +53,7 @@ fn member(alloc: Global, source: &Source, from: usize, room: u32) -> Result<Take
     requires within { from ≤ length source.now.tokens.now }
     requires few { length source.now.tokens.now < 2 ^ 32 }
     ensures bounds { IsBounded room source.now.tokens.now from result }
-    ensures parsed { ExactAnswers (MemberGroups source.now.names.now) group room source.now.tokens.now source.now.end from result }
+    ensures parsed { ExactAnswers (MemberGroups source.now.names.now) group room source.now.tokens.now from result }
     ensures placed { IfOk result (λ taken. IsGroupPlaced taken.tree (drop from source.now.tokens.now)) }
     ensures apt { IsAnswerApt Scope.File source.now.tokens.now result }
 {

@@ -35,7 +35,7 @@ pub fn objects(
     requires few { length source.now.tokens.now < 2 ^ 32 }
     requires some { 1 ≤ room }
     ensures bounds { IsBounded room source.now.tokens.now from result }
-    ensures parsed { ExactAnswers (Separated (Objects source.now.names.now) (token.Mark mark.Semicolon)) (λ list. map declared list.items) room source.now.tokens.now source.now.end from result }
+    ensures parsed { ExactAnswers (Separated (Objects source.now.names.now) (token.Mark mark.Semicolon)) (λ list. map declared list.items) room source.now.tokens.now from result }
     ensures placed { IfOk result (λ taken. AreObjectsPlaced taken.tree.items (drop from source.now.tokens.now)) }
     ensures apt { IsAnswerApt scope source.now.tokens.now result }
 {
@@ -58,7 +58,7 @@ pub fn with_others(
     requires low { first.height ≤ room }
     requires apt { IsApt scope (kind_or_end source.now.tokens.now first.next) first.otherwise }
     ensures bounds { IsBounded room source.now.tokens.now first.next result }
-    ensures parsed { (from : ℕ) → IsUnclosed (Objects source.now.names.now) declared room source.now.tokens.now from first → ExactAnswers (Separated (Objects source.now.names.now) (token.Mark mark.Semicolon)) (λ list. map declared list.items) room source.now.tokens.now source.now.end from result }
+    ensures parsed { (from : ℕ) → IsUnclosed (Objects source.now.names.now) declared room source.now.tokens.now from first → ExactAnswers (Separated (Objects source.now.names.now) (token.Mark mark.Semicolon)) (λ list. map declared list.items) room source.now.tokens.now from result }
     ensures placed { (from : ℕ) → IsUnclosed (Objects source.now.names.now) declared room source.now.tokens.now from first → IsDeclaredPlaced first.tree (drop from source.now.tokens.now) → IfOk result (λ taken. AreObjectsPlaced taken.tree.items (drop from source.now.tokens.now)) }
     ensures apt { IsAnswerApt scope source.now.tokens.now result }
 {
@@ -93,7 +93,7 @@ fn object(
     requires few { length source.now.tokens.now < 2 ^ 32 }
     requires some { 1 ≤ room }
     ensures bounds { IsUnclosedBounded room source.now.tokens.now from result }
-    ensures parsed { UnclosedAnswers (Objects source.now.names.now) declared room source.now.tokens.now source.now.end from result }
+    ensures parsed { UnclosedAnswers (Objects source.now.names.now) declared room source.now.tokens.now from result }
     ensures placed { IfOk result (λ taken. IsDeclaredPlaced taken.tree (drop from source.now.tokens.now)) }
     ensures apt { IsUnclosedApt scope source.now.tokens.now result }
 {
@@ -115,7 +115,7 @@ pub fn with_value(
     requires some { 1 ≤ declarator.height }
     requires low { declarator.height ≤ room }
     ensures bounds { IsUnclosedRowBounded room source.now.tokens.now declarator.next result }
-    ensures parsed { (from : ℕ) → IsDeclaratorTaken declaring.Names source.now.names.now room source.now.tokens.now from declarator → UnclosedAnswers (Objects source.now.names.now) declared room source.now.tokens.now source.now.end from result }
+    ensures parsed { (from : ℕ) → IsDeclaratorTaken declaring.Names source.now.names.now room source.now.tokens.now from declarator → UnclosedAnswers (Objects source.now.names.now) declared room source.now.tokens.now from result }
     ensures placed { (from : ℕ) → IsDeclaratorTaken declaring.Names source.now.names.now room source.now.tokens.now from declarator → IsDeclaratorPlaced declarator.tree (drop from source.now.tokens.now) → IfOk result (λ taken. IsDeclaredPlaced taken.tree (drop from source.now.tokens.now)) }
     ensures apt { IsUnclosedApt scope source.now.tokens.now result }
 {

@@ -35,7 +35,7 @@ pub fn parameters(
     requires few { length source.now.tokens.now < 2 ^ 32 }
     requires enough { 4 ≤ room }
     ensures bounds { IsBounded room source.now.tokens.now from result }
-    ensures parsed { ExactAnswers (ParameterLists source.now.names.now) parameters_of room source.now.tokens.now source.now.end from result }
+    ensures parsed { ExactAnswers (ParameterLists source.now.names.now) parameters_of room source.now.tokens.now from result }
     ensures placed { IfOk result (λ taken. AreParametersPlaced taken.tree (drop from source.now.tokens.now)) }
     ensures apt { IsAnswerApt Scope.File source.now.tokens.now result }
 {
@@ -82,7 +82,7 @@ fn parameter_list(
     requires enough { 2 ≤ room }
     requires no_void { IsVoidAlone source.now.tokens.now from → ⊥ }
     ensures bounds { IsBounded room source.now.tokens.now from result }
-    ensures parsed { ExactAnswers (ParameterRows source.now.names.now) (λ list. map parameter_of list.items) room source.now.tokens.now source.now.end from result }
+    ensures parsed { ExactAnswers (ParameterRows source.now.names.now) (λ list. map parameter_of list.items) room source.now.tokens.now from result }
     ensures placed { IfOk result (λ taken. AreInRow IsParameterPlaced (λ p. parameter_text (parameter_of p)) taken.tree.items (drop from source.now.tokens.now)) }
     ensures apt { IsAnswerApt Scope.File source.now.tokens.now result }
 {
@@ -116,7 +116,7 @@ fn parameter(
     requires few { length source.now.tokens.now < 2 ^ 32 }
     requires enough { 2 ≤ room }
     ensures bounds { IsBounded room source.now.tokens.now from result }
-    ensures parsed { ParameterAnswer source.now.names.now room source.now.tokens.now source.now.end from result }
+    ensures parsed { ParameterAnswer source.now.names.now room source.now.tokens.now from result }
     ensures placed { IfOk result (λ taken. IsParameterPlaced taken.tree (drop from source.now.tokens.now)) }
     ensures apt { IsAnswerApt Scope.File source.now.tokens.now result }
 {

@@ -7,7 +7,7 @@ ghost use Rattle.cs_grammar.specs.FirstTokens.{begins_type as starts_type};
 ghost use Rattle.cs_grammar.specs.Places.{StandsAt};
 ghost use Rattle.cs_expr_parser.specs.Positions.{kind_or_end, mark_of, keyword_of, name_of};
 ghost use Rattle.cs_grammar.specs.declared.refusal.Reason.TheVariants.{TooDeep};
-ghost use Rattle.cs_decl_parser.specs.declared.stop.Stop.TheVariants as stop;
+ghost use Rattle.cs_expr_parser.specs.declared.stop.Stop.TheVariants as stop;
 ghost use Rattle.cs_decl_parser.specs.Aptness.{may_be_out, IsApt, IsStopApt};
 ghost use Rattle.cs_decl_parser.specs.DeclarationAnswers.{RefusesBehind};
 ghost use Rattle.cs_decl_parser.specs.Reasons.{is_left_out as left_out, plain_reason, RefusesBut};
@@ -18,11 +18,10 @@ use cs_expr_parser as tokens;
 use cs_grammar::{Reason, TypedefNames};
 use cs_names::Name;
 
-/// What a part of the parser reads: the tokens, the place of the end of input, and the names of the typedefs before.
+/// What a part of the parser reads: the tokens, and the names of the typedefs before.
 #[derive(Clone, Copy)]
 pub struct Source<'a> {
     pub tokens: &'a [Token],
-    pub end: Place,
     pub names: &'a TypedefNames,
 }
 
@@ -128,7 +127,7 @@ pub fn refuse(source: &Source, at: usize, scope: Scope) -> Stop
 pub fn refuse_but(source: &Source, at: usize, scope: Scope, left_out: Mark) -> Stop
     ensures reason { RefusesBut left_out scope at (kind_or_end source.now.tokens.now at) result }
     ensures plain { RefusesBehind at false result }
-    ensures apt { IsTrue (may_be_out scope (token.Mark left_out)) → IsStopApt scope source.now.tokens.now result }
+    ensures apt { IsTrue (may_be_out (token.Mark left_out)) → IsStopApt scope source.now.tokens.now result }
 {
     if is_mark(source, at, left_out) {
         return Stop::Refused(at, Reason::LeftOut);

@@ -59,7 +59,7 @@ pub fn specs(
     requires few { length source.now.tokens.now < 2 ^ 32 }
     requires some { 1 ≤ room }
     ensures bounds { IsBounded room source.now.tokens.now from result }
-    ensures parsed { SpecsAnswer source.now.names.now room source.now.tokens.now source.now.end from result }
+    ensures parsed { SpecsAnswer source.now.names.now room source.now.tokens.now from result }
     ensures placed { IfOk result (λ taken. HasSpecPlaces taken.tree (drop from source.now.tokens.now)) }
     ensures apt { IsAnswerApt Scope.File source.now.tokens.now result }
 {
@@ -110,7 +110,7 @@ fn word_at(
     requires few { length source.now.tokens.now < 2 ^ 32 }
     requires some { 1 ≤ room }
     ensures bounds { IsWordBounded room source.now.tokens.now at result }
-    ensures word { SpecAnswer source.now.names.now room source.now.tokens.now source.now.end at so_far result }
+    ensures word { SpecAnswer source.now.names.now room source.now.tokens.now at so_far result }
     ensures placed { IfOk result (IsWordThere source.now.tokens.now at so_far) }
     ensures apt { IsAnswerApt Scope.File source.now.tokens.now result }
 {
@@ -183,7 +183,7 @@ fn tagged(alloc: Global, source: &Source, at: usize, room: u32) -> Result<NextWo
     requires some { 1 ≤ room }
     requires stands { IsTagKeyword (kind_or_end source.now.tokens.now at) }
     ensures bounds { IsNextBounded room source.now.tokens.now at result }
-    ensures element { ElementAnswer source.now.names.now room source.now.tokens.now source.now.end at result }
+    ensures element { ElementAnswer source.now.names.now room source.now.tokens.now at result }
     ensures placed { IfOk result (IsWordPlaced source.now.tokens.now at) }
     ensures apt { IsAnswerApt Scope.File source.now.tokens.now result }
 {
@@ -246,7 +246,7 @@ fn with_body(
     requires some { 1 ≤ room }
     requires opened { IsOpened source.now.tokens.now at brace (name_in tag) }
     ensures bounds { IsNextBounded room source.now.tokens.now at result }
-    ensures element { ElementAnswer source.now.names.now room source.now.tokens.now source.now.end at result }
+    ensures element { ElementAnswer source.now.names.now room source.now.tokens.now at result }
     ensures placed { IsNamePlaced tag (drop (at + 1) source.now.tokens.now) → IfOk result (IsWordPlaced source.now.tokens.now at) }
     ensures apt { IsAnswerApt Scope.File source.now.tokens.now result }
 {

@@ -39,7 +39,7 @@ pub fn statement(
     requires within { from ≤ length source.now.tokens.now }
     requires few { length source.now.tokens.now < 2 ^ 32 }
     ensures bounds { IsBounded room source.now.tokens.now from result }
-    ensures parsed { Answers (Sentences source.now.names.now) statement_of room source.now.tokens.now source.now.end from result }
+    ensures parsed { Answers (Sentences source.now.names.now) statement_of room source.now.tokens.now from result }
     ensures placed { IfOk result (λ taken. HasStatementPlaces taken.tree (drop from source.now.tokens.now)) }
     ensures apt { IsAnswerApt Scope.Block source.now.tokens.now result }
 {
@@ -82,7 +82,7 @@ fn label(alloc: Global, source: &Source, from: usize, room: u32) -> Result<Taken
     requires enough { 2 ≤ room }
     requires stands { IsTrue (is_labelled (kind_or_end source.now.tokens.now from) (kind_or_end source.now.tokens.now (from + 1))) }
     ensures bounds { IsBounded room source.now.tokens.now from result }
-    ensures parsed { Answers (Sentences source.now.names.now) statement_of room source.now.tokens.now source.now.end from result }
+    ensures parsed { Answers (Sentences source.now.names.now) statement_of room source.now.tokens.now from result }
     ensures placed { IfOk result (λ taken. HasStatementPlaces taken.tree (drop from source.now.tokens.now)) }
     ensures apt { IsAnswerApt Scope.Block source.now.tokens.now result }
 {
@@ -100,7 +100,7 @@ fn run(alloc: Global, source: &Source, from: usize, room: u32) -> Result<Taken<R
     requires few { length source.now.tokens.now < 2 ^ 32 }
     requires stands { form_of source.now.names.now (kind_or_end source.now.tokens.now from) (kind_or_end source.now.tokens.now (from + 1)) ≡ form.Run }
     ensures bounds { IsBounded room source.now.tokens.now from result }
-    ensures parsed { Answers (Sentences source.now.names.now) statement_of room source.now.tokens.now source.now.end from result }
+    ensures parsed { Answers (Sentences source.now.names.now) statement_of room source.now.tokens.now from result }
     ensures placed { IfOk result (λ taken. HasStatementPlaces taken.tree (drop from source.now.tokens.now)) }
     ensures apt { IsAnswerApt Scope.Block source.now.tokens.now result }
 {
@@ -117,7 +117,7 @@ fn goto(source: &Source, from: usize) -> Result<Taken<RawStmt>, Stop>
     requires few { length source.now.tokens.now < 2 ^ 32 }
     requires stands { kind_or_end source.now.tokens.now from ≡ token.Keyword keyword.Goto }
     ensures bounds { IsBounded 1 source.now.tokens.now from result }
-    ensures parsed { (room : ℕ) → 1 ≤ room → Answers (Sentences source.now.names.now) statement_of room source.now.tokens.now source.now.end from result }
+    ensures parsed { (room : ℕ) → 1 ≤ room → Answers (Sentences source.now.names.now) statement_of room source.now.tokens.now from result }
     ensures placed { IfOk result (λ taken. HasStatementPlaces taken.tree (drop from source.now.tokens.now)) }
     ensures apt { IsAnswerApt Scope.Block source.now.tokens.now result }
 {
@@ -136,7 +136,7 @@ fn jump(source: &Source, from: usize, kind: RawStmtKind) -> Result<Taken<RawStmt
     requires few { length source.now.tokens.now < 2 ^ 32 }
     requires stands { IsJump (kind_or_end source.now.tokens.now from) (sentence kind) }
     ensures bounds { IsBounded 1 source.now.tokens.now from result }
-    ensures parsed { (room : ℕ) → 1 ≤ room → Answers (Sentences source.now.names.now) statement_of room source.now.tokens.now source.now.end from result }
+    ensures parsed { (room : ℕ) → 1 ≤ room → Answers (Sentences source.now.names.now) statement_of room source.now.tokens.now from result }
     ensures placed { IfOk result (λ taken. HasStatementPlaces taken.tree (drop from source.now.tokens.now)) }
     ensures apt { IsAnswerApt Scope.Block source.now.tokens.now result }
 {
@@ -158,7 +158,7 @@ fn return_statement(
     requires some { 1 ≤ room }
     requires stands { kind_or_end source.now.tokens.now from ≡ token.Keyword keyword.Return }
     ensures bounds { IsBounded room source.now.tokens.now from result }
-    ensures parsed { Answers (Sentences source.now.names.now) statement_of room source.now.tokens.now source.now.end from result }
+    ensures parsed { Answers (Sentences source.now.names.now) statement_of room source.now.tokens.now from result }
     ensures placed { IfOk result (λ taken. HasStatementPlaces taken.tree (drop from source.now.tokens.now)) }
     ensures apt { IsAnswerApt Scope.Block source.now.tokens.now result }
 {

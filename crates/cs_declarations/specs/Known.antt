@@ -1,5 +1,5 @@
 -- What is known at a point of a file: the structs, the tags, the declarations in force and the string literals before it.
-use Rattle.std.specs.Prelude.{ℕ, ◌∷◌, [], ◌++◌, List, drop, take, length, Bool, is_some}
+use Rattle.std.specs.Prelude.{ℕ, ◌∷◌, [], ◌++◌, List, drop, take, length, Bool, Option, is_some}
 use Rattle.cs_types.specs.declared.data_model.DataModel.{DataModel}
 use Rattle.cs_types.specs.declared.structs.StructType.{StructType}
 use Rattle.cs_consts.specs.declared.context.Context.{Context}
@@ -68,9 +68,13 @@ with_declarations declarations outer k = record {
 abbrev pub declaring : List ℕ → Meaning → Known → Known
 declaring name meaning k = with_declarations (declarations_of k ++ record { name = name; meaning = meaning } ∷ []) k.outer k
 
+-- what a name was declared as in the innermost scope
+abbrev pub meaning_here : List ℕ → Known → Option Meaning
+meaning_here name k = newest name (drop k.outer (declarations_of k))
+
 -- the name is declared in the innermost scope (C11 6.7, paragraph 3)
 abbrev pub is_declared_here : List ℕ → Known → Bool
-is_declared_here name k = is_some (newest name (drop k.outer (declarations_of k)))
+is_declared_here name k = is_some (meaning_here name k)
 
 -- inside a new scope (C11 6.2.1, paragraph 4)
 abbrev pub entered : Known → Known

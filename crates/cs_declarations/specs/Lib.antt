@@ -3,5 +3,7 @@ pub mod Sizes
 pub mod Bodies
 pub mod Parameters
 pub mod Initializers
+pub mod Objects
+pub mod LaidOut
 pub mod Answered
 pub mod View

@@ -3,6 +3,7 @@ ghost use Rattle.std.specs.Prelude.{◌≡◌, ◌++◌, [], ◌∷◌, Some, On
 ghost use Rattle.cs_types.specs.Shape.{shape_of};
 ghost use Rattle.cs_declarations.specs.Answered.{AnswersWith, Leaves};
 ghost use Rattle.cs_declarations.specs.Bodies.{plain_words, word_type, specs_type, tag_in, struct_named, opening, struct_body, members_of_list, group_of, first_name, nothing_laid};
+ghost use Rattle.cs_declarations.specs.LaidOut.{IsSound};
 ghost use Rattle.cs_declarations.specs.View.{known_of, typing, opened_as, body, laying};
 ghost use Rattle.cs_consts.specs.TypeNames.{whole_word, tag_place};
 
@@ -28,6 +29,7 @@ pub fn specs_type(
 ) -> Result<CType, TypeRefusal>
     ensures told { AnswersWith typing (specs_type (known_of known.old) place specs.now) result known.new }
     ensures reading { OnOk result (known.new.reading.items ≡ known.old.reading.items) }
+    ensures laid_out { IsSound (known_of known.old) → OnOk result (IsSound (known_of known.new)) }
 {
     let tag_place = specs.tag.unwrap_or(place);
     for word in &specs.words {

@@ -3,6 +3,7 @@ ghost use Rattle.std.specs.Prelude.{◌≡◌, List, ◌++◌, [], ◌∷◌};
 ghost use Rattle.cs_declarations.specs.Bodies.{has_const, is_const_word};
 ghost use Rattle.cs_ast.specs.declared.raw.written_type.PointerWord.{PointerWord};
 ghost use Rattle.cs_declarations.specs.Parameters.{points_to_const};
+ghost use Rattle.cs_declarations.specs.Objects.{is_constant_object};
 ghost use Rattle.cs_declarations.specs.View.{AreLastStars};
 
 use cs_ast::raw::declaration::{RawSpecs, SpecWord};
@@ -83,5 +84,15 @@ pub fn points_to_const(
     match said {
         Some(constant) => constant,
         None => (has_bound || stars.last.is_some()) && has_const(specs),
+    }
+}
+
+/// Whether a file-scope object may not be stored to: `const` behind its last star, or without a star among its words.
+pub fn is_constant_object(specs: &RawSpecs, pointers: &[PointerWord]) -> bool
+    ensures { result ≡ is_constant_object specs.now pointers.now }
+{
+    match last_stars(pointers).last {
+        Some(constant) => constant,
+        None => has_const(specs),
     }
 }

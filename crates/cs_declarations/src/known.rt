@@ -1,11 +1,13 @@
 //! What is known at a point of a file.
-ghost use Rattle.std.specs.Prelude.{◌≡◌, ◌-◌, ◌||◌, None, OnOk, IfOk, length, take, is_some};
+ghost use Rattle.std.specs.Prelude.{◌≡◌, ◌-◌, ◌||◌, None, OnOk, IfOk, length, take, is_some, option_copied};
+ghost use Rattle.std.specs.Option.{option_map};
 ghost use Rattle.cs_types.specs.Layout.{members_of};
 ghost use Rattle.cs_types.specs.Shape.{shape_of};
 ghost use Rattle.cs_consts.specs.Meanings.{meaning_of};
-ghost use Rattle.cs_declarations.specs.Known.{table_of, with_reading, with_tag, declaring, is_declared_here, entered, left_to, mark_of};
+ghost use Rattle.cs_declarations.specs.Known.{table_of, with_reading, with_tag, declaring, is_declared_here, meaning_here, entered, left_to, mark_of};
 ghost use Rattle.cs_declarations.specs.Bodies.{with_struct, with_tagged_struct, with_members, name_or_none, tag_in, is_among, typedef_added, typedefs_added};
 ghost use Rattle.cs_declarations.specs.Answered.{Leaves};
+ghost use Rattle.cs_declarations.specs.LaidOut.{IsSound};
 ghost use Rattle.cs_declarations.specs.View.{known_of, mark, laying};
 
 use crate::laying::{Laying, rounded_up};
@@ -54,6 +56,17 @@ impl Known {
             .scope
             .declarations
             .is_declared_since(name, self.outer)
+    }
+
+    /// What a name was declared as in the innermost scope.
+    pub fn meaning_here(&self, name: &Name) -> Option<&Meaning>
+        ensures { option_map meaning_of (option_copied result) ≡ meaning_here name.now (known_of self.now) }
+    {
+        if self.is_declared_here(name) {
+            self.context.scope.declarations.newest(name)
+        } else {
+            None
+        }
     }
 
     /// Begins a scope (C11 6.2.1, paragraph 4).
@@ -183,7 +196,8 @@ impl Known {
         base: &CType,
         declarators: &[RawDeclarator],
     ) -> Result<(), TypeRefusal>
-        ensures { Leaves (typedefs_added (shape_of base.now) declarators.now (known_of self.old)) result (known_of self.new) }
+        ensures told { Leaves (typedefs_added (shape_of base.now) declarators.now (known_of self.old)) result (known_of self.new) }
+        ensures laid_out { IsSound (known_of self.old) → OnOk result (IsSound (known_of self.new)) }
     {
         for declarator in declarators {
             self.declare_typedef(alloc, base, declarator)?;

@@ -3,6 +3,7 @@ ghost use Rattle.std.specs.Prelude.{◌≡◌, not, OnOk};
 ghost use Rattle.cs_types.specs.Shape.{shape_of};
 ghost use Rattle.cs_consts.specs.Verdicts.{Answers, Fine};
 ghost use Rattle.cs_declarations.specs.Answered.{AnswersWith, Leaves};
+ghost use Rattle.cs_declarations.specs.LaidOut.{IsSound};
 ghost use Rattle.cs_declarations.specs.Parameters.{place_of, plainly_passed, array_passed, passed, parameter_passed, may_write, is_free_name, with_parameter, parameter_typed, parameters_typed};
 ghost use Rattle.cs_declarations.specs.View.{known_of, passed_of, head};
 
@@ -191,7 +192,8 @@ pub fn parameters_typed(
     known: &mut Known,
     parameters: &RawParameters,
 ) -> Result<Head, TypeRefusal>
-    ensures { AnswersWith head (parameters_typed (known_of known.old) parameters.now) result known.new }
+    ensures told { AnswersWith head (parameters_typed (known_of known.old) parameters.now) result known.new }
+    ensures laid_out { IsSound (known_of known.old) → OnOk result (IsSound (known_of known.new)) }
 {
     let mut head = Head {
         parameters: Vec::new(alloc),

@@ -28,9 +28,11 @@ use Rattle.cs_grammar.specs.Parsing.{Class, Expressions, Begins, BeginsLow, Took
 use Rattle.cs_grammar.proofs.Texts.{text_splits}
 use Rattle.cs_expr_parser.specs.Positions.{kinds, kind_or_end}
 use Rattle.cs_expr_parser.specs.Reasons.{reason_of, ends_in_type}
-use Rattle.cs_expr_parser.specs.Parts.{Spells, IsRefused, IsTakenFrom, is_deep}
-use Rattle.cs_expr_parser.specs.LastTokens.{TellsLeftOut, IsToldAt}
-use Rattle.cs_expr_parser.specs.Expression.{first_place, place_or_end, IsRefusalBy, kind_at, GoesNoFurther, IsTaken, IsRefusedAt, IsRefusalFor, IsRefusal, reason_there}
+use Rattle.cs_expr_parser.specs.Parts.{Spells, IsRefused, Stops, IsTakenFrom, is_deep}
+use Rattle.cs_expr_parser.specs.LastTokens.{TellsLeftOut, IsToldAt, IsTold}
+use Rattle.cs_expr_parser.specs.declared.stop.Stop.{Stop}
+use Rattle.cs_expr_parser.specs.declared.stop.Stop.TheVariants as stop
+use Rattle.cs_expr_parser.specs.Expression.{first_place, place_or_end, IsRefusalBy, kind_at, GoesNoFurther, IsTaken, IsRefusedAt, IsStopped, IsRefusalFor, IsRefusal, reason_there}
 use Rattle.cs_expr_parser.specs.declared.stop.Taken.{Taken}
 use Rattle.cs_expr_parser.specs.declared.answer.Phrase.{Phrase}
 use Rattle.cs_expr_parser.proofs.Standing.{kind_of_some, kind_of_none, past_end}
@@ -164,6 +166,11 @@ refused_ends names level room front true r =
 begun_is : (names : Names) (level room : ℕ) (front : Kinds) → (front ≡ []) ⊎ BeginsLow (Expressions names level) room front → (front ≡ []) ⊎ BeginsLowPhrase names level room front
 begun_is names level room front (inl e) = inl e
 begun_is names level room front (inr b) = inr (record { phrase = b.phrase; more = b.more; is_phrase = b.is_phrase; low = b.low; spelled = b.spelled })
+
+-- the answer of a part that gives no phrase
+pub stop_is : (names : Names) (level room : ℕ) (tokens : List Token) (from : ℕ) (s : Stop) → Stops (Expressions names level) room tokens from s → IsTold names tokens from s → IsStopped names level room tokens from s
+stop_is names level room tokens from stop.Memory r t = tt
+stop_is names level room tokens from (stop.Refused at reason) r t = (r, t)
 
 -- the refusal of a part as that of `expression`
 pub phrase_refused : (names : Names) (level room : ℕ) (tokens : List Token) (from at : ℕ) (reason : Reason) → IsRefused (Expressions names level) room tokens from at reason → IsToldAt names tokens from at reason → IsRefusedAt names level room tokens from at (reason_there (kind_at tokens at) reason)

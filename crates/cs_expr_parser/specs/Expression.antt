@@ -20,7 +20,10 @@ use Rattle.cs_grammar.specs.Places.{HasPlaces}
 use Rattle.cs_grammar.specs.Parsing.{Expressions, Took, Refused}
 use Rattle.cs_grammar.specs.Spelling.{left_out_spelling}
 use Rattle.cs_expr_parser.specs.Positions.{kinds, kind_or_end}
-use Rattle.cs_expr_parser.specs.Parts.{Spells, is_deep}
+use Rattle.cs_expr_parser.specs.Parts.{Spells, IsRefused, is_deep}
+use Rattle.cs_expr_parser.specs.LastTokens.{IsToldAt}
+use Rattle.cs_expr_parser.specs.declared.stop.Stop.{Stop}
+use Rattle.cs_expr_parser.specs.declared.stop.Stop.TheVariants as stop
 use Rattle.cs_expr_parser.specs.declared.answer.ExprLevel.{ExprLevel}
 use Rattle.cs_expr_parser.specs.declared.answer.ExprLevel.TheVariants.{Expr, Assign, Cond}
 use Rattle.cs_expr_parser.specs.declared.answer.Phrase.{Phrase}
@@ -64,6 +67,11 @@ pub record IsRefusedAt (names : Names) (level room : ℕ) (tokens : List Token) 
   pub furthest : GoesNoFurther names level room front (kind_at tokens at)
   pub why : IsReason names level front (kind_at tokens at) reason
   pub refused : Refused (Expressions names level) room front (kind_or_end tokens at) (is_deep reason)
+
+-- want of memory, or a token is refused for the right reason, as the parts of the parser say it to one another
+abbrev pub IsStopped : Names → ℕ → ℕ → List Token → ℕ → Stop → Type 0
+IsStopped names level room tokens from stop.Memory = Unit {0}
+IsStopped names level room tokens from (stop.Refused at reason) = IsRefused (Expressions names level) room tokens from at reason × IsToldAt names tokens from at reason
 
 -- the place of the first of these tokens, or of the end of input
 abbrev pub first_place : Place → List Token → Place

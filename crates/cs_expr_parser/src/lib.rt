@@ -18,5 +18,6 @@ mod types;
 mod unary;
 
 pub use answer::{ExprLevel, Phrase};
-pub use parser::expression;
+pub use parser::{expression, expression_at, refusal};
+pub use stop::Stop;
 pub use tokens::{begins_type, is_mark, keyword_at, mark_at, name_at, place_at};

@@ -7,7 +7,7 @@ ghost use Rattle.cs_expr_parser.specs.Positions.{kind_or_end};
 ghost use Rattle.cs_expr_parser.specs.LastTokens.{IsStopTold};
 ghost use Rattle.cs_expr_parser.specs.Parts.{Answers};
 ghost use Rattle.cs_expr_parser.specs.Reasons.{reason_of, ends_in_type};
-ghost use Rattle.cs_expr_parser.specs.Expression.{level_asked, kind_at, reason_there, IsTaken, IsRefusal, IsRefusalFor, IsRefusalBy};
+ghost use Rattle.cs_expr_parser.specs.Expression.{level_asked, kind_at, reason_there, IsTaken, IsStopped, IsRefusal, IsRefusalFor, IsRefusalBy};
 
 use crate::answer::{ExprLevel, Phrase};
 use crate::loose::{assign, choice, comma};
@@ -36,11 +36,29 @@ pub fn expression(
     ensures taken { IfOk result (IsTaken names.now (level_asked level) room tokens.now from) }
     ensures refused { IfErr result (IsRefusal names.now (level_asked level) room tokens.now end from) }
 {
-    match part(alloc, tokens, names, from, room, level) {
-        Ok(taken) => Ok(phrase(tokens, taken)),
+    match expression_at(alloc, tokens, names, from, room, level) {
+        Ok(phrase) => Ok(phrase),
         Err(Stop::Refused(at, reason)) => Err(refusal(alloc, tokens, end, at, reason)),
         Err(Stop::Memory) => Err(SyntaxRefusal::Memory),
     }
+}
+
+/// The same for parsers that go on, which is told the number of the token that is refused.
+pub fn expression_at(
+    alloc: Global,
+    tokens: &[Token],
+    names: &TypedefNames,
+    from: usize,
+    room: u32,
+    level: ExprLevel,
+) -> Result<Phrase, Stop>
+    requires within { from ≤ length tokens.now }
+    requires few { length tokens.now < 2 ^ 32 }
+    ensures taken { IfOk result (IsTaken names.now (level_asked level) room tokens.now from) }
+    ensures stopped { IfErr result (IsStopped names.now (level_asked level) room tokens.now from) }
+{
+    let taken = part(alloc, tokens, names, from, room, level)?;
+    Ok(phrase(tokens, taken))
 }
 
 /// The expression of a level, as the parts of the parser hand it to one another.
@@ -81,8 +99,14 @@ fn phrase(tokens: &[Token], taken: Taken) -> Phrase
     }
 }
 
-/// The refusal of the token with this number, or of the end of input.
-fn refusal(alloc: Global, tokens: &[Token], end: Place, at: usize, reason: Reason) -> SyntaxRefusal
+/// The refusal of the token with this number, or of the end of input, whose place is `end`.
+pub fn refusal(
+    alloc: Global,
+    tokens: &[Token],
+    end: Place,
+    at: usize,
+    reason: Reason,
+) -> SyntaxRefusal
     ensures { IsRefusalFor tokens.now end at (reason_there (kind_at tokens.now at) reason) result }
 {
     match tokens.get(at) {

@@ -1,13 +1,15 @@
-//! The text of an analysis, and of a refused file, as the program prints it.
+//! The text of an analysis, of a replayed run, and of a refused file, as the program prints it.
 #![tactic(auto)]
 
 mod entry;
 mod finding;
 mod place;
 mod refusal;
+mod replayed;
 #[cfg(test)]
 mod tests;
 mod text;
 
 pub use entry::append_entry;
 pub use refusal::append_refusal;
+pub use replayed::append_replayed;

@@ -5,6 +5,8 @@ use cs_model::{
     Budget, EntryResult, Event, Finding, Input, Kind, Label, Outcome, Run, Verdict, Wrap,
 };
 use cs_names::Name;
+use cs_runs as runs;
+use cs_runs::Returned;
 use std::alloc::{AllocError, Global};
 use std::test::Fail;
 
@@ -113,6 +115,32 @@ fn results_are_printed_line_by_line(rt: HostRuntime) -> Result<(), Fail> {
         )?;
         let wanted = format!(in alloc; "before\n{lines}")?;
         assert_eq!(rt; text.as_slice(), wanted.as_bytes(), "{name}");
+    }
+    Ok(())
+}
+
+#[test]
+fn replayed_runs_are_told_by_their_end(rt: HostRuntime) -> Result<(), Fail> {
+    let alloc = rt.alloc();
+    let files = vec![in alloc; Name::from_slice(alloc, b"<input>".as_slice())?]?;
+    for (outcome, line) in [
+        (runs::Outcome::Done(Returned::Nothing), "done\n"),
+        (runs::Outcome::Done(Returned::Number(-3)), "done -3\n"),
+        (runs::Outcome::Done(Returned::Null), "done null\n"),
+        (runs::Outcome::Done(Returned::Object), "done object\n"),
+        (runs::Outcome::Done(Returned::Unset), "done unset\n"),
+        (
+            runs::Outcome::Fault(Kind::Divide, at(0, 1, 23)),
+            "fault divide <input>:1:23\n",
+        ),
+        (
+            runs::Outcome::Over(runs::Budget::Depth, at(0, 1, 39)),
+            "over depth <input>:1:39\n",
+        ),
+    ] {
+        let mut text = Vec::new(alloc);
+        append_replayed(&mut text, &files, outcome)?;
+        assert_eq!(rt; text.as_slice(), line.as_bytes(), "{line}");
     }
     Ok(())
 }

@@ -1,9 +1,12 @@
 //! The front end on a text.
 
 use cs_ast::raw::external::Tree;
+use cs_ast::typed::program::Program;
 use cs_decl_parser::parse;
 use cs_grammar::SyntaxRefusal;
 use cs_lexer::tokens;
+use cs_types::DataModel;
+use cs_typing::typed;
 use std::alloc::Global;
 
 /// What the front end says of a text.
@@ -34,4 +37,19 @@ pub fn front(alloc: Global, text: &str) -> Told {
         Ok(tree) => Told::File(tree),
         Err(refusal) => Told::Refused(refusal),
     }
+}
+
+/// The program that a text is under LP64, if it is one.
+pub fn program(alloc: Global, text: &str) -> Option<Program> {
+    let bytes = text.as_bytes();
+    if bytes.len() > 4_194_304 {
+        return None;
+    }
+    let lexed = tokens(alloc, bytes).ok()?;
+    let list = lexed.list.as_slice();
+    if list.len() > 400_000 {
+        return None;
+    }
+    let tree = parse(alloc, list, lexed.end).ok()?;
+    typed(alloc, DataModel::Lp64, &lexed.files, list, &tree.externals).ok()
 }

@@ -13,3 +13,7 @@ mod parsed;
 mod refused;
 #[cfg(test)]
 mod replayed;
+#[cfg(test)]
+mod replays;
+#[cfg(test)]
+mod typed;

@@ -24,7 +24,25 @@ fn refuses_words_and_files_with_a_line(rt: HostRuntime) -> Result<(), Fail> {
     // The words, the file, the status and the line.
     for (words, file, status, line) in [
         ("", DIVISION, Status::BadWords, "refused words 1\n"),
-        ("replay f", DIVISION, Status::BadWords, "refused words 1\n"),
+        ("replay", DIVISION, Status::BadWords, "refused words 2\n"),
+        (
+            "replay f x=",
+            DIVISION,
+            Status::BadWords,
+            "refused words 3\n",
+        ),
+        (
+            "replay --visits 0 f",
+            DIVISION,
+            Status::BadWords,
+            "refused words 3\n",
+        ),
+        (
+            "analyze --model lp32",
+            DIVISION,
+            Status::BadWords,
+            "refused words 3\n",
+        ),
         ("analyze f", DIVISION, Status::BadWords, "refused words 2\n"),
         (
             "analyze",
@@ -76,6 +94,12 @@ fn refuses_words_and_files_with_a_line(rt: HostRuntime) -> Result<(), Fail> {
         ),
         (
             "analyze",
+            "int x;\n# 9 \"b.h\"\nint f(int x){return y;}",
+            Status::BadFile,
+            "refused type 1 b.h:9:21\n",
+        ),
+        (
+            "analyze",
             "int x[sizeof(char)];struct s{int a:3;};",
             Status::BadFile,
             "refused left-out : <input>:1:35\n",
@@ -91,23 +115,20 @@ fn refuses_words_and_files_with_a_line(rt: HostRuntime) -> Result<(), Fail> {
     Ok(())
 }
 
-/// Files with a tree that isn't of the form: an operand that is no parameter; an object beside the function; parentheses; two
-/// functions of one name; a longer spelling of the type; a parameter that is
-/// named twice; a name that is taken.
-const OTHER_TREES: [&str; 7] = [
-    "int f(int x){return y;}",
-    "int x;int f(int x){return 1/x;}",
-    "int f(int x){return (x);}",
-    "int f(void){return 0;}int f(void){return 1;}",
-    "signed int f(void){return 0;}",
-    "int f(int x,int x){return x;}",
-    "int malloc(int x){return x;}",
+/// Programs that aren't of the form: a sum; a statement more; a long; a local; a pointer; a function without a body.
+const OTHER_PROGRAMS: [&str; 6] = [
+    "int f(int x){return x+1;}",
+    "int f(int x){x=1;return x;}",
+    "long f(int x){return x;}",
+    "int f(int x){int y=x;return y;}",
+    "int f(int*p){return 0;}",
+    "int g(int x);int f(int x){return x;}",
 ];
 
 #[test]
-fn refuses_trees_that_are_of_another_form(rt: HostRuntime) -> Result<(), Fail> {
+fn refuses_programs_that_are_of_another_form(rt: HostRuntime) -> Result<(), Fail> {
     let alloc = rt.alloc();
-    for file in OTHER_TREES {
+    for file in OTHER_PROGRAMS {
         let (ended, written) = analysis(alloc, file)?;
         assert_eq!(rt; written.as_slice(), b"refused form\n".as_slice(), "{file}");
         assert_eq!(rt; ended, Status::BadFile, "{file}");
@@ -132,14 +153,14 @@ fn enclosed(alloc: Global, count: usize) -> Result<String, AllocError> {
 #[test]
 fn refuses_a_tree_that_is_too_high(rt: HostRuntime) -> Result<(), Fail> {
     let alloc = rt.alloc();
-    for (count, line) in [
-        (196, "refused form\n"),
-        (197, "refused too-deep <input>:1:217\n"),
+    for (count, status, line) in [
+        (196, Status::Clean, "entry f complete\n"),
+        (197, Status::BadFile, "refused too-deep <input>:1:217\n"),
     ] {
         let file = enclosed(alloc, count)?;
         let (ended, written) = analysis(alloc, file.as_str())?;
         assert_eq!(rt; written.as_slice(), line.as_bytes(), "{count}");
-        assert_eq!(rt; ended, Status::BadFile, "{count}");
+        assert_eq!(rt; ended, status, "{count}");
     }
     Ok(())
 }

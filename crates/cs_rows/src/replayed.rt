@@ -1,10 +1,14 @@
-//! Reports against the plain interpreter: the run of each report ends in its fault.
+//! Reports against both interpreters: the run of each report ends in its fault.
 
-use crate::front::{Told, front};
+use crate::front::program;
+use crate::replays::answered;
 use cs_analysis::analyze;
+use cs_ast::Function;
 use cs_machine::run;
-use cs_model::Budgets;
+use cs_model::{Budgets, Finding, Outcome};
 use cs_small::functions_of;
+use std::alloc::{AllocError, Global};
+use std::str;
 use std::test::Fail;
 
 /// Files with the number of their reports.
@@ -23,14 +27,41 @@ const REPORTED: [(&str, usize); 6] = [
     ),
 ];
 
+/// The words that replay a report of a function.
+fn words_for(alloc: Global, function: &Function, report: &Finding) -> Result<String, AllocError> {
+    let mut words = String::from_str(alloc, "replay ")?;
+    words.push_str(str::from_utf8(function.name.as_bytes()).unwrap_or("?"))?;
+    for input in &report.run.inputs {
+        let name = str::from_utf8(input.parameter.as_bytes()).unwrap_or("?");
+        let one = format!(in alloc; " {name}={}", input.number)?;
+        words.push_str(one.as_str())?;
+    }
+    Ok(words)
+}
+
+/// The line of a replay that ends as a report says.
+fn line_of(alloc: Global, outcome: Outcome) -> Result<String, AllocError> {
+    match outcome {
+        Outcome::Fault(kind, place) => {
+            format!(in alloc;
+                "fault {} <input>:{}:{}\n",
+                kind.name(),
+                place.line,
+                place.column
+            )
+        }
+        Outcome::Over(_, _) | Outcome::Done(_) => String::from_str(alloc, "no fault"),
+    }
+}
+
 #[test]
 fn each_report_replays_to_its_fault(rt: HostRuntime) -> Result<(), Fail> {
     let alloc = rt.alloc();
     for (file, expected) in REPORTED {
-        let Told::File(tree) = front(alloc, file) else {
-            panic!(rt; "no file: {file}");
+        let Some(program) = program(alloc, file) else {
+            panic!(rt; "no program: {file}");
         };
-        let Ok(functions) = functions_of(alloc, &tree.externals) else {
+        let Ok(functions) = functions_of(alloc, &program) else {
             panic!(rt; "not of the form: {file}");
         };
         let mut count = 0usize;
@@ -42,6 +73,10 @@ fn each_report_replays_to_its_fault(rt: HostRuntime) -> Result<(), Fail> {
                 let ended = run(alloc, function, inputs, &Budgets::DEFAULT)?;
                 assert_eq!(rt; ended.outcome, report.what, "{file}");
                 assert_eq!(rt; ended.events.as_slice(), report.events.as_slice(), "{file}");
+                let words = words_for(alloc, function, report)?;
+                let (_, written) = answered(alloc, words.as_str(), file)?;
+                let line = line_of(alloc, report.what)?;
+                assert_eq!(rt; written.as_slice(), line.as_bytes(), "{words}");
             }
         }
         assert_eq!(rt; count, expected, "{file}");

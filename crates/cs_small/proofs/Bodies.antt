@@ -1,5 +1,5 @@
 -- The statements of a body, for the builder of functions.
-use Rattle.std.proofs.Common.{◌≡◌, ℕ, List, [], ◌∷◌, ◌++◌, map, Vec, Global, refl, ap, ◌∙◌}
+use Rattle.std.proofs.Common.{◌≡◌, ℕ, List, [], ◌∷◌, ◌++◌, map, Some, Vec, Global, refl, ap, ◌∙◌}
 use mathlib.Core.Former.{Count}
 use Rattle.cs_ast.specs.declared.place.Place.{Place}
 use Rattle.cs_ast.specs.declared.statement.Stmt.{Stmt}
@@ -10,6 +10,11 @@ use Rattle.cs_small.specs.declared.small.Answer.{Answer}
 use Rattle.cs_small.specs.declared.small.Guard.{Guard}
 use Rattle.cs_small.specs.Small.{answer_tree, guard_tree, body_trees}
 use Rattle.cs_ast.specs.View.{statement, statement_at, statements_of}
+use Rattle.cs_ast.specs.declared.typed.statement.Stmt as typed_stmt
+use Rattle.cs_ast.specs.declared.typed.statement.StmtKind.TheVariants as typed_form
+use Rattle.cs_ast.specs.TypedView.{statement_at as typed_statement_at, statement_list}
+use Rattle.cs_ast.proofs.TypedRows.{statement_at-Block}
+use Rattle.cs_small.specs.Reading.{block}
 
 -- statements in a row
 abbrev pub in_row : List Statement → Statements
@@ -47,3 +52,7 @@ body_is guards place at answer before last all tests returned pushed =
 pub same_definition : (name : List ℕ) (at : Place) (count other : ℕ) (locals : List (List ℕ)) (body another : Statement) → count ≡ other → body ≡ another → (let one : Definition = record { name = name; at = at; parameters = count; locals = locals; body = body } in let two : Definition = record { name = name; at = at; parameters = other; locals = locals; body = another } in one ≡ two)
 same_definition name at count other locals body another p q =
     ap (λ n. let made : Definition = record { name = name; at = at; parameters = n; locals = locals; body = body } in made) p ∙ ap (λ b. let made : Definition = record { name = name; at = at; parameters = other; locals = locals; body = b } in made) q
+
+-- a block of a typed program has the statements of its vector
+pub typed_block_is : (at : Place) (all : Vec typed_stmt.Stmt Global) → block (typed_statement_at at (typed_form.Block all)) ≡ Some (at, statement_list all.items)
+typed_block_is at all = ap block (statement_at-Block at all)

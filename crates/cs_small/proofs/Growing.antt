@@ -1,23 +1,24 @@
 -- How the lists of the form grow: for the loops that read them, and for the body behind them.
-use Rattle.std.proofs.Common.{◌≡◌, ℕ, List, [], ◌∷◌, ◌++◌, map, Option, Some, None, refl, sym, ap, ◌∙◌, append_assoc}
-use Rattle.std.specs.Prelude.{option_map, option_and_then}
-use mathlib.Core.List.{append-nil}
-use Rattle.cs_ast.specs.declared.place.Place.{Place}
-use Rattle.cs_ast.specs.declared.raw.statement.RawItem.{RawItem}
-use Rattle.cs_ast.specs.declared.raw.external.RawExternal.{RawExternal}
-use Rattle.std.specs.Prelude.{nat_eq}
+use Rattle.std.proofs.Common.{◌≡◌, ℕ, ◌+◌, ◌-◌, ◌≤◌, List, [], ◌∷◌, ◌++◌, map, length, get_or, take, Option, Some, None, refl, sym, ap, ◌∙◌, append_assoc, length-append, arith}
+use Rattle.std.proofs.Math.Seq.{take-length}
+use Rattle.std.proofs.lemmas.List.{take_more}
+use Rattle.std.specs.Prelude.{option_map, option_and_then, nat_eq}
 use Rattle.std.specs.List.{position}
 use Rattle.std.specs.Cmp.Lexicographic.{pointwise}
+use Rattle.cs_ast.specs.declared.place.Place.{Place}
 use Rattle.cs_ast.specs.declared.function.Function.{Function}
+use Rattle.cs_ast.specs.declared.function.Local.{Local}
+use Rattle.cs_ast.specs.declared.typed.statement.Stmt.{Stmt}
 use Rattle.cs_ast.specs.Tree.{Definition}
 use Rattle.cs_ast.specs.View.{definition}
-use Rattle.cs_small.specs.Plain.{function_names}
-use Rattle.cs_small.proofs.Positions.{position_of_functions}
+use Rattle.cs_ast.specs.TypedView.{statement, statement_list}
+use Rattle.cs_ast.specs.TypedProgram.{Variable, Routine}
 use Rattle.cs_small.proofs.Bodies.{map_push}
+use Rattle.cs_small.proofs.Positions.{position_of_names}
 use Rattle.cs_small.specs.declared.small.Answer.{Answer}
 use Rattle.cs_small.specs.declared.small.Guard.{Guard}
 use Rattle.cs_small.specs.Small.{Small, tree}
-use Rattle.cs_small.specs.Reading.{Names, number_of, where_new, guard, guards, ending, body, function, functions}
+use Rattle.cs_small.specs.Reading.{names_of, number_of, where_new, guard, guards, returned, tests_and_return, parameter, parameters, Names, function, functions}
 
 -- tests, and the return behind them
 abbrev pub closed : Option (List Guard) → Option (Place × Answer) → Option (List Guard × (Place × Answer))
@@ -36,15 +37,41 @@ only_end : (end : Option (Place × Answer)) → option_map (λ found. ([], found
 only_end end = refl
 
 -- a body is tests before its last statement, which is its return
-pub body_is : (names : Names) (front : List RawItem) (last : RawItem) → body names (front ++ last ∷ []) ≡ closed (guards names front) (ending names last)
-body_is names [] last = only_end (ending names last)
-body_is names (item ∷ []) last =
-    ap (λ b. option_and_then (λ first. option_and_then (λ rest. Some (first ∷ rest.0, rest.1)) b) (guard names item)) (body_is names [] last) ∙ tested (guard names item) (Some []) (ending names last)
-body_is names (item ∷ second ∷ others) last =
-    ap (λ b. option_and_then (λ first. option_and_then (λ rest. Some (first ∷ rest.0, rest.1)) b) (guard names item)) (body_is names (second ∷ others) last) ∙ tested (guard names item) (guards names (second ∷ others)) (ending names last)
+body_is : (count : ℕ) (front : List Stmt) (last : Stmt) → tests_and_return count (statement_list (front ++ last ∷ [])) ≡ closed (guards count (statement_list front)) (returned count (statement last))
+body_is count [] last = only_end (returned count (statement last))
+body_is count (item ∷ []) last =
+    ap (λ b. option_and_then (λ first. option_and_then (λ rest. Some (first ∷ rest.0, rest.1)) b) (guard count (statement item))) (body_is count [] last) ∙ tested (guard count (statement item)) (Some []) (returned count (statement last))
+body_is count (item ∷ second ∷ others) last =
+    ap (λ b. option_and_then (λ first. option_and_then (λ rest. Some (first ∷ rest.0, rest.1)) b) (guard count (statement item))) (body_is count (second ∷ others) last) ∙ tested (guard count (statement item)) (guards count (statement_list (second ∷ others))) (returned count (statement last))
 
-pub body_ended : (names : Names) (items front : List RawItem) (last : RawItem) → items ≡ front ++ last ∷ [] → body names items ≡ closed (guards names front) (ending names last)
-body_ended names items front last is = ap (body names) is ∙ body_is names front last
+last_apart : {X : Type 0} (xs : List X) (last : X) → 1 ≤ length xs → last ≡ get_or xs (length xs - 1) last → xs ≡ take (length xs - 1) xs ++ last ∷ []
+last_apart xs last some is =
+    let count : length xs ≡ length xs - 1 + 1 = omega arith in
+    sym (take-length xs) ∙ ap (λ n. take n xs) count ∙ take_more xs (length xs - 1) last (omega arith) ∙ ap (λ x. take (length xs - 1) xs ++ x ∷ []) (sym is)
+
+pub body_ended : (count : ℕ) (items : List Stmt) (last : Stmt) → 1 ≤ length items → last ≡ get_or items (length items - 1) last → tests_and_return count (statement_list items) ≡ closed (guards count (statement_list (take (length items - 1) items))) (returned count (statement last))
+body_ended count items last some is =
+    ap (λ all. tests_and_return count (statement_list all)) (last_apart items last some is) ∙ body_is count (take (length items - 1) items) last
+
+-- a parameter is read, and what goes on behind it
+name_read : (before : Names) (v : Variable) (rest : List Variable) (name : List ℕ) → parameter v ≡ Some name → parameters before (v ∷ rest) ≡ where_new (number_of before name) (parameters (before ++ name ∷ []) rest)
+name_read before v rest name is = ap (λ o. option_and_then (λ name. where_new (number_of before name) (parameters (before ++ name ∷ []) rest)) o) is
+
+-- a parameter has the name of one before it
+pub named_twice : (all left rest : List Variable) (v : Variable) (locals : List Local) (name : List ℕ) (number : ℕ) → left ≡ v ∷ rest → parameter v ≡ Some name → position (λ (local : Local). pointwise nat_eq local.name name) locals ≡ Some number → parameters [] all ≡ parameters (names_of locals) left → parameters [] all ≡ None
+named_twice all left rest v locals name number l is old so_far =
+    so_far ∙ ap (parameters (names_of locals)) l ∙ name_read (names_of locals) v rest name is
+    ∙ ap (λ n. where_new n (parameters (names_of locals ++ name ∷ []) rest)) (position_of_names locals name ∙ old)
+
+-- the loop goes on behind a parameter with a new name
+pub named_new : (all left rest : List Variable) (v : Variable) (locals more : List Local) (local : Local) (name : List ℕ) → left ≡ v ∷ rest → parameter v ≡ Some name → position (λ (local : Local). pointwise nat_eq local.name name) locals ≡ None → local.name ≡ name → more ≡ locals ++ local ∷ [] → parameters [] all ≡ parameters (names_of locals) left → parameters [] all ≡ parameters (names_of more) rest
+named_new all left rest v locals more local name l is new same m so_far =
+    so_far ∙ ap (parameters (names_of locals)) l ∙ name_read (names_of locals) v rest name is
+    ∙ ap (λ n. where_new n (parameters (names_of locals ++ name ∷ []) rest)) (position_of_names locals name ∙ new)
+    ∙ ap (λ names. parameters names rest) (ap (λ x. names_of locals ++ x ∷ []) (sym same) ∙ sym (map_push (λ (local : Local). local.name) locals local) ∙ ap names_of (sym m))
+
+pub length_more : {X : Type 0} (xs ys : List X) (x : X) (n : ℕ) → ys ≡ xs ++ x ∷ [] → length xs ≡ n → length ys ≡ n + 1
+length_more xs ys x n is count = omega (arith, ap length is, length-append xs (x ∷ []), count)
 
 -- the trees of the functions before, and behind them those of whatever is still read
 abbrev pub trees_behind : List Definition → Option (List Small) → Option (List Definition)
@@ -54,40 +81,16 @@ tree_behind : (read : List Definition) (next : Small) (rest : Option (List Small
 tree_behind read next None = refl
 tree_behind read next (Some more) = ap Some (sym (append_assoc read (tree next ∷ []) (map tree more)))
 
-pub none_left : (read : List Definition) → trees_behind read (Some []) ≡ Some read
-none_left read = ap Some (append-nil read)
-
-pub none_read : (rest : Option (List Small)) → option_map (map tree) rest ≡ trees_behind [] rest
-none_read None = refl
-none_read (Some more) = refl
-
 -- a function is read, and the others behind it
-pub function_behind : (before : Names) (read : List Definition) (e : RawExternal) (rest : List RawExternal) (next : Small) → function e.kind ≡ Some next → number_of before next.name ≡ None → trees_behind read (functions before (e ∷ rest)) ≡ trees_behind (read ++ tree next ∷ []) (functions (before ++ next.name ∷ []) rest)
-function_behind before read e rest next is new =
-    ap (λ o. trees_behind read (option_and_then (λ first. where_new (number_of before first.name) (option_and_then (λ more. Some (first ∷ more)) (functions (before ++ first.name ∷ []) rest))) o)) is
-    ∙ ap (λ n. trees_behind read (where_new n (option_and_then (λ more. Some (next ∷ more)) (functions (before ++ next.name ∷ []) rest)))) new
-    ∙ tree_behind read next (functions (before ++ next.name ∷ []) rest)
-
-pub no_function : (before : Names) (read : List Definition) (e : RawExternal) (rest : List RawExternal) → function e.kind ≡ None → trees_behind read (functions before (e ∷ rest)) ≡ None
-no_function before read e rest is =
-    ap (λ o. trees_behind read (option_and_then (λ first. where_new (number_of before first.name) (option_and_then (λ more. Some (first ∷ more)) (functions (before ++ first.name ∷ []) rest))) o)) is
-
-pub named_twice : (before : Names) (read : List Definition) (e : RawExternal) (rest : List RawExternal) (next : Small) (number : ℕ) → function e.kind ≡ Some next → number_of before next.name ≡ Some number → trees_behind read (functions before (e ∷ rest)) ≡ None
-named_twice before read e rest next number is old =
-    ap (λ o. trees_behind read (option_and_then (λ first. where_new (number_of before first.name) (option_and_then (λ more. Some (first ∷ more)) (functions (before ++ first.name ∷ []) rest))) o)) is
-    ∙ ap (λ n. trees_behind read (where_new n (option_and_then (λ more. Some (next ∷ more)) (functions (before ++ next.name ∷ []) rest)))) old
+function_behind : (read : List Definition) (r : Routine) (rest : List Routine) (next : Small) → function r ≡ Some next → trees_behind read (functions (r ∷ rest)) ≡ trees_behind (read ++ tree next ∷ []) (functions rest)
+function_behind read r rest next is =
+    ap (λ o. trees_behind read (option_and_then (λ first. option_and_then (λ more. Some (first ∷ more)) (functions rest)) o)) is
+    ∙ tree_behind read next (functions rest)
 
 -- the loop goes on behind a function that was built
-pub goes_on : (file left rest : List RawExternal) (e : RawExternal) (read more : List Function) (one : Function) (next : Small) → left ≡ e ∷ rest → more ≡ read ++ one ∷ [] → definition one ≡ tree next → function e.kind ≡ Some next → position (λ (f : Function). pointwise nat_eq f.name next.name) read ≡ None → option_map (map tree) (functions [] file) ≡ trees_behind (map definition read) (functions (function_names read) left) → option_map (map tree) (functions [] file) ≡ trees_behind (map definition more) (functions (function_names more) rest)
-goes_on file left rest e read more one next l m d is new so_far =
-    so_far ∙ ap (λ x. trees_behind (map definition read) (functions (function_names read) x)) l
-    ∙ function_behind (function_names read) (map definition read) e rest next is (position_of_functions read next.name ∙ new)
-    ∙ ap (λ names. trees_behind (map definition read ++ tree next ∷ []) (functions names rest)) (ap (λ n. function_names read ++ n ∷ []) (sym (ap (λ (x : Definition). x.name) d)) ∙ sym (map_push (λ (f : Function). f.name) read one))
-    ∙ ap (λ trees. trees_behind trees (functions (function_names (read ++ one ∷ [])) rest)) (ap (λ t. map definition read ++ t ∷ []) (sym d) ∙ sym (map_push definition read one))
-    ∙ ap (λ x. trees_behind (map definition x) (functions (function_names x) rest)) (sym m)
-
--- a function has the name of one before it
-pub ends_twice : (file left rest : List RawExternal) (e : RawExternal) (read : List Function) (next : Small) (number : ℕ) → left ≡ e ∷ rest → function e.kind ≡ Some next → position (λ (f : Function). pointwise nat_eq f.name next.name) read ≡ Some number → option_map (map tree) (functions [] file) ≡ trees_behind (map definition read) (functions (function_names read) left) → option_map (map tree) (functions [] file) ≡ None
-ends_twice file left rest e read next number l is old so_far =
-    so_far ∙ ap (λ x. trees_behind (map definition read) (functions (function_names read) x)) l
-    ∙ named_twice (function_names read) (map definition read) e rest next number is (position_of_functions read next.name ∙ old)
+pub goes_on : (all left rest : List Routine) (r : Routine) (read more : List Function) (one : Function) (next : Small) → left ≡ r ∷ rest → more ≡ read ++ one ∷ [] → definition one ≡ tree next → function r ≡ Some next → option_map (map tree) (functions all) ≡ trees_behind (map definition read) (functions left) → option_map (map tree) (functions all) ≡ trees_behind (map definition more) (functions rest)
+goes_on all left rest r read more one next l m d is so_far =
+    so_far ∙ ap (λ x. trees_behind (map definition read) (functions x)) l
+    ∙ function_behind (map definition read) r rest next is
+    ∙ ap (λ trees. trees_behind trees (functions rest)) (ap (λ t. map definition read ++ t ∷ []) (sym d) ∙ sym (map_push definition read one))
+    ∙ ap (λ x. trees_behind (map definition x) (functions rest)) (sym m)

@@ -2,4 +2,3 @@ pub mod Positions
 pub mod Bodies
 pub mod Growing
 pub mod Limits
-pub mod WithoutPlaces

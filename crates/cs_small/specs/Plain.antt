@@ -1,9 +1,7 @@
 -- Functions of the form seen as plain data.
-use Rattle.std.specs.Prelude.{List, map}
-use Rattle.cs_ast.specs.declared.function.Function.{Function}
 use Rattle.cs_small.specs.declared.small.SmallFunction.{SmallFunction}
 use Rattle.cs_small.specs.Small.{Small}
-use Rattle.cs_small.specs.Reading.{Names, names_of}
+use Rattle.cs_small.specs.Reading.{names_of}
 
 abbrev pub plain : SmallFunction → Small
 plain function = record {
@@ -15,7 +13,3 @@ plain function = record {
   return_at = function.return_at;
   answer = function.answer;
 }
-
--- the names of functions
-abbrev pub function_names : List Function → Names
-function_names functions = map (λ (f : Function). f.name) functions

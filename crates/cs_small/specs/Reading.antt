@@ -1,32 +1,16 @@
--- Which written trees are those of a function of the form, and which function each is.
-use Rattle.std.specs.Prelude.{◌≡◌, ℕ, ◌^◌, ◌++◌, ◌||◌, Bool, true, false, not, ◌&&◌, List, [], ◌∷◌, map, length, Option, Some, None, option_and_then, option_map, Result, Ok, Err, nat_eq, nat_lt, nat_le, codes, if◌then◌else◌}
+-- Which typed programs are of the form, and which small function each of their functions is.
+use Rattle.std.specs.Prelude.{◌≡◌, ℕ, pos, ◌^◌, ◌++◌, Bool, true, false, ◌&&◌, List, [], ◌∷◌, map, length, Option, Some, None, is_none, option_and_then, option_map, Result, Ok, Err, nat_eq, nat_lt, nat_le, if◌then◌else◌}
+use Rattle.std.specs.Option.{option_or}
 use Rattle.std.specs.List.{position}
 use Rattle.std.specs.Cmp.Lexicographic.{pointwise}
+use Rattle.cs_types.specs.declared.int_type.IntType.TheVariants.{Int}
+use Rattle.cs_types.specs.Shape.{Shape, integer}
 use Rattle.cs_ast.specs.declared.place.Place.{Place}
-use Rattle.cs_ast.specs.declared.token.IntegerConstant.{IntegerConstant}
-use Rattle.cs_ast.specs.declared.token.Length.{Length}
-use Rattle.cs_ast.specs.declared.token.Length.TheVariants as lengths
-use Rattle.cs_ast.specs.declared.function.Local.{Local}
-use Rattle.cs_ast.specs.declared.raw.operator.InfixOp.TheVariants.{Divide, Equal}
-use Rattle.cs_ast.specs.declared.raw.expression.RawExprKind.{RawExprKind}
-use Rattle.cs_ast.specs.declared.raw.expression.RawExprKind.TheVariants as kind
-use Rattle.cs_ast.specs.declared.raw.statement.RawStmtKind.{RawStmtKind}
-use Rattle.cs_ast.specs.declared.raw.statement.RawStmtKind.TheVariants as statement
-use Rattle.cs_ast.specs.declared.raw.statement.RawItem.{RawItem}
-use Rattle.cs_ast.specs.declared.raw.statement.RawItem.TheVariants as items
-use Rattle.cs_ast.specs.declared.raw.written_type.TypeWord.TheVariants.{Integer}
-use Rattle.cs_ast.specs.declared.raw.written_type.IntegerWord.TheVariants.{Int}
-use Rattle.cs_ast.specs.declared.raw.declaration.RawSpecs.{RawSpecs}
-use Rattle.cs_ast.specs.declared.raw.declaration.SpecWord.{SpecWord}
-use Rattle.cs_ast.specs.declared.raw.declaration.SpecWord.TheVariants as words
-use Rattle.cs_ast.specs.declared.raw.declaration.RawParameter.{RawParameter}
-use Rattle.cs_ast.specs.declared.raw.declaration.RawParameters.{RawParameters}
-use Rattle.cs_ast.specs.declared.raw.declaration.RawParameters.TheVariants as parameter_lists
-use Rattle.cs_ast.specs.declared.raw.declaration.RawFunction.{RawFunction}
-use Rattle.cs_ast.specs.declared.raw.external.RawBody.{RawBody}
-use Rattle.cs_ast.specs.declared.raw.external.RawExternal.{RawExternal}
-use Rattle.cs_ast.specs.declared.raw.external.RawExternalKind.{RawExternalKind}
-use Rattle.cs_ast.specs.declared.raw.external.RawExternalKind.TheVariants as external
+use Rattle.cs_ast.specs.declared.function.Local as objects
+use Rattle.cs_ast.specs.declared.typed.operator.BinOp.TheVariants.{Div}
+use Rattle.cs_ast.specs.declared.typed.operator.CmpOp.TheVariants.{Equal}
+use Rattle.cs_ast.specs.TypedTree.{Typed, Of, Number, Local, Load, Binary, Compare, Statement, Block, If, Return, Statements, Empty, Then}
+use Rattle.cs_ast.specs.TypedProgram.{Variable, Routine, TypedProgram}
 use Rattle.cs_ast.specs.Tree.{Definition}
 use Rattle.cs_small.specs.declared.refusal.FormRefusal.{FormRefusal}
 use Rattle.cs_small.specs.declared.refusal.FormRefusal.TheVariants.{NotOfForm, Memory}
@@ -47,117 +31,92 @@ Reads view (Ok x) read = read ≡ Some (view x)
 Reads view (Err NotOfForm) read = read ≡ None
 Reads view (Err Memory) read = Unit {0}
 
+-- `int`
+abbrev pub is_int : Shape → Bool
+is_int (integer Int) = true
+is_int other = false
+
+-- the place of the value of one of so many parameters, and the number of the parameter
+abbrev pub used : ℕ → Typed → Option (Place × ℕ)
+used count (Of at ty (Load (Of place kind (Local number)))) = if is_int ty && nat_lt number count then Some (at, number) else None
+used count other = None
+
+-- the place and the value of a constant of int that is not negative
+abbrev pub constant : Typed → Option (Place × ℕ)
+constant (Of at ty (Number (pos value))) = if is_int ty && nat_lt value (2 ^ 31) then Some (at, value) else None
+constant other = None
+
+-- a parameter or a constant
+abbrev pub atom : ℕ → Typed → Option Atom
+atom count e = option_or (option_map (λ found. Parameter found.0 found.1) (used count e)) (option_map (λ found. Literal found.0 found.1) (constant e))
+
+-- an operand, or the quotient of two
+abbrev pub answer : ℕ → Typed → Option Answer
+answer count (Of at ty (Binary Div left right)) =
+    if is_int ty then atom count left >>= (λ one. atom count right >>= (λ other. Some (Quotient at one other))) else None
+answer count other = option_map Single (atom count other)
+
+-- `return ANSWER;` with its place
+abbrev pub returned : ℕ → Statement → Option (Place × Answer)
+returned count (Return at (Some e)) = option_map (λ value. (at, value)) (answer count e)
+returned count other = None
+
+-- what `PARAMETER == CONSTANT` compares: its place, and the places and the numbers of the two
+abbrev pub compared : ℕ → Typed → Option (Place × (Place × ℕ) × (Place × ℕ))
+compared count (Of at ty (Compare Equal left right)) = used count left >>= (λ one. constant right >>= (λ other. Some (at, one, other)))
+compared count other = None
+
+-- `if (PARAMETER == CONSTANT) return ANSWER;`
+abbrev pub guard : ℕ → Statement → Option Guard
+guard count (If at test body) =
+    compared count test >>= (λ found. returned count body >>= (λ end. Some (record {
+      at = at;
+      tested_at = found.1.0;
+      tested = found.1.1;
+      equal_at = found.0;
+      literal_at = found.2.0;
+      literal = found.2.1;
+      return_at = end.0;
+      answer = end.1;
+    })))
+guard count other = None
+
+-- the tests that all of these statements are
+abbrev pub guards : ℕ → Statements → Option (List Guard)
+guards count Empty = Some []
+guards count (Then first others) = guard count first >>= (λ one. guards count others >>= (λ rest. Some (one ∷ rest)))
+
+-- tests, and then a return
+abbrev pub tests_and_return : ℕ → Statements → Option (List Guard × (Place × Answer))
+tests_and_return count Empty = None
+tests_and_return count (Then last Empty) = option_map (λ end. ([], end)) (returned count last)
+tests_and_return count (Then first (Then second others)) =
+    guard count first >>= (λ one. tests_and_return count (Then second others) >>= (λ rest. Some (one ∷ rest.0, rest.1)))
+
+-- the same with at most 100 tests
+abbrev pub body : ℕ → Statements → Option (List Guard × (Place × Answer))
+body count statements = tests_and_return count statements >>= (λ found. if nat_le (length found.0) 100 then Some found else None)
+
+-- the place and the statements of a block
+abbrev pub block : Statement → Option (Place × Statements)
+block (Block at statements) = Some (at, statements)
+block other = None
+
 -- the names of parameters
 abbrev pub Names : Type 0
 Names = List (List ℕ)
 
 -- the names of locals
-abbrev pub names_of : List Local → Names
-names_of locals = map (λ (local : Local). local.name) locals
+abbrev pub names_of : List objects.Local → Names
+names_of locals = map (λ (local : objects.Local). local.name) locals
 
 -- the number of a parameter
 abbrev pub number_of : Names → List ℕ → Option ℕ
 number_of names name = position (λ other. pointwise nat_eq other name) names
 
--- a constant without a suffix that int holds
-abbrev pub is_plain : Length → Bool
-is_plain lengths.Plain = true
-is_plain other = false
-
-abbrev pub is_int : IntegerConstant → Bool
-is_int c = not c.unsigned && (is_plain c.length && nat_lt c.value (2 ^ 31))
-
--- the place and the number of a parameter that an expression is
-abbrev pub used : Names → Place → RawExprKind → Option (Place × ℕ)
-used names at (kind.Name name) = option_map (λ number. (at, number)) (number_of names name)
-used names at other = None
-
--- the place and the value of a constant that an expression is
-abbrev pub constant : Place → RawExprKind → Option (Place × ℕ)
-constant at (kind.Number c) = if is_int c then Some (at, c.value) else None
-constant at other = None
-
--- a parameter or a constant
-abbrev pub atom : Names → Place → RawExprKind → Option Atom
-atom names at (kind.Name name) = option_map (λ number. Parameter at number) (number_of names name)
-atom names at (kind.Number c) = if is_int c then Some (Literal at c.value) else None
-atom names at other = None
-
--- an operand, or the quotient of two
-abbrev pub answer : Names → Place → RawExprKind → Option Answer
-answer names at (kind.Infix' Divide p place left q place' right) =
-    atom names place left >>= (λ one. atom names place' right >>= (λ other. Some (Quotient at one other)))
-answer names at other = option_map Single (atom names at other)
-
--- `return ANSWER;`
-abbrev pub returned : Names → RawStmtKind → Option Answer
-returned names (statement.Return (Some e)) = answer names e.place e.kind
-returned names other = None
-
--- what a test compares: the places and the numbers of a parameter and of a constant
-abbrev pub compared : Names → RawExprKind → Option ((Place × ℕ) × (Place × ℕ))
-compared names (kind.Infix' Equal p place left q place' right) =
-    used names place left >>= (λ one. constant place' right >>= (λ other. Some (one, other)))
-compared names other = None
-
--- `if (PARAMETER == LITERAL) return ANSWER;`
-abbrev pub guard_at : Names → Place → RawStmtKind → Option Guard
-guard_at names at (statement.If' test p place body) =
-    compared names test.kind >>= (λ found. returned names body >>= (λ value. Some (record {
-      at = at;
-      tested_at = found.0.0;
-      tested = found.0.1;
-      equal_at = test.place;
-      literal_at = found.1.0;
-      literal = found.1.1;
-      return_at = place;
-      answer = value;
-    })))
-guard_at names at other = None
-
-abbrev pub guard : Names → RawItem → Option Guard
-guard names (items.Run' place body) = guard_at names place body
-guard names (items.Declare s objects) = None
-
--- the tests that all of these statements are
-abbrev pub guards : Names → List RawItem → Option (List Guard)
-guards names [] = Some []
-guards names (item ∷ others) = guard names item >>= (λ first. guards names others >>= (λ rest. Some (first ∷ rest)))
-
--- the return that a statement is, with its place
-abbrev pub ending : Names → RawItem → Option (Place × Answer)
-ending names (items.Run' place body) = option_map (λ value. (place, value)) (returned names body)
-ending names (items.Declare s objects) = None
-
--- tests, and then a return
-abbrev pub body : Names → List RawItem → Option (List Guard × (Place × Answer))
-body names [] = None
-body names (last ∷ []) = option_map (λ end. ([], end)) (ending names last)
-body names (item ∷ second ∷ others) = guard names item >>= (λ first. body names (second ∷ others) >>= (λ rest. Some (first ∷ rest.0, rest.1)))
-
--- `int`
-abbrev pub is_int_word : SpecWord → Bool
-is_int_word (words.Plain (Integer Int)) = true
-is_int_word other = false
-
-abbrev pub is_one_int : List SpecWord → Bool
-is_one_int (word ∷ []) = is_int_word word
-is_one_int other = false
-
--- `int` alone
-abbrev pub is_int_alone : RawSpecs → Bool
-is_int_alone s = is_one_int s.words.items
-
--- whether the name is that of a function that is declared before a file begins
-abbrev pub is_taken : List ℕ → Bool
-is_taken name = pointwise nat_eq name (codes "malloc") || (pointwise nat_eq name (codes "calloc") || pointwise nat_eq name (codes "free"))
-
--- `int NAME`
-abbrev pub parameter : RawParameter → Option (List ℕ)
-parameter p =
-    if is_int_alone p.specs && (nat_eq (length p.pointers.items) 0 && nat_eq (length p.bounds.items) 0)
-    then p.name >>= (λ found. if is_taken found.name then None else Some found.name)
-    else None
+-- the name of a parameter `int NAME`, behind which there is no block
+abbrev pub parameter : Variable → Option (List ℕ)
+parameter v = if is_int v.ty && is_none v.block then Some v.name else None
 
 -- what goes on where a name has no number yet
 abbrev pub where_new : {A : Type 0} → Option ℕ → Option A → Option A
@@ -165,43 +124,35 @@ where_new None rest = rest
 where_new (Some number) rest = None
 
 -- the names of parameters, all different
-abbrev pub parameters : Names → List RawParameter → Option Names
+abbrev pub parameters : Names → List Variable → Option Names
 parameters before [] = Some before
-parameters before (p ∷ others) =
-    parameter p >>= (λ name. where_new (number_of before name) (parameters (before ++ name ∷ []) others))
+parameters before (v ∷ others) =
+    parameter v >>= (λ name. where_new (number_of before name) (parameters (before ++ name ∷ []) others))
 
--- at most eight
-abbrev pub parameter_names : RawParameters → Option Names
-parameter_names parameter_lists.Empty = Some []
-parameter_names parameter_lists.Void = Some []
-parameter_names (parameter_lists.List list) = if nat_le (length list.items) 8 then parameters [] list.items else None
+-- it returns int, and all its variables are parameters, at most eight
+abbrev pub has_head : Routine → Bool
+has_head r = is_int r.returns && (nat_eq r.parameters (length r.variables) && nat_le (length r.variables) 8)
 
--- the parts of a function with this head and this body, which has at most 100 tests
-abbrev pub parts : RawFunction → RawBody → Option Small
-parts f block =
-    if is_taken f.name || (not (nat_eq (length f.pointers.items) 0) || nat_lt 101 (length block.items.items))
-    then None
-    else parameter_names f.parameters >>= (λ names. body names block.items.items >>= (λ found. Some (record {
-      name = f.name;
-      at = f.place;
+-- the parts of a function of the form
+abbrev pub function : Routine → Option Small
+function r =
+    if has_head r
+    then r.body >>= (λ whole. block whole >>= (λ inside. parameters [] r.variables >>= (λ names. body r.parameters inside.1 >>= (λ found. Some (record {
+      name = r.name;
+      at = r.at;
       parameters = names;
-      block_at = block.opening;
+      block_at = inside.0;
       guards = found.0;
       return_at = found.1.0;
       answer = found.1.1;
-    })))
+    })))))
+    else None
 
--- the function of the form that a part of a file is
-abbrev pub function : RawExternalKind → Option Small
-function (external.Definition s f block) = if is_int_alone s then parts f block else None
-function other = None
+-- the parts of functions, each of the form
+abbrev pub functions : List Routine → Option (List Small)
+functions [] = Some []
+functions (r ∷ others) = function r >>= (λ first. functions others >>= (λ rest. Some (first ∷ rest)))
 
--- the functions of the form that the parts of a file are, where none has a name of those before
-abbrev pub functions : Names → List RawExternal → Option (List Small)
-functions before [] = Some []
-functions before (e ∷ others) =
-    function e.kind >>= (λ first. where_new (number_of before first.name) (functions (before ++ first.name ∷ []) others >>= (λ rest. Some (first ∷ rest))))
-
--- the file is of the form, and these are its functions
-abbrev pub IsOfForm : List RawExternal → List Definition → Type 0
-IsOfForm file trees = option_map (map tree) (functions [] file) ≡ Some trees
+-- the program is of the form, and these are the trees of its functions
+abbrev pub IsOfForm : TypedProgram → List Definition → Type 0
+IsOfForm p trees = option_map (map tree) (functions p.routines) ≡ Some trees

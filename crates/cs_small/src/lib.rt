@@ -1,4 +1,4 @@
-//! The form of functions that is analyzed so far: which written files are of it, and the trees of their functions.
+//! The form of functions that is analyzed so far: which typed programs are of it, and the trees of their functions.
 #![tactic(auto)]
 
 mod build;

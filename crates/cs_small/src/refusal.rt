@@ -1,14 +1,14 @@
-//! Why a text has no function.
+//! Why a program has no functions of the form.
 ghost use Rattle.std.specs.Prelude.{◌≡◌};
 ghost use Rattle.cs_small.specs.declared.refusal.FormRefusal.TheVariants.{Memory};
 
 use std::alloc::{AllocError, AllocFailed};
 use thiserror::Error;
 
-/// Why a text has no function.
+/// Why a program has no functions of the form.
 #[derive(Clone, Copy, PartialEq, Eq, Debug, Error)]
 pub enum FormRefusal {
-    /// The text isn't of the form.
+    /// The program isn't of the form.
     #[error("not of the form")]
     NotOfForm,
     /// Memory ran out.

@@ -41,7 +41,7 @@ specs::specs-words-init t c = record {
 pub specs::specs-words-preserved : goal.specs::specs-words-preserved
 specs::specs-words-preserved t c =
     let i = c.words.invariant in
-    let w = subst (λ (x : Option NextWord). SpecAnswer c.args.source.now.names.now c.args.room c.args.source.now.tokens.now c.args.source.now.end c.words.next c.words.so_far (Ok x)) c.in-Some.is c.in_ok-found.ensures.word in
+    let w = subst (λ (x : Option NextWord). SpecAnswer c.args.source.now.names.now c.args.room c.args.source.now.tokens.now c.words.next c.words.so_far (Ok x)) c.in-Some.is c.in_ok-found.ensures.word in
     let later = w.later in
     let within = w.spelled.within in
     let fits = w.low in
@@ -60,17 +60,17 @@ specs::specs-words-preserved t c =
 pub specs::specs-returns-in_err-found-clause-parsed : goal.specs::specs-returns-in_err-found-clause-parsed
 specs::specs-returns-in_err-found-clause-parsed t c =
     let e : c.from_residual.result ≡ Err c.in_err-found.field-0.0 = search rules in
-    subst (SpecsAnswer c.args.source.now.names.now c.args.room c.args.source.now.tokens.now c.args.source.now.end c.args.from) (sym e)
-    (spec_stops c.args.source.now.names.now c.args.room c.requires.some c.args.source.now.tokens.now c.args.source.now.end c.args.from c.words.next c.words.so_far c.words.words.items c.words.height c.words.invariant.low c.words.invariant.so_far c.in_err-found.field-0.0 c.in_err-found.ensures.word)
+    subst (SpecsAnswer c.args.source.now.names.now c.args.room c.args.source.now.tokens.now c.args.from) (sym e)
+    (spec_stops c.args.source.now.names.now c.args.room c.requires.some c.args.source.now.tokens.now c.args.from c.words.next c.words.so_far c.words.words.items c.words.height c.words.invariant.low c.words.invariant.so_far c.in_err-found.field-0.0 c.in_err-found.ensures.word)
 
 pub specs::specs-returns-then-not-names_type-clause-parsed : goal.specs::specs-returns-then-not-names_type-clause-parsed
 specs::specs-returns-then-not-names_type-clause-parsed t c =
-    let n = (subst (λ (x : Option NextWord). SpecAnswer c.args.source.now.names.now c.args.room c.args.source.now.tokens.now c.args.source.now.end c.words.next c.words.so_far (Ok x)) c.in_default.is c.in_ok-found.ensures.word) in
-    specs_stop c.args.source.now.names.now c.args.room c.requires.some c.args.source.now.tokens.now c.args.source.now.end c.args.from c.words.next c.words.so_far c.words.words.items c.words.height c.refuse.result c.words.invariant.low c.words.invariant.so_far (sym c.names_type.ensures ∙ c.if-not-names_type.true) n.0 n.1 c.refuse.ensures.is
+    let n = (subst (λ (x : Option NextWord). SpecAnswer c.args.source.now.names.now c.args.room c.args.source.now.tokens.now c.words.next c.words.so_far (Ok x)) c.in_default.is c.in_ok-found.ensures.word) in
+    specs_stop c.args.source.now.names.now c.args.room c.requires.some c.args.source.now.tokens.now c.args.from c.words.next c.words.so_far c.words.words.items c.words.height c.refuse.result c.words.invariant.low c.words.invariant.so_far (sym c.names_type.ensures ∙ c.if-not-names_type.true) n.0 n.1 c.refuse.ensures.is
 
 pub specs::specs-returns-clause-parsed : goal.specs::specs-returns-clause-parsed
 specs::specs-returns-clause-parsed t c =
-    let n = (subst (λ (x : Option NextWord). SpecAnswer c.args.source.now.names.now c.args.room c.args.source.now.tokens.now c.args.source.now.end c.words.next c.words.so_far (Ok x)) c.in_default.is c.in_ok-found.ensures.word) in
+    let n = (subst (λ (x : Option NextWord). SpecAnswer c.args.source.now.names.now c.args.room c.args.source.now.tokens.now c.words.next c.words.so_far (Ok x)) c.in_default.is c.in_ok-found.ensures.word) in
     specs_taken c.args.source.now.names.now c.args.room c.args.source.now.tokens.now c.args.from c.words.next c.words.so_far c.words.height _ c.words.invariant.low c.words.invariant.so_far (sym c.names_type.ensures ∙ c.if-not-names_type.false) n.0 n.1 refl refl
 
 pub specs::specs-returns-clause-placed : goal.specs::specs-returns-clause-placed
@@ -88,7 +88,7 @@ specs::word_at-returns-then-is_keyword-clause-word t c =
 
 pub specs::word_at-returns-then-not-begins_tagged-clause-word : goal.specs::word_at-returns-then-not-begins_tagged-clause-word
 specs::word_at-returns-then-not-begins_tagged-clause-word t c =
-    plain_answer c.args.source.now.names.now c.args.room c.requires.some c.args.source.now.tokens.now c.args.source.now.end c.args.at c.args.so_far c.plain_word.result (c.begins_tagged.ensures.none c.if-not-begins_tagged.true) (λ k. false≢true (sym c.if-is_keyword.false ∙ c.is_keyword.ensures.keyword.1 k)) c.plain_word.ensures.word
+    plain_answer c.args.source.now.names.now c.args.room c.requires.some c.args.source.now.tokens.now c.args.at c.args.so_far c.plain_word.result (c.begins_tagged.ensures.none c.if-not-begins_tagged.true) (λ k. false≢true (sym c.if-is_keyword.false ∙ c.is_keyword.ensures.keyword.1 k)) c.plain_word.ensures.word
 
 pub specs::word_at-returns-then-names_type-clause-word : goal.specs::word_at-returns-then-names_type-clause-word
 specs::word_at-returns-then-names_type-clause-word t c =
@@ -98,8 +98,8 @@ specs::word_at-returns-then-names_type-clause-word t c =
 pub specs::word_at-returns-in_err-found-clause-word : goal.specs::word_at-returns-in_err-found-clause-word
 specs::word_at-returns-in_err-found-clause-word t c =
     let e : c.from_residual.result ≡ Err c.in_err-found.field-0.0 = search rules in
-    subst (SpecAnswer c.args.source.now.names.now c.args.room c.args.source.now.tokens.now c.args.source.now.end c.args.at c.args.so_far) (sym e)
-    (element_error c.args.source.now.names.now c.args.room c.args.source.now.tokens.now c.args.source.now.end c.args.at c.args.so_far c.in_err-found.field-0.0 (sym c.names_type.ensures ∙ c.if-names_type.false) c.in_err-found.ensures.element)
+    subst (SpecAnswer c.args.source.now.names.now c.args.room c.args.source.now.tokens.now c.args.at c.args.so_far) (sym e)
+    (element_error c.args.source.now.names.now c.args.room c.args.source.now.tokens.now c.args.at c.args.so_far c.in_err-found.field-0.0 (sym c.names_type.ensures ∙ c.if-names_type.false) c.in_err-found.ensures.element)
 
 pub specs::word_at-returns-clause-word : goal.specs::word_at-returns-clause-word
 specs::word_at-returns-clause-word t c =
@@ -124,7 +124,7 @@ specs::with_body-returns-clause-placed t c = λ named.
 pub specs::with_body-returns-in_err-members-clause-element : goal.specs::with_body-returns-in_err-members-clause-element
 specs::with_body-returns-in_err-members-clause-element t c =
     let e : c.from_residual.result ≡ Err c.in_err-members.field-0.0 = search rules in
-    subst (ElementAnswer c.args.source.now.names.now c.args.room c.args.source.now.tokens.now c.args.source.now.end c.args.at) (sym e) (struct_stops c.args.source.now.names.now c.args.room (c.args.room - 1) (let some = c.requires.some in omega arith) (name_in c.args.tag) c.args.source.now.tokens.now c.args.source.now.end c.args.at (c.args.brace + 1) (subst (λ (b : Bool). Spells c.args.source.now.tokens.now c.args.at (c.args.brace + 1) (λ rest. tag_keyword b ∷ name_text (name_in c.args.tag) (token.Mark mark.OpenBrace ∷ rest))) c.if-is_keyword.true (with_struct c.args.source.now.tokens.now c.args.at c.args.brace (name_in c.args.tag) c.is_keyword.result c.requires.opened (c.is_keyword.ensures.keyword.0, c.is_keyword.ensures.keyword.1))) c.in_err-members.field-0.0 c.in_err-members.ensures.parsed)
+    subst (ElementAnswer c.args.source.now.names.now c.args.room c.args.source.now.tokens.now c.args.at) (sym e) (struct_stops c.args.source.now.names.now c.args.room (c.args.room - 1) (let some = c.requires.some in omega arith) (name_in c.args.tag) c.args.source.now.tokens.now c.args.at (c.args.brace + 1) (subst (λ (b : Bool). Spells c.args.source.now.tokens.now c.args.at (c.args.brace + 1) (λ rest. tag_keyword b ∷ name_text (name_in c.args.tag) (token.Mark mark.OpenBrace ∷ rest))) c.if-is_keyword.true (with_struct c.args.source.now.tokens.now c.args.at c.args.brace (name_in c.args.tag) c.is_keyword.result c.requires.opened (c.is_keyword.ensures.keyword.0, c.is_keyword.ensures.keyword.1))) c.in_err-members.field-0.0 c.in_err-members.ensures.parsed)
 
 pub specs::with_body-returns-then-is_keyword-clause-element : goal.specs::with_body-returns-then-is_keyword-clause-element
 specs::with_body-returns-then-is_keyword-clause-element t c =
@@ -134,7 +134,7 @@ specs::with_body-returns-then-is_keyword-clause-element t c =
 pub specs::with_body-returns-in_err-constants-clause-element : goal.specs::with_body-returns-in_err-constants-clause-element
 specs::with_body-returns-in_err-constants-clause-element t c =
     let e : c.from_residual-in_err-constants.result ≡ Err c.in_err-constants.field-0.0 = search rules in
-    subst (ElementAnswer c.args.source.now.names.now c.args.room c.args.source.now.tokens.now c.args.source.now.end c.args.at) (sym e) (enum_stops c.args.source.now.names.now c.args.room (c.args.room - 1) (let some = c.requires.some in omega arith) (let enough = c.if-room-lt2.false in omega arith) (name_in c.args.tag) c.args.source.now.tokens.now c.args.source.now.end c.args.at (c.args.brace + 1) (subst (λ (b : Bool). Spells c.args.source.now.tokens.now c.args.at (c.args.brace + 1) (λ rest. tag_keyword b ∷ name_text (name_in c.args.tag) (token.Mark mark.OpenBrace ∷ rest))) c.if-is_keyword.false (with_struct c.args.source.now.tokens.now c.args.at c.args.brace (name_in c.args.tag) c.is_keyword.result c.requires.opened (c.is_keyword.ensures.keyword.0, c.is_keyword.ensures.keyword.1))) c.in_err-constants.field-0.0 c.in_err-constants.ensures.parsed)
+    subst (ElementAnswer c.args.source.now.names.now c.args.room c.args.source.now.tokens.now c.args.at) (sym e) (enum_stops c.args.source.now.names.now c.args.room (c.args.room - 1) (let some = c.requires.some in omega arith) (let enough = c.if-room-lt2.false in omega arith) (name_in c.args.tag) c.args.source.now.tokens.now c.args.at (c.args.brace + 1) (subst (λ (b : Bool). Spells c.args.source.now.tokens.now c.args.at (c.args.brace + 1) (λ rest. tag_keyword b ∷ name_text (name_in c.args.tag) (token.Mark mark.OpenBrace ∷ rest))) c.if-is_keyword.false (with_struct c.args.source.now.tokens.now c.args.at c.args.brace (name_in c.args.tag) c.is_keyword.result c.requires.opened (c.is_keyword.ensures.keyword.0, c.is_keyword.ensures.keyword.1))) c.in_err-constants.field-0.0 c.in_err-constants.ensures.parsed)
 
 pub specs::with_body-returns-clause-element : goal.specs::with_body-returns-clause-element
 specs::with_body-returns-clause-element t c =
@@ -145,8 +145,8 @@ pub specs::with_body-returns-then-room-lt2-clause-element : goal.specs::with_bod
 specs::with_body-returns-then-room-lt2-clause-element t c =
     let o = c.requires.opened in
     let f : o.is_struct ≡ false = same_struct o.is_struct false (kind_or_end c.args.source.now.tokens.now c.args.at) o.stands ((λ e. absurd (false≢true e)), (λ k. sym c.if-is_keyword.false ∙ c.is_keyword.ensures.keyword.1 k)) in
-    subst (ElementStops c.args.source.now.names.now c.args.room c.args.source.now.tokens.now c.args.source.now.end c.args.at) (sym c.refuse_deep.ensures.is)
-    (enum_little c.args.source.now.names.now c.args.room c.requires.some c.if-room-lt2.true (name_in c.args.tag) c.args.source.now.tokens.now c.args.source.now.end c.args.at c.args.brace (subst (λ (b : Bool). Spells c.args.source.now.tokens.now c.args.at c.args.brace (λ rest. tag_keyword b ∷ name_text (name_in c.args.tag) rest)) f o.spelled) o.opening)
+    subst (ElementStops c.args.source.now.names.now c.args.room c.args.source.now.tokens.now c.args.at) (sym c.refuse_deep.ensures.is)
+    (enum_little c.args.source.now.names.now c.args.room c.requires.some c.if-room-lt2.true (name_in c.args.tag) c.args.source.now.tokens.now c.args.at c.args.brace (subst (λ (b : Bool). Spells c.args.source.now.tokens.now c.args.at c.args.brace (λ rest. tag_keyword b ∷ name_text (name_in c.args.tag) rest)) f o.spelled) o.opening)
 
 pub specs::tagged-with_body-requires : goal.specs::tagged-with_body-requires
 specs::tagged-with_body-requires t c = (
@@ -169,29 +169,29 @@ specs::tagged-returns-in-Some-clause-element t c =
 
 pub specs::tagged-returns-in-None-clause-element : goal.specs::tagged-returns-in-None-clause-element
 specs::tagged-returns-in-None-clause-element t c =
-    untagged_stops c.args.source.now.names.now c.args.room c.requires.some c.args.source.now.tokens.now c.args.source.now.end c.args.at c.behind_tag-behind.result c.in_ok-tag.tag c.in-None.is c.requires.stands c.in_ok-tag.ensures.name c.behind_tag-behind.ensures (λ b. false≢true (sym c.if-is_mark.false ∙ c.is_mark.ensures.mark.1 b)) c.refuse.result c.refuse.ensures.is
+    untagged_stops c.args.source.now.names.now c.args.room c.requires.some c.args.source.now.tokens.now c.args.at c.behind_tag-behind.result c.in_ok-tag.tag c.in-None.is c.requires.stands c.in_ok-tag.ensures.name c.behind_tag-behind.ensures (λ b. false≢true (sym c.if-is_mark.false ∙ c.is_mark.ensures.mark.1 b)) c.refuse.result c.refuse.ensures.is
 
 pub members::member-returns-then-not-begins_specs-clause-parsed : goal.members::member-returns-then-not-begins_specs-clause-parsed
 members::member-returns-then-not-begins_specs-clause-parsed t c =
-    member_absent c.args.source.now.names.now c.args.room c.args.source.now.tokens.now c.args.source.now.end c.args.from c.refuse.result c.requires.within (sym c.begins_specs.ensures ∙ c.if-not-begins_specs.true) c.refuse.ensures.is
+    member_absent c.args.source.now.names.now c.args.room c.args.source.now.tokens.now c.args.from c.refuse.result c.requires.within (sym c.begins_specs.ensures ∙ c.if-not-begins_specs.true) c.refuse.ensures.is
 
 pub members::member-returns-then-room-lt2-clause-parsed : goal.members::member-returns-then-room-lt2-clause-parsed
 members::member-returns-then-room-lt2-clause-parsed t c =
-    member_full c.args.source.now.names.now c.args.room c.args.source.now.tokens.now c.args.source.now.end c.args.from c.refuse_deep.result c.requires.within c.if-room-lt2.true (sym c.begins_specs.ensures ∙ c.if-not-begins_specs.false) c.refuse_deep.ensures.is
+    member_full c.args.source.now.names.now c.args.room c.args.source.now.tokens.now c.args.from c.refuse_deep.result c.requires.within c.if-room-lt2.true (sym c.begins_specs.ensures ∙ c.if-not-begins_specs.false) c.refuse_deep.ensures.is
 
 pub members::member-returns-in_err-specs-clause-parsed : goal.members::member-returns-in_err-specs-clause-parsed
 members::member-returns-in_err-specs-clause-parsed t c =
     let e : c.from_residual.result ≡ Err c.in_err-specs.field-0.0 = search rules in
     let enough = c.if-room-lt2.false in
-    subst (ExactAnswers (MemberGroups c.args.source.now.names.now) group c.args.room c.args.source.now.tokens.now c.args.source.now.end c.args.from) (sym e)
-    (member_specs_stop c.args.source.now.names.now c.args.room (c.args.room - 1) (omega arith) (omega arith) c.args.source.now.tokens.now c.args.source.now.end c.args.from c.requires.within c.in_err-specs.field-0.0 c.in_err-specs.ensures.parsed)
+    subst (ExactAnswers (MemberGroups c.args.source.now.names.now) group c.args.room c.args.source.now.tokens.now c.args.from) (sym e)
+    (member_specs_stop c.args.source.now.names.now c.args.room (c.args.room - 1) (omega arith) (omega arith) c.args.source.now.tokens.now c.args.from c.requires.within c.in_err-specs.field-0.0 c.in_err-specs.ensures.parsed)
 
 pub members::member-returns-in_err-members-clause-parsed : goal.members::member-returns-in_err-members-clause-parsed
 members::member-returns-in_err-members-clause-parsed t c =
     let e : c.from_residual-in_err-members.result ≡ Err c.in_err-members.field-0.0 = search rules in
     let enough = c.if-room-lt2.false in
-    subst (ExactAnswers (MemberGroups c.args.source.now.names.now) group c.args.room c.args.source.now.tokens.now c.args.source.now.end c.args.from) (sym e)
-    (member_list_stops c.args.source.now.names.now c.args.room (c.args.room - 1) (omega arith) (omega arith) c.args.source.now.tokens.now c.args.source.now.end c.args.from c.in_ok-specs.specs c.in_ok-specs.ensures.parsed c.in_err-members.field-0.0 c.in_err-members.ensures.parsed)
+    subst (ExactAnswers (MemberGroups c.args.source.now.names.now) group c.args.room c.args.source.now.tokens.now c.args.from) (sym e)
+    (member_list_stops c.args.source.now.names.now c.args.room (c.args.room - 1) (omega arith) (omega arith) c.args.source.now.tokens.now c.args.from c.in_ok-specs.specs c.in_ok-specs.ensures.parsed c.in_err-members.field-0.0 c.in_err-members.ensures.parsed)
 
 pub members::member-returns-clause-parsed : goal.members::member-returns-clause-parsed
 members::member-returns-clause-parsed t c =
@@ -232,8 +232,8 @@ members::members-members-preserved t c =
 pub members::members-returns-in_err-taken-clause-parsed : goal.members::members-returns-in_err-taken-clause-parsed
 members::members-returns-in_err-taken-clause-parsed t c =
     let e : c.from_residual.result ≡ Err c.in_err-taken.field-0.0 = search rules in
-    subst (ExactAnswers (MemberRows c.args.source.now.names.now) (λ list. members_list list.items) c.args.room c.args.source.now.tokens.now c.args.source.now.end c.args.from) (sym e)
-    (member_stops c.args.source.now.names.now c.args.room c.args.source.now.tokens.now c.args.source.now.end c.args.from c.members.next c.members.list.items c.members.height c.members.invariant.so_far (λ k. false≢true (sym c.members-test.true ∙ c.is_mark.ensures.mark.1 k)) c.in_err-taken.field-0.0 c.in_err-taken.ensures.parsed)
+    subst (ExactAnswers (MemberRows c.args.source.now.names.now) (λ list. members_list list.items) c.args.room c.args.source.now.tokens.now c.args.from) (sym e)
+    (member_stops c.args.source.now.names.now c.args.room c.args.source.now.tokens.now c.args.from c.members.next c.members.list.items c.members.height c.members.invariant.so_far (λ k. false≢true (sym c.members-test.true ∙ c.is_mark.ensures.mark.1 k)) c.in_err-taken.field-0.0 c.in_err-taken.ensures.parsed)
 
 pub members::members-returns-clause-parsed : goal.members::members-returns-clause-parsed
 members::members-returns-clause-parsed t c =

@@ -24,14 +24,14 @@ use Rattle.cs_decl_parser.proofs.+statement.Goals.{block::item-else-begins_type-
 pub loops::while_statement-returns-in_err-test-clause-parsed : goal.loops::while_statement-returns-in_err-test-clause-parsed
 loops::while_statement-returns-in_err-test-clause-parsed t c =
     let e : c.from_residual.result ≡ Err c.in_err-test.field-0.0 = search rules in
-    subst (Answers (Sentences c.args.source.now.names.now) statement_of c.args.room c.args.source.now.tokens.now c.args.source.now.end c.args.from) (sym e)
-    (while_test_stops c.args.source.now.names.now c.args.room c.args.source.now.tokens.now c.args.source.now.end c.args.from c.requires.enough c.requires.stands c.in_err-test.field-0.0 c.in_err-test.ensures.parsed)
+    subst (Answers (Sentences c.args.source.now.names.now) statement_of c.args.room c.args.source.now.tokens.now c.args.from) (sym e)
+    (while_test_stops c.args.source.now.names.now c.args.room c.args.source.now.tokens.now c.args.from c.requires.enough c.requires.stands c.in_err-test.field-0.0 c.in_err-test.ensures.parsed)
 
 pub loops::while_statement-returns-in_err-body-clause-parsed : goal.loops::while_statement-returns-in_err-body-clause-parsed
 loops::while_statement-returns-in_err-body-clause-parsed t c =
     let e : c.from_residual-in_err-body.result ≡ Err c.in_err-body.field-0.0 = search rules in
-    subst (Answers (Sentences c.args.source.now.names.now) statement_of c.args.room c.args.source.now.tokens.now c.args.source.now.end c.args.from) (sym e)
-    (while_body_stops c.args.source.now.names.now c.args.room c.args.source.now.tokens.now c.args.source.now.end c.args.from c.in_ok-test.test c.requires.enough c.requires.stands c.in_ok-test.ensures.parsed c.in_err-body.field-0.0 c.in_err-body.ensures.parsed)
+    subst (Answers (Sentences c.args.source.now.names.now) statement_of c.args.room c.args.source.now.tokens.now c.args.from) (sym e)
+    (while_body_stops c.args.source.now.names.now c.args.room c.args.source.now.tokens.now c.args.from c.in_ok-test.test c.requires.enough c.requires.stands c.in_ok-test.ensures.parsed c.in_err-body.field-0.0 c.in_err-body.ensures.parsed)
 
 pub loops::while_statement-returns-clause-parsed : goal.loops::while_statement-returns-clause-parsed
 loops::while_statement-returns-clause-parsed t c =
@@ -40,14 +40,14 @@ loops::while_statement-returns-clause-parsed t c =
 pub branches::if_statement-returns-in_err-test-clause-parsed : goal.branches::if_statement-returns-in_err-test-clause-parsed
 branches::if_statement-returns-in_err-test-clause-parsed t c =
     let e : c.from_residual.result ≡ Err c.in_err-test.field-0.0 = search rules in
-    subst (Answers (Sentences c.args.source.now.names.now) statement_of c.args.room c.args.source.now.tokens.now c.args.source.now.end c.args.from) (sym e)
-    (if_test_stops c.args.source.now.names.now c.args.room c.args.source.now.tokens.now c.args.source.now.end c.args.from c.requires.enough c.requires.stands c.in_err-test.field-0.0 c.in_err-test.ensures.parsed)
+    subst (Answers (Sentences c.args.source.now.names.now) statement_of c.args.room c.args.source.now.tokens.now c.args.from) (sym e)
+    (if_test_stops c.args.source.now.names.now c.args.room c.args.source.now.tokens.now c.args.from c.requires.enough c.requires.stands c.in_err-test.field-0.0 c.in_err-test.ensures.parsed)
 
 pub branches::if_statement-returns-in_err-body-clause-parsed : goal.branches::if_statement-returns-in_err-body-clause-parsed
 branches::if_statement-returns-in_err-body-clause-parsed t c =
     let e : c.from_residual-in_err-body.result ≡ Err c.in_err-body.field-0.0 = search rules in
-    subst (Answers (Sentences c.args.source.now.names.now) statement_of c.args.room c.args.source.now.tokens.now c.args.source.now.end c.args.from) (sym e)
-    (if_body_stops c.args.source.now.names.now c.args.room c.args.source.now.tokens.now c.args.source.now.end c.args.from c.in_ok-test.test c.requires.enough c.requires.stands c.in_ok-test.ensures.parsed c.in_err-body.field-0.0 c.in_err-body.ensures.parsed)
+    subst (Answers (Sentences c.args.source.now.names.now) statement_of c.args.room c.args.source.now.tokens.now c.args.from) (sym e)
+    (if_body_stops c.args.source.now.names.now c.args.room c.args.source.now.tokens.now c.args.from c.in_ok-test.test c.requires.enough c.requires.stands c.in_ok-test.ensures.parsed c.in_err-body.field-0.0 c.in_err-body.ensures.parsed)
 
 pub branches::if_statement-returns-then-not-is_keyword-clause-parsed : goal.branches::if_statement-returns-then-not-is_keyword-clause-parsed
 branches::if_statement-returns-then-not-is_keyword-clause-parsed t c =
@@ -56,8 +56,8 @@ branches::if_statement-returns-then-not-is_keyword-clause-parsed t c =
 pub branches::if_statement-returns-in_err-other-clause-parsed : goal.branches::if_statement-returns-in_err-other-clause-parsed
 branches::if_statement-returns-in_err-other-clause-parsed t c =
     let e : c.from_residual-in_err-other.result ≡ Err c.in_err-other.field-0.0 = search rules in
-    subst (Answers (Sentences c.args.source.now.names.now) statement_of c.args.room c.args.source.now.tokens.now c.args.source.now.end c.args.from) (sym e)
-    (else_stops c.args.source.now.names.now c.args.room c.args.source.now.tokens.now c.args.source.now.end c.args.from c.in_ok-test.test c.in_ok-body.body c.requires.enough c.requires.stands c.in_ok-test.ensures.parsed c.in_ok-body.ensures.parsed (c.is_keyword.ensures.keyword.0 c.if-not-is_keyword.false) c.in_err-other.field-0.0 c.in_err-other.ensures.parsed)
+    subst (Answers (Sentences c.args.source.now.names.now) statement_of c.args.room c.args.source.now.tokens.now c.args.from) (sym e)
+    (else_stops c.args.source.now.names.now c.args.room c.args.source.now.tokens.now c.args.from c.in_ok-test.test c.in_ok-body.body c.requires.enough c.requires.stands c.in_ok-test.ensures.parsed c.in_ok-body.ensures.parsed (c.is_keyword.ensures.keyword.0 c.if-not-is_keyword.false) c.in_err-other.field-0.0 c.in_err-other.ensures.parsed)
 
 pub branches::if_statement-returns-clause-parsed : goal.branches::if_statement-returns-clause-parsed
 branches::if_statement-returns-clause-parsed t c =
@@ -66,22 +66,22 @@ branches::if_statement-returns-clause-parsed t c =
 pub loops::do_statement-returns-in_err-body-clause-parsed : goal.loops::do_statement-returns-in_err-body-clause-parsed
 loops::do_statement-returns-in_err-body-clause-parsed t c =
     let e : c.from_residual.result ≡ Err c.in_err-body.field-0.0 = search rules in
-    subst (Answers (Sentences c.args.source.now.names.now) statement_of c.args.room c.args.source.now.tokens.now c.args.source.now.end c.args.from) (sym e)
-    (do_body_stops c.args.source.now.names.now c.args.room c.args.source.now.tokens.now c.args.source.now.end c.args.from c.requires.enough c.requires.stands c.in_err-body.field-0.0 c.in_err-body.ensures.parsed)
+    subst (Answers (Sentences c.args.source.now.names.now) statement_of c.args.room c.args.source.now.tokens.now c.args.from) (sym e)
+    (do_body_stops c.args.source.now.names.now c.args.room c.args.source.now.tokens.now c.args.from c.requires.enough c.requires.stands c.in_err-body.field-0.0 c.in_err-body.ensures.parsed)
 
 pub loops::do_statement-returns-then-not-is_keyword-clause-parsed : goal.loops::do_statement-returns-then-not-is_keyword-clause-parsed
 loops::do_statement-returns-then-not-is_keyword-clause-parsed t c =
-    do_while_missing c.args.source.now.names.now c.args.room c.args.source.now.tokens.now c.args.source.now.end c.args.from c.in_ok-body.body c.refuse.result c.requires.enough c.requires.stands c.in_ok-body.ensures.parsed (λ k. false≢true (sym c.if-not-is_keyword.true ∙ c.is_keyword.ensures.keyword.1 k)) c.refuse.ensures.is
+    do_while_missing c.args.source.now.names.now c.args.room c.args.source.now.tokens.now c.args.from c.in_ok-body.body c.refuse.result c.requires.enough c.requires.stands c.in_ok-body.ensures.parsed (λ k. false≢true (sym c.if-not-is_keyword.true ∙ c.is_keyword.ensures.keyword.1 k)) c.refuse.ensures.is
 
 pub loops::do_statement-returns-in_err-test-clause-parsed : goal.loops::do_statement-returns-in_err-test-clause-parsed
 loops::do_statement-returns-in_err-test-clause-parsed t c =
     let e : c.from_residual-in_err-test.result ≡ Err c.in_err-test.field-0.0 = search rules in
-    subst (Answers (Sentences c.args.source.now.names.now) statement_of c.args.room c.args.source.now.tokens.now c.args.source.now.end c.args.from) (sym e)
-    (do_test_stops c.args.source.now.names.now c.args.room c.args.source.now.tokens.now c.args.source.now.end c.args.from c.in_ok-body.body c.requires.enough c.requires.stands c.in_ok-body.ensures.parsed (c.is_keyword.ensures.keyword.0 c.if-not-is_keyword.false) c.in_err-test.field-0.0 c.in_err-test.ensures.parsed)
+    subst (Answers (Sentences c.args.source.now.names.now) statement_of c.args.room c.args.source.now.tokens.now c.args.from) (sym e)
+    (do_test_stops c.args.source.now.names.now c.args.room c.args.source.now.tokens.now c.args.from c.in_ok-body.body c.requires.enough c.requires.stands c.in_ok-body.ensures.parsed (c.is_keyword.ensures.keyword.0 c.if-not-is_keyword.false) c.in_err-test.field-0.0 c.in_err-test.ensures.parsed)
 
 pub loops::do_statement-returns-then-not-is_mark-clause-parsed : goal.loops::do_statement-returns-then-not-is_mark-clause-parsed
 loops::do_statement-returns-then-not-is_mark-clause-parsed t c =
-    do_semicolon_missing c.args.source.now.names.now c.args.room c.args.source.now.tokens.now c.args.source.now.end c.args.from c.in_ok-body.body c.in_ok-test.test c.refuse-then-not-is_mark.result c.requires.enough c.requires.stands c.in_ok-body.ensures.parsed (c.is_keyword.ensures.keyword.0 c.if-not-is_keyword.false) c.in_ok-test.ensures.parsed (λ k. false≢true (sym c.if-not-is_mark.true ∙ c.is_mark.ensures.mark.1 k)) c.refuse-then-not-is_mark.ensures.is
+    do_semicolon_missing c.args.source.now.names.now c.args.room c.args.source.now.tokens.now c.args.from c.in_ok-body.body c.in_ok-test.test c.refuse-then-not-is_mark.result c.requires.enough c.requires.stands c.in_ok-body.ensures.parsed (c.is_keyword.ensures.keyword.0 c.if-not-is_keyword.false) c.in_ok-test.ensures.parsed (λ k. false≢true (sym c.if-not-is_mark.true ∙ c.is_mark.ensures.mark.1 k)) c.refuse-then-not-is_mark.ensures.is
 
 pub loops::do_statement-returns-clause-parsed : goal.loops::do_statement-returns-clause-parsed
 loops::do_statement-returns-clause-parsed t c =
@@ -90,14 +90,14 @@ loops::do_statement-returns-clause-parsed t c =
 pub loops::for_statement-returns-in_err-control-clause-parsed : goal.loops::for_statement-returns-in_err-control-clause-parsed
 loops::for_statement-returns-in_err-control-clause-parsed t c =
     let e : c.from_residual.result ≡ Err c.in_err-control.field-0.0 = search rules in
-    subst (Answers (Sentences c.args.source.now.names.now) statement_of c.args.room c.args.source.now.tokens.now c.args.source.now.end c.args.from) (sym e)
-    (for_control_stops c.args.source.now.names.now c.args.room c.args.source.now.tokens.now c.args.source.now.end c.args.from c.requires.enough c.requires.stands c.in_err-control.field-0.0 c.in_err-control.ensures.parsed)
+    subst (Answers (Sentences c.args.source.now.names.now) statement_of c.args.room c.args.source.now.tokens.now c.args.from) (sym e)
+    (for_control_stops c.args.source.now.names.now c.args.room c.args.source.now.tokens.now c.args.from c.requires.enough c.requires.stands c.in_err-control.field-0.0 c.in_err-control.ensures.parsed)
 
 pub loops::for_statement-returns-in_err-body-clause-parsed : goal.loops::for_statement-returns-in_err-body-clause-parsed
 loops::for_statement-returns-in_err-body-clause-parsed t c =
     let e : c.from_residual-in_err-body.result ≡ Err c.in_err-body.field-0.0 = search rules in
-    subst (Answers (Sentences c.args.source.now.names.now) statement_of c.args.room c.args.source.now.tokens.now c.args.source.now.end c.args.from) (sym e)
-    (for_body_stops c.args.source.now.names.now c.args.room c.args.source.now.tokens.now c.args.source.now.end c.args.from c.in_ok-control.control c.requires.enough c.requires.stands c.in_ok-control.ensures.parsed c.in_err-body.field-0.0 c.in_err-body.ensures.parsed)
+    subst (Answers (Sentences c.args.source.now.names.now) statement_of c.args.room c.args.source.now.tokens.now c.args.from) (sym e)
+    (for_body_stops c.args.source.now.names.now c.args.room c.args.source.now.tokens.now c.args.from c.in_ok-control.control c.requires.enough c.requires.stands c.in_ok-control.ensures.parsed c.in_err-body.field-0.0 c.in_err-body.ensures.parsed)
 
 pub loops::for_statement-returns-clause-parsed : goal.loops::for_statement-returns-clause-parsed
 loops::for_statement-returns-clause-parsed t c =
@@ -112,8 +112,8 @@ pub statement::label-returns-in_err-body-clause-parsed : goal.statement::label-r
 statement::label-returns-in_err-body-clause-parsed t c =
     let name = subst (IsNameAt (λ name. Unit {0}) (kind_or_end c.args.source.now.tokens.now c.args.from)) c.in-Some.is c.in_ok-name.ensures.name in
     let e : c.from_residual-in_err-body.result ≡ Err c.in_err-body.field-0.0 = search rules in
-    subst (Answers (Sentences c.args.source.now.names.now) statement_of c.args.room c.args.source.now.tokens.now c.args.source.now.end c.args.from) (sym e)
-    (label_stops c.args.source.now.names.now c.args.room c.args.source.now.tokens.now c.args.source.now.end c.args.from c.in-Some.name.name c.requires.enough name.0 c.requires.stands c.in_err-body.field-0.0 c.in_err-body.ensures.parsed)
+    subst (Answers (Sentences c.args.source.now.names.now) statement_of c.args.room c.args.source.now.tokens.now c.args.from) (sym e)
+    (label_stops c.args.source.now.names.now c.args.room c.args.source.now.tokens.now c.args.from c.in-Some.name.name c.requires.enough name.0 c.requires.stands c.in_err-body.field-0.0 c.in_err-body.ensures.parsed)
 
 pub statement::label-returns-clause-parsed : goal.statement::label-returns-clause-parsed
 statement::label-returns-clause-parsed t c =
@@ -122,14 +122,14 @@ statement::label-returns-clause-parsed t c =
 
 pub statement::statement-returns-then-room-least_height-clause-parsed : goal.statement::statement-returns-then-room-least_height-clause-parsed
 statement::statement-returns-then-room-least_height-clause-parsed t c =
-    statement_full c.args.source.now.names.now c.args.room c.args.source.now.tokens.now c.args.source.now.end c.args.from c.refuse_deep.result c.requires.within (subst (λ (f : Form). c.args.room < least f) c.form_at-form.ensures.form (subst (λ (n : ℕ). c.args.room < n) c.least_height.ensures c.if-room-least_height.true)) c.refuse_deep.ensures.is
+    statement_full c.args.source.now.names.now c.args.room c.args.source.now.tokens.now c.args.from c.refuse_deep.result c.requires.within (subst (λ (f : Form). c.args.room < least f) c.form_at-form.ensures.form (subst (λ (n : ℕ). c.args.room < n) c.least_height.ensures c.if-room-least_height.true)) c.refuse_deep.ensures.is
 
 pub statement::statement-returns-in-Unlabelled-clause-parsed : goal.statement::statement-returns-in-Unlabelled-clause-parsed
 statement::statement-returns-in-Unlabelled-clause-parsed t c =
     let l : least c.form_at-form.result ≡ 2 = ap least c.in-Unlabelled.is in
     let h = c.least_height.ensures in
     let f = c.if-room-least_height.false in
-    unlabelled_stops c.args.source.now.names.now c.args.room c.args.source.now.tokens.now c.args.source.now.end c.args.from c.refuse.result (omega arith) (sym c.form_at-form.ensures.form ∙ c.in-Unlabelled.is) c.refuse.ensures.is
+    unlabelled_stops c.args.source.now.names.now c.args.room c.args.source.now.tokens.now c.args.from c.refuse.result (omega arith) (sym c.form_at-form.ensures.form ∙ c.in-Unlabelled.is) c.refuse.ensures.is
 
 pub statement::statement-returns-in-Empty-clause-parsed : goal.statement::statement-returns-in-Empty-clause-parsed
 statement::statement-returns-in-Empty-clause-parsed t c =
@@ -162,8 +162,8 @@ statement::statement-returns-in-Break-clause-parsed t c =
 pub block::block-returns-in_err-items-clause-parsed : goal.block::block-returns-in_err-items-clause-parsed
 block::block-returns-in_err-items-clause-parsed t c =
     let e : c.from_residual.result ≡ Err c.in_err-items.field-0.0 = search rules in
-    subst (Answers (Sentences c.args.source.now.names.now) statement_of c.args.room c.args.source.now.tokens.now c.args.source.now.end c.args.from) (sym e)
-    (block_stops c.args.source.now.names.now c.args.room c.args.source.now.tokens.now c.args.source.now.end c.args.from c.requires.some c.requires.stands c.in_err-items.field-0.0 c.in_err-items.ensures.parsed)
+    subst (Answers (Sentences c.args.source.now.names.now) statement_of c.args.room c.args.source.now.tokens.now c.args.from) (sym e)
+    (block_stops c.args.source.now.names.now c.args.room c.args.source.now.tokens.now c.args.from c.requires.some c.requires.stands c.in_err-items.field-0.0 c.in_err-items.ensures.parsed)
 
 pub block::block-returns-clause-parsed : goal.block::block-returns-clause-parsed
 block::block-returns-clause-parsed t c =
@@ -176,8 +176,8 @@ block::items-items-init t c =
 pub block::items-returns-in_err-taken-clause-parsed : goal.block::items-returns-in_err-taken-clause-parsed
 block::items-returns-in_err-taken-clause-parsed t c =
     let e : c.from_residual.result ≡ Err c.in_err-taken.field-0.0 = search rules in
-    subst (ItemsAnswers c.args.source.now.names.now c.args.room c.args.source.now.tokens.now c.args.source.now.end c.args.from) (sym e)
-    (items_stop c.args.source.now.names.now c.args.room c.args.source.now.tokens.now c.args.source.now.end c.args.from c.items.list.items c.items.height c.items.next c.items.invariant.so_far (λ k. false≢true (sym c.items-test.true ∙ c.is_mark.ensures.mark.1 k)) c.in_err-taken.field-0.0 c.in_err-taken.ensures.parsed)
+    subst (ItemsAnswers c.args.source.now.names.now c.args.room c.args.source.now.tokens.now c.args.from) (sym e)
+    (items_stop c.args.source.now.names.now c.args.room c.args.source.now.tokens.now c.args.from c.items.list.items c.items.height c.items.next c.items.invariant.so_far (λ k. false≢true (sym c.items-test.true ∙ c.is_mark.ensures.mark.1 k)) c.in_err-taken.field-0.0 c.in_err-taken.ensures.parsed)
 
 pub block::items-items-preserved : goal.block::items-items-preserved
 block::items-items-preserved t c =
@@ -199,8 +199,8 @@ block::items-returns-clause-parsed t c =
 pub block::item-returns-in_err-declared-clause-parsed : goal.block::item-returns-in_err-declared-clause-parsed
 block::item-returns-in_err-declared-clause-parsed t c =
     let e : c.from_residual.result ≡ Err c.in_err-declared.field-0.0 = search rules in
-    subst (Answers (BlockItems c.args.source.now.names.now) item c.args.room c.args.source.now.tokens.now c.args.source.now.end c.args.from) (sym e)
-    (declares_stops c.args.source.now.names.now c.args.room c.args.source.now.tokens.now c.args.source.now.end c.args.from (sym c.begins_type.ensures ∙ c.if-begins_type.true) (sym c.is_label.ensures.labelled ∙ c.if-not-is_label.true) c.in_err-declared.field-0.0 c.in_err-declared.ensures.parsed)
+    subst (Answers (BlockItems c.args.source.now.names.now) item c.args.room c.args.source.now.tokens.now c.args.from) (sym e)
+    (declares_stops c.args.source.now.names.now c.args.room c.args.source.now.tokens.now c.args.from (sym c.begins_type.ensures ∙ c.if-begins_type.true) (sym c.is_label.ensures.labelled ∙ c.if-not-is_label.true) c.in_err-declared.field-0.0 c.in_err-declared.ensures.parsed)
 
 pub block::item-returns-then-not-is_label-clause-parsed : goal.block::item-returns-then-not-is_label-clause-parsed
 block::item-returns-then-not-is_label-clause-parsed t c =
@@ -209,8 +209,8 @@ block::item-returns-then-not-is_label-clause-parsed t c =
 pub block::item-returns-in_err-taken-clause-parsed : goal.block::item-returns-in_err-taken-clause-parsed
 block::item-returns-in_err-taken-clause-parsed t c =
     let e : c.from_residual-in_err-taken.result ≡ Err c.in_err-taken.field-0.0 = search rules in
-    subst (Answers (BlockItems c.args.source.now.names.now) item c.args.room c.args.source.now.tokens.now c.args.source.now.end c.args.from) (sym e)
-    (does_stops c.args.source.now.names.now c.args.room c.args.source.now.tokens.now c.args.source.now.end c.args.from (elim c.else-begins_type.branch [ block::item-else-begins_type-via-then-begins_type+else-not-is_label w ↦ inr (sym w.is_label.ensures.labelled ∙ w.if-not-is_label.false) | block::item-else-begins_type-via-else-begins_type w ↦ inl (sym c.begins_type.ensures ∙ w.if-begins_type.false) ]) c.in_err-taken.field-0.0 c.in_err-taken.ensures.parsed)
+    subst (Answers (BlockItems c.args.source.now.names.now) item c.args.room c.args.source.now.tokens.now c.args.from) (sym e)
+    (does_stops c.args.source.now.names.now c.args.room c.args.source.now.tokens.now c.args.from (elim c.else-begins_type.branch [ block::item-else-begins_type-via-then-begins_type+else-not-is_label w ↦ inr (sym w.is_label.ensures.labelled ∙ w.if-not-is_label.false) | block::item-else-begins_type-via-else-begins_type w ↦ inl (sym c.begins_type.ensures ∙ w.if-begins_type.false) ]) c.in_err-taken.field-0.0 c.in_err-taken.ensures.parsed)
 
 pub block::item-returns-clause-parsed : goal.block::item-returns-clause-parsed
 block::item-returns-clause-parsed t c =
@@ -219,18 +219,18 @@ block::item-returns-clause-parsed t c =
 pub branches::switch_statement-returns-in_err-value-clause-parsed : goal.branches::switch_statement-returns-in_err-value-clause-parsed
 branches::switch_statement-returns-in_err-value-clause-parsed t c =
     let e : c.from_residual.result ≡ Err c.in_err-value.field-0.0 = search rules in
-    subst (Answers (Sentences c.args.source.now.names.now) statement_of c.args.room c.args.source.now.tokens.now c.args.source.now.end c.args.from) (sym e)
-    (switch_value_stops c.args.source.now.names.now c.args.room c.args.source.now.tokens.now c.args.source.now.end c.args.from c.requires.enough c.requires.stands c.in_err-value.field-0.0 c.in_err-value.ensures.parsed)
+    subst (Answers (Sentences c.args.source.now.names.now) statement_of c.args.room c.args.source.now.tokens.now c.args.from) (sym e)
+    (switch_value_stops c.args.source.now.names.now c.args.room c.args.source.now.tokens.now c.args.from c.requires.enough c.requires.stands c.in_err-value.field-0.0 c.in_err-value.ensures.parsed)
 
 pub branches::switch_statement-returns-then-not-is_mark-clause-parsed : goal.branches::switch_statement-returns-then-not-is_mark-clause-parsed
 branches::switch_statement-returns-then-not-is_mark-clause-parsed t c =
-    switch_brace_missing c.args.source.now.names.now c.args.room c.args.source.now.tokens.now c.args.source.now.end c.args.from c.in_ok-value.value c.refuse.result c.requires.enough c.requires.stands c.in_ok-value.ensures.parsed (λ k. false≢true (sym c.if-not-is_mark.true ∙ c.is_mark.ensures.mark.1 k)) c.refuse.ensures.is
+    switch_brace_missing c.args.source.now.names.now c.args.room c.args.source.now.tokens.now c.args.from c.in_ok-value.value c.refuse.result c.requires.enough c.requires.stands c.in_ok-value.ensures.parsed (λ k. false≢true (sym c.if-not-is_mark.true ∙ c.is_mark.ensures.mark.1 k)) c.refuse.ensures.is
 
 pub branches::switch_statement-returns-in_err-items-clause-parsed : goal.branches::switch_statement-returns-in_err-items-clause-parsed
 branches::switch_statement-returns-in_err-items-clause-parsed t c =
     let e : c.from_residual-in_err-items.result ≡ Err c.in_err-items.field-0.0 = search rules in
-    subst (Answers (Sentences c.args.source.now.names.now) statement_of c.args.room c.args.source.now.tokens.now c.args.source.now.end c.args.from) (sym e)
-    (switch_items_stop c.args.source.now.names.now c.args.room c.args.source.now.tokens.now c.args.source.now.end c.args.from c.in_ok-value.value c.requires.enough c.requires.stands c.in_ok-value.ensures.parsed (c.is_mark.ensures.mark.0 c.if-not-is_mark.false) c.in_err-items.field-0.0 c.in_err-items.ensures.parsed)
+    subst (Answers (Sentences c.args.source.now.names.now) statement_of c.args.room c.args.source.now.tokens.now c.args.from) (sym e)
+    (switch_items_stop c.args.source.now.names.now c.args.room c.args.source.now.tokens.now c.args.from c.in_ok-value.value c.requires.enough c.requires.stands c.in_ok-value.ensures.parsed (c.is_mark.ensures.mark.0 c.if-not-is_mark.false) c.in_err-items.field-0.0 c.in_err-items.ensures.parsed)
 
 pub branches::switch_statement-returns-clause-parsed : goal.branches::switch_statement-returns-clause-parsed
 branches::switch_statement-returns-clause-parsed t c =
@@ -243,8 +243,8 @@ branches::switch_items-items-init t c =
 pub branches::switch_items-returns-in_err-taken-clause-parsed : goal.branches::switch_items-returns-in_err-taken-clause-parsed
 branches::switch_items-returns-in_err-taken-clause-parsed t c =
     let e : c.from_residual.result ≡ Err c.in_err-taken.field-0.0 = search rules in
-    subst (ExactAnswers (SwitchRows c.args.source.now.names.now) switch_items_of c.args.room c.args.source.now.tokens.now c.args.source.now.end c.args.from) (sym e)
-    (switch_stop c.args.source.now.names.now c.args.room c.args.source.now.tokens.now c.args.source.now.end c.args.from c.items.list.items c.items.height c.items.next c.items.invariant.so_far (λ k. false≢true (sym c.items-test.true ∙ c.is_mark.ensures.mark.1 k)) c.in_err-taken.field-0.0 c.in_err-taken.ensures.parsed)
+    subst (ExactAnswers (SwitchRows c.args.source.now.names.now) switch_items_of c.args.room c.args.source.now.tokens.now c.args.from) (sym e)
+    (switch_stop c.args.source.now.names.now c.args.room c.args.source.now.tokens.now c.args.from c.items.list.items c.items.height c.items.next c.items.invariant.so_far (λ k. false≢true (sym c.items-test.true ∙ c.is_mark.ensures.mark.1 k)) c.in_err-taken.field-0.0 c.in_err-taken.ensures.parsed)
 
 pub branches::switch_items-items-preserved : goal.branches::switch_items-items-preserved
 branches::switch_items-items-preserved t c =
@@ -270,8 +270,8 @@ branches::switch_item-returns-then-is_keyword-2-clause-parsed t c =
 pub branches::switch_item-returns-in_err-inner-clause-parsed : goal.branches::switch_item-returns-in_err-inner-clause-parsed
 branches::switch_item-returns-in_err-inner-clause-parsed t c =
     let e : c.from_residual.result ≡ Err c.in_err-inner.field-0.0 = search rules in
-    subst (Answers (SwitchParts c.args.source.now.names.now) switch_item c.args.room c.args.source.now.tokens.now c.args.source.now.end c.args.from) (sym e)
-    (inside_stops c.args.source.now.names.now c.args.room c.args.source.now.tokens.now c.args.source.now.end c.args.from (no_case (kind_or_end c.args.source.now.tokens.now c.args.from) (λ k. false≢true (sym c.if-is_keyword.false ∙ c.is_keyword.ensures.keyword.1 k)) (λ k. false≢true (sym c.if-is_keyword-2.false ∙ c.is_keyword-2.ensures.keyword.1 k))) c.in_err-inner.field-0.0 c.in_err-inner.ensures.parsed)
+    subst (Answers (SwitchParts c.args.source.now.names.now) switch_item c.args.room c.args.source.now.tokens.now c.args.from) (sym e)
+    (inside_stops c.args.source.now.names.now c.args.room c.args.source.now.tokens.now c.args.from (no_case (kind_or_end c.args.source.now.tokens.now c.args.from) (λ k. false≢true (sym c.if-is_keyword.false ∙ c.is_keyword.ensures.keyword.1 k)) (λ k. false≢true (sym c.if-is_keyword-2.false ∙ c.is_keyword-2.ensures.keyword.1 k))) c.in_err-inner.field-0.0 c.in_err-inner.ensures.parsed)
 
 pub branches::switch_item-returns-clause-parsed : goal.branches::switch_item-returns-clause-parsed
 branches::switch_item-returns-clause-parsed t c =

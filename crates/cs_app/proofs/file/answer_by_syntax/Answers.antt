@@ -1,25 +1,19 @@
-use Rattle.cs_app.proofs.ShapeLemmas.{file_has_few}
-use Rattle.cs_app.proofs.AnswerLemmas.{answers_file, refuses_syntax}
+use Rattle.cs_app.proofs.AnswerLemmas.{refuses_syntax}
 use Rattle.cs_app.proofs.file.answer_by_syntax.Goals as goal
-
-pub answer_by_form-requires : goal.answer_by_form-requires
-answer_by_form-requires c =
-    rw c.deref-in-Ok.ensures.value (file_has_few c.args.lexed.now c.in-Ok.tree.externals.items c.requires (rw c.as_slice.ensures.value at c.in-Ok.ensures.taken))
 
 pub returns-in_ok-answer-in-Ok : goal.returns-in_ok-answer-in-Ok
 returns-in_ok-answer-in-Ok c =
-    let answer = c.in_ok-answer-in-Ok.answer in
-    let told = rw c.deref.ensures.value at (rw c.deref-in-Ok.ensures.value at c.in_ok-answer-in-Ok.ensures) in
-    λ file short has. answers_file file c.args.lexed.now c.in-Ok.tree.externals.items answer.status answer.text.items (record {
+    let told = rw c.deref.ensures.value at c.in_ok-answer-in-Ok.ensures in
+    λ file short has. told file (record {
       short = short;
       has_tokens = has;
       is_the_file = rw c.as_slice.ensures.value at c.in-Ok.ensures.taken;
       placed = rw c.as_slice.ensures.value at c.in-Ok.ensures.placed;
-    }) told
+    })
 
 pub returns-in_ok-answer-in-Err : goal.returns-in_ok-answer-in-Err
 returns-in_ok-answer-in-Err c =
     let answer = c.in_ok-answer-in-Err.answer in
     let refused = rw c.as_slice.ensures.value at c.in-Err.ensures.refused in
     let line = rw c.deref-in-Err.ensures.value at c.in_ok-answer-in-Err.ensures.text in
-    λ file short has. refuses_syntax file c.args.lexed.now c.in-Err.refusal answer.status answer.text.items c.in_ok-answer-in-Err.ensures.status refused line short has
+    λ file short has. refuses_syntax c.args.command.now file c.args.lexed.now c.in-Err.refusal answer.status answer.text.items c.in_ok-answer-in-Err.ensures.status refused line short has

@@ -4,4 +4,4 @@ use Rattle.cs_app.proofs.file.answer_to.Goals as goal
 pub returns-in_ok-answer-in-Err : goal.returns-in_ok-answer-in-Err
 returns-in_ok-answer-in-Err c =
     let answer = c.in_ok-answer-in-Err.answer in
-    refuses_tokens c.args.file.now c.in-Err.refusal answer.status answer.text.items c.in_ok-answer-in-Err.ensures.status c.requires c.in-Err.ensures.refused c.in_ok-answer-in-Err.ensures.text
+    refuses_tokens c.args.command.now c.args.file.now c.in-Err.refusal answer.status answer.text.items c.in_ok-answer-in-Err.ensures.status c.requires c.in-Err.ensures.refused c.in_ok-answer-in-Err.ensures.text

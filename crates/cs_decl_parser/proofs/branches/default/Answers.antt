@@ -6,7 +6,7 @@ use Rattle.cs_decl_parser.proofs.branches.default.Goals as goal
 
 pub returns-then-not-is_mark-clause-parsed : goal.returns-then-not-is_mark-clause-parsed
 returns-then-not-is_mark-clause-parsed c =
-    λ room. default_stops c.args.source.now.names.now room c.args.source.now.tokens.now c.args.source.now.end c.args.from c.refuse.result c.requires.stands (λ k. false≢true (sym c.if-not-is_mark.true ∙ c.is_mark.ensures.mark.1 k)) c.refuse.ensures.is
+    λ room. default_stops c.args.source.now.names.now room c.args.source.now.tokens.now c.args.from c.refuse.result c.requires.stands (λ k. false≢true (sym c.if-not-is_mark.true ∙ c.is_mark.ensures.mark.1 k)) c.refuse.ensures.is
 
 pub returns-clause-parsed : goal.returns-clause-parsed
 returns-clause-parsed c =

@@ -19,7 +19,7 @@ use Rattle.cs_decl_parser.proofs.constants.constant.Goals as goal
 
 pub returns-in_default-clause-parsed : goal.returns-in_default-clause-parsed
 returns-in_default-clause-parsed c =
-    constant_stops c.args.source.now.names.now c.args.room c.args.source.now.tokens.now c.args.source.now.end c.args.from File c.refuse.result c.requires.within (subst (λ (x : Option RawName). IsNameAt (IsFree c.args.source.now.names.now) (kind_or_end c.args.source.now.tokens.now c.args.from) x) c.in_default.is c.in_ok-name.ensures.name) c.refuse.ensures.is
+    constant_stops c.args.source.now.names.now c.args.room c.args.source.now.tokens.now c.args.from File c.refuse.result c.requires.within (subst (λ (x : Option RawName). IsNameAt (IsFree c.args.source.now.names.now) (kind_or_end c.args.source.now.tokens.now c.args.from) x) c.in_default.is c.in_ok-name.ensures.name) c.refuse.ensures.is
 
 pub returns-then-not-is_mark-clause-parsed : goal.returns-then-not-is_mark-clause-parsed
 returns-then-not-is_mark-clause-parsed c =
@@ -35,8 +35,8 @@ pub returns-in_err-value-clause-parsed : goal.returns-in_err-value-clause-parsed
 returns-in_err-value-clause-parsed c =
     let n = subst (λ (x : Option RawName). IsNameAt (IsFree c.args.source.now.names.now) (kind_or_end c.args.source.now.tokens.now c.args.from) x) c.in-Some.is c.in_ok-name.ensures.name in
     let e : c.from_residual-in_err-value.result ≡ Err c.in_err-value.field-0.0 = search rules in
-    subst (UnclosedAnswers (Constants c.args.source.now.names.now) constant c.args.room c.args.source.now.tokens.now c.args.source.now.end c.args.from) (sym e)
-    (value_stops c.args.source.now.names.now c.args.room (c.args.room - 1) (let enough = c.if-room-lt2.false in omega arith) (let enough = c.if-room-lt2.false in omega arith) c.args.source.now.tokens.now c.args.source.now.end c.args.from c.in-Some.name.name n.0 n.1 (c.is_mark.ensures.mark.0 c.if-not-is_mark.false) c.in_err-value.field-0.0 c.in_err-value.ensures.parsed)
+    subst (UnclosedAnswers (Constants c.args.source.now.names.now) constant c.args.room c.args.source.now.tokens.now c.args.from) (sym e)
+    (value_stops c.args.source.now.names.now c.args.room (c.args.room - 1) (let enough = c.if-room-lt2.false in omega arith) (let enough = c.if-room-lt2.false in omega arith) c.args.source.now.tokens.now c.args.from c.in-Some.name.name n.0 n.1 (c.is_mark.ensures.mark.0 c.if-not-is_mark.false) c.in_err-value.field-0.0 c.in_err-value.ensures.parsed)
 
 pub returns-clause-parsed : goal.returns-clause-parsed
 returns-clause-parsed c =

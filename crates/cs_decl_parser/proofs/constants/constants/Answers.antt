@@ -10,7 +10,7 @@ use Rattle.cs_grammar.specs.DeclarationClasses.{Constants}
 use Rattle.cs_grammar.proofs.Bodies.{constant_row, no_constant_closes}
 use Rattle.cs_expr_parser.specs.Positions.{kind_or_end}
 use Rattle.cs_expr_parser.specs.Parts.{is_deep}
-use Rattle.cs_decl_parser.specs.declared.stop.Stop.TheVariants as stop
+use Rattle.cs_expr_parser.specs.declared.stop.Stop.TheVariants as stop
 use Rattle.cs_decl_parser.specs.DeclarationAnswers.{ConstantsAnswer}
 use Rattle.cs_decl_parser.proofs.RowSites.{TrailingRow, trailing_first, trailing_next, trailing_first_stops, trailing_next_stops, trailing_taken, row_is_exact}
 use Rattle.cs_decl_parser.proofs.ListSites.{next_stands, list_unclosed}
@@ -25,8 +25,8 @@ use Rattle.cs_decl_parser.proofs.constants.constants.Goals as goal
 pub returns-in_err-last-clause-parsed : goal.returns-in_err-last-clause-parsed
 returns-in_err-last-clause-parsed c =
     let e : c.from_residual.result ≡ Err c.in_err-last.field-0.0 = search rules in
-    subst (ConstantsAnswer c.args.source.now.names.now c.args.room c.args.source.now.tokens.now c.args.source.now.end c.args.from) (sym e)
-    (trailing_first_stops (Constants c.args.source.now.names.now) (token.Mark mark.CloseBrace) c.args.room (constant_row c.args.source.now.names.now) c.requires.some c.args.source.now.tokens.now c.args.source.now.end c.args.from c.in_err-last.field-0.0 c.in_err-last.ensures.parsed)
+    subst (ConstantsAnswer c.args.source.now.names.now c.args.room c.args.source.now.tokens.now c.args.from) (sym e)
+    (trailing_first_stops (Constants c.args.source.now.names.now) (token.Mark mark.CloseBrace) c.args.room (constant_row c.args.source.now.names.now) c.requires.some c.args.source.now.tokens.now c.args.from c.in_err-last.field-0.0 c.in_err-last.ensures.parsed)
 
 pub constants-init : goal.constants-init
 constants-init c =
@@ -49,8 +49,8 @@ pub returns-in_err-following-clause-parsed : goal.returns-in_err-following-claus
 returns-in_err-following-clause-parsed c =
     let e : c.from_residual-in_err-following.result ≡ Err c.in_err-following.field-0.0 = search rules in
     let n = (next_stands (kind_or_end c.args.source.now.tokens.now c.constants.last.next) (kind_or_end c.args.source.now.tokens.now (c.constants.last.next + 1)) (sym c.goes_on.ensures.comma ∙ c.constants-test.true)) in
-    subst (ConstantsAnswer c.args.source.now.names.now c.args.room c.args.source.now.tokens.now c.args.source.now.end c.args.from) (sym e)
-    (trailing_next_stops (Constants c.args.source.now.names.now) (token.Mark mark.CloseBrace) c.args.room (constant_row c.args.source.now.names.now) c.requires.some (no_constant_closes c.args.source.now.names.now) c.args.source.now.tokens.now c.args.source.now.end c.args.from (map constant c.constants.list.items) (constant c.constants.last.tree) c.constants.last.next (is_deep c.constants.last.otherwise) c.constants.height c.constants.invariant.so_far n.0 n.1 c.in_err-following.field-0.0 c.in_err-following.ensures.parsed)
+    subst (ConstantsAnswer c.args.source.now.names.now c.args.room c.args.source.now.tokens.now c.args.from) (sym e)
+    (trailing_next_stops (Constants c.args.source.now.names.now) (token.Mark mark.CloseBrace) c.args.room (constant_row c.args.source.now.names.now) c.requires.some (no_constant_closes c.args.source.now.names.now) c.args.source.now.tokens.now c.args.from (map constant c.constants.list.items) (constant c.constants.last.tree) c.constants.last.next (is_deep c.constants.last.otherwise) c.constants.height c.constants.invariant.so_far n.0 n.1 c.in_err-following.field-0.0 c.in_err-following.ensures.parsed)
 
 pub constants-preserved : goal.constants-preserved
 constants-preserved c =
@@ -74,7 +74,7 @@ constants-preserved c =
 
 pub returns-then-not-is_mark-clause-parsed : goal.returns-then-not-is_mark-clause-parsed
 returns-then-not-is_mark-clause-parsed c =
-    subst (λ (n : ℕ). ConstantsAnswer c.args.source.now.names.now c.args.room c.args.source.now.tokens.now c.args.source.now.end c.args.from (Err (stop.Refused n c.constants.last.otherwise))) (sym c.closing_at-closing.ensures)
+    subst (λ (n : ℕ). ConstantsAnswer c.args.source.now.names.now c.args.room c.args.source.now.tokens.now c.args.from (Err (stop.Refused n c.constants.last.otherwise))) (sym c.closing_at-closing.ensures)
     (list_unclosed (Constants c.args.source.now.names.now) c.args.room (constant_row c.args.source.now.names.now) (no_constant_closes c.args.source.now.names.now) c.args.source.now.tokens.now c.args.from (map constant c.constants.list.items) (constant c.constants.last.tree) c.constants.last.next c.constants.last.otherwise c.constants.height c.constants.invariant.so_far c.is_mark-comma.result (c.is_mark-comma.ensures.mark.0, c.is_mark-comma.ensures.mark.1)
     (sym c.goes_on.ensures.comma ∙ c.constants-test.false)
     (λ k. false≢true (sym c.if-not-is_mark.true ∙ c.is_mark.ensures.mark.1 (ap (kind_or_end c.args.source.now.tokens.now) c.closing_at-closing.ensures ∙ k))))

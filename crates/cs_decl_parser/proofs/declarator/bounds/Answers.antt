@@ -33,8 +33,8 @@ bounds-preserved c =
 pub returns-in_err-taken-clause-parsed : goal.returns-in_err-taken-clause-parsed
 returns-in_err-taken-clause-parsed c =
     let e : c.from_residual.result ≡ Err c.in_err-taken.field-0.0 = search rules in
-    subst (BoundsAnswer c.args.declares c.args.source.now.names.now (λ list. bounds_of list.items) c.args.room c.args.source.now.tokens.now c.args.source.now.end c.args.from) (sym e)
-    (bound_stops c.args.declares c.args.source.now.names.now c.args.room c.args.source.now.tokens.now c.args.source.now.end c.args.from c.bounds.next c.bounds.list.items c.bounds.height (c.begins_bound.ensures.room c.bounds-test.true) c.bounds.invariant.so_far (c.begins_bound.ensures.bracket c.bounds-test.true) c.in_err-taken.field-0.0 c.in_err-taken.ensures.parsed)
+    subst (BoundsAnswer c.args.declares c.args.source.now.names.now (λ list. bounds_of list.items) c.args.room c.args.source.now.tokens.now c.args.from) (sym e)
+    (bound_stops c.args.declares c.args.source.now.names.now c.args.room c.args.source.now.tokens.now c.args.from c.bounds.next c.bounds.list.items c.bounds.height (c.begins_bound.ensures.room c.bounds-test.true) c.bounds.invariant.so_far (c.begins_bound.ensures.bracket c.bounds-test.true) c.in_err-taken.field-0.0 c.in_err-taken.ensures.parsed)
 
 pub returns-clause-parsed : goal.returns-clause-parsed
 returns-clause-parsed c =

@@ -21,8 +21,8 @@ use Rattle.cs_decl_parser.proofs.declarator.declarators.Goals as goal
 pub returns-in_err-last-clause-parsed : goal.returns-in_err-last-clause-parsed
 returns-in_err-last-clause-parsed c =
     let e : c.from_residual.result ≡ Err c.in_err-last.field-0.0 = search rules in
-    subst (ExactAnswers (Separated (DeclaratorsFor c.args.declares c.args.source.now.names.now) (token.Mark mark.Semicolon)) (λ list. map declarator list.items) c.args.room c.args.source.now.tokens.now c.args.source.now.end c.args.from) (sym e)
-    (row_first_stops (DeclaratorsFor c.args.declares c.args.source.now.names.now) (token.Mark mark.Semicolon) c.args.room (declarators_row c.args.declares c.args.source.now.names.now) (declarators_low c.args.declares c.args.source.now.names.now c.args.room c.requires.some) c.args.source.now.tokens.now c.args.source.now.end c.args.from c.in_err-last.field-0.0 c.in_err-last.ensures.parsed)
+    subst (ExactAnswers (Separated (DeclaratorsFor c.args.declares c.args.source.now.names.now) (token.Mark mark.Semicolon)) (λ list. map declarator list.items) c.args.room c.args.source.now.tokens.now c.args.from) (sym e)
+    (row_first_stops (DeclaratorsFor c.args.declares c.args.source.now.names.now) (token.Mark mark.Semicolon) c.args.room (declarators_row c.args.declares c.args.source.now.names.now) (declarators_low c.args.declares c.args.source.now.names.now c.args.room c.requires.some) c.args.source.now.tokens.now c.args.from c.in_err-last.field-0.0 c.in_err-last.ensures.parsed)
 
 pub declarators-init : goal.declarators-init
 declarators-init c =
@@ -44,8 +44,8 @@ declarators-init c =
 pub returns-in_err-following-clause-parsed : goal.returns-in_err-following-clause-parsed
 returns-in_err-following-clause-parsed c =
     let e : c.from_residual-in_err-following.result ≡ Err c.in_err-following.field-0.0 = search rules in
-    subst (ExactAnswers (Separated (DeclaratorsFor c.args.declares c.args.source.now.names.now) (token.Mark mark.Semicolon)) (λ list. map declarator list.items) c.args.room c.args.source.now.tokens.now c.args.source.now.end c.args.from) (sym e)
-    (row_next_stops (DeclaratorsFor c.args.declares c.args.source.now.names.now) (token.Mark mark.Semicolon) c.args.room (declarators_row c.args.declares c.args.source.now.names.now) (declarators_low c.args.declares c.args.source.now.names.now c.args.room c.requires.some) c.args.source.now.tokens.now c.args.source.now.end c.args.from (map declarator c.declarators.list.items) (declarator c.declarators.last.tree) c.declarators.last.next (is_full c.args.declares (c.args.room - 1) (kind_or_end c.args.source.now.tokens.now c.declarators.last.next)) c.declarators.height c.declarators.invariant.so_far
+    subst (ExactAnswers (Separated (DeclaratorsFor c.args.declares c.args.source.now.names.now) (token.Mark mark.Semicolon)) (λ list. map declarator list.items) c.args.room c.args.source.now.tokens.now c.args.from) (sym e)
+    (row_next_stops (DeclaratorsFor c.args.declares c.args.source.now.names.now) (token.Mark mark.Semicolon) c.args.room (declarators_row c.args.declares c.args.source.now.names.now) (declarators_low c.args.declares c.args.source.now.names.now c.args.room c.requires.some) c.args.source.now.tokens.now c.args.from (map declarator c.declarators.list.items) (declarator c.declarators.last.tree) c.declarators.last.next (is_full c.args.declares (c.args.room - 1) (kind_or_end c.args.source.now.tokens.now c.declarators.last.next)) c.declarators.height c.declarators.invariant.so_far
     (c.is_mark.ensures.mark.0 c.declarators-test.true) c.in_err-following.field-0.0 c.in_err-following.ensures.parsed)
 
 pub declarators-preserved : goal.declarators-preserved
@@ -70,7 +70,7 @@ declarators-preserved c =
 pub returns-then-not-is_mark-clause-parsed : goal.returns-then-not-is_mark-clause-parsed
 returns-then-not-is_mark-clause-parsed c =
     let some = c.requires.some in
-    declarators_wrong c.args.declares c.args.source.now.names.now c.args.room (c.args.room - 1) c.args.source.now.tokens.now c.args.source.now.end c.args.from (map declarator c.declarators.list.items) (declarator c.declarators.last.tree) c.declarators.last.next c.declarators.height c.declarators.invariant.so_far
+    declarators_wrong c.args.declares c.args.source.now.names.now c.args.room (c.args.room - 1) c.args.source.now.tokens.now c.args.from (map declarator c.declarators.list.items) (declarator c.declarators.last.tree) c.declarators.last.next c.declarators.height c.declarators.invariant.so_far
     (λ k. false≢true (sym c.declarators-test.false ∙ c.is_mark.ensures.mark.1 k)) (λ k. false≢true (sym c.if-not-is_mark.true ∙ c.is_mark-2.ensures.mark.1 k))
     c.refuse_behind.result (c.refuse_behind.ensures.is (c.args.room - 1) (omega arith))
 

@@ -9,8 +9,8 @@ pub returns-in_err-bounds-clause-parsed : goal.returns-in_err-bounds-clause-pars
 returns-in_err-bounds-clause-parsed c = λ from p.
     let e : c.from_residual.result ≡ Err c.in_err-bounds.field-0.0 = search rules in
     let less : c.args.room ≡ 1 + (c.args.room - 1) = let some = c.requires.some in omega arith in
-    subst (DeclaratorAnswers c.args.declares c.args.source.now.names.now c.args.room c.args.source.now.tokens.now c.args.source.now.end from) (sym e)
-    (bounds_stop c.args.declares c.args.source.now.names.now c.args.room (c.args.room - 1) less c.args.source.now.tokens.now c.args.source.now.end from c.args.pointed p c.in_err-bounds.field-0.0 c.in_err-bounds.ensures.parsed)
+    subst (DeclaratorAnswers c.args.declares c.args.source.now.names.now c.args.room c.args.source.now.tokens.now from) (sym e)
+    (bounds_stop c.args.declares c.args.source.now.names.now c.args.room (c.args.room - 1) less c.args.source.now.tokens.now from c.args.pointed p c.in_err-bounds.field-0.0 c.in_err-bounds.ensures.parsed)
 
 pub returns-clause-parsed : goal.returns-clause-parsed
 returns-clause-parsed c = λ from p.

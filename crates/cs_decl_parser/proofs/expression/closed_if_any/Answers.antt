@@ -13,8 +13,8 @@ returns-then-is_mark-clause-parsed c =
 pub returns-in_err-inner-clause-parsed : goal.returns-in_err-inner-clause-parsed
 returns-in_err-inner-clause-parsed c =
     let e : c.from_residual.result ≡ Err c.in_err-inner.field-0.0 = search rules in
-    subst (ClosedIfAnyAnswer c.args.source.now.names.now c.args.level c.args.closing c.args.room c.args.source.now.tokens.now c.args.source.now.end c.args.from) (sym e)
-    (some_stops c.args.source.now.names.now (level_asked c.args.level) (Unit {0}) (token.Mark c.args.closing) c.args.room c.args.source.now.tokens.now c.args.source.now.end c.args.from
+    subst (ClosedIfAnyAnswer c.args.source.now.names.now c.args.level c.args.closing c.args.room c.args.source.now.tokens.now c.args.from) (sym e)
+    (some_stops c.args.source.now.names.now (level_asked c.args.level) (Unit {0}) (token.Mark c.args.closing) c.args.room c.args.source.now.tokens.now c.args.from
     (λ k. false≢true (sym c.if-is_mark.false ∙ c.is_mark.ensures.mark.1 k)) c.in_err-inner.field-0.0 c.in_err-inner.ensures.parsed)
 
 pub returns-clause-parsed : goal.returns-clause-parsed

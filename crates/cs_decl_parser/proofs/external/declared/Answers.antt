@@ -12,8 +12,8 @@ use Rattle.cs_decl_parser.proofs.external.declared.Goals as goal
 pub returns-in_err-specs-clause-parsed : goal.returns-in_err-specs-clause-parsed
 returns-in_err-specs-clause-parsed c =
     let e : c.from_residual.result ≡ Err c.in_err-specs.field-0.0 = search rules in
-    subst (ExactAnswers (Externals c.args.source.now.names.now) external_of 200 c.args.source.now.tokens.now c.args.source.now.end c.args.from) (sym e)
-    (declared_type_stops c.args.source.now.names.now c.args.source.now.tokens.now c.args.source.now.end c.args.from c.requires.other c.in_err-specs.field-0.0 c.in_err-specs.ensures.parsed)
+    subst (ExactAnswers (Externals c.args.source.now.names.now) external_of 200 c.args.source.now.tokens.now c.args.from) (sym e)
+    (declared_type_stops c.args.source.now.names.now c.args.source.now.tokens.now c.args.from c.requires.other c.in_err-specs.field-0.0 c.in_err-specs.ensures.parsed)
 
 pub returns-then-is_mark-clause-parsed : goal.returns-then-is_mark-clause-parsed
 returns-then-is_mark-clause-parsed c =
@@ -22,8 +22,8 @@ returns-then-is_mark-clause-parsed c =
 pub returns-in_err-pointed-clause-parsed : goal.returns-in_err-pointed-clause-parsed
 returns-in_err-pointed-clause-parsed c =
     let e : c.from_residual-in_err-pointed.result ≡ Err c.in_err-pointed.field-0.0 = search rules in
-    subst (ExactAnswers (Externals c.args.source.now.names.now) external_of 200 c.args.source.now.tokens.now c.args.source.now.end c.args.from) (sym e)
-    (external_name_stops c.args.source.now.names.now c.args.source.now.tokens.now c.args.source.now.end c.args.from c.in_ok-specs.specs (record { taken = c.in_ok-specs.ensures.parsed; no_typedef = c.requires.other }) (λ k. false≢true (sym c.if-is_mark.false ∙ c.is_mark.ensures.mark.1 k)) c.in_err-pointed.field-0.0 c.in_err-pointed.ensures.parsed)
+    subst (ExactAnswers (Externals c.args.source.now.names.now) external_of 200 c.args.source.now.tokens.now c.args.from) (sym e)
+    (external_name_stops c.args.source.now.names.now c.args.source.now.tokens.now c.args.from c.in_ok-specs.specs (record { taken = c.in_ok-specs.ensures.parsed; no_typedef = c.requires.other }) (λ k. false≢true (sym c.if-is_mark.false ∙ c.is_mark.ensures.mark.1 k)) c.in_err-pointed.field-0.0 c.in_err-pointed.ensures.parsed)
 
 pub returns-then-is_mark-2-clause-parsed : goal.returns-then-is_mark-2-clause-parsed
 returns-then-is_mark-2-clause-parsed c =
@@ -48,7 +48,7 @@ pub returns-in_err-specs-clause-inside : goal.returns-in_err-specs-clause-inside
 returns-in_err-specs-clause-inside c =
     let e : c.from_residual.result ≡ Err c.in_err-specs.field-0.0 = search rules in
     subst (IsBodyApt c.args.source.now.names.now c.args.source.now.tokens.now c.args.from) (sym e)
-    (type_body c.args.source.now.names.now c.args.source.now.tokens.now c.args.source.now.end c.args.from c.in_err-specs.field-0.0 c.in_err-specs.ensures.parsed)
+    (type_body c.args.source.now.names.now c.args.source.now.tokens.now c.args.from c.in_err-specs.field-0.0 c.in_err-specs.ensures.parsed)
 
 pub returns-in_err-pointed-clause-inside : goal.returns-in_err-pointed-clause-inside
 returns-in_err-pointed-clause-inside c =

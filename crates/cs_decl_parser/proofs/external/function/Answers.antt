@@ -14,8 +14,8 @@ pub returns-in_err-parameters-clause-parsed : goal.returns-in_err-parameters-cla
 returns-in_err-parameters-clause-parsed c =
     λ from t p.
     let e : c.from_residual.result ≡ Err c.in_err-parameters.field-0.0 = search rules in
-    subst (ExactAnswers (Externals c.args.source.now.names.now) external_of 200 c.args.source.now.tokens.now c.args.source.now.end from) (sym e)
-    (external_parameters_stop c.args.source.now.names.now c.args.source.now.tokens.now c.args.source.now.end from c.args.specs c.args.pointed t p c.requires.stands c.in_err-parameters.field-0.0 c.in_err-parameters.ensures.parsed)
+    subst (ExactAnswers (Externals c.args.source.now.names.now) external_of 200 c.args.source.now.tokens.now from) (sym e)
+    (external_parameters_stop c.args.source.now.names.now c.args.source.now.tokens.now from c.args.specs c.args.pointed t p c.requires.stands c.in_err-parameters.field-0.0 c.in_err-parameters.ensures.parsed)
 
 pub returns-then-is_mark-clause-parsed : goal.returns-then-is_mark-clause-parsed
 returns-then-is_mark-clause-parsed c =
@@ -25,11 +25,11 @@ returns-then-is_mark-clause-parsed c =
 
 pub returns-then-not-is_mark-clause-parsed : goal.returns-then-not-is_mark-clause-parsed
 returns-then-not-is_mark-clause-parsed c =
-    λ from t p. external_end_missing c.args.source.now.names.now c.args.source.now.tokens.now c.args.source.now.end from c.args.specs c.head-head.result c.refuse.result t (head_made c.args.source.now.names.now c.args.source.now.tokens.now c.args.specs.next c.args.pointed c.in_ok-parameters.parameters c.head-head.result p c.requires.stands c.in_ok-parameters.ensures.parsed c.head-head.ensures.size.0 c.head-head.ensures.size.1 c.head-head.ensures.tree) (λ k. false≢true (sym c.if-is_mark.false ∙ c.is_mark.ensures.mark.1 k)) (λ k named. false≢true (sym c.if-not-is_mark.true ∙ c.is_mark-2.ensures.mark.1 k)) c.refuse.ensures.is
+    λ from t p. external_end_missing c.args.source.now.names.now c.args.source.now.tokens.now from c.args.specs c.head-head.result c.refuse.result t (head_made c.args.source.now.names.now c.args.source.now.tokens.now c.args.specs.next c.args.pointed c.in_ok-parameters.parameters c.head-head.result p c.requires.stands c.in_ok-parameters.ensures.parsed c.head-head.ensures.size.0 c.head-head.ensures.size.1 c.head-head.ensures.tree) (λ k. false≢true (sym c.if-is_mark.false ∙ c.is_mark.ensures.mark.1 k)) (λ k named. false≢true (sym c.if-not-is_mark.true ∙ c.is_mark-2.ensures.mark.1 k)) c.refuse.ensures.is
 
 pub returns-then-not-are_named-clause-parsed : goal.returns-then-not-are_named-clause-parsed
 returns-then-not-are_named-clause-parsed c =
-    λ from t p. external_end_missing c.args.source.now.names.now c.args.source.now.tokens.now c.args.source.now.end from c.args.specs c.head-head.result c.refuse-then-not-are_named.result t (head_made c.args.source.now.names.now c.args.source.now.tokens.now c.args.specs.next c.args.pointed c.in_ok-parameters.parameters c.head-head.result p c.requires.stands c.in_ok-parameters.ensures.parsed c.head-head.ensures.size.0 c.head-head.ensures.size.1 c.head-head.ensures.tree) (λ k. false≢true (sym c.if-is_mark.false ∙ c.is_mark.ensures.mark.1 k)) (λ k named. false≢true (sym c.if-not-are_named.true ∙ c.are_named.ensures.1 named)) c.refuse-then-not-are_named.ensures.is
+    λ from t p. external_end_missing c.args.source.now.names.now c.args.source.now.tokens.now from c.args.specs c.head-head.result c.refuse-then-not-are_named.result t (head_made c.args.source.now.names.now c.args.source.now.tokens.now c.args.specs.next c.args.pointed c.in_ok-parameters.parameters c.head-head.result p c.requires.stands c.in_ok-parameters.ensures.parsed c.head-head.ensures.size.0 c.head-head.ensures.size.1 c.head-head.ensures.tree) (λ k. false≢true (sym c.if-is_mark.false ∙ c.is_mark.ensures.mark.1 k)) (λ k named. false≢true (sym c.if-not-are_named.true ∙ c.are_named.ensures.1 named)) c.refuse-then-not-are_named.ensures.is
 
 pub returns-clause-parsed : goal.returns-clause-parsed
 returns-clause-parsed c =
@@ -42,8 +42,8 @@ pub returns-in_err-body-clause-parsed : goal.returns-in_err-body-clause-parsed
 returns-in_err-body-clause-parsed c =
     λ from t p.
     let e : c.from_residual-in_err-body.result ≡ Err c.in_err-body.field-0.0 = search rules in
-    subst (ExactAnswers (Externals c.args.source.now.names.now) external_of 200 c.args.source.now.tokens.now c.args.source.now.end from) (sym e)
-    (external_body_stops c.args.source.now.names.now c.args.source.now.tokens.now c.args.source.now.end from c.args.specs c.head-head.result t (head_made c.args.source.now.names.now c.args.source.now.tokens.now c.args.specs.next c.args.pointed c.in_ok-parameters.parameters c.head-head.result p c.requires.stands c.in_ok-parameters.ensures.parsed c.head-head.ensures.size.0 c.head-head.ensures.size.1 c.head-head.ensures.tree) (c.are_named.ensures.0 c.if-not-are_named.false) (c.is_mark-2.ensures.mark.0 c.if-not-is_mark.false) c.in_err-body.field-0.0 c.in_err-body.ensures.parsed)
+    subst (ExactAnswers (Externals c.args.source.now.names.now) external_of 200 c.args.source.now.tokens.now from) (sym e)
+    (external_body_stops c.args.source.now.names.now c.args.source.now.tokens.now from c.args.specs c.head-head.result t (head_made c.args.source.now.names.now c.args.source.now.tokens.now c.args.specs.next c.args.pointed c.in_ok-parameters.parameters c.head-head.result p c.requires.stands c.in_ok-parameters.ensures.parsed c.head-head.ensures.size.0 c.head-head.ensures.size.1 c.head-head.ensures.tree) (c.are_named.ensures.0 c.if-not-are_named.false) (c.is_mark-2.ensures.mark.0 c.if-not-is_mark.false) c.in_err-body.field-0.0 c.in_err-body.ensures.parsed)
 
 pub returns-then-is_mark-clause-placed : goal.returns-then-is_mark-clause-placed
 returns-then-is_mark-clause-placed c =
@@ -64,7 +64,7 @@ returns-in_err-parameters-clause-inside c =
     λ from t p.
     let e : c.from_residual.result ≡ Err c.in_err-parameters.field-0.0 = search rules in
     subst (IsBodyApt c.args.source.now.names.now c.args.source.now.tokens.now from) (sym e)
-    (parameters_body c.args.source.now.names.now c.args.source.now.tokens.now c.args.source.now.end from c.args.specs c.args.pointed t p c.requires.stands c.in_err-parameters.field-0.0 c.in_err-parameters.ensures.parsed)
+    (parameters_body c.args.source.now.names.now c.args.source.now.tokens.now from c.args.specs c.args.pointed t p c.requires.stands c.in_err-parameters.field-0.0 c.in_err-parameters.ensures.parsed)
 
 pub returns-then-not-is_mark-clause-inside : goal.returns-then-not-is_mark-clause-inside
 returns-then-not-is_mark-clause-inside c =

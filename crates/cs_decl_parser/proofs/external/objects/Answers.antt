@@ -16,22 +16,22 @@ pub returns-in_err-declarator-clause-parsed : goal.returns-in_err-declarator-cla
 returns-in_err-declarator-clause-parsed c =
     λ from t p.
     let e : c.from_residual.result ≡ Err c.in_err-declarator.field-0.0 = search rules in
-    subst (ExactAnswers (Externals c.args.source.now.names.now) external_of 200 c.args.source.now.tokens.now c.args.source.now.end from) (sym e)
-    (external_declarator_stops c.args.source.now.names.now c.args.source.now.tokens.now c.args.source.now.end from c.args.specs c.args.pointed t p c.requires.stands c.in_err-declarator.field-0.0 (c.in_err-declarator.ensures.parsed c.args.specs.next p))
+    subst (ExactAnswers (Externals c.args.source.now.names.now) external_of 200 c.args.source.now.tokens.now from) (sym e)
+    (external_declarator_stops c.args.source.now.names.now c.args.source.now.tokens.now from c.args.specs c.args.pointed t p c.requires.stands c.in_err-declarator.field-0.0 (c.in_err-declarator.ensures.parsed c.args.specs.next p))
 
 pub returns-in_err-first-clause-parsed : goal.returns-in_err-first-clause-parsed
 returns-in_err-first-clause-parsed c =
     λ from t p.
     let e : c.from_residual-in_err-first.result ≡ Err c.in_err-first.field-0.0 = search rules in
-    subst (ExactAnswers (Externals c.args.source.now.names.now) external_of 200 c.args.source.now.tokens.now c.args.source.now.end from) (sym e)
-    (external_value_stops c.args.source.now.names.now c.args.source.now.tokens.now c.args.source.now.end from c.args.specs c.args.pointed t p c.requires.stands c.in_err-first.field-0.0 (c.in_err-first.ensures.parsed c.args.specs.next (c.in_ok-declarator.ensures.parsed c.args.specs.next p)))
+    subst (ExactAnswers (Externals c.args.source.now.names.now) external_of 200 c.args.source.now.tokens.now from) (sym e)
+    (external_value_stops c.args.source.now.names.now c.args.source.now.tokens.now from c.args.specs c.args.pointed t p c.requires.stands c.in_err-first.field-0.0 (c.in_err-first.ensures.parsed c.args.specs.next (c.in_ok-declarator.ensures.parsed c.args.specs.next p)))
 
 pub returns-in_err-objects-clause-parsed : goal.returns-in_err-objects-clause-parsed
 returns-in_err-objects-clause-parsed c =
     λ from t p.
     let e : c.from_residual-in_err-objects.result ≡ Err c.in_err-objects.field-0.0 = search rules in
-    subst (ExactAnswers (Externals c.args.source.now.names.now) external_of 200 c.args.source.now.tokens.now c.args.source.now.end from) (sym e)
-    (external_object_stops c.args.source.now.names.now c.args.source.now.tokens.now c.args.source.now.end from c.args.specs c.args.pointed t p c.requires.stands c.in_err-objects.field-0.0 (c.in_err-objects.ensures.parsed c.args.specs.next (c.in_ok-first.ensures.parsed c.args.specs.next (c.in_ok-declarator.ensures.parsed c.args.specs.next p))))
+    subst (ExactAnswers (Externals c.args.source.now.names.now) external_of 200 c.args.source.now.tokens.now from) (sym e)
+    (external_object_stops c.args.source.now.names.now c.args.source.now.tokens.now from c.args.specs c.args.pointed t p c.requires.stands c.in_err-objects.field-0.0 (c.in_err-objects.ensures.parsed c.args.specs.next (c.in_ok-first.ensures.parsed c.args.specs.next (c.in_ok-declarator.ensures.parsed c.args.specs.next p))))
 
 pub returns-clause-parsed : goal.returns-clause-parsed
 returns-clause-parsed c =

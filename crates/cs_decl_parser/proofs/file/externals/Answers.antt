@@ -18,8 +18,8 @@ file-init c = record {
 pub returns-in_err-taken-clause-parsed : goal.returns-in_err-taken-clause-parsed
 returns-in_err-taken-clause-parsed c =
     let e : c.from_residual.result ≡ Err c.in_err-taken.field-0.0 = search rules in
-    subst (FileAnswer c.args.tokens.now c.args.end) (sym e)
-    (file_stops c.file.names c.args.tokens.now c.args.end (parts_of c.file.list.items) c.file.next c.file-test.true c.file.invariant.so_far c.in_err-taken.field-0.0 c.in_err-taken.ensures.parsed c.in_err-taken.ensures.apt c.in_err-taken.ensures.inside)
+    subst (FileAnswer c.args.tokens.now) (sym e)
+    (file_stops c.file.names c.args.tokens.now (parts_of c.file.list.items) c.file.next c.file-test.true c.file.invariant.so_far c.in_err-taken.field-0.0 c.in_err-taken.ensures.parsed c.in_err-taken.ensures.apt)
 
 pub file-preserved : goal.file-preserved
 file-preserved c =

@@ -11,7 +11,7 @@ use Rattle.cs_grammar.specs.DeclarationClasses.{Values}
 use Rattle.cs_grammar.proofs.InitialValues.{value_row, no_value_closes, items_of}
 use Rattle.cs_expr_parser.specs.Positions.{kind_or_end}
 use Rattle.cs_expr_parser.specs.Parts.{is_deep}
-use Rattle.cs_decl_parser.specs.declared.stop.Stop.TheVariants as stop
+use Rattle.cs_expr_parser.specs.declared.stop.Stop.TheVariants as stop
 use Rattle.cs_decl_parser.specs.Answers.{UnclosedAnswers, Stops}
 use Rattle.cs_decl_parser.proofs.StatementStops.{plain_flat}
 use Rattle.cs_decl_parser.proofs.RowSites.{TrailingRow, trailing_first, trailing_next, trailing_first_stops, trailing_next_stops, trailing_taken}
@@ -27,27 +27,27 @@ use Rattle.cs_decl_parser.proofs.initial.+initial.Goals as goal
 
 pub initial-returns-then-begins_designator-clause-parsed : goal.initial-returns-then-begins_designator-clause-parsed
 initial-returns-then-begins_designator-clause-parsed t c =
-    designator_stops c.args.source.now.names.now c.args.room c.args.source.now.tokens.now c.args.source.now.end c.args.from _ c.requires.within refl (c.begins_designator.ensures c.if-begins_designator.true)
+    designator_stops c.args.source.now.names.now c.args.room c.args.source.now.tokens.now c.args.from _ c.requires.within refl (c.begins_designator.ensures c.if-begins_designator.true)
 
 pub initial-returns-in_err-value-clause-parsed : goal.initial-returns-in_err-value-clause-parsed
 initial-returns-in_err-value-clause-parsed t c =
     let e : c.from_residual.result ≡ Err c.in_err-value.field-0.0 = search rules in
-    subst (UnclosedAnswers (Values c.args.source.now.names.now) initial c.args.room c.args.source.now.tokens.now c.args.source.now.end c.args.from) (sym e)
-    (single_value_stops c.args.source.now.names.now c.args.room c.requires.some c.args.source.now.tokens.now c.args.source.now.end c.args.from (λ k. false≢true (sym c.if-is_mark.false ∙ c.is_mark.ensures.mark.1 k)) c.in_err-value.field-0.0 c.in_err-value.ensures.parsed)
+    subst (UnclosedAnswers (Values c.args.source.now.names.now) initial c.args.room c.args.source.now.tokens.now c.args.from) (sym e)
+    (single_value_stops c.args.source.now.names.now c.args.room c.requires.some c.args.source.now.tokens.now c.args.from (λ k. false≢true (sym c.if-is_mark.false ∙ c.is_mark.ensures.mark.1 k)) c.in_err-value.field-0.0 c.in_err-value.ensures.parsed)
 
 pub initial-returns-clause-parsed : goal.initial-returns-clause-parsed
 initial-returns-clause-parsed t c = single_value_taken c.args.source.now.names.now c.args.room c.requires.some c.args.source.now.tokens.now c.args.from c.in_ok-value.value c.in_ok-value.ensures.parsed _ refl refl refl refl
 
 pub items-returns-then-room-lt2-clause-parsed : goal.items-returns-then-room-lt2-clause-parsed
 items-returns-then-room-lt2-clause-parsed t c =
-    subst (Stops (Values c.args.source.now.names.now) c.args.room c.args.source.now.tokens.now c.args.source.now.end c.args.from) (sym c.refuse_deep.ensures.is) (list_full_stops c.args.source.now.names.now c.args.room c.args.source.now.tokens.now c.args.from (let w = c.requires.within in omega arith) c.if-room-lt2.true c.requires.stands)
+    subst (Stops (Values c.args.source.now.names.now) c.args.room c.args.source.now.tokens.now c.args.from) (sym c.refuse_deep.ensures.is) (list_full_stops c.args.source.now.names.now c.args.room c.args.source.now.tokens.now c.args.from (let w = c.requires.within in omega arith) c.if-room-lt2.true c.requires.stands)
 
 pub items-returns-in_err-last-clause-parsed : goal.items-returns-in_err-last-clause-parsed
 items-returns-in_err-last-clause-parsed t c =
     let e : c.from_residual.result ≡ Err c.in_err-last.field-0.0 = search rules in
-    subst (UnclosedAnswers (Values c.args.source.now.names.now) initial c.args.room c.args.source.now.tokens.now c.args.source.now.end c.args.from) (sym e)
-    (items_stop c.args.source.now.names.now c.args.room (c.args.room - 1) (let enough = c.if-room-lt2.false in omega arith) (let enough = c.if-room-lt2.false in omega arith) c.args.source.now.tokens.now c.args.source.now.end c.args.from c.requires.stands c.in_err-last.field-0.0
-    (trailing_first_stops (Values c.args.source.now.names.now) (token.Mark mark.CloseBrace) (c.args.room - 1) (value_row c.args.source.now.names.now) (let enough = c.if-room-lt2.false in omega arith) c.args.source.now.tokens.now c.args.source.now.end (c.args.from + 1) c.in_err-last.field-0.0 c.in_err-last.ensures.parsed))
+    subst (UnclosedAnswers (Values c.args.source.now.names.now) initial c.args.room c.args.source.now.tokens.now c.args.from) (sym e)
+    (items_stop c.args.source.now.names.now c.args.room (c.args.room - 1) (let enough = c.if-room-lt2.false in omega arith) (let enough = c.if-room-lt2.false in omega arith) c.args.source.now.tokens.now c.args.from c.requires.stands c.in_err-last.field-0.0
+    (trailing_first_stops (Values c.args.source.now.names.now) (token.Mark mark.CloseBrace) (c.args.room - 1) (value_row c.args.source.now.names.now) (let enough = c.if-room-lt2.false in omega arith) c.args.source.now.tokens.now (c.args.from + 1) c.in_err-last.field-0.0 c.in_err-last.ensures.parsed))
 
 pub items-items-init : goal.items-items-init
 items-items-init t c =
@@ -71,9 +71,9 @@ pub items-returns-in_err-following-clause-parsed : goal.items-returns-in_err-fol
 items-returns-in_err-following-clause-parsed t c =
     let e : c.from_residual-in_err-following.result ≡ Err c.in_err-following.field-0.0 = search rules in
     let n = (next_stands (kind_or_end c.args.source.now.tokens.now c.items.last.next) (kind_or_end c.args.source.now.tokens.now (c.items.last.next + 1)) (sym c.goes_on.ensures.comma ∙ c.items-test.true)) in
-    subst (UnclosedAnswers (Values c.args.source.now.names.now) initial c.args.room c.args.source.now.tokens.now c.args.source.now.end c.args.from) (sym e)
-    (items_stop c.args.source.now.names.now c.args.room (c.args.room - 1) (let enough = c.if-room-lt2.false in omega arith) (let enough = c.if-room-lt2.false in omega arith) c.args.source.now.tokens.now c.args.source.now.end c.args.from c.requires.stands c.in_err-following.field-0.0
-    (trailing_next_stops (Values c.args.source.now.names.now) (token.Mark mark.CloseBrace) (c.args.room - 1) (value_row c.args.source.now.names.now) (let enough = c.if-room-lt2.false in omega arith) (no_value_closes c.args.source.now.names.now) c.args.source.now.tokens.now c.args.source.now.end (c.args.from + 1) (map initial c.items.list.items) (initial c.items.last.tree) c.items.last.next (is_deep c.items.last.otherwise) c.items.height c.items.invariant.so_far n.0 n.1 c.in_err-following.field-0.0 c.in_err-following.ensures.parsed))
+    subst (UnclosedAnswers (Values c.args.source.now.names.now) initial c.args.room c.args.source.now.tokens.now c.args.from) (sym e)
+    (items_stop c.args.source.now.names.now c.args.room (c.args.room - 1) (let enough = c.if-room-lt2.false in omega arith) (let enough = c.if-room-lt2.false in omega arith) c.args.source.now.tokens.now c.args.from c.requires.stands c.in_err-following.field-0.0
+    (trailing_next_stops (Values c.args.source.now.names.now) (token.Mark mark.CloseBrace) (c.args.room - 1) (value_row c.args.source.now.names.now) (let enough = c.if-room-lt2.false in omega arith) (no_value_closes c.args.source.now.names.now) c.args.source.now.tokens.now (c.args.from + 1) (map initial c.items.list.items) (initial c.items.last.tree) c.items.last.next (is_deep c.items.last.otherwise) c.items.height c.items.invariant.so_far n.0 n.1 c.in_err-following.field-0.0 c.in_err-following.ensures.parsed))
 
 pub items-items-preserved : goal.items-items-preserved
 items-items-preserved t c =
@@ -97,8 +97,8 @@ items-items-preserved t c =
 
 pub items-returns-then-not-is_mark-clause-parsed : goal.items-returns-then-not-is_mark-clause-parsed
 items-returns-then-not-is_mark-clause-parsed t c =
-    subst (λ (n : ℕ). Stops (Values c.args.source.now.names.now) c.args.room c.args.source.now.tokens.now c.args.source.now.end c.args.from (stop.Refused n c.items.last.otherwise)) (sym c.closing_at-closing.ensures)
-    (items_stop c.args.source.now.names.now c.args.room (c.args.room - 1) (let enough = c.if-room-lt2.false in omega arith) (let enough = c.if-room-lt2.false in omega arith) c.args.source.now.tokens.now c.args.source.now.end c.args.from c.requires.stands (stop.Refused _ c.items.last.otherwise)
+    subst (λ (n : ℕ). Stops (Values c.args.source.now.names.now) c.args.room c.args.source.now.tokens.now c.args.from (stop.Refused n c.items.last.otherwise)) (sym c.closing_at-closing.ensures)
+    (items_stop c.args.source.now.names.now c.args.room (c.args.room - 1) (let enough = c.if-room-lt2.false in omega arith) (let enough = c.if-room-lt2.false in omega arith) c.args.source.now.tokens.now c.args.from c.requires.stands (stop.Refused _ c.items.last.otherwise)
     (list_unclosed (Values c.args.source.now.names.now) (c.args.room - 1) (value_row c.args.source.now.names.now) (no_value_closes c.args.source.now.names.now) c.args.source.now.tokens.now (c.args.from + 1) (map initial c.items.list.items) (initial c.items.last.tree) c.items.last.next c.items.last.otherwise c.items.height c.items.invariant.so_far c.is_mark-comma.result (c.is_mark-comma.ensures.mark.0, c.is_mark-comma.ensures.mark.1)
     (sym c.goes_on.ensures.comma ∙ c.items-test.false)
     (λ k. false≢true (sym c.if-not-is_mark.true ∙ c.is_mark.ensures.mark.1 (ap (kind_or_end c.args.source.now.tokens.now) c.closing_at-closing.ensures ∙ k)))))

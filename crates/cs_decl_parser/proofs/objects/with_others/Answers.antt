@@ -34,8 +34,8 @@ objects-init c = record {
 pub returns-in_err-following-clause-parsed : goal.returns-in_err-following-clause-parsed
 returns-in_err-following-clause-parsed c = λ from first.
     let e : c.from_residual.result ≡ Err c.in_err-following.field-0.0 = search rules in
-    subst (ExactAnswers (Separated (Objects c.args.source.now.names.now) (token.Mark mark.Semicolon)) (λ list. map declared list.items) c.args.room c.args.source.now.tokens.now c.args.source.now.end from) (sym e)
-    (row_next_stops (Objects c.args.source.now.names.now) (token.Mark mark.Semicolon) c.args.room (object_row c.args.source.now.names.now) c.requires.some c.args.source.now.tokens.now c.args.source.now.end from (map declared c.objects.list.items) (declared c.objects.last.tree) c.objects.last.next (is_deep c.objects.last.otherwise) c.objects.height (c.objects.invariant.so_far from first) (c.is_mark.ensures.mark.0 c.objects-test.true) c.in_err-following.field-0.0 c.in_err-following.ensures.parsed)
+    subst (ExactAnswers (Separated (Objects c.args.source.now.names.now) (token.Mark mark.Semicolon)) (λ list. map declared list.items) c.args.room c.args.source.now.tokens.now from) (sym e)
+    (row_next_stops (Objects c.args.source.now.names.now) (token.Mark mark.Semicolon) c.args.room (object_row c.args.source.now.names.now) c.requires.some c.args.source.now.tokens.now from (map declared c.objects.list.items) (declared c.objects.last.tree) c.objects.last.next (is_deep c.objects.last.otherwise) c.objects.height (c.objects.invariant.so_far from first) (c.is_mark.ensures.mark.0 c.objects-test.true) c.in_err-following.field-0.0 c.in_err-following.ensures.parsed)
 
 pub objects-preserved : goal.objects-preserved
 objects-preserved c =

@@ -18,8 +18,8 @@ returns-then-declarator-room-clause-parsed c = λ from d.
 pub returns-in_err-value-clause-parsed : goal.returns-in_err-value-clause-parsed
 returns-in_err-value-clause-parsed c = λ from d.
     let e : c.from_residual.result ≡ Err c.in_err-value.field-0.0 = search rules in
-    subst (UnclosedAnswers (Objects c.args.source.now.names.now) declared c.args.room c.args.source.now.tokens.now c.args.source.now.end from) (sym e)
-    (object_value_stops c.args.source.now.names.now c.args.room (c.args.room - 1) (let a = c.requires.some in let b = c.requires.low in omega arith) c.args.source.now.tokens.now c.args.source.now.end from c.args.declarator d (c.is_mark.ensures.mark.0 c.if-not-is_mark.false) (let a = c.if-declarator-room.false in omega arith) c.in_err-value.field-0.0 c.in_err-value.ensures.parsed)
+    subst (UnclosedAnswers (Objects c.args.source.now.names.now) declared c.args.room c.args.source.now.tokens.now from) (sym e)
+    (object_value_stops c.args.source.now.names.now c.args.room (c.args.room - 1) (let a = c.requires.some in let b = c.requires.low in omega arith) c.args.source.now.tokens.now from c.args.declarator d (c.is_mark.ensures.mark.0 c.if-not-is_mark.false) (let a = c.if-declarator-room.false in omega arith) c.in_err-value.field-0.0 c.in_err-value.ensures.parsed)
 
 pub returns-clause-parsed : goal.returns-clause-parsed
 returns-clause-parsed c = λ from d.

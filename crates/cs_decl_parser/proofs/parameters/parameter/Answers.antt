@@ -12,25 +12,25 @@ pub returns-in_err-specs-clause-parsed : goal.returns-in_err-specs-clause-parsed
 returns-in_err-specs-clause-parsed c =
     let enough = c.requires.enough in
     let e : c.from_residual.result ≡ Err c.in_err-specs.field-0.0 = search rules in
-    subst (ParameterAnswer c.args.source.now.names.now c.args.room c.args.source.now.tokens.now c.args.source.now.end c.args.from) (sym e)
-    (specs_stop c.args.source.now.names.now c.args.room (c.args.room - 1) (omega arith) (omega arith) c.args.source.now.tokens.now c.args.source.now.end c.args.from c.requires.within c.in_err-specs.field-0.0 c.in_err-specs.ensures.parsed)
+    subst (ParameterAnswer c.args.source.now.names.now c.args.room c.args.source.now.tokens.now c.args.from) (sym e)
+    (specs_stop c.args.source.now.names.now c.args.room (c.args.room - 1) (omega arith) (omega arith) c.args.source.now.tokens.now c.args.from c.requires.within c.in_err-specs.field-0.0 c.in_err-specs.ensures.parsed)
 
 pub returns-in_err-name-clause-parsed : goal.returns-in_err-name-clause-parsed
 returns-in_err-name-clause-parsed c =
     let enough = c.requires.enough in
     let e : c.from_residual-in_err-name.result ≡ Err c.in_err-name.field-0.0 = search rules in
-    subst (ParameterAnswer c.args.source.now.names.now c.args.room c.args.source.now.tokens.now c.args.source.now.end c.args.from) (sym e)
-    (name_stops c.args.source.now.names.now c.args.room (c.args.room - 1) (omega arith) (omega arith) c.args.source.now.tokens.now c.args.source.now.end c.args.from c.in_ok-pointers.pointers.next c.in_ok-specs.specs c.in_ok-specs.ensures.parsed c.in_ok-pointers.pointers.tree.items c.in_ok-pointers.ensures.pointers c.in_err-name.field-0.0 c.in_err-name.ensures.name)
+    subst (ParameterAnswer c.args.source.now.names.now c.args.room c.args.source.now.tokens.now c.args.from) (sym e)
+    (name_stops c.args.source.now.names.now c.args.room (c.args.room - 1) (omega arith) (omega arith) c.args.source.now.tokens.now c.args.from c.in_ok-pointers.pointers.next c.in_ok-specs.specs c.in_ok-specs.ensures.parsed c.in_ok-pointers.pointers.tree.items c.in_ok-pointers.ensures.pointers c.in_err-name.field-0.0 c.in_err-name.ensures.name)
 
 pub returns-in_err-bounds-clause-parsed : goal.returns-in_err-bounds-clause-parsed
 returns-in_err-bounds-clause-parsed c =
     let enough = c.requires.enough in
     let e : c.from_residual-in_err-bounds.result ≡ Err c.in_err-bounds.field-0.0 = search rules in
     let n = c.in_ok-name.ensures.name in
-    subst (ParameterAnswer c.args.source.now.names.now c.args.room c.args.source.now.tokens.now c.args.source.now.end c.args.from) (sym e)
-    (stopped c.args.source.now.names.now c.args.room c.args.source.now.tokens.now c.args.source.now.end c.args.from c.in_err-bounds.field-0.0
-    (behind_specs_stops c.args.source.now.names.now c.args.room (c.args.room - 1) (omega arith) (omega arith) c.args.source.now.tokens.now c.args.source.now.end c.args.from c.in_ok-specs.specs c.in_ok-specs.ensures.parsed c.in_err-bounds.field-0.0
-    (tail_stops c.args.source.now.names.now (c.args.room - 1) c.args.source.now.tokens.now c.args.source.now.end c.in_ok-specs.specs.next c.in_ok-pointers.pointers.next c.in_ok-name.name.next c.in_ok-pointers.pointers.tree.items c.in_ok-name.name.tree
+    subst (ParameterAnswer c.args.source.now.names.now c.args.room c.args.source.now.tokens.now c.args.from) (sym e)
+    (stopped c.args.source.now.names.now c.args.room c.args.source.now.tokens.now c.args.from c.in_err-bounds.field-0.0
+    (behind_specs_stops c.args.source.now.names.now c.args.room (c.args.room - 1) (omega arith) (omega arith) c.args.source.now.tokens.now c.args.from c.in_ok-specs.specs c.in_ok-specs.ensures.parsed c.in_err-bounds.field-0.0
+    (tail_stops c.args.source.now.names.now (c.args.room - 1) c.args.source.now.tokens.now c.in_ok-specs.specs.next c.in_ok-pointers.pointers.next c.in_ok-name.name.next c.in_ok-pointers.pointers.tree.items c.in_ok-name.name.tree
     (record {
       pointers = c.in_ok-pointers.ensures.pointers;
       no_const = pointers_no_const c.args.source.now.names.now (c.args.room - 1) c.args.source.now.tokens.now c.args.from c.in_ok-pointers.pointers.next c.in_ok-specs.specs c.in_ok-pointers.pointers.tree.items c.in_ok-specs.ensures.parsed c.in_ok-pointers.ensures.pointers;

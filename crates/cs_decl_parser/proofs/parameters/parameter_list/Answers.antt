@@ -24,8 +24,8 @@ pub returns-in_err-last-clause-parsed : goal.returns-in_err-last-clause-parsed
 returns-in_err-last-clause-parsed c =
     let enough = c.requires.enough in
     let e : c.from_residual.result ≡ Err c.in_err-last.field-0.0 = search rules in
-    subst (ExactAnswers (ParameterRows c.args.source.now.names.now) (λ list. map parameter list.items) c.args.room c.args.source.now.tokens.now c.args.source.now.end c.args.from) (sym e)
-    (first_stops c.args.source.now.names.now c.args.room (omega arith) c.args.source.now.tokens.now c.args.source.now.end c.args.from c.requires.within c.in_err-last.field-0.0 c.in_err-last.ensures.parsed)
+    subst (ExactAnswers (ParameterRows c.args.source.now.names.now) (λ list. map parameter list.items) c.args.room c.args.source.now.tokens.now c.args.from) (sym e)
+    (first_stops c.args.source.now.names.now c.args.room (omega arith) c.args.source.now.tokens.now c.args.from c.requires.within c.in_err-last.field-0.0 c.in_err-last.ensures.parsed)
 
 pub parameters-init : goal.parameters-init
 parameters-init c =
@@ -48,8 +48,8 @@ pub returns-in_err-following-clause-parsed : goal.returns-in_err-following-claus
 returns-in_err-following-clause-parsed c =
     let enough = c.requires.enough in
     let e : c.from_residual-in_err-following.result ≡ Err c.in_err-following.field-0.0 = search rules in
-    subst (ExactAnswers (ParameterRows c.args.source.now.names.now) (λ list. map parameter list.items) c.args.room c.args.source.now.tokens.now c.args.source.now.end c.args.from) (sym e)
-    (next_stops c.args.source.now.names.now c.args.room (omega arith) c.args.source.now.tokens.now c.args.source.now.end c.args.from (map parameter c.parameters.list.items) (parameter c.parameters.last.tree) c.parameters.last.next c.parameters.height c.parameters.invariant.so_far
+    subst (ExactAnswers (ParameterRows c.args.source.now.names.now) (λ list. map parameter list.items) c.args.room c.args.source.now.tokens.now c.args.from) (sym e)
+    (next_stops c.args.source.now.names.now c.args.room (omega arith) c.args.source.now.tokens.now c.args.from (map parameter c.parameters.list.items) (parameter c.parameters.last.tree) c.parameters.last.next c.parameters.height c.parameters.invariant.so_far
     (c.is_mark.ensures.mark.0 c.parameters-test.true) c.in_err-following.field-0.0 c.in_err-following.ensures.parsed)
 
 pub parameters-preserved : goal.parameters-preserved
@@ -74,8 +74,8 @@ parameters-preserved c =
 pub returns-then-not-is_mark-clause-parsed : goal.returns-then-not-is_mark-clause-parsed
 returns-then-not-is_mark-clause-parsed c =
     let enough = c.requires.enough in
-    subst (Stops (ParameterRows c.args.source.now.names.now) c.args.room c.args.source.now.tokens.now c.args.source.now.end c.args.from) (sym c.refuse.ensures.is)
-    (unended_stops c.args.source.now.names.now c.args.room (omega arith) c.args.source.now.tokens.now c.args.source.now.end c.args.from (map parameter c.parameters.list.items) (parameter c.parameters.last.tree) c.parameters.last.next c.parameters.height c.parameters.invariant.so_far
+    subst (Stops (ParameterRows c.args.source.now.names.now) c.args.room c.args.source.now.tokens.now c.args.from) (sym c.refuse.ensures.is)
+    (unended_stops c.args.source.now.names.now c.args.room (omega arith) c.args.source.now.tokens.now c.args.from (map parameter c.parameters.list.items) (parameter c.parameters.last.tree) c.parameters.last.next c.parameters.height c.parameters.invariant.so_far
     (λ k. false≢true (sym c.parameters-test.false ∙ c.is_mark.ensures.mark.1 k)) (λ k. false≢true (sym c.if-not-is_mark.true ∙ c.is_mark-2.ensures.mark.1 k))
     (plain_reason File (kind_or_end c.args.source.now.tokens.now c.parameters.last.next)) (plain_flat File (kind_or_end c.args.source.now.tokens.now c.parameters.last.next)))
 

@@ -20,8 +20,8 @@ pub returns-in_err-list-clause-parsed : goal.returns-in_err-list-clause-parsed
 returns-in_err-list-clause-parsed c =
     let enough = c.requires.enough in
     let e : c.from_residual.result ≡ Err c.in_err-list.field-0.0 = search rules in
-    subst (ExactAnswers (ParameterLists c.args.source.now.names.now) parameters c.args.room c.args.source.now.tokens.now c.args.source.now.end c.args.from) (sym e)
-    (lists_stop c.args.source.now.names.now c.args.room (c.args.room - 1) (omega arith) (omega arith) c.args.source.now.tokens.now c.args.source.now.end c.args.from
+    subst (ExactAnswers (ParameterLists c.args.source.now.names.now) parameters c.args.room c.args.source.now.tokens.now c.args.from) (sym e)
+    (lists_stop c.args.source.now.names.now c.args.room (c.args.room - 1) (omega arith) (omega arith) c.args.source.now.tokens.now c.args.from
     (λ k. false≢true (sym c.if-is_mark.false ∙ c.is_mark.ensures.mark.1 k)) (λ v. false≢true (sym c.if-is_void_alone.false ∙ c.is_void_alone.ensures.void.1 v)) c.in_err-list.field-0.0 c.in_err-list.ensures.parsed)
 
 pub returns-clause-parsed : goal.returns-clause-parsed

@@ -10,13 +10,13 @@ pub returns-in_default-clause-parsed : goal.returns-in_default-clause-parsed
 returns-in_default-clause-parsed c =
     λ room some.
     let none = subst (IsNameAt (λ name. Unit {0}) (kind_or_end c.args.source.now.tokens.now (c.args.from + 1))) c.in_default.is c.in_ok-name.ensures.name in
-    goto_name_missing c.args.source.now.names.now room c.args.source.now.tokens.now c.args.source.now.end c.args.from c.refuse.result some c.requires.stands (λ n k. none n k tt) c.refuse.ensures.is
+    goto_name_missing c.args.source.now.names.now room c.args.source.now.tokens.now c.args.from c.refuse.result some c.requires.stands (λ n k. none n k tt) c.refuse.ensures.is
 
 pub returns-then-not-is_mark-clause-parsed : goal.returns-then-not-is_mark-clause-parsed
 returns-then-not-is_mark-clause-parsed c =
     λ room some.
     let name = subst (IsNameAt (λ name. Unit {0}) (kind_or_end c.args.source.now.tokens.now (c.args.from + 1))) c.in-Some.is c.in_ok-name.ensures.name in
-    goto_semicolon_missing c.args.source.now.names.now room c.args.source.now.tokens.now c.args.source.now.end c.args.from c.in-Some.name.name c.refuse-then-not-is_mark.result some c.requires.stands name.0 (λ k. false≢true (sym c.if-not-is_mark.true ∙ c.is_mark.ensures.mark.1 k)) c.refuse-then-not-is_mark.ensures.is
+    goto_semicolon_missing c.args.source.now.names.now room c.args.source.now.tokens.now c.args.from c.in-Some.name.name c.refuse-then-not-is_mark.result some c.requires.stands name.0 (λ k. false≢true (sym c.if-not-is_mark.true ∙ c.is_mark.ensures.mark.1 k)) c.refuse-then-not-is_mark.ensures.is
 
 pub returns-clause-parsed : goal.returns-clause-parsed
 returns-clause-parsed c =

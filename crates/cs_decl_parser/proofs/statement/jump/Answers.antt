@@ -10,7 +10,7 @@ use Rattle.cs_decl_parser.proofs.statement.jump.Goals as goal
 
 pub returns-then-not-is_mark-clause-parsed : goal.returns-then-not-is_mark-clause-parsed
 returns-then-not-is_mark-clause-parsed c =
-    λ room some. jump_stops c.args.source.now.names.now room c.args.source.now.tokens.now c.args.source.now.end c.args.from (sentence c.args.kind) c.refuse.result some c.requires.stands (λ k. false≢true (sym c.if-not-is_mark.true ∙ c.is_mark.ensures.mark.1 k)) c.refuse.ensures.is
+    λ room some. jump_stops c.args.source.now.names.now room c.args.source.now.tokens.now c.args.from (sentence c.args.kind) c.refuse.result some c.requires.stands (λ k. false≢true (sym c.if-not-is_mark.true ∙ c.is_mark.ensures.mark.1 k)) c.refuse.ensures.is
 
 pub returns-clause-parsed : goal.returns-clause-parsed
 returns-clause-parsed c =

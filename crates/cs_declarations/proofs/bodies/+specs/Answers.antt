@@ -12,6 +12,7 @@ use Rattle.cs_declarations.proofs.Beside.{known_beside}
 use Rattle.cs_declarations.proofs.BodyRows.{struct_among, enum_among, tag_told, word_told}
 use Rattle.cs_declarations.proofs.ClosedBodies.{members_stop, body_closed}
 use Rattle.cs_declarations.proofs.FoldedSoFar.{GoesOver, part_taken, part_stops}
+use Rattle.cs_declarations.proofs.SoundBodies.{specs_type-leaves}
 use Rattle.cs_declarations.proofs.bodies.+specs.Goals as goal
 
 pub group_read-returns-in_err-base-clause-told : goal.group_read-returns-in_err-base-clause-told
@@ -84,6 +85,9 @@ specs_type-returns-in-Struct-clause-told t c =
 pub specs_type-returns-in-Struct-clause-reading : goal.specs_type-returns-in-Struct-clause-reading
 specs_type-returns-in-Struct-clause-reading t c = subst (λ h. OnOk c.struct_body.result (c.struct_body.new.known.reading.items ≡ h.reading.items)) c.loop-word.invariant.same c.struct_body.ensures.reading
 
+pub specs_type-returns-in-Struct-clause-laid_out : goal.specs_type-returns-in-Struct-clause-laid_out
+specs_type-returns-in-Struct-clause-laid_out t c = specs_type-leaves (known_of c.args.known.now) c.args.place c.args.specs.now c.struct_body.result c.struct_body.new.known (specs_type-returns-in-Struct-clause-told t c)
+
 pub specs_type-returns-in-Enum-clause-told : goal.specs_type-returns-in-Enum-clause-told
 specs_type-returns-in-Enum-clause-told t c =
     let k = known_of c.args.known.now in
@@ -100,6 +104,9 @@ specs_type-returns-in-Enum-clause-told t c =
 
 pub specs_type-returns-in-Enum-clause-reading : goal.specs_type-returns-in-Enum-clause-reading
 specs_type-returns-in-Enum-clause-reading t c = subst (λ h. OnOk c.enum_body.result (c.enum_body.new.known.reading.items ≡ h.reading.items)) c.loop-word.invariant.same c.enum_body.ensures.reading
+
+pub specs_type-returns-in-Enum-clause-laid_out : goal.specs_type-returns-in-Enum-clause-laid_out
+specs_type-returns-in-Enum-clause-laid_out t c = specs_type-leaves (known_of c.args.known.now) c.args.place c.args.specs.now c.enum_body.result c.enum_body.new.known (specs_type-returns-in-Enum-clause-told t c)
 
 pub specs_type-returns-clause-told : goal.specs_type-returns-clause-told
 specs_type-returns-clause-told t c =
@@ -118,6 +125,9 @@ specs_type-returns-clause-told t c =
 
 pub specs_type-returns-clause-reading : goal.specs_type-returns-clause-reading
 specs_type-returns-clause-reading t c = subst (λ h. OnOk c.word_type.result (c.word_type.new.known.reading.items ≡ h.reading.items)) c.loop-word.invariant.same c.word_type.ensures.reading
+
+pub specs_type-returns-clause-laid_out : goal.specs_type-returns-clause-laid_out
+specs_type-returns-clause-laid_out t c = specs_type-leaves (known_of c.args.known.now) c.args.place c.args.specs.now c.word_type.result c.word_type.new.known (specs_type-returns-clause-told t c)
 
 pub struct_body-returns-in_err-number-clause-told : goal.struct_body-returns-in_err-number-clause-told
 struct_body-returns-in_err-number-clause-told t c =

@@ -1,5 +1,6 @@
 use Rattle.std.proofs.Common.{map, sym, subst, arith}
 use Rattle.std.specs.List.{All}
+use Rattle.cs_ast.specs.TypedProgram.{typed_program}
 use Rattle.cs_ast.specs.View.{definition}
 use Rattle.cs_analysis.specs.Shape.{IsCoverable}
 use Rattle.cs_app.specs.Entries.{IsAnalyzable}
@@ -12,5 +13,5 @@ analyze-requires g c =
     let functions = c.deref-function-items.result.now in
     let item = c.function-item.result in
     let analyzable : All IsAnalyzable (map definition functions) =
-    subst (λ l. All IsAnalyzable (map definition l)) (sym c.deref-function-items.ensures.value) (form_is_analyzable c.deref.result.now (map definition c.in-Ok.functions.items) c.in-Ok.ensures) in
+    subst (λ l. All IsAnalyzable (map definition l)) (sym c.deref-function-items.ensures.value) (form_is_analyzable (typed_program c.in-Some.program) (map definition c.in-Ok.functions.items) c.in-Ok.ensures) in
     subst (λ f. IsCoverable (definition f)) (sym c.function-item.is) (covered_at functions c.loop-function.function-index item (omega arith) analyzable).covered

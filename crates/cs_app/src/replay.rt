@@ -1,0 +1,110 @@
+//! The answer to a replay: how the run of a function ends with these inputs.
+ghost use Rattle.std.specs.Prelude.{◌≡◌, ◌++◌, codes, IfOk};
+ghost use Rattle.std.specs.List.{position};
+ghost use Rattle.cs_types.specs.Layout.{IsLaidOut};
+ghost use Rattle.cs_ast.specs.TypedProgram.{routine, typed_program};
+ghost use Rattle.cs_app.specs.Trees.{is_entry};
+ghost use Rattle.cs_app.specs.Answers.{outcome_status, IsReplayOf, IsReplayAnswer};
+
+use crate::answer::Answer;
+use crate::entries::number_of;
+use crate::status::Status;
+use cs_ast::typed::program::{Function, Program};
+use cs_interpreter::Setting;
+use cs_names::Name;
+use cs_report::append_replayed;
+use cs_runs::Outcome;
+use cs_steps::run;
+use cs_words::ReplayWords;
+use std::alloc::{AllocError, Global};
+
+/// Whether the function has this name and a body.
+#[tactic(auto, using(crate::proofs::ReplayLemmas::is_some_mapped))]
+fn is_entry(function: &Function, name: &Name) -> bool
+    ensures { result ≡ is_entry name.now (routine function.now) }
+{
+    function.name == *name && function.body.is_some()
+}
+
+/// The index of the first function with this name and a body, if there is one.
+fn entry_of(functions: &[Function], name: &Name) -> Option<usize>
+    ensures { result ≡ position (λ f. is_entry name.now (routine f)) functions.now }
+{
+    functions
+        .iter()
+        .position(|function| is_entry(function, name))
+}
+
+/// Found where a run ends in a fault.
+fn outcome_status(outcome: Outcome) -> Status
+    ensures { result ≡ outcome_status outcome }
+{
+    match outcome {
+        Outcome::Fault(_, _) => Status::Found,
+        Outcome::Done(_) | Outcome::Over(_, _) => Status::Clean,
+    }
+}
+
+/// The answer to the run of a function of the program, whose places are in these files.
+pub fn replayed(
+    alloc: Global,
+    files: &[Name],
+    program: &Program,
+    words: &ReplayWords,
+) -> Result<Answer, AllocError>
+    requires { IsLaidOut program.now.model program.now.table.list }
+    ensures { IfOk result (λ answer. IsReplayAnswer files.now (typed_program program.now) words.now answer.status answer.text.items) }
+{
+    match entry_of(&program.functions, &words.entry) {
+        Some(entry) => {
+            let answer = run_of(alloc, files, program, words, entry)?;
+            Ok(answer)
+        }
+        None => {
+            let answer = refused_entry(alloc, &words.entry)?;
+            Ok(answer)
+        }
+    }
+}
+
+/// The line of the outcome in which the run of the function with this number ends.
+fn run_of(
+    alloc: Global,
+    files: &[Name],
+    program: &Program,
+    words: &ReplayWords,
+    entry: usize,
+) -> Result<Answer, AllocError>
+    requires { IsLaidOut program.now.model program.now.table.list }
+    ensures { IfOk result (λ answer. IsReplayOf files.now (typed_program program.now) words.now entry answer.status answer.text.items) }
+{
+    let number = number_of(entry)?;
+    let guesses = Vec::new(alloc);
+    let setting = Setting {
+        program,
+        inputs: &words.inputs,
+        guesses: &guesses,
+        budgets: words.budgets,
+    };
+    let ended = run(alloc, &setting, number)?;
+    let mut text = Vec::new(alloc);
+    append_replayed(&mut text, files, ended.outcome)?;
+    Ok(Answer {
+        status: outcome_status(ended.outcome),
+        text,
+    })
+}
+
+/// The answer where the program has no function with this name and a body.
+fn refused_entry(alloc: Global, name: &Name) -> Result<Answer, AllocError>
+    ensures status { IfOk result (λ answer. answer.status ≡ Status.NoEntry) }
+    ensures text { IfOk result (λ answer. answer.text.items ≡ codes "refused entry " ++ (name.now ++ codes "\n")) }
+{
+    let mut text = Vec::from_slice(alloc, b"refused entry ")?;
+    text.extend_from_slice(name.as_bytes())?;
+    text.push(b'\n')?;
+    Ok(Answer {
+        status: Status::NoEntry,
+        text,
+    })
+}

@@ -1,0 +1,108 @@
+-- A token is left out, or a fault of syntax, as the tokens before it tell: for the contract of the parser of files.
+use Rattle.std.proofs.Common.{◌≡◌, ℕ, ◌<◌, ◌↔◌, Bool, true, false, IsTrue, List, [], ◌∷◌, ◌++◌, Some, length, drop, take, refl, sym, ap, ◌∙◌, subst}
+use Rattle.std.proofs.lemmas.Bool.{false≢true}
+use Rattle.std.proofs.lemmas.List.{append_cancel_right, take-append-drop, map-append}
+use Rattle.cs_ast.specs.declared.token.Token.{Token}
+use Rattle.cs_ast.specs.declared.token.TokenKind.{TokenKind}
+use Rattle.cs_ast.specs.declared.token.TokenKind.TheVariants as token
+use Rattle.cs_ast.specs.declared.token.Keyword.TheVariants as keyword
+use Rattle.cs_ast.specs.declared.token.Mark.TheVariants as mark
+use Rattle.cs_grammar.specs.declared.refusal.Reason.{Reason}
+use Rattle.cs_grammar.specs.declared.refusal.Reason.TheVariants.{Syntax, LeftOut, TooDeep}
+use Rattle.cs_grammar.specs.Text.{Kinds}
+use Rattle.cs_grammar.specs.FilePhrases.{BeginsFile}
+use Rattle.cs_grammar.specs.FileRefusals.{MayHave, IsInside, IsLeftOutOfFile, IsFileReason}
+use Rattle.cs_grammar.specs.Roles.{behind_member}
+use Rattle.cs_expr_parser.specs.Positions.{kinds, kind_or_end}
+use Rattle.cs_expr_parser.specs.Parts.{is_deep}
+use Rattle.cs_decl_parser.specs.Files.{is_left_out_by_place, IsFileRefusedAt}
+use Rattle.cs_decl_parser.specs.FileStops.{is_file_word, is_left_out_behind, left_out_if}
+
+abbrev colon : TokenKind
+colon = token.Mark mark.Colon
+
+other_behind : (next : TokenKind) → (next ≡ colon → ⊥) → is_file_word next ≡ false → is_left_out_by_place next ≡ false → is_left_out_behind next ≡ false
+other_behind (token.Mark mark.Colon) other w e = absurd (other refl)
+other_behind (token.Mark _) other w e = e
+other_behind (token.Keyword _) other w e = w
+other_behind _ other w e = w
+
+-- another token is refused
+pub told_of_others : (tokens : List Token) (at : ℕ) (reason : Reason) → (kind_or_end tokens at ≡ colon → ⊥) → is_file_word (kind_or_end tokens at) ≡ false → IsFileRefusedAt is_left_out_behind tokens at reason → IsFileRefusedAt is_left_out_by_place tokens at reason
+told_of_others tokens at reason other w r = record {
+  front = r.front;
+  spelled = r.spelled;
+  begun = r.begun;
+  furthest = r.furthest;
+  deep = r.deep;
+  flat = r.flat;
+  unfinished = r.unfinished;
+  why = λ within e. r.why within (other_behind (kind_or_end tokens at) other w e);
+}
+
+deep_why : (front : Kinds) (next : TokenKind) (reason : Reason) → is_deep reason ≡ true → BeginsFile (front ++ next ∷ []) → IsFileReason front (Some next) reason
+deep_why front next TooDeep d b = b
+deep_why front next LeftOut d b = absurd (false≢true d)
+deep_why front next Syntax d b = absurd (false≢true d)
+
+-- a token is refused as too deep
+pub told_of_deep : (tokens : List Token) (at : ℕ) (reason : Reason) → is_deep reason ≡ true → IsFileRefusedAt is_left_out_behind tokens at reason → IsFileRefusedAt is_left_out_by_place tokens at reason
+told_of_deep tokens at reason d r = record {
+  front = r.front;
+  spelled = r.spelled;
+  begun = r.begun;
+  furthest = r.furthest;
+  deep = r.deep;
+  flat = r.flat;
+  unfinished = r.unfinished;
+  why = λ within e. deep_why r.front (kind_or_end tokens at) reason d (r.deep within d);
+}
+
+-- the tokens before the one that is refused
+before : (tokens : List Token) (at : ℕ) (reason : Reason) (r : IsFileRefusedAt is_left_out_behind tokens at reason) → r.front ≡ kinds (take at tokens)
+before tokens at reason r =
+    append_cancel_right r.front (kinds (take at tokens)) (kinds (drop at tokens))
+    (sym r.spelled.spelled ∙ ap kinds (sym (take-append-drop at tokens)) ∙ map-append (λ (t : Token). t.kind) (take at tokens) (drop at tokens))
+
+begun : (tokens : List Token) (at : ℕ) (reason : Reason) (r : IsFileRefusedAt is_left_out_behind tokens at reason) → BeginsFile (kinds (take at tokens))
+begun tokens at reason r =
+    let b = r.begun in
+    subst BeginsFile (before tokens at reason r) (record { file = b.file; more = b.more; is_file = b.is_file; spelled = b.spelled })
+
+either_flat : (out : Bool) → is_deep (left_out_if out) ≡ false
+either_flat true = refl
+either_flat false = refl
+
+either_why : (front : Kinds) (next : TokenKind) (out : Bool) → (BeginsFile (front ++ next ∷ []) → ⊥) → (IsTrue out ↔ IsLeftOutOfFile front next) → IsFileReason front (Some next) (left_out_if out)
+either_why front next true none is = (none, is.0 refl)
+either_why front next false none is = (none, λ left. false≢true (is.1 left))
+
+-- the tokens before it tell whether it is left out
+pub told_behind : (tokens : List Token) (at : ℕ) (reason : Reason) (out : Bool) → is_deep reason ≡ false → (BeginsFile (kinds (take at tokens)) → IsTrue out ↔ IsLeftOutOfFile (kinds (take at tokens)) (kind_or_end tokens at)) → IsFileRefusedAt is_left_out_behind tokens at reason → IsFileRefusedAt is_left_out_by_place tokens at (left_out_if out)
+told_behind tokens at reason out flat is r =
+    let told = subst (λ (x : Kinds). IsTrue out ↔ IsLeftOutOfFile x (kind_or_end tokens at)) (sym (before tokens at reason r)) (is (begun tokens at reason r)) in
+    record {
+      front = r.front;
+      spelled = r.spelled;
+      begun = r.begun;
+      furthest = r.furthest;
+      deep = λ within d. absurd (false≢true (sym (either_flat out) ∙ d));
+      flat = λ within f. r.flat within flat;
+      unfinished = r.unfinished;
+      why = λ within e. either_why r.front (kind_or_end tokens at) out (r.flat within flat) told;
+    }
+
+-- a colon is left out behind a member's declarator
+pub told_colon : (tokens : List Token) (at : ℕ) (reason : Reason) (out : Bool) → is_deep reason ≡ false → kind_or_end tokens at ≡ colon → (BeginsFile (kinds (take at tokens)) → IsTrue out ↔ MayHave (kinds (take at tokens)) behind_member) → IsFileRefusedAt is_left_out_behind tokens at reason → IsFileRefusedAt is_left_out_by_place tokens at (left_out_if out)
+told_colon tokens at reason out flat k is r =
+    told_behind tokens at reason out flat (subst (λ (x : TokenKind). BeginsFile (kinds (take at tokens)) → IsTrue out ↔ IsLeftOutOfFile (kinds (take at tokens)) x) (sym k) is) r
+
+inside_word : (front : Kinds) (out : Bool) (next : TokenKind) → is_file_word next ≡ true → (BeginsFile front → IsTrue out ↔ IsInside front) → BeginsFile front → IsTrue out ↔ IsLeftOutOfFile front next
+inside_word front out (token.Keyword keyword.Static) w is = is
+inside_word front out (token.Keyword keyword.Typedef) w is = is
+inside_word front out (token.Keyword _) w is = absurd (false≢true w)
+inside_word front out _ w is = absurd (false≢true w)
+
+-- `static` and `typedef` are left out inside a block or an expression
+pub told_word : (tokens : List Token) (at : ℕ) (reason : Reason) (out : Bool) → is_deep reason ≡ false → is_file_word (kind_or_end tokens at) ≡ true → (BeginsFile (kinds (take at tokens)) → IsTrue out ↔ IsInside (kinds (take at tokens))) → IsFileRefusedAt is_left_out_behind tokens at reason → IsFileRefusedAt is_left_out_by_place tokens at (left_out_if out)
+told_word tokens at reason out flat w is r = told_behind tokens at reason out flat (inside_word (kinds (take at tokens)) out (kind_or_end tokens at) w is) r

@@ -1,0 +1,9 @@
+pub mod Traces
+pub mod Statements
+pub mod MemberTraces
+pub mod Files
+pub mod InsideTraces
+pub mod InsideBodies
+pub mod Longer
+pub mod InsideDeclarations
+pub mod InsideFiles

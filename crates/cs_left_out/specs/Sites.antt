@@ -1,0 +1,157 @@
+-- What the tokens of a file have come to, as far as it matters for what stands inside a block or an expression.
+use Rattle.std.specs.Prelude.{Bool, true, false, List, [], ◌∷◌}
+use Rattle.cs_ast.specs.declared.token.TokenKind.{TokenKind}
+use Rattle.cs_ast.specs.declared.token.TokenKind.TheVariants as token
+use Rattle.cs_ast.specs.declared.token.Keyword.{Keyword}
+use Rattle.cs_ast.specs.declared.token.Keyword.TheVariants as keyword
+use Rattle.cs_ast.specs.declared.token.Mark.{Mark}
+use Rattle.cs_ast.specs.declared.token.Mark.TheVariants as mark
+use Rattle.cs_grammar.specs.Text.{Kinds}
+use Rattle.cs_left_out.specs.declared.inside.Part.{Part}
+use Rattle.cs_left_out.specs.declared.inside.Part.TheVariants as part
+use Rattle.cs_left_out.specs.declared.inside.Where.{Where}
+use Rattle.cs_left_out.specs.declared.inside.Where.TheVariants.{Declaration, ListedValue, Constants, ListedItem, Inside}
+use Rattle.cs_left_out.specs.declared.inside.Tagging.{Tagging}
+use Rattle.cs_left_out.specs.declared.inside.Tagging.TheVariants as tagging
+
+-- what the tokens behind the innermost opening bracket have come to, what the last ones are, and what those around the bracket had
+-- come to, the innermost first
+pub record Site : Type 0 where
+  pub within : Where
+  pub behind : Tagging
+  pub around : List Where
+
+-- before any token
+abbrev pub the_first : Site
+the_first = record { within = Declaration; behind = tagging.Nothing; around = [] }
+
+-- behind a name
+abbrev pub tag_behind : Tagging → Tagging
+tag_behind tagging.Struct = tagging.StructTag
+tag_behind tagging.Enum = tagging.EnumTag
+tag_behind behind = tagging.Nothing
+
+-- behind a keyword
+abbrev pub tagging_behind : Keyword → Tagging
+tagging_behind keyword.Struct = tagging.Struct
+tagging_behind keyword.Enum = tagging.Enum
+tagging_behind other = tagging.Nothing
+
+-- behind a bracket or a parenthesis in such a place
+abbrev pub deeper : Part → Part
+deeper part.Body = part.Body
+deeper part.BodyChoice = part.Body
+deeper other = part.Nested
+
+-- behind `?` in such a place
+abbrev pub chosen : Part → Part
+chosen part.Body = part.BodyChoice
+chosen part.BodyChoice = part.BodyChoice
+chosen other = part.Choice
+
+abbrev pub in_parenthesis : Where → Where
+in_parenthesis (Inside place) = Inside (deeper place)
+in_parenthesis within = within
+
+abbrev pub in_bracket : Where → Where
+in_bracket (Inside place) = Inside (deeper place)
+in_bracket within = Inside part.Nested
+
+-- behind a brace: a type's members or constants, the body of a function, or a list of values
+abbrev pub in_brace : Where → Tagging → Where
+in_brace Declaration tagging.Struct = Declaration
+in_brace Declaration tagging.StructTag = Declaration
+in_brace Declaration tagging.Enum = Constants
+in_brace Declaration tagging.EnumTag = Constants
+in_brace Declaration tagging.Nothing = Inside part.Body
+in_brace (Inside part.Body) behind = Inside part.Body
+in_brace (Inside part.BodyChoice) behind = Inside part.Body
+in_brace within behind = Inside part.Item
+
+-- what stands around the brace, behind the closing one
+abbrev pub around_brace : Where → Where
+around_brace (Inside part.Value) = ListedValue
+around_brace (Inside part.Item) = ListedItem
+around_brace within = within
+
+abbrev pub opened : Where → Where → Site → Site
+opened inside outside s = record { within = inside; behind = tagging.Nothing; around = outside ∷ s.around }
+
+abbrev pub closed : List Where → Site
+closed [] = the_first
+closed (within ∷ around) = record { within = within; behind = tagging.Nothing; around = around }
+
+abbrev pub settled : Where → Site → Site
+settled within s = record { within = within; behind = tagging.Nothing; around = s.around }
+
+-- behind `=`
+abbrev pub with_equal : Where → Where
+with_equal Declaration = Inside part.Value
+with_equal Constants = Inside part.Constant
+with_equal within = within
+
+-- behind a comma
+abbrev pub with_comma : Where → Where
+with_comma (Inside part.Value) = Declaration
+with_comma ListedValue = Declaration
+with_comma (Inside part.Constant) = Constants
+with_comma ListedItem = Inside part.Item
+with_comma within = within
+
+-- behind a semicolon
+abbrev pub with_semicolon : Where → Where
+with_semicolon (Inside part.Value) = Declaration
+with_semicolon ListedValue = Declaration
+with_semicolon within = within
+
+-- behind `?`
+abbrev pub with_question : Where → Site → Site
+with_question (Inside place) s = opened (Inside (chosen place)) (Inside place) s
+with_question within s = settled within s
+
+-- behind a colon
+abbrev pub with_colon : Where → Site → Site
+with_colon (Inside part.Choice) s = closed s.around
+with_colon (Inside part.BodyChoice) s = closed s.around
+with_colon within s = settled within s
+
+-- behind another mark
+abbrev pub behind_mark : Mark → Where → Where
+behind_mark mark.Equal within = with_equal within
+behind_mark mark.Comma within = with_comma within
+behind_mark mark.Semicolon within = with_semicolon within
+behind_mark other within = within
+
+abbrev pub mark_step : Mark → Site → Site
+mark_step mark.OpenBrace s = opened (in_brace s.within s.behind) (around_brace s.within) s
+mark_step mark.OpenParenthesis s = opened (in_parenthesis s.within) s.within s
+mark_step mark.OpenBracket s = opened (in_bracket s.within) s.within s
+mark_step mark.CloseBrace s = closed s.around
+mark_step mark.CloseParenthesis s = closed s.around
+mark_step mark.CloseBracket s = closed s.around
+mark_step mark.Question s = with_question s.within s
+mark_step mark.Colon s = with_colon s.within s
+mark_step other s = settled (behind_mark other s.within) s
+
+-- with one more token
+abbrev pub step : TokenKind → Site → Site
+step (token.Name name) s = record { within = s.within; behind = tag_behind s.behind; around = s.around }
+step (token.Keyword word) s = record { within = s.within; behind = tagging_behind word; around = s.around }
+step (token.Mark mark) s = mark_step mark s
+step other s = settled s.within s
+
+-- with some more tokens
+abbrev pub run : Kinds → Site → Site
+run [] s = s
+run (kind ∷ kinds) s = run kinds (step kind s)
+
+-- inside a block or an expression
+abbrev pub is_inside : Where → Bool
+is_inside (Inside place) = true
+is_inside within = false
+
+-- inside a block
+abbrev pub is_in_body : Where → Bool
+is_in_body (Inside part.Body) = true
+is_in_body (Inside part.BodyChoice) = true
+is_in_body within = false

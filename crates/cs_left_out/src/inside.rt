@@ -1,0 +1,315 @@
+//! Where the tokens of a file stand inside a block or an expression.
+ghost use Rattle.std.specs.Prelude.{◌≡◌, ◌∷◌, ◌↔◌, IsTrue, IfOk, OnOk};
+ghost use Rattle.cs_grammar.specs.FilePhrases.{BeginsFile};
+ghost use Rattle.cs_grammar.specs.FileRefusals.{IsInside};
+ghost use Rattle.cs_left_out.specs.Sites.{tag_behind, tagging_behind, deeper as deep, chosen as choice, in_parenthesis as parenthesised, in_bracket as bracketed, in_brace as braced, around_brace as outside, opened, closed as shut, settled, with_equal as equal, with_comma as comma, with_semicolon as semicolon, with_question as question, with_colon as colon, is_inside as inside, behind_mark, mark_step, step as one_more};
+ghost use Rattle.cs_left_out.specs.declared.inside.Where.TheVariants as wheres;
+ghost use Rattle.cs_left_out.specs.Readings.{kinds, site_of};
+
+use cs_ast::{Keyword, Mark, Token, TokenKind};
+use std::alloc::{AllocError, Global};
+
+/// A place inside a block or an expression.
+#[derive(Clone, Copy, Debug, PartialEq, Eq)]
+pub enum Part {
+    /// The value of an object.
+    Value,
+    /// The value of an enumeration constant.
+    Constant,
+    /// An item of a list of values.
+    Item,
+    /// Between the brackets of an array's bound, or between brackets of an expression.
+    Nested,
+    /// Between `?` and `:`.
+    Choice,
+    /// The body of a function.
+    Body,
+    /// Between `?` and `:` in the body of a function.
+    BodyChoice,
+}
+
+/// What the tokens behind the innermost opening bracket have come to.
+#[derive(Clone, Copy, Debug, PartialEq, Eq)]
+pub enum Where {
+    /// A declaration, outside of expressions.
+    Declaration,
+    /// A list that is an object's value.
+    ListedValue,
+    /// The constants of an enumeration, outside of expressions.
+    Constants,
+    /// A list that is an item of a list of values.
+    ListedItem,
+    Inside(Part),
+}
+
+/// What the last tokens are.
+#[derive(Clone, Copy, Debug, PartialEq, Eq)]
+pub enum Tagging {
+    Struct,
+    StructTag,
+    Enum,
+    EnumTag,
+    Nothing,
+}
+
+/// What some tokens have come to.
+#[derive(Drop)]
+pub struct Reading {
+    within: Where,
+    behind: Tagging,
+    /// What the tokens around each opening bracket had come to, the innermost last.
+    around: Vec<Where>,
+}
+
+impl Part {
+    /// Behind an opening bracket or parenthesis.
+    fn deeper(self) -> Part
+        ensures { result ≡ deep self }
+    {
+        match self {
+            Part::Body | Part::BodyChoice => Part::Body,
+            _ => Part::Nested,
+        }
+    }
+
+    /// Behind `?`.
+    fn chosen(self) -> Part
+        ensures { result ≡ choice self }
+    {
+        match self {
+            Part::Body | Part::BodyChoice => Part::BodyChoice,
+            _ => Part::Choice,
+        }
+    }
+}
+
+impl Where {
+    fn in_parenthesis(self) -> Where
+        ensures { result ≡ parenthesised self }
+    {
+        match self {
+            Where::Inside(part) => Where::Inside(part.deeper()),
+            _ => self,
+        }
+    }
+
+    fn in_bracket(self) -> Where
+        ensures { result ≡ bracketed self }
+    {
+        match self {
+            Where::Inside(part) => Where::Inside(part.deeper()),
+            _ => Where::Inside(Part::Nested),
+        }
+    }
+
+    /// Behind an opening brace: members, constants, the body of a function, or a list of values.
+    fn in_brace(self, behind: Tagging) -> Where
+        ensures { result ≡ braced self behind }
+    {
+        match self {
+            Where::Declaration => behind.body(),
+            Where::Inside(Part::Body | Part::BodyChoice) => Where::Inside(Part::Body),
+            _ => Where::Inside(Part::Item),
+        }
+    }
+
+    /// Around braces, behind the closing one.
+    fn around_brace(self) -> Where
+        ensures { result ≡ outside self }
+    {
+        match self {
+            Where::Inside(Part::Value) => Where::ListedValue,
+            Where::Inside(Part::Item) => Where::ListedItem,
+            _ => self,
+        }
+    }
+
+    fn with_equal(self) -> Where
+        ensures { result ≡ equal self }
+    {
+        match self {
+            Where::Declaration => Where::Inside(Part::Value),
+            Where::Constants => Where::Inside(Part::Constant),
+            _ => self,
+        }
+    }
+
+    fn with_comma(self) -> Where
+        ensures { result ≡ comma self }
+    {
+        match self {
+            Where::Inside(Part::Value) | Where::ListedValue => Where::Declaration,
+            Where::Inside(Part::Constant) => Where::Constants,
+            Where::ListedItem => Where::Inside(Part::Item),
+            _ => self,
+        }
+    }
+
+    fn with_semicolon(self) -> Where
+        ensures { result ≡ semicolon self }
+    {
+        match self {
+            Where::Inside(Part::Value) | Where::ListedValue => Where::Declaration,
+            _ => self,
+        }
+    }
+
+    fn is_inside(self) -> bool
+        ensures { result ≡ inside self }
+    {
+        matches!(self, Where::Inside(_))
+    }
+}
+
+impl Tagging {
+    fn of_word(keyword: Keyword) -> Tagging
+        ensures { result ≡ tagging_behind keyword }
+    {
+        match keyword {
+            Keyword::Struct => Tagging::Struct,
+            Keyword::Enum => Tagging::Enum,
+            _ => Tagging::Nothing,
+        }
+    }
+
+    fn with_name(self) -> Tagging
+        ensures { result ≡ tag_behind self }
+    {
+        match self {
+            Tagging::Struct => Tagging::StructTag,
+            Tagging::Enum => Tagging::EnumTag,
+            _ => Tagging::Nothing,
+        }
+    }
+
+    /// Behind an opening brace in a declaration.
+    fn body(self) -> Where
+        ensures { result ≡ braced wheres.Declaration self }
+    {
+        match self {
+            Tagging::Struct | Tagging::StructTag => Where::Declaration,
+            Tagging::Enum | Tagging::EnumTag => Where::Constants,
+            Tagging::Nothing => Where::Inside(Part::Body),
+        }
+    }
+}
+
+impl Reading {
+    /// Reads one more token.
+    fn step(&mut self, kind: &TokenKind) -> Result<(), AllocError>
+        ensures { OnOk result (site_of self.new ≡ one_more kind.now (site_of self.old)) }
+    {
+        match kind {
+            TokenKind::Name(_) => {
+                self.behind = self.behind.with_name();
+                Ok(())
+            }
+            TokenKind::Keyword(keyword) => {
+                self.behind = Tagging::of_word(*keyword);
+                Ok(())
+            }
+            TokenKind::Mark(mark) => self.read_mark(*mark),
+            _ => {
+                self.settle(self.within);
+                Ok(())
+            }
+        }
+    }
+
+    fn read_mark(&mut self, mark: Mark) -> Result<(), AllocError>
+        ensures { OnOk result (site_of self.new ≡ mark_step mark (site_of self.old)) }
+    {
+        let within = self.within;
+        match mark {
+            Mark::OpenBrace => self.open(within.in_brace(self.behind), within.around_brace()),
+            Mark::OpenParenthesis => self.open(within.in_parenthesis(), within),
+            Mark::OpenBracket => self.open(within.in_bracket(), within),
+            Mark::CloseBrace | Mark::CloseParenthesis | Mark::CloseBracket => {
+                self.close();
+                Ok(())
+            }
+            Mark::Question => self.choose(),
+            Mark::Colon => {
+                self.end_choice();
+                Ok(())
+            }
+            _ => {
+                self.settle(behind_plain(mark, within));
+                Ok(())
+            }
+        }
+    }
+
+    /// Behind `?`.
+    fn choose(&mut self) -> Result<(), AllocError>
+        ensures { OnOk result (site_of self.new ≡ question (site_of self.old).within (site_of self.old)) }
+    {
+        match self.within {
+            Where::Inside(part) => self.open(Where::Inside(part.chosen()), Where::Inside(part)),
+            within => {
+                self.settle(within);
+                Ok(())
+            }
+        }
+    }
+
+    /// Behind a colon.
+    fn end_choice(&mut self)
+        ensures { site_of self.new ≡ colon (site_of self.old).within (site_of self.old) }
+    {
+        match self.within {
+            Where::Inside(Part::Choice | Part::BodyChoice) => self.close(),
+            within => self.settle(within),
+        }
+    }
+
+    fn open(&mut self, inside: Where, around: Where) -> Result<(), AllocError>
+        ensures { OnOk result (site_of self.new ≡ opened inside around (site_of self.old)) }
+    {
+        self.around.push(around)?;
+        self.within = inside;
+        self.behind = Tagging::Nothing;
+        Ok(())
+    }
+
+    fn close(&mut self)
+        ensures { site_of self.new ≡ shut (site_of self.old).around }
+    {
+        self.within = self.around.pop().unwrap_or(Where::Declaration);
+        self.behind = Tagging::Nothing;
+    }
+
+    fn settle(&mut self, within: Where)
+        ensures { site_of self.new ≡ settled within (site_of self.old) }
+    {
+        self.within = within;
+        self.behind = Tagging::Nothing;
+    }
+}
+
+/// Where tokens are behind a mark that is no bracket and belongs to no choice.
+fn behind_plain(mark: Mark, within: Where) -> Where
+    ensures { result ≡ behind_mark mark within }
+{
+    match mark {
+        Mark::Equal => within.with_equal(),
+        Mark::Comma => within.with_comma(),
+        Mark::Semicolon => within.with_semicolon(),
+        _ => within,
+    }
+}
+
+/// Whether a token behind these would stand inside a block or an expression, where a file begins with them.
+pub fn is_inside(alloc: Global, before: &[Token]) -> Result<bool, AllocError>
+    ensures { IfOk result (λ here. BeginsFile (kinds before.now) → (IsTrue here ↔ IsInside (kinds before.now))) }
+{
+    let mut reading = Reading {
+        within: Where::Declaration,
+        behind: Tagging::Nothing,
+        around: Vec::new(alloc),
+    };
+    'tokens: for token in before {
+        reading.step(&token.kind)?;
+    }
+    Ok(reading.within.is_inside())
+}

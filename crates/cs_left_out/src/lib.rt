@@ -1,0 +1,8 @@
+//! Which marks are left out where they stand in a file, told by the tokens before them.
+#![tactic(auto)]
+
+mod inside;
+mod members;
+
+pub use inside::is_inside;
+pub use members::is_behind_member;

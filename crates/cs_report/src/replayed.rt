@@ -1,0 +1,58 @@
+//! How a replayed run ends, as text.
+ghost use Rattle.std.specs.Prelude.{◌≡◌, ◌++◌, OnOk};
+ghost use Rattle.cs_report.specs.ReplayLines.{returned_text, budget_word, replay_line};
+
+use crate::place::append_place;
+use crate::text::append;
+use cs_names::Name;
+use cs_runs::{Budget, Outcome, Returned};
+use std::alloc::AllocError;
+
+/// Appends the line of a run: `done`, `done RETURNED`, `fault KIND PLACE` or `over BUDGET PLACE`.
+pub fn append_replayed(
+    text: &mut Vec<u8>,
+    files: &[Name],
+    outcome: Outcome,
+) -> Result<(), AllocError>
+    ensures { OnOk result (text.new.items ≡ text.old.items ++ replay_line files.now outcome) }
+{
+    match outcome {
+        Outcome::Done(returned) => {
+            append(text, "done")?;
+            append_returned(text, returned)?;
+        }
+        Outcome::Fault(kind, place) => {
+            append(text, format_args!("fault {} ", kind.name()))?;
+            append_place(text, files, place)?;
+        }
+        Outcome::Over(budget, place) => {
+            append(text, format_args!("over {} ", budget_word(budget)))?;
+            append_place(text, files, place)?;
+        }
+    }
+    append(text, "\n")
+}
+
+/// Appends what an entry returned, with the space before it.
+fn append_returned(text: &mut Vec<u8>, returned: Returned) -> Result<(), AllocError>
+    ensures { OnOk result (text.new.items ≡ text.old.items ++ returned_text returned) }
+{
+    match returned {
+        Returned::Nothing => Ok(()),
+        Returned::Number(number) => append(text, format_args!(" {number}")),
+        Returned::Null => append(text, " null"),
+        Returned::Object => append(text, " object"),
+        Returned::Unset => append(text, " unset"),
+    }
+}
+
+/// The word for a budget.
+fn budget_word(budget: Budget) -> &'static str
+    ensures { result.now ≡ budget_word budget }
+{
+    match budget {
+        Budget::Visits => "visits",
+        Budget::Depth => "depth",
+        Budget::Events => "events",
+    }
+}

@@ -1,0 +1,17 @@
+pub mod StatementForms
+pub mod Leaving
+pub mod MachineStates
+pub mod Overwriting
+pub mod Stacks
+pub mod Locals
+pub mod Statics
+pub mod InRows
+pub mod Remaining
+pub mod Loading
+pub mod Declaring
+pub mod ExpressionForms
+pub mod Functions
+pub mod Rows
+pub mod Beginning
+pub mod Writing
+pub mod Calling

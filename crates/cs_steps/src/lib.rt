@@ -1,0 +1,26 @@
+//! The steps of a plain interpreter: it runs a typed program as the plain machine does, step by step.
+#![tactic(auto, using(cs_interpreter::proofs::Performing::silent))]
+
+mod acting;
+mod allocations;
+mod calls;
+mod declarations;
+mod fetching;
+mod frames;
+mod jumps;
+mod lists;
+mod loops;
+mod marks;
+mod outside;
+mod putting;
+#[cfg(test)]
+mod run_tests;
+mod runner;
+mod runs;
+mod starting;
+mod statements;
+mod steps;
+mod switches;
+mod visits;
+
+pub use runs::{Ended, run};

@@ -1,0 +1,48 @@
+-- A function with its body, as plain data: for what puts bodies into functions.
+use Rattle.std.proofs.Common.{◌≡◌, List, Some, map, sym, ap, ◌∙◌, Vec, Global}
+use Rattle.cs_types.specs.Shape.{shape_of}
+use Rattle.cs_ast.specs.declared.raw.declaration.RawFunction.{RawFunction}
+use Rattle.cs_ast.specs.declared.raw.external.RawBody.{RawBody}
+use Rattle.cs_ast.specs.declared.typed.program.Function.{Function}
+use Rattle.cs_ast.specs.declared.typed.program.Local.{Local}
+use Rattle.cs_ast.specs.declared.typed.statement.Stmt.{Stmt}
+use Rattle.cs_ast.specs.declared.typed.statement.StmtKind.TheVariants as kind
+use Rattle.cs_ast.specs.TypedTree.{Statement, Block}
+use Rattle.cs_ast.specs.TypedProgram.{Variable, Routine, variable, routine}
+use Rattle.cs_ast.specs.TypedView.{statement, statement_at}
+use Rattle.cs_typing.specs.Objects.{Told}
+use Rattle.cs_typing.specs.Statements.{in_a_row}
+use Rattle.cs_typing.specs.Functions.{bodied}
+use Rattle.cs_typing.proofs.StatementsInARow.{block-in_a_row}
+
+-- a function with these variables and this body
+abbrev made : Function → RawFunction → RawBody → List Variable → Statement → Routine
+made function head body variables block = record {
+  name = function.name;
+  at = head.place;
+  returns = shape_of function.result;
+  parameters = function.parameters;
+  variables = variables;
+  body = Some block;
+  closes = body.closing;
+  written = function.written.items;
+}
+
+-- the function in the program
+abbrev pub with_parts : Function → RawFunction → RawBody → Vec Local Global → Vec Stmt Global → Function
+with_parts function head body locals statements = record {
+  name = function.name;
+  place = head.place;
+  result = function.result;
+  parameters = function.parameters;
+  locals = locals;
+  body = Some (record { place = body.opening; kind = kind.Block statements });
+  end = body.closing;
+  written = function.written;
+}
+
+pub routine-bodied : (function : Function) (head : RawFunction) (body : RawBody) (locals : Vec Local Global) (statements : Vec Stmt Global) (told : Told) → told.inside.variables ≡ map variable locals.items → told.statements ≡ map statement statements.items → routine (with_parts function head body locals statements) ≡ bodied head body told (routine function)
+routine-bodied function head body locals statements told variables row =
+    let block : statement_at body.opening (kind.Block statements) ≡ Block body.opening (in_a_row told.statements) = block-in_a_row body.opening statements ∙ ap (λ (ss : List Statement). Block body.opening (in_a_row ss)) (sym row) in
+    ap (made function head body (map variable locals.items)) block
+    ∙ ap (λ (vs : List Variable). made function head body vs (Block body.opening (in_a_row told.statements))) (sym variables)

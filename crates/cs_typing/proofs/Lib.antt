@@ -1,0 +1,16 @@
+pub mod BodiedFunctions
+pub mod CasesInTurn
+pub mod ChangedParts
+pub mod ConstantNumbers
+pub mod ConstantsSoFar
+pub mod FunctionAgain
+pub mod LabelPlaces
+pub mod LocalsInTurn
+pub mod ParameterTypes
+pub mod ProgramsLaidOut
+pub mod SoundFiles
+pub mod SoundStatements
+pub mod StatementKinds
+pub mod StatementRows
+pub mod StatementsInARow
+pub mod StatementsInTurn

@@ -1,0 +1,74 @@
+-- The typing of files (C11 6.9): the program that written declarations and functions are, or the first failing place.
+use Rattle.std.specs.Prelude.{ℕ, List, [], ◌∷◌, codes, Some, None}
+use Rattle.cs_types.specs.declared.data_model.DataModel.{DataModel}
+use Rattle.cs_types.specs.DataModel.{size_type_of}
+use Rattle.cs_types.specs.Shape.{Shape, void, integer, pointer}
+use Rattle.cs_ast.specs.declared.place.Place.{Place}
+use Rattle.cs_ast.specs.declared.raw.declaration.RawSpecs.{RawSpecs}
+use Rattle.cs_ast.specs.declared.raw.external.RawExternalKind.{RawExternalKind}
+use Rattle.cs_ast.specs.declared.raw.external.RawExternalKind.TheVariants as external
+use Rattle.cs_ast.specs.declared.raw.external.RawExternal.{RawExternal}
+use Rattle.cs_consts.specs.declared.scope.Callee.{Callee}
+use Rattle.cs_consts.specs.declared.scope.Callee.TheVariants.{Malloc, Calloc, Free}
+use Rattle.cs_consts.specs.Verdicts.{Verdict, Fine, lift}
+use Rattle.cs_consts.specs.Meanings.{Declaration, Function}
+use Rattle.cs_declarations.specs.Bodies.{Typing, specs_type, typedefs_added}
+use Rattle.cs_typing.specs.Objects.{Filed, with_known, objects_added}
+use Rattle.cs_typing.specs.Functions.{function_added}
+
+-- a function of the library, which is declared before a file begins
+abbrev pub library_function : List ℕ → Callee → Shape → List Shape → Declaration
+library_function name callee result parameters = record { name = name; meaning = Function (record { callee = callee; result = result; parameters = parameters }) }
+
+-- the functions that are declared before a file begins (C11 7.22.3)
+abbrev pub allocators : DataModel → List Declaration
+allocators model =
+    library_function (codes "malloc") Malloc (pointer void) (integer (size_type_of model) ∷ [])
+    ∷ library_function (codes "calloc") Calloc (pointer void) (integer (size_type_of model) ∷ integer (size_type_of model) ∷ [])
+    ∷ library_function (codes "free") Free void (pointer void ∷ [])
+    ∷ []
+
+-- a file of which nothing was read yet
+abbrev pub beginning : DataModel → Filed
+beginning model = record {
+  known = record {
+    context = record { model = model; table = record { list = [] }; scope = record { declarations = allocators model; tags = [] } };
+    reading = [];
+    outer = 0;
+    literals = [];
+  };
+  globals = [];
+  routines = [];
+}
+
+-- what stands before the declarators of a part of a file
+abbrev pub specs_of : RawExternalKind → RawSpecs
+specs_of (external.Type s) = s
+specs_of (external.Typedef s names) = s
+specs_of (external.Objects s objects) = s
+specs_of (external.Function s d) = s
+specs_of (external.Definition s d body) = s
+
+-- what a part of a file declares, before whose declarators stands a type
+abbrev pub external_declared : RawExternalKind → Filed → Shape → Verdict Filed
+external_declared (external.Type s) f base = Fine f
+external_declared (external.Typedef s names) f base = lift (λ k. Fine (with_known k f)) (typedefs_added base names.items f.known)
+external_declared (external.Objects s objects) f base = objects_added s base objects.items f
+external_declared (external.Function s d) f base = function_added d None f base
+external_declared (external.Definition s d body) f base = function_added d (Some body) f base
+
+abbrev pub external_read : RawExternalKind → Filed → Typing → Verdict Filed
+external_read kind f ty = external_declared kind (with_known ty.1 f) ty.0
+
+-- a part of a file at a place, behind others
+abbrev pub external_typed : Place → RawExternalKind → Filed → Verdict Filed
+external_typed at kind f = lift (external_read kind f) (specs_type f.known at (specs_of kind))
+
+-- the parts of a file, one behind another
+abbrev pub file_typed : List RawExternal → Filed → Verdict Filed
+file_typed [] f = Fine f
+file_typed (e ∷ es) f = lift (file_typed es) (external_typed e.place e.kind f)
+
+-- a typed file
+abbrev pub typed_file : DataModel → List RawExternal → Verdict Filed
+typed_file model file = file_typed file (beginning model)

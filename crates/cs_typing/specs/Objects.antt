@@ -1,0 +1,144 @@
+-- Objects and typedefs, in files and in blocks (C11 6.7, 6.9.2).
+use Rattle.std.specs.Prelude.{ℕ, Bool, true, false, not, ◌&&◌, ◌||◌, if◌then◌else◌, List, [], ◌∷◌, ◌++◌, length, slice_get, Option, Some, None, is_some}
+use Rattle.std.specs.Option.{option_and_then}
+use Rattle.cs_types.specs.Shape.{Shape, same_shape}
+use Rattle.cs_ast.specs.declared.place.Place.{Place}
+use Rattle.cs_ast.specs.declared.raw.declaration.RawSpecs.{RawSpecs}
+use Rattle.cs_ast.specs.declared.raw.declaration.RawDeclarator.{RawDeclarator}
+use Rattle.cs_ast.specs.declared.raw.declaration.RawFirstValue.{RawFirstValue}
+use Rattle.cs_ast.specs.declared.raw.declaration.RawInit.{RawInit}
+use Rattle.cs_ast.specs.TypedTree.{Initial, Statement, Declare}
+use Rattle.cs_ast.specs.TypedProgram.{Variable, FileObject, Routine}
+use Rattle.cs_consts.specs.declared.refusal.TypeCode.TheVariants.{DeclaredTwice}
+use Rattle.cs_consts.specs.Verdicts.{Verdict, Fine, Fault, lift}
+use Rattle.cs_consts.specs.Meanings.{Meaning, Global, Local}
+use Rattle.cs_declarations.specs.Known.{Known, with_literals, declaring, is_declared_here, meaning_here}
+use Rattle.cs_declarations.specs.Initializers.{InFile, InFunction, Reading, initial_typed}
+use Rattle.cs_declarations.specs.Objects.{object_type, is_constant_object}
+
+-- a file so far
+pub record Filed : Type 0 where
+  pub known : Known
+  pub globals : List FileObject
+  pub routines : List Routine
+
+-- the object has what it holds at first
+abbrev pub is_initialized : ℕ → List FileObject → Bool
+is_initialized number globals = is_some (option_and_then (λ (g : FileObject). g.initial) (slice_get globals number))
+
+-- a name that stands for no object yet may become one's; one that stands for an object may do so again, and is initialized once
+abbrev pub may_be_object : List FileObject → Bool → Option Meaning → Bool
+may_be_object globals initializes None = true
+may_be_object globals initializes (Some (Global number ty)) = not (initializes && is_initialized number globals)
+may_be_object globals initializes (Some other) = false
+
+-- the object of a name: a new one, or the one that was declared before with the same type
+pub record Object : Type 0 where
+  pub number : ℕ
+  pub filed : Filed
+
+abbrev pub with_known : Known → Filed → Filed
+with_known k f = record { known = k; globals = f.globals; routines = f.routines }
+
+abbrev pub with_globals : List FileObject → Filed → Filed
+with_globals globals f = record { known = f.known; globals = globals; routines = f.routines }
+
+abbrev pub new_object : Filed → RawDeclarator → Shape → Object
+new_object f d ty = record {
+  number = length f.globals;
+  filed = record {
+    known = declaring d.name (Global (length f.globals) ty) f.known;
+    globals = f.globals ++ record { name = d.name; at = d.place; ty = ty; constant = false; initial = None } ∷ [];
+    routines = f.routines;
+  };
+}
+
+abbrev pub object_of : Filed → RawDeclarator → Option Meaning → Shape → Verdict Object
+object_of f d (Some (Global number before)) ty = if same_shape before ty then Fine (record { number = number; filed = f }) else Fault DeclaredTwice d.place
+object_of f d other ty = Fine (new_object f d ty)
+
+-- a list of which the part with this number is changed, if it has one
+abbrev pub changed : {A : Type 0} → ℕ → (A → A) → List A → List A
+changed number change [] = []
+changed ℕ.zero change (first ∷ others) = change first ∷ others
+changed (ℕ.suc number) change (first ∷ others) = first ∷ changed number change others
+
+-- an object as further declarations leave it
+abbrev pub made_constant : Bool → FileObject → FileObject
+made_constant constant g = record { name = g.name; at = g.at; ty = g.ty; constant = g.constant || constant; initial = g.initial }
+
+abbrev pub holding : Initial → FileObject → FileObject
+holding first g = record { name = g.name; at = g.at; ty = g.ty; constant = g.constant; initial = Some first }
+
+abbrev pub with_initial : ℕ → Filed → Reading → Verdict Filed
+with_initial number f r = Fine (record { known = with_literals r.1 f.known; globals = changed number (holding r.0) f.globals; routines = f.routines })
+
+-- what stands behind its declarator
+abbrev pub object_initialized : Shape → Option RawFirstValue → Object → Verdict Filed
+object_initialized ty None o = Fine o.filed
+object_initialized ty (Some value) o =
+    lift (with_initial o.number o.filed) (initial_typed o.filed.known.context o.filed.known.literals InFile value.place ty value.initial)
+
+abbrev pub marked : RawSpecs → RawDeclarator → Object → Verdict Object
+marked s d o = Fine (record { number = o.number; filed = with_globals (changed o.number (made_constant (is_constant_object s d.pointers.items)) o.filed.globals) o.filed })
+
+-- a declared object of a file
+abbrev pub object_added : RawSpecs → Shape → RawInit → Filed → Verdict Filed
+object_added s base d f =
+    if may_be_object f.globals (is_some d.initial) (meaning_here d.declarator.name f.known)
+    then lift (λ ty. lift (object_initialized ty d.initial) (lift (marked s d.declarator) (object_of f d.declarator (meaning_here d.declarator.name f.known) ty)))
+    (object_type f.known.context base d)
+    else Fault DeclaredTwice d.declarator.place
+
+abbrev pub objects_added : RawSpecs → Shape → List RawInit → Filed → Verdict Filed
+objects_added s base [] f = Fine f
+objects_added s base (d ∷ ds) f = lift (objects_added s base ds) (object_added s base d f)
+
+-- the inside of a function so far: what is known, its parameters and locals, and how many of its labels were met
+pub record Inside : Type 0 where
+  pub known : Known
+  pub variables : List Variable
+  pub met : ℕ
+
+abbrev pub knowing : Known → Inside → Inside
+knowing k i = record { known = k; variables = i.variables; met = i.met }
+
+-- a local and the statement that declares it
+pub record LocalDeclared : Type 0 where
+  pub statement : Statement
+  pub inside : Inside
+
+-- behind the name of a local
+abbrev pub with_local : List ℕ → Shape → Inside → Inside
+with_local name ty i = record {
+  known = declaring name (Local (length i.variables) ty) i.known;
+  variables = i.variables ++ record { name = name; ty = ty; block = None } ∷ [];
+  met = i.met;
+}
+
+abbrev pub local_held : ℕ → Place → Inside → Reading → Verdict LocalDeclared
+local_held number at i r = Fine (record { statement = Declare at number (Some r.0); inside = knowing (with_literals r.1 i.known) i })
+
+-- a declaration stands at its `=`, or at its name where it has none; its name is known behind its declarator
+abbrev pub local_initialized : ℕ → Shape → Place → Option RawFirstValue → Inside → Verdict LocalDeclared
+local_initialized number ty at None i = Fine (record { statement = Declare at number None; inside = i })
+local_initialized number ty at (Some value) i =
+    lift (local_held number value.place i) (initial_typed i.known.context i.known.literals InFunction value.place ty value.initial)
+
+-- a declared object of a block
+abbrev pub local_added : Shape → RawInit → Inside → Verdict LocalDeclared
+local_added base d i =
+    if is_declared_here d.declarator.name i.known then Fault DeclaredTwice d.declarator.place
+    else lift (λ ty. local_initialized (length i.variables) ty d.declarator.place d.initial (with_local d.declarator.name ty i)) (object_type i.known.context base d)
+
+-- statements with what is known behind them
+pub record Told : Type 0 where
+  pub statements : List Statement
+  pub inside : Inside
+
+abbrev pub after_local : List Statement → LocalDeclared → Verdict Told
+after_local before one = Fine (record { statements = before ++ one.statement ∷ []; inside = one.inside })
+
+abbrev pub locals_added : Shape → List RawInit → Told → Verdict Told
+locals_added base [] so_far = Fine so_far
+locals_added base (d ∷ ds) so_far = lift (locals_added base ds) (lift (after_local so_far.statements) (local_added base d so_far.inside))

@@ -1,0 +1,77 @@
+//! The typed program of a file.
+ghost use Rattle.std.specs.Prelude.{◌≡◌, IfOk};
+ghost use Rattle.cs_types.specs.Layout.{IsLaidOut};
+ghost use Rattle.cs_ast.specs.TypedProgram.{typed_program};
+ghost use Rattle.cs_consts.specs.Verdicts.{Answers};
+ghost use Rattle.cs_typing.specs.Programs.{constants_in, typed};
+
+use crate::file::typed_file;
+use crate::filed::Filed;
+use cs_ast::raw::external::RawExternal;
+use cs_ast::typed::program::Program;
+use cs_ast::{Token, TokenKind};
+use cs_consts::TypeRefusal;
+use cs_declarations::Known;
+use cs_names::Name;
+use cs_types::DataModel;
+use indexmap::IndexSet;
+use std::alloc::{AllocError, Global};
+
+// The different values of the integer constants among tokens, in the order in which they appear first.
+fn constants_of(alloc: Global, tokens: &[Token]) -> Result<Vec<i128>, AllocError>
+    ensures { IfOk result (λ numbers. numbers.items ≡ constants_in tokens.now) }
+{
+    let mut numbers: IndexSet<i128> = IndexSet::new(alloc);
+    for token in tokens {
+        if let TokenKind::Number(constant) = &token.kind {
+            numbers
+                .insert(i128::from(constant.value))
+                .map_err(|_| AllocError)?;
+        }
+    }
+    Vec::from_slice(alloc, numbers.as_slice())
+}
+
+// The names once more.
+fn copied(alloc: Global, names: &[Name]) -> Result<Vec<Name>, AllocError>
+    ensures { IfOk result (λ made. made.items ≡ names.now) }
+{
+    let mut made = Vec::new(alloc);
+    for name in names {
+        made.push(name.copy()?)?;
+    }
+    Ok(made)
+}
+
+/// The program that the parts of a file with these tokens are, whose places are in these files, or the first failing place.
+#[tactic(auto, using(cs_consts::proofs::Lifting::lifts))]
+pub fn typed(
+    alloc: Global,
+    model: DataModel,
+    files: &[Name],
+    tokens: &[Token],
+    file: &[RawExternal],
+) -> Result<Program, TypeRefusal>
+    ensures told { Answers typed_program (typed model files.now tokens.now file.now) result }
+    ensures laid_out { IfOk result (λ program. IsLaidOut program.model program.table.list) }
+{
+    let Filed {
+        known,
+        globals,
+        functions,
+    } = typed_file(alloc, model, file)?;
+    let Known {
+        context,
+        literals,
+        ..
+    } = known;
+    Ok(Program {
+        model,
+        files: copied(alloc, files)?,
+        table: context.table,
+        globals,
+        literals,
+        functions,
+        constants: constants_of(alloc, tokens)?,
+    })
+}

@@ -1,0 +1,93 @@
+-- Calls are well formed: the rules of calls.
+use Rattle.std.proofs.Common.{◌≡◌, ℕ, ◌&&◌, not, List, [], ◌∷◌, length, Option, Some, None, eqb, refl, sym, subst, eqb-true}
+use Rattle.std.specs.Prelude.{IfSome}
+use Rattle.cs_types.specs.declared.data_model.DataModel.{DataModel}
+use Rattle.cs_types.specs.Shape.{Shape, void, integer, pointer, array, struct}
+use Rattle.cs_ast.specs.declared.place.Place.{Place}
+use Rattle.cs_ast.specs.declared.typed.operator.Allocator.{Allocator}
+use Rattle.cs_ast.specs.declared.typed.operator.Allocator.TheVariants as allocator
+use Rattle.cs_ast.specs.TypedTree.{Typed, TypedList, NoMore, Further}
+use Rattle.cs_consts.specs.declared.context.Context.{Context}
+use Rattle.cs_consts.specs.declared.scope.Callee.{Callee}
+use Rattle.cs_consts.specs.declared.scope.Callee.TheVariants.{Malloc, Calloc, Free, Numbered}
+use Rattle.cs_consts.specs.Meanings.{Signature}
+use Rattle.cs_consts.specs.Verdicts.{Verdict, Fine, Fault}
+use Rattle.cs_consts.specs.Integers.{type_of}
+use Rattle.cs_consts.specs.Calls.{parameters_of, allocates, is_pointer_target, admitted, before_others, converted_list, allocated, freed, call_by, call_of}
+use Rattle.cs_consts.specs.Typing.{call_with, call_or_not, no_function}
+use Rattle.cs_well_formed.specs.Expressions.{Setting, IsWell, AreWell, IsValue, IsValueOf, AreValuesOf, sizes_of}
+use Rattle.cs_well_formed.specs.Agreement.{IsFunction, IsAllocator}
+use Rattle.cs_well_formed.proofs.Verdicts.{IfFine, if_fine-any, lift-then, lift2-then, cond-then}
+use Rattle.cs_well_formed.proofs.Conversions.{converted-well}
+
+-- well-formed values, as many as there are types
+abbrev pub AreGiven : Setting → List Shape → TypedList → Type 0
+AreGiven s [] NoMore = Unit {0}
+AreGiven s (ty ∷ types) (Further e others) = IsWell s e × IsValue e × AreGiven s types others
+AreGiven s types values = ⊥
+
+-- well-formed values of these types
+abbrev AreTaken : Setting → List Shape → TypedList → Type 0
+AreTaken s types values = AreWell s values × AreValuesOf values types
+
+before-taken : (s : Setting) (at : Place) (ty : Shape) (types : List Shape) (v : Verdict Typed) (w : Verdict TypedList) → IfFine v (λ e. IsWell s e × IsValueOf e ty) → IfFine w (AreTaken s types) → IfFine (before_others at v w) (AreTaken s (ty ∷ types))
+before-taken s at ty types (Fine e) (Fine others) h k = ((h.0, k.0), (h.1, k.1))
+before-taken s at ty types (Fine e) (Fault code place) h k = tt
+before-taken s at ty types (Fault code place) (Fine others) h k = tt
+before-taken s at ty types (Fault code place) (Fault other there) h k = tt
+
+-- the values of arguments, each converted to the type of its parameter
+converted_list-taken : (s : Setting) (model : DataModel) (at : Place) (types : List Shape) (values : TypedList) → AreGiven s types values → IfFine (converted_list model at types values) (AreTaken s types)
+converted_list-taken s model at [] NoMore given = (tt, tt)
+converted_list-taken s model at [] (Further e others) given = absurd given
+converted_list-taken s model at (ty ∷ types) NoMore given = absurd given
+converted_list-taken s model at (ty ∷ types) (Further e others) given =
+    before-taken s at ty types _ _ (converted-well s model at e ty (type_of e) given.0 (given.1, refl)) (converted_list-taken s model at types others given.2)
+
+module _ (s : Setting) (at : Place) (target : Option Shape) where
+  allocated-well : (a : Allocator) (arguments : TypedList) (to : Option Shape) → AreWell s arguments → AreValuesOf arguments (sizes_of s.program.model a) → IfFine (allocated at a arguments to) (IsWell s)
+  allocated-well a arguments (Some (pointer ty)) well sizes = (well, sizes, ty, refl, refl)
+  allocated-well a arguments (Some void) well sizes = tt
+  allocated-well a arguments (Some (integer ty)) well sizes = tt
+  allocated-well a arguments (Some (array element count)) well sizes = tt
+  allocated-well a arguments (Some (struct number)) well sizes = tt
+  allocated-well a arguments None well sizes = tt
+
+  freed-well : (arguments : TypedList) → AreWell s arguments → AreValuesOf arguments (pointer void ∷ []) → IfFine (freed at arguments) (IsWell s)
+  freed-well NoMore well v = tt
+  freed-well (Further e NoMore) well v = (well.0, refl, v.0)
+  freed-well (Further e (Further e' others)) well v = tt
+
+  allocation-well : (a : Allocator) (f : Signature) (arguments : TypedList) → IsAllocator s.program a f → AreTaken s f.parameters arguments → IfFine (allocated at a arguments target) (IsWell s)
+  allocation-well a f arguments is taken = allocated-well a arguments target taken.0 (subst (AreValuesOf arguments) is.1 taken.1)
+
+  call_by-well : (callee : Callee) (f : Signature) (arguments : TypedList) → IsFunction s.program callee f → AreTaken s f.parameters arguments → IfFine (call_by at target callee f.result arguments) (IsWell s)
+  call_by-well (Numbered number) f arguments is taken = (taken.0, (is.0, is.1, is.2, subst (AreValuesOf arguments) (sym is.3) taken.1))
+  call_by-well Malloc f arguments is taken = allocation-well allocator.Malloc f arguments is taken
+  call_by-well Calloc f arguments is taken = allocation-well allocator.Calloc f arguments is taken
+  call_by-well Free f arguments is taken = freed-well arguments taken.0 (subst (AreValuesOf arguments) is.1 taken.1)
+
+  call_of-well : (f : Signature) (arguments : TypedList) → IsFunction s.program f.callee f → AreTaken s f.parameters arguments → IfFine (call_of at target f arguments) (IsWell s)
+  unfolding call_of
+  call_of-well f arguments is taken = call_by-well f.callee f arguments is taken
+
+-- a call that is admitted has an argument for each parameter
+admitted-counts : (at : Place) (target : Option Shape) (count : ℕ) (f : Signature) → IfFine (admitted at target count f) (λ g. (g ≡ f) × (length f.parameters ≡ count))
+unfolding admitted
+admitted-counts at target count f =
+    cond-then (λ g. (g ≡ f) × (length f.parameters ≡ count)) (eqb (length f.parameters) count) _ _
+    (λ h. cond-then (λ g. (g ≡ f) × (length f.parameters ≡ count)) (allocates f.callee && not (is_pointer_target target)) _ _ (λ _. tt) (λ _. (refl, eqb-true (length f.parameters) count h)))
+    (λ _. tt)
+
+-- a call of a function with its arguments
+pub call-well : (s : Setting) (c : Context) (at : Place) (target : Option Shape) (function : Option Signature) (count : ℕ) (v : Verdict Typed) (values : Verdict TypedList) → IfSome function (λ f. IsFunction s.program f.callee f) → IfFine values (λ vs. length (parameters_of function) ≡ count → AreGiven s (parameters_of function) vs) → IfFine (call_or_not c at target function count v values) (IsWell s)
+unfolding call_or_not call_with
+call-well s c at target None count v values there given = lift-then (λ _. Unit {0}) (IsWell s) (no_function at) v (if_fine-any v) (λ _ _. tt)
+call-well s c at target (Some f) count v values there given =
+    lift2-then (λ g. (g ≡ f) × (length f.parameters ≡ count)) (λ vs. length f.parameters ≡ count → AreGiven s f.parameters vs) (IsWell s) (call_with c at target) _ values
+    (admitted-counts at target count f) given
+    (λ g vs is are.
+    subst (λ h. IfFine (call_with c at target h vs) (IsWell s)) (sym is.0)
+    (lift-then (AreTaken s f.parameters) (IsWell s) (call_of at target f) _
+    (converted_list-taken s c.model at f.parameters vs (are is.1))
+    (λ ws taken. call_of-well s at target f ws there taken)))

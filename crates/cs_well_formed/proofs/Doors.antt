@@ -1,0 +1,109 @@
+-- What the doors of the typing of expressions give is what statements, initializers and declarations ask for.
+use Rattle.std.proofs.Common.{◌≡◌, [], Option, Some, None, refl, sym, subst}
+use Rattle.std.proofs.lemmas.List.{append-nil}
+use Rattle.cs_types.specs.IntType.{InRange}
+use Rattle.cs_types.specs.Shape.{Shape, integer}
+use Rattle.cs_ast.specs.declared.place.Place.{Place}
+use Rattle.cs_ast.specs.declared.raw.expression.RawExpr.{RawExpr}
+use Rattle.cs_ast.specs.RawView.{written}
+use Rattle.cs_ast.specs.TypedTree.{Typed, Of, Number}
+use Rattle.cs_consts.specs.declared.context.Context.{Context}
+use Rattle.cs_consts.specs.declared.purpose.Purpose.TheVariants.{Run, Constant}
+use Rattle.cs_consts.specs.Integers.{type_of, raised}
+use Rattle.cs_consts.specs.Conversions.{converted}
+use Rattle.cs_consts.specs.Operators.{tested}
+use Rattle.cs_consts.specs.Typing.{Literals, literals_behind, formed, operand_in}
+use Rattle.cs_consts.specs.Doors.{number_of_constant, value_of, operand_of, assigned_value, test_of, selector_of, discarded_value}
+use Rattle.cs_well_formed.specs.Expressions.{Setting, IsWell, IsValueOf, IsScalarValue, IsIntegerValue}
+use Rattle.cs_well_formed.specs.Constants.{HasConstants}
+use Rattle.cs_well_formed.specs.Agreement.{Agrees}
+use Rattle.cs_well_formed.specs.Laws.{IsTyped, FormedAreWell, OperandsAreWell, AssignedAreWell, TestsAreWell, SelectorsAreWell, DiscardedAreWell, ConstantsAreInRange}
+use Rattle.cs_well_formed.proofs.Verdicts.{IfFine, if_fine-at, lift-then}
+use Rattle.cs_well_formed.proofs.Integers.{raised-well}
+use Rattle.cs_well_formed.proofs.Conversions.{converted-well}
+use Rattle.cs_well_formed.proofs.Operators.{tested-well}
+use Rattle.cs_well_formed.proofs.Typing.{IsWellValue, done-well, value_in-well, operand_in-well, formed-well}
+
+-- an expression that is run, behind literals
+module _ (s : Setting) (c : Context) (literals : Literals) (e : RawExpr) (h : IsTyped s c literals e.kind) where
+  run-well : (target : Option Shape) → IfFine (formed c Run literals target e.place e.kind) (IsWell s)
+  run-well target = formed-well s c h.agrees Run literals target e.place e.kind h.constants h.texts
+
+  value-well : (target : Option Shape) → IfFine (operand_in c Run (formed c Run literals target e.place e.kind)) (IsWellValue s)
+  value-well target = operand_in-well s c h.agrees Run _ (run-well target)
+
+  -- one that has to have a value
+  pub operand_of-well : (target : Option Shape) → IfFine (operand_of c literals target e) (IsWellValue s)
+  unfolding operand_of
+  operand_of-well target = value-well target
+
+  -- one whose value goes to a type
+  pub assigned_value-well : (at : Place) (target : Shape) → IfFine (assigned_value c literals at target e) (λ v. IsWell s v × IsValueOf v target)
+  unfolding assigned_value
+  assigned_value-well at target =
+      lift-then (IsWellValue s) (λ v. IsWell s v × IsValueOf v target) (λ v. converted c.model at v target (type_of v)) _ (value-well (Some target))
+      (λ v held. converted-well s c.model at v target (type_of v) held.0 (held.1, refl))
+
+  -- one that is tested
+  pub test_of-well : (at : Place) → IfFine (test_of c literals at e) (λ v. IsWell s v × IsScalarValue v)
+  unfolding test_of
+  test_of-well at = lift-then (IsWellValue s) (λ v. IsWell s v × IsScalarValue v) (tested at) _ (value-well None) (λ v held. tested-well s at v held.0 held.1)
+
+  -- one that a `switch` goes by
+  pub selector_of-well : (at : Place) → IfFine (selector_of c literals at e) (λ v. IsWell s v × IsIntegerValue v)
+  unfolding selector_of
+  selector_of-well at =
+      lift-then (IsWellValue s) (λ v. IsWell s v × IsIntegerValue v) (λ v. raised c.model at v (type_of v)) _ (value-well None)
+      (λ v held. raised-well s c.model at v (type_of v) held.0 (held.1, refl))
+
+  -- one whose value is dropped
+  pub discarded_value-well : IfFine (discarded_value c literals e) (IsWellValue s)
+  unfolding discarded_value
+  discarded_value-well = value_in-well s c h.agrees Run _ (run-well None)
+
+-- the setting with these literals alone
+abbrev with_literals : Setting → Literals → Setting
+with_literals s literals = record s { program = record s.program { literals = literals } }
+
+-- what is known says nothing of literals
+agrees-with_literals : (s : Setting) (c : Context) (literals : Literals) → Agrees s c → Agrees (with_literals s literals) c
+agrees-with_literals s c literals h = record { model = h.model; table = h.table; declarations = h.declarations }
+
+number-InRange : (s : Setting) (c : Context) (e : Typed) → c.model ≡ s.program.model → IsWell s e → IfFine (number_of_constant e) (λ k. InRange c.model k.0 k.1)
+number-InRange s c (Of at (integer ty) (Number n)) same well =
+    let is : ty ≡ well.0 = cc in
+    subst (λ m. InRange m ty n) (sym same) (subst (λ k. InRange s.program.model k n) (sym is) well.2)
+number-InRange s c (Of at ty form) same well = tt
+
+-- a constant expression
+pub value_of-InRange : (s : Setting) (c : Context) (e : RawExpr) → Agrees s c → HasConstants (written e) → IfFine (value_of c e) (λ k. InRange c.model k.0 k.1)
+unfolding value_of
+value_of-InRange s c e h fit =
+    let alone = with_literals s (literals_behind [] e.kind) in
+    let agrees = agrees-with_literals s c (literals_behind [] e.kind) h in
+    lift-then (IsWell alone) (λ k. InRange c.model k.0 k.1) number_of_constant _
+    (done-well alone c agrees Constant _ (formed-well alone c agrees Constant [] None e.place e.kind fit ([], sym (append-nil _))))
+    (λ v well. number-InRange alone c v h.model well)
+
+pub formed_are_well : FormedAreWell
+formed_are_well s c purpose literals target at k e h is =
+    if_fine-at (IsWell s) (formed c purpose literals target at k) e (formed-well s c h.agrees purpose literals target at k h.constants h.texts) is
+
+pub operands_are_well : OperandsAreWell
+operands_are_well s c literals target e v h is = if_fine-at (IsWellValue s) (operand_of c literals target e) v (operand_of-well s c literals e h target) is
+
+pub assigned_are_well : AssignedAreWell
+assigned_are_well s c literals at target e v h is =
+    if_fine-at (λ r. IsWell s r × IsValueOf r target) (assigned_value c literals at target e) v (assigned_value-well s c literals e h at target) is
+
+pub tests_are_well : TestsAreWell
+tests_are_well s c literals at e v h is = if_fine-at (λ r. IsWell s r × IsScalarValue r) (test_of c literals at e) v (test_of-well s c literals e h at) is
+
+pub selectors_are_well : SelectorsAreWell
+selectors_are_well s c literals at e v h is = if_fine-at (λ r. IsWell s r × IsIntegerValue r) (selector_of c literals at e) v (selector_of-well s c literals e h at) is
+
+pub discarded_are_well : DiscardedAreWell
+discarded_are_well s c literals e v h is = if_fine-at (IsWellValue s) (discarded_value c literals e) v (discarded_value-well s c literals e h) is
+
+pub constants_are_in_range : ConstantsAreInRange
+constants_are_in_range s c e ty n h fit is = if_fine-at (λ k. InRange c.model k.0 k.1) (value_of c e) (ty, n) (value_of-InRange s c e h fit) is

@@ -1,0 +1,119 @@
+-- Names and string literals are well formed: the rules of names, and which literals stand before which.
+use Rattle.std.proofs.Common.{◌≡◌, ℕ, Bool, true, false, cond, List, [], ◌∷◌, ◌++◌, append_assoc, length, Option, Some, None, slice_get, refl, sym, ap, ◌∙◌}
+use Rattle.std.specs.Prelude.{nat_eq, nat_le, IfSome}
+use Rattle.std.specs.Option.{option_or}
+use Rattle.std.specs.List.{AllByRecursion}
+use Rattle.std.specs.Cmp.Lexicographic.{pointwise}
+use Rattle.std.proofs.lemmas.List.{append-nil}
+use Rattle.std.proofs.lemmas.List.Elements.{recursion_from_All}
+use Rattle.cs_types.specs.declared.int_type.IntType.TheVariants.{Int}
+use Rattle.cs_ast.specs.declared.place.Place.{Place}
+use Rattle.cs_ast.specs.declared.raw.expression.RawExprKind.{RawExprKind, Row_of-RawExpr, end_of-RawExpr, more_of-RawExpr}
+use Rattle.cs_ast.specs.declared.raw.expression.RawExprKind.TheVariants as kind
+use Rattle.cs_consts.specs.declared.context.Context.{Context}
+use Rattle.cs_consts.specs.Meanings.{Meaning, Typedef, Constant, Global, Local, Function, Declaration}
+use Rattle.cs_consts.specs.Scopes.{newest}
+use Rattle.cs_consts.specs.Calls.{function_in, called}
+use Rattle.cs_consts.specs.Typing.{Literals, literals_behind, literals_behind_row, named, text_at}
+use Rattle.cs_ast.specs.TypedProgram.{TypedProgram}
+use Rattle.cs_well_formed.specs.Expressions.{Setting, IsWell}
+use Rattle.cs_well_formed.specs.Agreement.{IsFunction, IsThere, Agrees, AreFirst}
+use Rattle.cs_well_formed.proofs.Verdicts.{IfFine, cond-then}
+
+-- one list is the beginning of another
+abbrev pub Begins : Literals → Literals → Type 0
+Begins first all = (rest : Literals) × (all ≡ first ++ rest)
+
+pub begins-trans : (a b c : Literals) → Begins a b → Begins b c → Begins a c
+begins-trans a b c h k = (h.0 ++ k.0, k.1 ∙ ap (λ xs. xs ++ k.0) h.1 ∙ append_assoc a h.0 k.0)
+
+pub begins-self : (a : Literals) → Begins a a
+begins-self a = ([], sym (append-nil a))
+
+mutual
+  -- the literals behind an expression begin with those before it
+  pub literals-begin : (literals : Literals) (k : RawExprKind) → Begins literals (literals_behind literals k)
+  literals-begin literals (kind.Name name) = begins-self literals
+  literals-begin literals (kind.Number constant) = begins-self literals
+  literals-begin literals (kind.Character value) = begins-self literals
+  literals-begin literals (kind.Text bytes) = (bytes ∷ [], refl)
+  literals-begin literals (kind.Parenthesis' p place inner) = literals-begin literals inner
+  literals-begin literals (kind.Index' p place left q place' right) = begins-trans _ _ _ (literals-begin literals left) (literals-begin (literals_behind literals left) right)
+  literals-begin literals (kind.Call' p place function shape row) = literals-begin_row literals row
+  literals-begin literals (kind.Member' p place object name) = literals-begin literals object
+  literals-begin literals (kind.Arrow' p place e name) = literals-begin literals e
+  literals-begin literals (kind.StepBehind' step p place object) = literals-begin literals object
+  literals-begin literals (kind.StepBefore' step p place object) = literals-begin literals object
+  literals-begin literals (kind.Prefix' operator p place e) = literals-begin literals e
+  literals-begin literals (kind.SizeOf' p place e) = literals-begin literals e
+  literals-begin literals (kind.SizeOfType' ty shape row) = literals-begin_row literals row
+  literals-begin literals (kind.Cast' ty shape row p place e) = literals-begin literals e
+  literals-begin literals (kind.Infix' operator p place left q place' right) = begins-trans _ _ _ (literals-begin literals left) (literals-begin (literals_behind literals left) right)
+  literals-begin literals (kind.Choice' p place test q place' one r place'' other) =
+      begins-trans _ _ _ (literals-begin literals test)
+      (begins-trans _ _ _ (literals-begin (literals_behind literals test) one) (literals-begin (literals_behind (literals_behind literals test) one) other))
+  literals-begin literals (kind.Assign' operator p place object q place' value) = begins-trans _ _ _ (literals-begin literals object) (literals-begin (literals_behind literals object) value)
+  literals-begin literals (kind.Comma' p place first q place' second) = begins-trans _ _ _ (literals-begin literals first) (literals-begin (literals_behind literals first) second)
+
+  -- the same of expressions in a row
+  pub literals-begin_row : (literals : Literals) {n : _} (row : Row_of-RawExpr n) → Begins literals (literals_behind_row literals row)
+  literals-begin_row literals end_of-RawExpr = begins-self literals
+  literals-begin_row literals (more_of-RawExpr place k rest) = begins-trans _ _ _ (literals-begin literals k) (literals-begin_row (literals_behind literals k) rest)
+
+-- the literals of a part are the first ones of the program, if those of the whole are
+pub first-part : (p : TypedProgram) (some all : Literals) → Begins some all → AreFirst p all → AreFirst p some
+first-part p some all h k = begins-trans some all p.literals h k
+
+literal-found : (before : Literals) (bytes : List ℕ) (rest : Literals) → slice_get ((before ++ bytes ∷ []) ++ rest) (length before) ≡ Some bytes
+literal-found [] bytes rest = refl
+literal-found (first ∷ before) bytes rest = literal-found before bytes rest
+
+-- a string literal
+pub text-well : (s : Setting) (literals : Literals) (at : Place) (bytes : List ℕ) → AreFirst s.program (literals ++ bytes ∷ []) → IfFine (text_at literals at bytes) (IsWell s)
+unfolding text_at
+text-well s literals at bytes texts =
+    cond-then (IsWell s) (nat_le (length bytes) 65535) _ _
+    (λ _. (bytes, ap (λ all. slice_get all (length literals)) texts.1 ∙ literal-found literals bytes texts.0, refl))
+    (λ _. tt)
+
+option_or-some : {A : Type 0} (P : A → Type 0) (o p : Option A) → IfSome o P → IfSome p P → IfSome (option_or o p) P
+option_or-some P (Some x) p h k = h
+option_or-some P None p h k = k
+
+cond_some-holds : {A : Type 0} (P : A → Type 0) (t : Bool) (x : A) → P x → IfSome (cond t (Some x) None) P
+cond_some-holds P true x h = h
+cond_some-holds P false x h = tt
+
+newest-holds : (P : Meaning → Type 0) (name : List ℕ) (ds : List Declaration) → AllByRecursion (λ (d : Declaration). P d.meaning) ds → IfSome (newest name ds) P
+newest-holds P name [] h = tt
+newest-holds P name (d ∷ ds) h =
+    option_or-some P (newest name ds) _ (newest-holds P name ds h.1) (cond_some-holds P (pointwise nat_eq d.name name) d.meaning h.0)
+
+module _ (s : Setting) (c : Context) (agrees : Agrees s c) where
+  -- what a name stands for is there
+  pub newest-there : (name : List ℕ) → IfSome (newest name c.scope.declarations) (IsThere s)
+  newest-there name = newest-holds (IsThere s) name c.scope.declarations (recursion_from_All (λ (d : Declaration). IsThere s d.meaning) c.scope.declarations agrees.declarations)
+
+  function_in-there : (m : Option Meaning) → IfSome m (IsThere s) → IfSome (function_in m) (λ f. IsFunction s.program f.callee f)
+  function_in-there (Some (Function f)) h = h
+  function_in-there (Some (Typedef ty)) h = tt
+  function_in-there (Some (Constant value)) h = tt
+  function_in-there (Some (Global number ty)) h = tt
+  function_in-there (Some (Local number ty)) h = tt
+  function_in-there None h = tt
+
+  -- the function that is called is there
+  pub called-there : (k : RawExprKind) → IfSome (called c.scope.declarations k) (λ f. IsFunction s.program f.callee f)
+  called-there (kind.Name name) = function_in-there (newest name c.scope.declarations) (newest-there name)
+  called-there (kind.Parenthesis' p place inner) = called-there inner
+  called-there other = tt
+
+-- a name
+pub named-well : (s : Setting) (at : Place) (m : Option Meaning) → IfSome m (IsThere s) → IfFine (named at m) (IsWell s)
+unfolding named
+named-well s at (Some (Constant n)) h = (Int, refl, h)
+named-well s at (Some (Global number ty)) h = h
+named-well s at (Some (Local number ty)) h = h
+named-well s at (Some (Function f)) h = tt
+named-well s at (Some (Typedef ty)) h = tt
+named-well s at None h = tt

@@ -1,0 +1,209 @@
+-- What the typing of an expression gives is well formed, by the productions of its tree.
+use Rattle.std.proofs.Common.{◌≡◌, ℕ, suc, true, false, List, [], ◌∷◌, length, Option, Some, None, refl, subst, arith}
+use Rattle.std.specs.Prelude.{ℤ, pos}
+use Rattle.cs_types.specs.declared.int_type.IntType.TheVariants.{Int}
+use Rattle.cs_types.specs.IntType.{InRange}
+use Rattle.cs_types.specs.Shape.{Shape, integer}
+use Rattle.cs_ast.specs.declared.place.Place.{Place}
+use Rattle.cs_ast.specs.declared.token.IntegerConstant.{IntegerConstant}
+use Rattle.cs_ast.specs.declared.raw.expression.RawExprKind.{RawExprKind, Row_of-RawExpr, end_of-RawExpr, more_of-RawExpr}
+use Rattle.cs_ast.specs.declared.raw.expression.RawExprKind.TheVariants as kind
+use Rattle.cs_ast.specs.declared.raw.operator.InfixOp.{InfixOp}
+use Rattle.cs_ast.specs.declared.raw.operator.PrefixOp.{PrefixOp}
+use Rattle.cs_ast.specs.declared.raw.operator.PrefixOp.TheVariants as prefix_op
+use Rattle.cs_ast.specs.declared.typed.operator.UnOp.TheVariants as un
+use Rattle.cs_ast.specs.declared.typed.operator.Gives.TheVariants.{Old, New}
+use Rattle.cs_ast.specs.RawView.{written_kind, written_row}
+use Rattle.cs_ast.specs.TypedTree.{Typed, Number, TypedList, NoMore}
+use Rattle.cs_consts.specs.declared.context.Context.{Context}
+use Rattle.cs_consts.specs.declared.purpose.Purpose.{Purpose}
+use Rattle.cs_consts.specs.Verdicts.{Verdict, lift, lift2}
+use Rattle.cs_consts.specs.Integers.{type_of, raised}
+use Rattle.cs_consts.specs.Objects.{is_void, valued, operand, measured}
+use Rattle.cs_consts.specs.Constants.{finished}
+use Rattle.cs_consts.specs.Conversions.{recast}
+use Rattle.cs_consts.specs.Operators.{combined, tested, followed}
+use Rattle.cs_consts.specs.Places.{selected}
+use Rattle.cs_consts.specs.Stores.{updatable, step_operator}
+use Rattle.cs_consts.specs.Scopes.{newest}
+use Rattle.cs_consts.specs.Calls.{called, parameters_of}
+use Rattle.cs_consts.specs.Typing.{Literals, literals_behind, literals_behind_row, row_length, constant_type, done, value_in, operand_in, purpose_if, purpose_behind, is_address, prefixed_value, prefixed, indexed_values, arrow_on, stepped_object, is_plain, left_side, stored, right_target, cast_type, given_shape, cast_operand, cast_to, chosen_values, measured_type, measured_arrays, base_in, further, formed, arguments_formed}
+use Rattle.cs_well_formed.specs.Expressions.{Setting, IsWell, IsWellForm, IsValue, IsScalarValue}
+use Rattle.cs_well_formed.specs.Constants.{IsHeldConstant, HasConstants, HaveConstants}
+use Rattle.cs_well_formed.specs.Agreement.{Agrees, AreFirst}
+use Rattle.cs_well_formed.proofs.Verdicts.{IfFine, if_fine-any, if_fine-weaker, lift-then, lift2-then, lift3-then, cond-then}
+use Rattle.cs_well_formed.proofs.Numbers.{constant-InRange, character-InRange}
+use Rattle.cs_well_formed.proofs.Constants.{finished-well}
+use Rattle.cs_well_formed.proofs.Integers.{raised-well, turned-well}
+use Rattle.cs_well_formed.proofs.Objects.{valued-well, operand-well, measured-well}
+use Rattle.cs_well_formed.proofs.Conversions.{recast-well}
+use Rattle.cs_well_formed.proofs.Operators.{tested-well, denied-well, chosen-well, followed-well, combined-well}
+use Rattle.cs_well_formed.proofs.Places.{address_of-well, through-well, indexed-well, selected-well, selected_through-well}
+use Rattle.cs_well_formed.proofs.Stores.{IsUpdated, IsLeft, stepped-well, updatable-well, left_side-well, stored-well}
+use Rattle.cs_well_formed.proofs.Names.{first-part, literals-begin, literals-begin_row, text-well, newest-there, called-there, named-well}
+use Rattle.cs_well_formed.proofs.Calls.{AreGiven, call-well}
+
+-- a well-formed value
+abbrev pub IsWellValue : Setting → Typed → Type 0
+IsWellValue s e = IsWell s e × IsValue e
+
+-- literals behind literals
+both-first : (s : Setting) (literals : Literals) (left right : RawExprKind) → AreFirst s.program (literals_behind (literals_behind literals left) right) → AreFirst s.program (literals_behind literals left)
+both-first s literals left right texts = first-part s.program (literals_behind literals left) _ (literals-begin (literals_behind literals left) right) texts
+
+module _ (s : Setting) (c : Context) (agrees : Agrees s c) where
+  pub done-well : (purpose : Purpose) (v : Verdict Typed) → IfFine v (IsWell s) → IfFine (done c purpose v) (IsWell s)
+  unfolding done
+  done-well purpose v well = lift-then (IsWell s) (IsWell s) (finished c.model purpose) v well (λ e w. finished-well s c.model purpose e agrees.model w)
+
+  pub value_in-well : (purpose : Purpose) (v : Verdict Typed) → IfFine v (IsWell s) → IfFine (value_in c purpose v) (IsWellValue s)
+  unfolding value_in
+  value_in-well purpose v well = lift-then (IsWell s) (IsWellValue s) (valued c.table.list) (done c purpose v) (done-well purpose v well) (valued-well s c agrees)
+
+  pub operand_in-well : (purpose : Purpose) (v : Verdict Typed) → IfFine v (IsWell s) → IfFine (operand_in c purpose v) (IsWellValue s)
+  unfolding operand_in
+  operand_in-well purpose v well = lift-then (IsWell s) (IsWellValue s) (operand c.table.list) (done c purpose v) (done-well purpose v well) (operand-well s c agrees)
+
+  -- an integer constant
+  number-well : (k : IntegerConstant) → IsHeldConstant k → IsWellForm s (integer (constant_type c.model k)) (Number (pos k.value))
+  number-well k fit = (constant_type c.model k, refl, subst (λ m. InRange m (constant_type c.model k) (pos k.value)) agrees.model (constant-InRange c.model k fit))
+
+  -- an operator before one operand
+  prefixed_value-well : (op : PrefixOp) (at : Place) (v : Typed) → IsWellValue s v → IfFine (prefixed_value c op at v) (IsWell s)
+  unfolding prefixed_value
+  prefixed_value-well prefix_op.Address at v held = address_of-well s at v held.0
+  prefixed_value-well prefix_op.Through at v held = through-well s at v (type_of v) held.0 (held.1, refl)
+  prefixed_value-well prefix_op.Plus at v held = if_fine-weaker _ (IsWell s) (raised c.model at v (type_of v)) (raised-well s c.model at v (type_of v) held.0 (held.1, refl)) (λ _ given. given.0)
+  prefixed_value-well prefix_op.Minus at v held = turned-well s c.model at un.Negate v (type_of v) held.0 (held.1, refl)
+  prefixed_value-well prefix_op.Complement at v held = turned-well s c.model at un.Complement v (type_of v) held.0 (held.1, refl)
+  prefixed_value-well prefix_op.Not at v held = denied-well s at v held.0 held.1
+
+  prefixed-well : (op : PrefixOp) (at : Place) (e : Typed) → IsWell s e → IfFine (prefixed c op at e) (IsWell s)
+  unfolding prefixed
+  prefixed-well op at e well =
+      cond-then (IsWell s) (is_address op) _ _
+      (λ _. address_of-well s at e well)
+      (λ _. lift-then (IsWellValue s) (IsWell s) (prefixed_value c op at) (operand c.table.list e) (operand-well s c agrees e well) (λ v held. prefixed_value-well op at v held))
+
+  -- a cast
+  cast_operand-well : (target : Shape) (e : Typed) → IsWell s e → IfFine (cast_operand c target e) (IsWellValue s)
+  unfolding cast_operand
+  cast_operand-well target e well = cond-then (IsWellValue s) (is_void target) _ _ (λ _. valued-well s c agrees e well) (λ _. operand-well s c agrees e well)
+
+  cast_to-well : (at : Place) (target : Shape) (e : Typed) → IsWell s e → IfFine (cast_to c at target e) (IsWell s)
+  unfolding cast_to
+  cast_to-well at target e well =
+      lift-then (IsWellValue s) (IsWell s) (λ v. recast c.model at v target (type_of v)) (cast_operand c target e) (cast_operand-well target e well)
+      (λ v held. recast-well s c.model at v target (type_of v) held.0 (held.1, refl))
+
+  -- a step
+  step-well : (op : _) (gives : _) (at : Place) (v : Verdict Typed) → IfFine v (IsWell s) → IfFine (lift (stepped_object c op gives at) (lift (updatable c.table.list op at) v)) (IsWell s)
+  step-well op gives at v well =
+      lift-then (IsUpdated s) (IsWell s) (stepped_object c op gives at) _
+      (lift-then (IsWell s) (IsUpdated s) (updatable c.table.list op at) v well (updatable-well s c agrees op at))
+      (λ object left. stepped-well s c.model op gives at object (type_of object) left refl)
+
+  -- `sizeof`
+  sized-well : (at : Place) (v : Verdict Typed) → IfFine (lift (measured_type c at) v) (IsWell s)
+  sized-well at v = lift-then (λ _. Unit {0}) (IsWell s) (measured_type c at) v (if_fine-any v) (λ e _. measured-well s c agrees at (type_of e))
+
+  sized_type-well : (at : Place) (v : Verdict Shape) (w : Verdict (List ℤ)) → IfFine (lift2 (measured_arrays c at) v w) (IsWell s)
+  unfolding measured_arrays
+  sized_type-well at v w =
+      lift2-then (λ _. Unit {0}) (λ _. Unit {0}) (IsWell s) (measured_arrays c at) v w (if_fine-any v) (if_fine-any w)
+      (λ base ns _ _. lift-then (λ _. Unit {0}) (IsWell s) (measured c.model c.table.list at) _ (if_fine-any _) (λ ty _. measured-well s c agrees at ty))
+
+  -- operators on two operands
+  infix-well : (op : InfixOp) (at : Place) (v w : Verdict Typed) → IfFine v (IsWellValue s) → IfFine w (IsWellValue s) → IfFine (lift2 (combined c.model c.table.list op at) v w) (IsWell s)
+  infix-well op at v w one other =
+      lift2-then (IsWellValue s) (IsWellValue s) (IsWell s) (combined c.model c.table.list op at) v w one other
+      (λ a b h k. combined-well s c agrees op at a b h.0 h.1 k.0 k.1)
+
+  -- one more argument
+  further-given : (ty : Shape) (types : List Shape) (count : ℕ) (v : Verdict Typed) (w : Verdict TypedList) → IfFine v (IsWellValue s) → IfFine w (λ vs. length types ≡ count → AreGiven s types vs) → IfFine (lift2 further v w) (λ vs. length (ty ∷ types) ≡ suc count → AreGiven s (ty ∷ types) vs)
+  further-given ty types count v w one others =
+      lift2-then (IsWellValue s) (λ vs. length types ≡ count → AreGiven s types vs) (λ vs. length (ty ∷ types) ≡ suc count → AreGiven s (ty ∷ types) vs) further v w one others
+      (λ e es h k counted. (h.0, h.1, k (omega (arith, counted))))
+
+  mutual
+    -- an expression, for any purpose and any target
+    pub formed-well : (purpose : Purpose) (literals : Literals) (target : Option Shape) (at : Place) (k : RawExprKind) → HasConstants (written_kind k) → AreFirst s.program (literals_behind literals k) → IfFine (formed c purpose literals target at k) (IsWell s)
+    formed-well purpose literals target at (kind.Name name) fit texts = named-well s at (newest name c.scope.declarations) (newest-there s c agrees name)
+    formed-well purpose literals target at (kind.Number k) fit texts = number-well k fit
+    formed-well purpose literals target at (kind.Character n) fit texts = (Int, refl, character-InRange s.program.model n fit)
+    formed-well purpose literals target at (kind.Text bytes) fit texts = text-well s literals at bytes texts
+    formed-well purpose literals target at (kind.Parenthesis' p place inner) fit texts = done-well purpose _ (formed-well purpose literals target place inner fit texts)
+    formed-well purpose literals target at (kind.Index' p place left q place' right) fit texts =
+        lift2-then (IsWellValue s) (IsWellValue s) (IsWell s) (indexed_values c at) _ _
+        (operand_in-well purpose _ (formed-well purpose literals None place left fit.0 (both-first s literals left right texts)))
+        (operand_in-well purpose _ (formed-well purpose (literals_behind literals left) None place' right fit.1 texts))
+        (λ a b h k. indexed-well s c agrees at a b (type_of a) (type_of b) h.0 (h.1, refl) k.0 (k.1, refl))
+    formed-well purpose literals target at (kind.Call' p place function shape row) fit texts =
+        call-well s c at target (called c.scope.declarations function) (row_length row)
+        (operand_in c purpose (formed c purpose literals None place function))
+        (arguments_formed c purpose literals (parameters_of (called c.scope.declarations function)) row)
+        (called-there s c agrees function)
+        (arguments-given purpose literals (parameters_of (called c.scope.declarations function)) row fit.1 texts)
+    formed-well purpose literals target at (kind.Member' p place object name) fit texts =
+        lift-then (IsWell s) (IsWell s) (selected c.table.list at name.place name.name) _
+        (done-well purpose _ (formed-well purpose literals None place object fit texts))
+        (λ e h. selected-well s c agrees at name.place name.name e h)
+    formed-well purpose literals target at (kind.Arrow' p place e name) fit texts =
+        lift-then (IsWellValue s) (IsWell s) (arrow_on c at name.place name.name) _
+        (operand_in-well purpose _ (formed-well purpose literals None place e fit texts))
+        (λ v h. selected_through-well s c agrees at name.place name.name v (type_of v) h.0 (h.1, refl))
+    formed-well purpose literals target at (kind.StepBehind' step p place object) fit texts =
+        step-well (step_operator step) Old at _ (done-well purpose _ (formed-well purpose literals None place object fit texts))
+    formed-well purpose literals target at (kind.StepBefore' step p place object) fit texts =
+        step-well (step_operator step) New at _ (done-well purpose _ (formed-well purpose literals None place object fit texts))
+    formed-well purpose literals target at (kind.Prefix' operator p place e) fit texts =
+        lift-then (IsWell s) (IsWell s) (prefixed c operator at) _ (done-well purpose _ (formed-well purpose literals None place e fit texts)) (prefixed-well operator at)
+    formed-well purpose literals target at (kind.SizeOf' p place e) fit texts = sized-well at _
+    formed-well purpose literals target at (kind.SizeOfType' ty shape row) fit texts = sized_type-well at _ _
+    formed-well purpose literals target at (kind.Cast' ty shape row p place e) fit texts =
+        lift2-then (λ _. Unit {0}) (IsWell s) (IsWell s) (cast_to c at) _ _
+        (if_fine-any (cast_type at (row_length row) (base_in c at ty)))
+        (done-well purpose _ (formed-well purpose literals (given_shape (cast_type at (row_length row) (base_in c at ty))) place e fit.1 texts))
+        (λ to v _ h. cast_to-well at to v h)
+    formed-well purpose literals target at (kind.Infix' operator p place left q place' right) fit texts =
+        let one = operand_in c purpose (formed c purpose literals None place left) in
+        infix-well operator at _ _
+        (operand_in-well purpose _ (formed-well purpose literals None place left fit.0 (both-first s literals left right texts)))
+        (operand_in-well (purpose_behind operator purpose one) _ (formed-well (purpose_behind operator purpose one) (literals_behind literals left) None place' right fit.1 texts))
+    formed-well purpose literals target at (kind.Choice' p place test q place' one r place'' other) fit texts =
+        let tells = lift (tested at) (operand_in c purpose (formed c purpose literals None place test)) in
+        let behind = literals_behind literals test in
+        let before = both-first s behind one other texts in
+        lift3-then (λ v. IsWell s v × IsScalarValue v) (IsWellValue s) (IsWellValue s) (IsWell s) (chosen_values c at) _ _ _
+        (lift-then (IsWellValue s) (λ v. IsWell s v × IsScalarValue v) (tested at) _
+        (operand_in-well purpose _ (formed-well purpose literals None place test fit.0 (both-first s literals test one before)))
+        (λ v h. tested-well s at v h.0 h.1))
+        (value_in-well (purpose_if true purpose tells) _ (formed-well (purpose_if true purpose tells) behind None place' one fit.1 before))
+        (value_in-well (purpose_if false purpose tells) _ (formed-well (purpose_if false purpose tells) (literals_behind behind one) None place'' other fit.2 texts))
+        (λ t a b h k l. chosen-well s c.model at t a b (type_of a) (type_of b) h.0 h.1 k.0 (k.1, refl) l.0 (l.1, refl))
+    formed-well purpose literals target at (kind.Assign' operator p place object q place' value) fit texts =
+        let left = lift (left_side c operator at) (done c purpose (formed c purpose literals None place object)) in
+        lift2-then (IsLeft s (is_plain operator)) (IsWellValue s) (IsWell s) (stored c operator at) _ _
+        (lift-then (IsWell s) (IsLeft s (is_plain operator)) (left_side c operator at) _
+        (done-well purpose _ (formed-well purpose literals None place object fit.0 (both-first s literals object value texts)))
+        (left_side-well s c agrees operator at))
+        (operand_in-well purpose _ (formed-well purpose (literals_behind literals object) (right_target operator left) place' value fit.1 texts))
+        (λ o v h k. stored-well s c agrees operator at o v h k.0 k.1)
+    formed-well purpose literals target at (kind.Comma' p place first q place' second) fit texts =
+        lift2-then (IsWellValue s) (IsWellValue s) (IsWell s) (followed at) _ _
+        (value_in-well purpose _ (formed-well purpose literals None place first fit.0 (both-first s literals first second texts)))
+        (value_in-well purpose _ (formed-well purpose (literals_behind literals first) None place' second fit.1 texts))
+        (λ a b h k. followed-well s at a b h.0 h.1 k.0 k.1)
+
+    -- the values of arguments
+    pub arguments-given : (purpose : Purpose) (literals : Literals) (types : List Shape) {n : _} (row : Row_of-RawExpr n) → HaveConstants (written_row row) → AreFirst s.program (literals_behind_row literals row) → IfFine (arguments_formed c purpose literals types row) (λ vs. length types ≡ row_length row → AreGiven s types vs)
+    arguments-given purpose literals types end_of-RawExpr fit texts = none types
+      where
+        none : (types : List Shape) → length types ≡ 0 → AreGiven s types NoMore
+        none [] h = tt
+        none (ty ∷ types) h = absurd (omega arith)
+    arguments-given purpose literals [] (more_of-RawExpr place k rest) fit texts = λ h. absurd (omega (arith, h))
+    arguments-given purpose literals (ty ∷ types) (more_of-RawExpr place k rest) fit texts =
+        further-given ty types (row_length rest) _ _
+        (operand_in-well purpose _ (formed-well purpose literals (Some ty) place k fit.0 (first-part s.program (literals_behind literals k) _ (literals-begin_row (literals_behind literals k) rest) texts)))
+        (arguments-given purpose (literals_behind literals k) types rest fit.1 texts)

@@ -1,0 +1,51 @@
+-- What is known where an expression is typed, and what is there in the program of which it becomes a part.
+use Rattle.std.specs.Prelude.{◌≡◌, ℕ, List, [], ◌∷◌, ◌++◌, Some, slice_get}
+use Rattle.std.specs.List.{All}
+use Rattle.cs_types.specs.declared.int_type.IntType.TheVariants.{Int}
+use Rattle.cs_types.specs.IntType.{InRange}
+use Rattle.cs_types.specs.Members.{Member}
+use Rattle.cs_types.specs.Layout.{members_of}
+use Rattle.cs_types.specs.Shape.{void, pointer}
+use Rattle.cs_ast.specs.declared.typed.operator.Allocator.{Allocator}
+use Rattle.cs_ast.specs.declared.typed.operator.Allocator.TheVariants as allocator
+use Rattle.cs_ast.specs.TypedProgram.{TypedProgram, Variable, FileObject, Routine}
+use Rattle.cs_consts.specs.declared.context.Context.{Context}
+use Rattle.cs_consts.specs.declared.scope.Callee.{Callee}
+use Rattle.cs_consts.specs.declared.scope.Callee.TheVariants.{Malloc, Calloc, Free, Numbered}
+use Rattle.cs_consts.specs.Meanings.{Signature, Meaning, Typedef, Constant, Global, Local, Function, Declaration}
+use Rattle.cs_consts.specs.Typing.{Literals}
+use Rattle.cs_well_formed.specs.Expressions.{Setting, parameter_types, sizes_of}
+
+-- a function that gives a block of memory, with the types that C11 7.22.3 gives it
+abbrev pub IsAllocator : TypedProgram → Allocator → Signature → Type 0
+IsAllocator p a f = (f.result ≡ pointer void) × (f.parameters ≡ sizes_of p.model a)
+
+-- a function of the program with these types
+abbrev pub IsRoutine : TypedProgram → ℕ → Signature → Type 0
+IsRoutine p number f = (r : Routine) × (slice_get p.routines number ≡ Some r) × (r.returns ≡ f.result) × (parameter_types r ≡ f.parameters)
+
+-- what a call of a function is
+abbrev pub IsFunction : TypedProgram → Callee → Signature → Type 0
+IsFunction p Malloc f = IsAllocator p allocator.Malloc f
+IsFunction p Calloc f = IsAllocator p allocator.Calloc f
+IsFunction p Free f = (f.result ≡ void) × (f.parameters ≡ pointer void ∷ [])
+IsFunction p (Numbered number) f = IsRoutine p number f
+
+-- what a name stands for is there, with its type
+abbrev pub IsThere : Setting → Meaning → Type 0
+IsThere s (Typedef ty) = Unit {0}
+IsThere s (Constant value) = InRange s.program.model Int value
+IsThere s (Global number ty) = (g : FileObject) × (slice_get s.program.globals number ≡ Some g) × (g.ty ≡ ty)
+IsThere s (Local number ty) = (v : Variable) × (slice_get s.variables number ≡ Some v) × (v.ty ≡ ty)
+IsThere s (Function f) = IsFunction s.program f.callee f
+
+-- what is known where an expression is typed holds in the program: its data model, the structs that have their members by now,
+-- and the declarations in force
+pub record Agrees (s : Setting) (c : Context) : Type 0 where
+  pub model : c.model ≡ s.program.model
+  pub table : (number : ℕ) (members : List Member) → members_of c.table.list number ≡ Some members → members_of s.program.table number ≡ Some members
+  pub declarations : All (λ (d : Declaration). IsThere s d.meaning) c.scope.declarations
+
+-- these literals are the first ones of the program
+abbrev pub AreFirst : TypedProgram → Literals → Type 0
+AreFirst p literals = (rest : Literals) × (p.literals ≡ literals ++ rest)

@@ -1,0 +1,10 @@
+pub mod Expressions
+pub mod Initials
+pub mod Statements
+pub mod Programs
+pub mod Constants
+pub mod Agreement
+pub mod Laws
+pub mod Growth
+pub mod Tokens
+pub mod Leading

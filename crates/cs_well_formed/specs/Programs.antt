@@ -1,0 +1,31 @@
+-- Well-formed programs: each node has the type and the parts that its form asks for, and each number names what is there.
+use Rattle.std.specs.Prelude.{◌≡◌, ◌≤◌, [], length, IfSome}
+use Rattle.std.specs.List.{All}
+use Rattle.cs_types.specs.Layout.{IsLaidOut}
+use Rattle.cs_types.specs.Shape.{void}
+use Rattle.cs_ast.specs.TypedTree.{Statement}
+use Rattle.cs_ast.specs.TypedProgram.{TypedProgram, FileObject, Routine}
+use Rattle.cs_well_formed.specs.Expressions.{Setting, IsWhole}
+use Rattle.cs_well_formed.specs.Initials.{IsWellInitial, HasConstantValues}
+use Rattle.cs_well_formed.specs.Statements.{IsWellStatement, label_count}
+
+-- where the body of a function stands
+abbrev pub setting_of : TypedProgram → Routine → Statement → Setting
+setting_of p r body = record { program = p; variables = r.variables; labels = label_count body; returns = r.returns }
+
+pub record IsWellRoutine (p : TypedProgram) (r : Routine) : Type 0 where
+  pub parameters : r.parameters ≤ length r.variables
+  pub written : length r.written ≡ r.parameters
+  pub body : IfSome r.body (λ body. IsWellStatement (setting_of p r body) body)
+
+-- where the initializers of file-scope objects stand
+abbrev pub outside : TypedProgram → Setting
+outside p = record { program = p; variables = []; labels = 0; returns = void }
+
+abbrev pub IsWellGlobal : TypedProgram → FileObject → Type 0
+IsWellGlobal p g = IsWhole p g.ty × IfSome g.initial (λ i. IsWellInitial (outside p) g.ty i × HasConstantValues p.model i)
+
+pub record IsWellFormed (p : TypedProgram) : Type 0 where
+  pub laid_out : IsLaidOut p.model p.table
+  pub globals : All (IsWellGlobal p) p.globals
+  pub routines : All (IsWellRoutine p) p.routines

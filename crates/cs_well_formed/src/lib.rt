@@ -1,0 +1,49 @@
+//! Well-formed programs, in `specs/`: what every typed program is, and what later calls may ask of one.
+#![tactic(auto)]
+
+ghost use Rattle.cs_well_formed.specs.Growth.{ExpressionsStay, InitialsStay, StatementsStay, AgreementStays, GlobalsStay, RoutinesStay};
+ghost use Rattle.cs_well_formed.specs.Laws.{FormedAreWell, OperandsAreWell, AssignedAreWell, TestsAreWell, SelectorsAreWell, DiscardedAreWell, ConstantsAreInRange, InitialsAreWell, FileInitialsAreConstant};
+ghost use Rattle.cs_well_formed.specs.Leading.{WordsLead, TypedefsLead, ParametersLead, ObjectsAreWhole};
+ghost use Rattle.cs_well_formed.specs.Tokens.{TextsHoldConstants, InitialTextsHoldConstants};
+
+/// What the typing of an expression gives is well formed, with the type that is asked for.
+pub fn expressions_are_well_formed()
+    ensures formed { FormedAreWell }
+    ensures operands { OperandsAreWell }
+    ensures assigned { AssignedAreWell }
+    ensures tests { TestsAreWell }
+    ensures selectors { SelectorsAreWell }
+    ensures discarded { DiscardedAreWell }
+    ensures constants { ConstantsAreInRange }
+{}
+
+/// What an object of a whole type holds at first is well formed, where the structs of the program are laid out, and constant where
+/// the object stands in a file.
+pub fn initializers_are_well_formed()
+    ensures well_formed { InitialsAreWell }
+    ensures constant { FileInitialsAreConstant }
+{}
+
+/// What is well formed stays so where the program grows, and what is known goes on to agree with it.
+pub fn well_formed_stays()
+    ensures expressions { ExpressionsStay }
+    ensures initializers { InitialsStay }
+    ensures statements { StatementsStay }
+    ensures agreement { AgreementStays }
+    ensures globals { GlobalsStay }
+    ensures routines { RoutinesStay }
+{}
+
+/// The constants of a written tree are among its tokens: where none of them is too wide, no constant is.
+pub fn constants_are_tokens()
+    ensures expressions { TextsHoldConstants }
+    ensures initializers { InitialTextsHoldConstants }
+{}
+
+/// Behind a declaration structs keep their members, and what it declares is there; the type of a declared object is whole.
+pub fn declarations_lead()
+    ensures words { WordsLead }
+    ensures typedefs { TypedefsLead }
+    ensures parameters { ParametersLead }
+    ensures objects { ObjectsAreWhole }
+{}

@@ -1,0 +1,9 @@
+pub mod OptionTexts
+pub mod GivenTexts
+pub mod SettingWords
+pub mod FoundFields
+pub mod ReadSettings
+pub mod Refusals
+pub mod EnteredInputs
+pub mod WholeWords
+pub mod WordLists

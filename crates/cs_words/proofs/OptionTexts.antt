@@ -1,0 +1,121 @@
+-- Commands and options are told apart by their texts, and a word names one option in one way: for `option_of` and
+-- `settings_of`.
+use Rattle.std.proofs.Common.{◌≡◌, ℕ, true, false, not, List, [], ◌∷◌, ◌++◌, Option, Some, None, drop, ap, sym, ◌∙◌, refl, append_assoc, eqb-true}
+use Rattle.std.specs.Prelude.{◌==◌, nat_eq, codes, if◌then◌else◌}
+use Rattle.std.specs.List.{list_all}
+use Rattle.std.specs.Cmp.Lexicographic.{pointwise}
+use Rattle.std.proofs.lemmas.List.{append-nil}
+use Rattle.cs_inputs.specs.PathText.{is_name}
+use Rattle.cs_inputs.specs.Reading.{SplitsBefore, IsEmptyOrAt}
+use Rattle.cs_inputs.proofs.Splits.{one_cut}
+use Rattle.cs_words.specs.declared.setting.Setting.TheVariants.{Visits, Depth, Events, Model}
+use Rattle.cs_words.specs.declared.verb.Verb.TheVariants.{Analyze, Replay}
+use Rattle.cs_words.specs.Options.{Verb, Setting, verb_text, setting_text}
+use Rattle.cs_words.specs.Settings.{option_text, place_of, is_same}
+
+-- ---- commands and options by their texts and places
+verb_of : List ℕ → Verb
+verb_of word = if pointwise nat_eq word (codes "analyze") then Analyze else Replay
+
+verb_back : (verb : Verb) → verb_of (verb_text verb) ≡ verb
+unfolding verb_of
+verb_back Analyze = refl
+verb_back Replay = refl
+
+pub same_verb : (one other : Verb) → verb_text one ≡ verb_text other → one ≡ other
+same_verb one other e = sym (verb_back one) ∙ ap verb_of e ∙ verb_back other
+
+setting_of : List ℕ → Setting
+setting_of name = if pointwise nat_eq name (codes "visits") then Visits else if pointwise nat_eq name (codes "depth") then Depth else if pointwise nat_eq name (codes "events") then Events else Model
+
+setting_back : (setting : Setting) → setting_of (setting_text setting) ≡ setting
+unfolding setting_of
+setting_back Visits = refl
+setting_back Depth = refl
+setting_back Events = refl
+setting_back Model = refl
+
+same_setting : (one other : Setting) → setting_text one ≡ setting_text other → one ≡ other
+same_setting one other e = sym (setting_back one) ∙ ap setting_of e ∙ setting_back other
+
+setting_at : ℕ → Setting
+setting_at place = if nat_eq place 0 then Visits else if nat_eq place 1 then Depth else if nat_eq place 2 then Events else Model
+
+place_back : (setting : Setting) → setting_at (place_of setting) ≡ setting
+unfolding setting_at
+place_back Visits = refl
+place_back Depth = refl
+place_back Events = refl
+place_back Model = refl
+
+pub same_place : (one other : Setting) → is_same one other ≡ true → one ≡ other
+same_place one other e = sym (place_back one) ∙ ap setting_at (eqb-true (place_of one) (place_of other) e) ∙ place_back other
+
+pub is_same-itself : (setting : Setting) → is_same setting setting ≡ true
+is_same-itself Visits = refl
+is_same-itself Depth = refl
+is_same-itself Events = refl
+is_same-itself Model = refl
+
+-- ---- an option's word is cut at its first `=`
+no_equals : (setting : Setting) → list_all (λ b. not (b == 61)) (setting_text setting) ≡ true
+no_equals Visits = refl
+no_equals Depth = refl
+no_equals Events = refl
+no_equals Model = refl
+
+abbrev pub tail_text : Option (List ℕ) → List ℕ
+tail_text None = []
+tail_text (Some text) = codes "=" ++ text
+
+tail_at : (text : Option (List ℕ)) → IsEmptyOrAt 61 (tail_text text)
+tail_at None = tt
+tail_at (Some text) = refl
+
+pub behind_dashes : (setting : Setting) (text : Option (List ℕ)) → option_text setting text ≡ codes "--" ++ (setting_text setting ++ tail_text text)
+behind_dashes setting None = ap (λ (t : List ℕ). 45 ∷ 45 ∷ t) (sym (append-nil (setting_text setting)))
+behind_dashes setting (Some text) = ap (λ (t : List ℕ). 45 ∷ 45 ∷ t) (append_assoc (setting_text setting) (codes "=") text)
+
+same_tail : (one other : Option (List ℕ)) → tail_text one ≡ tail_text other → one ≡ other
+same_tail None None e = refl
+same_tail None (Some text) e = absurd (cc)
+same_tail (Some text) None e = absurd (cc)
+same_tail (Some one) (Some other) e = ap Some (ap (drop 1) e)
+
+pub same_cut_text : (one : Setting) (name tail : List ℕ) (text : Option (List ℕ)) → list_all (λ b. not (b == 61)) name ≡ true → IsEmptyOrAt 61 tail → setting_text one ++ tail_text text ≡ name ++ tail → (setting_text one ≡ name) × (tail_text text ≡ tail)
+same_cut_text one name tail text none at e = one_cut 61 (setting_text one) name (tail_text text) tail (no_equals one) none (tail_at text) at e
+
+-- a word is of one option, and with one value's text or none
+pub same_option : (one other : Setting) (text told : Option (List ℕ)) → option_text one text ≡ option_text other told → (one ≡ other) × (text ≡ told)
+same_option one other text told e =
+    let bodies : setting_text one ++ tail_text text ≡ setting_text other ++ tail_text told = ap (drop 2) (sym (behind_dashes one text) ∙ e ∙ behind_dashes other told) in
+    let cut = same_cut_text one (setting_text other) (tail_text told) text (no_equals other) (tail_at told) bodies in
+    (same_setting one other cut.0, same_tail text told cut.1)
+
+-- an option's word is no name
+pub no_name : (setting : Setting) (text : Option (List ℕ)) → is_name (option_text setting text) ≡ false
+no_name setting None = refl
+no_name setting (Some text) = refl
+
+-- ---- what `option_of` finds
+pub alone : (word body name tail : List ℕ) (setting : Setting) → word ≡ 45 ∷ 45 ∷ body → SplitsBefore 61 body name tail → setting_text setting ≡ name → tail ≡ [] → word ≡ option_text setting None
+alone word body name tail setting is cut named none =
+    is ∙ ap (λ (t : List ℕ). 45 ∷ 45 ∷ t) (cut.whole ∙ ap (λ (t : List ℕ). name ++ t) none ∙ append-nil name ∙ sym named)
+
+joined_at : (name tail text : List ℕ) (mark : ℕ) → IsEmptyOrAt 61 tail → tail ≡ mark ∷ text → tail ≡ codes "=" ++ text
+joined_at name [] text mark at is = absurd (cc)
+joined_at name (b ∷ bs) text mark at is =
+    let rest : bs ≡ text = ap (drop 1) is in
+    (λ i. at i ∷ rest i)
+
+pub with_text : (word body name tail text : List ℕ) (mark : ℕ) (setting : Setting) → word ≡ 45 ∷ 45 ∷ body → SplitsBefore 61 body name tail → setting_text setting ≡ name → tail ≡ mark ∷ text → word ≡ option_text setting (Some text)
+with_text word body name tail text mark setting is cut named marked =
+    is ∙ ap (λ (t : List ℕ). 45 ∷ 45 ∷ t) (cut.whole ∙ ap (λ (t : List ℕ). name ++ t) (joined_at name tail text mark cut.at marked) ∙ ap (λ (t : List ℕ). t ++ (codes "=" ++ text)) (sym named)) ∙ sym (behind_dashes setting (Some text))
+
+pub unknown : (word body name tail : List ℕ) → word ≡ 45 ∷ 45 ∷ body → SplitsBefore 61 body name tail → ((setting : Setting) → setting_text setting ≡ name → ⊥) → (setting : Setting) (text : Option (List ℕ)) → word ≡ option_text setting text → ⊥
+unknown word body name tail is cut none setting text e =
+    let bodies : setting_text setting ++ tail_text text ≡ name ++ tail = ap (drop 2) (sym (behind_dashes setting text) ∙ sym e ∙ is) ∙ cut.whole in
+    none setting (same_cut_text setting name tail text cut.none cut.at bodies).0
+
+pub no_dashes : (word : List ℕ) → ((body : List ℕ) → word ≡ 45 ∷ 45 ∷ body → ⊥) → (setting : Setting) (text : Option (List ℕ)) → word ≡ option_text setting text → ⊥
+no_dashes word none setting text e = none (setting_text setting ++ tail_text text) (e ∙ behind_dashes setting text)

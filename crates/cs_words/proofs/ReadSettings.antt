@@ -1,0 +1,172 @@
+-- Where a command's word and some settings are read: which words go on to a command, and how the settings grow. For
+-- `settings_of`, `with_option` and what reads the rest.
+use Rattle.std.proofs.Common.{◌≡◌, ℕ, Bool, true, false, List, [], ◌∷◌, ◌++◌, Option, Some, None, ap, sym, ◌∙◌, refl, subst, append_assoc, inl, inr}
+use Rattle.std.specs.Prelude.{◌⊎◌, codes}
+use Rattle.std.proofs.lemmas.List.{append-nil}
+use Rattle.cs_words.specs.declared.command.Command.TheVariants.{Analyze, Replay}
+use Rattle.cs_words.specs.declared.setting.Setting.TheVariants.{Visits, Depth, Events, Model}
+use Rattle.cs_words.specs.declared.verb.Verb.TheVariants as verbs
+use Rattle.cs_words.specs.Options.{Verb, Setting, verb_text, takes}
+use Rattle.cs_words.specs.Settings.{Given, option_text, BeginWithSetting, BeginWithSettings, is_same, text_of, AreTaken, AreDifferent}
+use Rattle.cs_words.specs.Meaning.{Command, AskFor, WordsMean, BeginsACommand}
+use Rattle.cs_words.specs.Scan.{Settings, IsSetTo, is_set, HasValue, IsSetBesides, AreReadTo, BeginWithNoOption}
+use Rattle.cs_words.proofs.OptionTexts.{same_verb, same_option, same_place}
+use Rattle.cs_words.proofs.GivenTexts.{text_here, not_given, different_more, taken_more, taken_here, text_more}
+use Rattle.cs_words.proofs.SettingWords.{heads, joined, followed, asks_no_option, behind_read, none_left}
+use Rattle.cs_words.proofs.FoundFields.{IsTold, not_set, told_from, told_some, some_budgets, some_model, visits_told, depth_told, events_told, model_told}
+
+-- ---- words that go on
+-- words behind settings that were read go on to a command
+pub record GoOn (verb : Verb) (given : List Given) (words : List (List ℕ)) (command : Command) : Type 0 where
+  pub later : List Given
+  pub others : List (List ℕ)
+  pub settings : BeginWithSettings later others words
+  pub taken : AreTaken verb (given ++ later)
+  pub different : AreDifferent (given ++ later)
+  pub asks : AskFor verb (given ++ later) others command
+
+pub goes_on : (verb : Verb) (given : List Given) (done words : List (List ℕ)) (command : Command) → BeginWithSettings given [] done → WordsMean ((verb_text verb ∷ done) ++ words) command → GoOn verb given words command
+goes_on verb given done words command spelled m =
+    let first = heads (verb_text verb) (verb_text m.verb) (done ++ words) m.behind m.first in
+    let verbs : m.verb ≡ verb = sym (same_verb verb m.verb first.0) in
+    let read = behind_read given m.given done m.others words (asks_no_option m.verb m.given m.others command m.asks) spelled (subst (λ (w : List (List ℕ)). BeginWithSettings m.given m.others w) (sym first.1) m.settings) in
+    record {
+      later = read.0;
+      others = m.others;
+      settings = read.2;
+      taken = subst (λ (v : Verb). AreTaken v (given ++ read.0)) verbs (subst (λ (g : List Given). AreTaken m.verb g) read.1 m.taken);
+      different = subst (λ (g : List Given). AreDifferent g) read.1 m.different;
+      asks = subst (λ (v : Verb). AskFor v (given ++ read.0) m.others command) verbs (subst (λ (g : List Given). AskFor m.verb g m.others command) read.1 m.asks);
+    }
+
+-- where no option's word stands first, what is asked for stands there
+pub asks_here : (verb : Verb) (given : List Given) (words : List (List ℕ)) (command : Command) → BeginWithNoOption words → GoOn verb given words command → AskFor verb given words command
+asks_here verb given words command absent on =
+    let none = none_left on.later on.others words absent on.settings in
+    let whole : given ++ on.later ≡ given = ap (λ (g : List Given). given ++ g) none.0 ∙ append-nil given in
+    subst (λ (w : List (List ℕ)). AskFor verb given w command) (sym none.1) (subst (λ (g : List Given). AskFor verb g on.others command) whole on.asks)
+
+-- ---- settings that were read
+pub record AreSpelled (verb : Verb) (given : List Given) (done : List (List ℕ)) : Type 0 where
+  pub words : BeginWithSettings given [] done
+  pub taken : AreTaken verb given
+  pub different : AreDifferent given
+  pub told : (setting : Setting) → IsTold setting (text_of setting given)
+
+pub means_with : (verb : Verb) (given : List Given) (done others : List (List ℕ)) (command : Command) → BeginWithSettings given [] done → AreTaken verb given → AreDifferent given → AskFor verb given others command → WordsMean ((verb_text verb ∷ done) ++ others) command
+means_with verb given done others command words taken different asks = record {
+  verb = verb;
+  given = given;
+  others = others;
+  behind = done ++ others;
+  first = refl;
+  settings = followed given done others words;
+  taken = taken;
+  different = different;
+  asks = asks;
+}
+
+-- they go on to some command
+completed : (verb : Verb) (given : List Given) → ((setting : Setting) → IsTold setting (text_of setting given)) → (others : List (List ℕ)) × (command : Command) × AskFor verb given others command
+completed verbs.Analyze given told =
+    let model = some_model given told in
+    ([], Analyze (record { model = model.0 }), (refl, model.1))
+completed verbs.Replay given told =
+    let model = some_model given told in
+    let budgets = some_budgets given told in
+    (codes "f" ∷ [], Replay (record { budgets = budgets.0; entry = codes "f"; inputs = []; model = model.0 }), record { budgets = budgets.1; model = model.1; name = refl; input_words = []; whole = refl; inputs = refl })
+
+pub begins : (verb : Verb) (given : List Given) (done : List (List ℕ)) → AreSpelled verb given done → BeginsACommand (verb_text verb ∷ done)
+begins verb given done s =
+    let end = completed verb given s.told in
+    (end.0, end.1, means_with verb given done end.0 end.1 s.words s.taken s.different end.2)
+
+told_more : (g : Given) (given : List Given) → text_of g.setting given ≡ None → HasValue g.setting g.text → ((setting : Setting) → IsTold setting (text_of setting given)) → (setting : Setting) (same : Bool) → is_same setting g.setting ≡ same → IsTold setting (text_of setting (given ++ g ∷ []))
+told_more g given none value told setting true is =
+    subst (λ (s : Setting). IsTold s (text_of s (given ++ g ∷ []))) (sym (same_place setting g.setting is)) (subst (λ (t : Option (List ℕ)). IsTold g.setting t) (sym (text_here g given [] none)) (told_some g.setting g.text value))
+told_more g given none value told setting false is =
+    subst (λ (t : Option (List ℕ)). IsTold setting t) (sym (text_more setting g given is)) (told setting)
+
+pub spelled_more : (verb : Verb) (g : Given) (given : List Given) (done words : List (List ℕ)) → AreSpelled verb given done → takes verb g.setting ≡ true → text_of g.setting given ≡ None → HasValue g.setting g.text → BeginWithSetting g [] words → AreSpelled verb (given ++ g ∷ []) (done ++ words)
+spelled_more verb g given done words s taken none value begins = record {
+  words = joined given (g ∷ []) done [] words s.words ([], begins, refl);
+  taken = taken_more verb g given s.taken taken;
+  different = different_more g given s.different none;
+  told = λ setting. told_more g given none value s.told setting (is_same setting g.setting) refl;
+}
+
+-- ---- the same of what the scan has found
+pub spelled_by : (verb : Verb) (words : List (List ℕ)) (settings : Settings) (rest : List (List ℕ)) → (read : AreReadTo verb words settings rest) → AreSpelled verb read.given read.done
+spelled_by verb words settings rest read = record {
+  words = read.spelled;
+  taken = read.taken;
+  different = read.different;
+  told = λ setting. told_from setting (text_of setting read.given) settings (read.fields setting);
+}
+
+fields_more : (g : Given) (given : List Given) (before after : Settings) → text_of g.setting given ≡ None → IsSetBesides g.setting g.text before after → ((setting : Setting) → IsSetTo setting (text_of setting given) before) → (setting : Setting) (same : Bool) → is_same setting g.setting ≡ same → IsSetTo setting (text_of setting (given ++ g ∷ [])) after
+fields_more g given before after none set fields setting true is =
+    subst (λ (s : Setting). IsSetTo s (text_of s (given ++ g ∷ [])) after) (sym (same_place setting g.setting is)) (subst (λ (t : Option (List ℕ)). IsSetTo g.setting t after) (sym (text_here g given [] none)) set.here)
+fields_more g given before after none set fields setting false is =
+    subst (λ (t : Option (List ℕ)). IsSetTo setting t after) (sym (text_more setting g given is)) (set.elsewhere setting is (text_of setting given) (fields setting))
+
+pub read_more : (verb : Verb) (g : Given) (words : List (List ℕ)) (before after : Settings) (rest own left : List (List ℕ)) → AreReadTo verb words before rest → rest ≡ own ++ left → BeginWithSetting g [] own → takes verb g.setting ≡ true → is_set g.setting before ≡ false → IsSetBesides g.setting g.text before after → AreReadTo verb words after left
+read_more verb g words before after rest own left read whole begins taken unset set =
+    let none : text_of g.setting read.given ≡ None = not_set g.setting (text_of g.setting read.given) before (read.fields g.setting) unset in
+    record {
+      given = read.given ++ g ∷ [];
+      done = read.done ++ own;
+      whole = read.whole ∙ ap (λ (w : List (List ℕ)). (verb_text verb ∷ read.done) ++ w) whole ∙ sym (append_assoc (verb_text verb ∷ read.done) own left);
+      spelled = joined read.given (g ∷ []) read.done [] own read.spelled ([], begins, refl);
+      taken = taken_more verb g read.given read.taken taken;
+      different = different_more g read.given read.different none;
+      fields = λ setting. fields_more g read.given before after none set read.fields setting (is_same setting g.setting) refl;
+    }
+
+-- ---- an option's word that goes on
+asked_value : (verb : Verb) (setting : Setting) (given : List Given) (others : List (List ℕ)) (command : Command) (text : List ℕ) → AskFor verb given others command → takes verb setting ≡ true → text_of setting given ≡ Some text → HasValue setting text
+asked_value verbs.Analyze Model given others (Analyze words) text asks taken e = model_told given words.model text asks.1 e
+asked_value verbs.Analyze Model given others (Replay words) text asks taken e = absurd asks
+asked_value verbs.Analyze setting given others command text asks taken e = absurd (cc)
+asked_value verbs.Replay setting given others (Analyze words) text asks taken e = absurd asks
+asked_value verbs.Replay Visits given others (Replay words) text asks taken e = visits_told given words.budgets text asks.budgets e
+asked_value verbs.Replay Depth given others (Replay words) text asks taken e = depth_told given words.budgets text asks.budgets e
+asked_value verbs.Replay Events given others (Replay words) text asks taken e = events_told given words.budgets text asks.budgets e
+asked_value verbs.Replay Model given others (Replay words) text asks taken e = model_told given words.model text asks.model e
+
+-- what is known of an option whose word goes on to a command
+pub record IsGoodOption (verb : Verb) (given : List Given) (setting : Setting) (told : Option (List ℕ)) (behind : List (List ℕ)) : Type 0 where
+  pub text : List ℕ
+  pub taken : takes verb setting ≡ true
+  pub new : text_of setting given ≡ None
+  pub value : HasValue setting text
+  pub place : (told ≡ Some text) ⊎ ((told ≡ None) × (rest : List (List ℕ)) × (behind ≡ text ∷ rest))
+
+good_here : (verb : Verb) (given later : List Given) (g : Given) (others : List (List ℕ)) (command : Command) (setting : Setting) (told : Option (List ℕ)) (behind : List (List ℕ)) → setting ≡ g.setting → ((told ≡ Some g.text) ⊎ ((told ≡ None) × (rest : List (List ℕ)) × (behind ≡ g.text ∷ rest))) → AreTaken verb (given ++ g ∷ later) → AreDifferent (given ++ g ∷ later) → AskFor verb (given ++ g ∷ later) others command → IsGoodOption verb given setting told behind
+good_here verb given later g others command setting told behind same place taken different asks =
+    let takes_it : takes verb g.setting ≡ true = taken_here verb g given later taken in
+    let new : text_of g.setting given ≡ None = not_given g given later different in
+    let value : HasValue g.setting g.text = asked_value verb g.setting (given ++ g ∷ later) others command g.text asks takes_it (text_here g given later new) in
+    subst (λ (s : Setting). IsGoodOption verb given s told behind) (sym same) (record { text = g.text; taken = takes_it; new = new; value = value; place = place })
+
+begin_alone : (setting : Setting) (told : Option (List ℕ)) (word : List ℕ) (behind others : List (List ℕ)) → word ≡ option_text setting told → word ∷ behind ≡ others → BeginWithNoOption others → ⊥
+begin_alone setting told word behind [] is e absent = absurd (cc)
+begin_alone setting told word behind (w ∷ ws) is e absent = absent setting told (sym (heads word w behind ws e).0 ∙ is)
+
+named : (verb : Verb) (given later : List Given) (others behind : List (List ℕ)) (command : Command) (setting : Setting) (told : Option (List ℕ)) (word : List ℕ) → word ≡ option_text setting told → BeginWithNoOption others → BeginWithSettings later others (word ∷ behind) → AreTaken verb (given ++ later) → AreDifferent (given ++ later) → AskFor verb (given ++ later) others command → IsGoodOption verb given setting told behind
+named verb given [] others behind command setting told word is absent begins taken different asks = absurd (begin_alone setting told word behind others is begins absent)
+named verb given (g ∷ gs) others behind command setting told word is absent begins taken different asks = at begins.1
+  where
+    at : BeginWithSetting g begins.0 (word ∷ behind) → IsGoodOption verb given setting told behind
+    at (inl e) =
+        let first = heads word (option_text g.setting None) behind (g.text ∷ begins.0) e in
+        let same = same_option setting g.setting told None (sym is ∙ first.0) in
+        good_here verb given gs g others command setting told behind same.0 (inr (same.1, begins.0, first.1)) taken different asks
+    at (inr e) =
+        let first = heads word (option_text g.setting (Some g.text)) behind begins.0 e in
+        let same = same_option setting g.setting told (Some g.text) (sym is ∙ first.0) in
+        good_here verb given gs g others command setting told behind same.0 (inl same.1) taken different asks
+
+pub good_option : (verb : Verb) (given : List Given) (behind : List (List ℕ)) (command : Command) (setting : Setting) (told : Option (List ℕ)) (word : List ℕ) → word ≡ option_text setting told → GoOn verb given (word ∷ behind) command → IsGoodOption verb given setting told behind
+good_option verb given behind command setting told word is on =
+    named verb given on.later on.others behind command setting told word is (asks_no_option verb (given ++ on.later) on.others command on.asks) on.settings on.taken on.different on.asks

@@ -1,0 +1,172 @@
+-- What is read of all words of a command, and that nothing else is meant by them: for `analyze_words`, `replay_words` and
+-- `words_of`.
+use Rattle.std.proofs.Common.{◌≡◌, ℕ, ◌+◌, ◌<◌, true, false, List, [], ◌∷◌, ◌++◌, length, Result, Ok, Err, ap, sym, ◌∙◌, refl, subst, append_assoc, inl, inr, arith}
+use Rattle.std.specs.Prelude.{◌⊎◌, ℤ, unwrap_or, IfOk, IfErr}
+use Rattle.std.proofs.lemmas.List.{append-nil}
+use Rattle.cs_inputs.specs.declared.path.Path.{Path}
+use Rattle.cs_inputs.specs.InputText.{SpellsInput}
+use Rattle.cs_inputs.specs.PathText.{is_name}
+use Rattle.cs_types.specs.declared.data_model.DataModel.TheVariants.{Lp64}
+use Rattle.cs_words.specs.declared.command.Command.TheVariants.{Analyze, Replay}
+use Rattle.cs_words.specs.declared.command.AnalyzeWords.{AnalyzeWords}
+use Rattle.cs_words.specs.declared.command.ReplayWords.{ReplayWords}
+use Rattle.cs_words.specs.declared.refusal.WordsRefusal.{WordsRefusal}
+use Rattle.cs_words.specs.declared.refusal.WordsRefusal.TheVariants.{Words, Memory}
+use Rattle.cs_words.specs.declared.verb.Verb.TheVariants as verbs
+use Rattle.cs_words.specs.Options.{Verb, verb_text}
+use Rattle.cs_words.specs.Settings.{Given, AreBudgets, IsDataModel}
+use Rattle.cs_words.specs.Meaning.{Command, IsReplay, AskFor, WordsMean, BeginsACommand, AreRefusedAt, AreEntered}
+use Rattle.cs_words.specs.Scan.{Settings, AreReadTo, AreReadWhole, BeginWithNoOption, IsRefusal, IsRight, IsNoInputAt}
+use Rattle.cs_words.proofs.EnteredInputs.{entered_at, same_entered}
+use Rattle.cs_words.proofs.FoundFields.{budgets_found, model_found, same_budgets, same_model, some_budgets, some_model}
+use Rattle.cs_words.proofs.ReadSettings.{goes_on, asks_here, means_with, spelled_by}
+use Rattle.cs_words.proofs.SettingWords.{cut_off, asks_no_option}
+use Rattle.cs_words.proofs.Refusals.{not_meant, one_refusal, refused_first, refused_end, refused_so}
+
+-- ---- the clauses of a right answer
+pub right_ok : (words : List (List ℕ)) (r : Result Command WordsRefusal) → IsRight words r → IfOk r (λ command. WordsMean words command)
+right_ok words (Ok command) h = h.0
+right_ok words (Err refusal) h = tt
+
+pub right_err : (words : List (List ℕ)) (r : Result Command WordsRefusal) → IsRight words r → IfErr r (IsRefusal words)
+right_err words (Ok command) h = tt
+right_err words (Err refusal) h = h
+
+pub accepts : (words : List (List ℕ)) (r : Result Command WordsRefusal) → IsRight words r → (command : Command) → WordsMean words command → (r ≡ Ok command) ⊎ (r ≡ Err Memory)
+accepts words (Ok found) h command m = inl (ap Ok (sym (h.1 command m)))
+accepts words (Err (Words number)) h command m = absurd (not_meant words number h command m)
+accepts words (Err Memory) h command m = inr refl
+
+pub refuses : (words : List (List ℕ)) (r : Result Command WordsRefusal) → IsRight words r → (number : ℕ) → AreRefusedAt words number → (r ≡ Err (Words number)) ⊎ (r ≡ Err Memory)
+refuses words (Ok found) h number r = absurd (not_meant words number r found h.0)
+refuses words (Err (Words other)) h number r = inl (ap (λ (n : ℕ). Err (Words n)) (one_refusal words other number h r))
+refuses words (Err Memory) h number r = inr refl
+
+-- ---- what is meant where all settings are read
+pub all_asked : (verb : Verb) (words : List (List ℕ)) (settings : Settings) (rest : List (List ℕ)) → (whole : AreReadWhole verb words settings rest) → (command : Command) → WordsMean words command → AskFor verb whole.read.given rest command
+all_asked verb words settings rest whole command m =
+    asks_here verb whole.read.given rest command whole.no_more (goes_on verb whole.read.given whole.read.done rest command whole.read.spelled (subst (λ (w : List (List ℕ)). WordsMean w command) whole.read.whole m))
+
+all_meant : (verb : Verb) (words : List (List ℕ)) (settings : Settings) (rest : List (List ℕ)) → (read : AreReadTo verb words settings rest) → (command : Command) → AskFor verb read.given rest command → WordsMean words command
+all_meant verb words settings rest read command asks =
+    subst (λ (w : List (List ℕ)). WordsMean w command) (sym read.whole) (means_with verb read.given read.done rest command read.spelled read.taken read.different asks)
+
+-- ---- `analyze`
+only_analyze : (given : List Given) (rest : List (List ℕ)) (words : AnalyzeWords) → IsDataModel given words.model → (other : Command) → AskFor verbs.Analyze given rest other → other ≡ Analyze words
+only_analyze given rest words model (Analyze other) asks =
+    let models : other.model ≡ words.model = same_model given other.model words.model asks.1 model in
+    (λ i. Analyze (record { model = models i }))
+only_analyze given rest words model (Replay other) asks = absurd asks
+
+pub analyze_right : (words : List (List ℕ)) (settings : Settings) (rest : List (List ℕ)) (found : AnalyzeWords) → AreReadWhole verbs.Analyze words settings rest → rest ≡ [] → found.model ≡ unwrap_or settings.model Lp64 → IsRight words (Ok (Analyze found))
+analyze_right words settings rest found whole none is =
+    let model = model_found whole.read.given settings found.model whole.read.fields is in
+    (all_meant verbs.Analyze words settings rest whole.read (Analyze found) (none, model), λ other m. only_analyze whole.read.given rest found model other (all_asked verbs.Analyze words settings rest whole other m))
+
+nothing_more : (given : List Given) (word : List ℕ) (more : List (List ℕ)) (command : Command) → AskFor verbs.Analyze given (word ∷ more) command → ⊥
+nothing_more given word more (Analyze words) asks = let e = asks.0 in absurd (cc)
+nothing_more given word more (Replay words) asks = asks
+
+pub analyze_extra : (words : List (List ℕ)) (settings : Settings) (rest : List (List ℕ)) (number : ℕ) → AreReadWhole verbs.Analyze words settings rest → 0 < length rest → number + length rest ≡ length words + 1 → AreRefusedAt words number
+analyze_extra words settings [] number whole some counts = absurd (omega arith)
+analyze_extra words settings (word ∷ behind) number whole some counts =
+    refused_first verbs.Analyze words settings (word ∷ behind) number word behind whole.read refl counts (λ more command on. nothing_more whole.read.given word more command (asks_here verbs.Analyze whole.read.given (word ∷ more) command whole.no_more on))
+
+-- ---- `replay`
+no_entry_asked : (given : List Given) (command : Command) → AskFor verbs.Replay given [] command → ⊥
+no_entry_asked given (Analyze words) asks = asks
+no_entry_asked given (Replay words) asks = let e = asks.whole in absurd (cc)
+
+pub no_entry : (words : List (List ℕ)) (settings : Settings) (rest : List (List ℕ)) (number : ℕ) → AreReadWhole verbs.Replay words settings rest → rest ≡ [] → number + length rest ≡ length words + 1 → AreRefusedAt words number
+no_entry words settings rest number whole none counts =
+    refused_end verbs.Replay words settings rest number whole.read none counts (λ command on. no_entry_asked whole.read.given command (asks_here verbs.Replay whole.read.given [] command tt on))
+
+entry_asked : (given : List Given) (word : List ℕ) (more : List (List ℕ)) (command : Command) → is_name word ≡ false → AskFor verbs.Replay given (word ∷ more) command → ⊥
+entry_asked given word more (Analyze words) absent asks = asks
+entry_asked given word more (Replay words) absent asks =
+    let e = asks.whole in
+    let same : words.entry ≡ word = cc in
+    let name : is_name words.entry ≡ true = asks.name in
+    let both : is_name words.entry ≡ false = ap is_name same ∙ absent in
+    absurd (cc)
+
+pub bad_entry : (words : List (List ℕ)) (settings : Settings) (rest : List (List ℕ)) (number : ℕ) (word : List ℕ) (behind : List (List ℕ)) → AreReadWhole verbs.Replay words settings rest → rest ≡ word ∷ behind → is_name word ≡ false → number + length rest ≡ length words + 1 → AreRefusedAt words number
+bad_entry words settings rest number word behind whole is absent counts =
+    let first : BeginWithNoOption (word ∷ behind) = subst BeginWithNoOption is whole.no_more in
+    refused_first verbs.Replay words settings rest number word behind whole.read is counts (λ more command on. entry_asked whole.read.given word more command absent (asks_here verbs.Replay whole.read.given (word ∷ more) command first on))
+
+-- a run that the words read so far ask for, whatever its inputs
+replay_of : (given : List Given) (settings : Settings) (rest : List (List ℕ)) (found : ReplayWords) (numbers : List (List ℕ)) → AreBudgets given found.budgets → IsDataModel given found.model → rest ≡ found.entry ∷ numbers → is_name found.entry ≡ true → AreEntered [] numbers found.inputs → IsReplay given rest found
+replay_of given settings rest found numbers budgets model whole name inputs = record {
+  budgets = budgets;
+  model = model;
+  name = name;
+  input_words = numbers;
+  whole = whole;
+  inputs = inputs;
+}
+
+input_asked : (given : List Given) (entry : List ℕ) (before : List (List ℕ)) (word : List ℕ) (more : List (List ℕ)) (command : Command) → ((path : Path) (number : ℤ) → SpellsInput word path number → ⊥) → AskFor verbs.Replay given (entry ∷ before ++ word ∷ more) command → ⊥
+input_asked given entry before word more (Analyze words) none asks = asks
+input_asked given entry before word more (Replay words) none asks =
+    let e = asks.whole in
+    let numbers : asks.input_words ≡ before ++ word ∷ more = cc in
+    let at = entered_at [] before word more words.inputs (subst (λ (w : List (List ℕ)). AreEntered [] w words.inputs) numbers asks.inputs) in
+    none at.0 at.1 at.2
+
+pub bad_input : (words : List (List ℕ)) (settings : Settings) (rest : List (List ℕ)) (number : ℕ) (entry : List ℕ) (others : List (List ℕ)) → AreReadWhole verbs.Replay words settings rest → rest ≡ entry ∷ others → is_name entry ≡ true → IsNoInputAt others (length words) number → AreRefusedAt words number
+bad_input words settings rest number entry others whole is name bad =
+    let given = whole.read.given in
+    let done = verb_text verbs.Replay ∷ whole.read.done in
+    let front : List (List ℕ) = entry ∷ bad.before in
+    let parts : words ≡ (done ++ front) ++ bad.word ∷ bad.behind = whole.read.whole ∙ ap (λ (w : List (List ℕ)). done ++ w) (is ∙ ap (λ (w : List (List ℕ)). entry ∷ w) bad.whole) ∙ sym (append_assoc done front (bad.word ∷ bad.behind)) in
+    refused_so words (done ++ front) (bad.word ∷ bad.behind) number parts bad.counts begin end
+  where
+    begin : BeginsACommand ((verb_text verbs.Replay ∷ whole.read.done) ++ entry ∷ bad.before)
+    begin =
+        let told = (spelled_by verbs.Replay words settings rest whole.read).told in
+        let budgets = some_budgets whole.read.given told in
+        let model = some_model whole.read.given told in
+        let found : ReplayWords = record { budgets = budgets.0; entry = entry; inputs = bad.inputs; model = model.0 } in
+        let asks : IsReplay whole.read.given (entry ∷ bad.before) found = replay_of whole.read.given settings (entry ∷ bad.before) found bad.before budgets.1 model.1 refl name bad.entered in
+        ([], Replay found, subst (λ (w : List (List ℕ)). WordsMean w (Replay found)) (sym (append-nil ((verb_text verbs.Replay ∷ whole.read.done) ++ entry ∷ bad.before))) (means_with verbs.Replay whole.read.given whole.read.done (entry ∷ bad.before) (Replay found) whole.read.spelled whole.read.taken whole.read.different asks))
+
+    end : BeginsACommand (((verb_text verbs.Replay ∷ whole.read.done) ++ entry ∷ bad.before) ++ bad.word ∷ []) → ⊥
+    end h =
+        let done = verb_text verbs.Replay ∷ whole.read.done in
+        let parts = append_assoc (done ++ entry ∷ bad.before) (bad.word ∷ []) h.0 ∙ append_assoc done (entry ∷ bad.before) (bad.word ∷ h.0) in
+        let on = goes_on verbs.Replay whole.read.given whole.read.done (entry ∷ bad.before ++ bad.word ∷ h.0) h.1 whole.read.spelled (subst (λ (w : List (List ℕ)). WordsMean w h.1) parts h.2) in
+        let first : BeginWithNoOption (entry ∷ others) = subst BeginWithNoOption is whole.no_more in
+        input_asked whole.read.given entry bad.before bad.word h.0 h.1 bad.none (asks_here verbs.Replay whole.read.given (entry ∷ bad.before ++ bad.word ∷ h.0) h.1 first on)
+
+only_replay : (given : List Given) (rest : List (List ℕ)) (found : ReplayWords) → IsReplay given rest found → (other : Command) → AskFor verbs.Replay given rest other → other ≡ Replay found
+only_replay given rest found is (Analyze other) asks = absurd asks
+only_replay given rest found is (Replay other) asks =
+    let budgets : other.budgets ≡ found.budgets = same_budgets given other.budgets found.budgets asks.budgets is.budgets in
+    let model : other.model ≡ found.model = same_model given other.model found.model asks.model is.model in
+    let one = asks.whole in
+    let two = is.whole in
+    let entry : other.entry ≡ found.entry = cc in
+    let numbers : asks.input_words ≡ is.input_words = cc in
+    let inputs : other.inputs ≡ found.inputs = same_entered is.input_words [] other.inputs found.inputs (subst (λ (w : List (List ℕ)). AreEntered [] w other.inputs) numbers asks.inputs) is.inputs in
+    (λ i. Replay (record { budgets = budgets i; entry = entry i; inputs = inputs i; model = model i }))
+
+pub replay_right : (words : List (List ℕ)) (settings : Settings) (rest : List (List ℕ)) (found : ReplayWords) (others : List (List ℕ)) → AreReadWhole verbs.Replay words settings rest → rest ≡ found.entry ∷ others → is_name found.entry ≡ true → AreEntered [] others found.inputs → found.budgets.visits ≡ unwrap_or settings.visits 4 → found.budgets.depth ≡ unwrap_or settings.depth 5 → found.budgets.events ≡ unwrap_or settings.events 20000 → found.model ≡ unwrap_or settings.model Lp64 → IsRight words (Ok (Replay found))
+replay_right words settings rest found others whole is name inputs v d e m =
+    let given = whole.read.given in
+    let asks : IsReplay given rest found = replay_of given settings rest found others (budgets_found given settings found.budgets whole.read.fields v d e) (model_found given settings found.model whole.read.fields m) is name inputs in
+    (all_meant verbs.Replay words settings rest whole.read (Replay found) asks, λ other means. only_replay given rest found asks other (all_asked verbs.Replay words settings rest whole other means))
+
+-- ---- words mean one command
+only_asked : (verb : Verb) (given : List Given) (rest : List (List ℕ)) (one other : Command) → AskFor verb given rest one → AskFor verb given rest other → other ≡ one
+only_asked verbs.Analyze given rest (Analyze found) other one asks = only_analyze given rest found one.1 other asks
+only_asked verbs.Analyze given rest (Replay found) other one asks = absurd one
+only_asked verbs.Replay given rest (Analyze found) other one asks = absurd one
+only_asked verbs.Replay given rest (Replay found) other one asks = only_replay given rest found one other asks
+
+pub one_command : (words : List (List ℕ)) (one other : Command) → WordsMean words one → WordsMean words other → other ≡ one
+one_command words one other m n =
+    let cut = cut_off m.given m.others m.behind m.settings in
+    let whole : words ≡ (verb_text m.verb ∷ cut.0) ++ m.others = m.first ∙ ap (λ (w : List (List ℕ)). verb_text m.verb ∷ w) cut.1 in
+    let on = goes_on m.verb m.given cut.0 m.others other cut.2 (subst (λ (w : List (List ℕ)). WordsMean w other) whole n) in
+    only_asked m.verb m.given m.others one other m.asks (asks_here m.verb m.given m.others other (asks_no_option m.verb m.given m.others one m.asks) on)

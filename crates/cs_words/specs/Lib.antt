@@ -1,0 +1,5 @@
+pub mod Options
+pub mod Values
+pub mod Settings
+pub mod Meaning
+pub mod Scan

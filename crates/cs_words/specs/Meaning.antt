@@ -1,0 +1,74 @@
+-- Which command words mean, and which word is refused where they mean none.
+use Rattle.std.specs.Prelude.{◌≡◌, ℕ, ◌+◌, ℤ, IsTrue, List, [], ◌∷◌, ◌++◌, length, map, string_bytes}
+use Rattle.std.specs.BTreeMap.{insert_entry}
+use Rattle.std.specs.declared.string.String.{String}
+use Rattle.std.specs.declared.alloc.Global.{Global}
+use Rattle.cs_inputs.specs.declared.path.Path.{Path}
+use Rattle.cs_inputs.specs.InputText.{SpellsInput}
+use Rattle.cs_inputs.specs.PathOrder.{path_order}
+use Rattle.cs_inputs.specs.PathText.{is_name}
+pub use Rattle.cs_words.specs.declared.command.Command.{Command}
+use Rattle.cs_words.specs.declared.command.Command.TheVariants.{Analyze, Replay}
+use Rattle.cs_words.specs.declared.command.ReplayWords.{ReplayWords}
+use Rattle.cs_words.specs.declared.verb.Verb.TheVariants as verbs
+use Rattle.cs_words.specs.Options.{Verb, verb_text}
+use Rattle.cs_words.specs.Settings.{Given, BeginWithSettings, AreTaken, AreDifferent, AreBudgets, IsDataModel}
+
+-- a word of the command line
+abbrev pub Word : Type 0
+Word = String Global
+
+-- the bytes of each word
+abbrev pub words_text : List Word → List (List ℕ)
+words_text words = map (λ (word : Word). string_bytes word) words
+
+-- the numbers of paths with those of words' texts, entered in order
+abbrev pub AreEntered : List (Path × ℤ) → List (List ℕ) → List (Path × ℤ) → Type 0
+AreEntered before [] after = after ≡ before
+AreEntered before (word ∷ words) after = (path : Path) × (number : ℤ) × SpellsInput word path number × AreEntered (insert_entry path_order before path number) words after
+
+-- a run of the machine: its settings, and behind them a function's name and any number of inputs
+pub record IsReplay (given : List Given) (others : List (List ℕ)) (replay : ReplayWords) : Type 0 where
+  pub budgets : AreBudgets given replay.budgets
+  pub model : IsDataModel given replay.model
+  pub name : IsTrue (is_name replay.entry)
+  pub input_words : List (List ℕ)
+  pub whole : others ≡ replay.entry ∷ input_words
+  pub inputs : AreEntered [] input_words replay.inputs
+
+-- what a command's settings and the words behind them ask for
+abbrev pub AskFor : Verb → List Given → List (List ℕ) → Command → Type 0
+AskFor verbs.Analyze given others (Analyze words) = (others ≡ []) × IsDataModel given words.model
+AskFor verbs.Analyze given others (Replay words) = ⊥
+AskFor verbs.Replay given others (Analyze words) = ⊥
+AskFor verbs.Replay given others (Replay words) = IsReplay given others words
+
+-- words mean a command: its own word, then settings of its options, none twice, then what else it asks for
+pub record WordsMean (words : List (List ℕ)) (command : Command) : Type 0 where
+  pub verb : Verb
+  pub given : List Given
+  pub others : List (List ℕ)
+  pub behind : List (List ℕ)
+  pub first : words ≡ verb_text verb ∷ behind
+  pub settings : BeginWithSettings given others behind
+  pub taken : AreTaken verb given
+  pub different : AreDifferent given
+  pub asks : AskFor verb given others command
+
+-- words go on to a command: with some more words behind them, or none, they mean one
+abbrev pub BeginsACommand : List (List ℕ) → Type 0
+BeginsACommand words = (more : List (List ℕ)) × (command : Command) × WordsMean (words ++ more) command
+
+-- words that go on to a command don't with the next word; where there is no next word they mean none
+abbrev pub EndBefore : List (List ℕ) → List (List ℕ) → Type 0
+EndBefore before [] = (command : Command) → WordsMean before command → ⊥
+EndBefore before (word ∷ others) = BeginsACommand (before ++ word ∷ []) → ⊥
+
+-- the first word, by its number from 1, at which no command goes on so; one past the last where words are missing
+pub record AreRefusedAt (words : List (List ℕ)) (number : ℕ) : Type 0 where
+  pub before : List (List ℕ)
+  pub behind : List (List ℕ)
+  pub whole : words ≡ before ++ behind
+  pub counts : number ≡ length before + 1
+  pub begin : BeginsACommand before
+  pub end : EndBefore before behind

@@ -1,0 +1,127 @@
+-- What the scan's own functions give: the contracts of parts of `words_of` cite it.
+use Rattle.std.specs.Prelude.{◌≡◌, ℕ, Bool, false, is_some, ℤ, List, [], ◌∷◌, ◌++◌, ◌+◌, length, Option, Some, None, Result, Ok, Err}
+use Rattle.cs_inputs.specs.declared.path.Path.{Path}
+use Rattle.cs_inputs.specs.declared.refusal.PathRefusal.{PathRefusal}
+use Rattle.cs_inputs.specs.declared.refusal.PathRefusal.TheVariants as paths
+use Rattle.cs_inputs.specs.InputText.{SpellsInput}
+pub use Rattle.cs_words.specs.declared.settings.Settings.{Settings}
+use Rattle.cs_words.specs.declared.setting.Setting.TheVariants.{Visits, Depth, Events, Model}
+use Rattle.cs_words.specs.declared.option_word.OptionWord.{OptionWord}
+use Rattle.cs_words.specs.declared.option_word.OptionWord.TheVariants.{Alone, With}
+use Rattle.cs_words.specs.declared.refusal.WordsRefusal.{WordsRefusal}
+use Rattle.cs_words.specs.declared.refusal.WordsRefusal.TheVariants.{Words, Memory}
+pub use Rattle.cs_words.specs.Options.{Setting}
+use Rattle.cs_words.specs.Options.{Verb, verb_text}
+use Rattle.cs_words.specs.Values.{DataModel, IsVisits, IsDepth, IsEvents, IsModel}
+use Rattle.cs_words.specs.Settings.{Given, option_text, BeginWithSettings, is_same, text_of, AreTaken, AreDifferent}
+use Rattle.cs_words.specs.Meaning.{Command, WordsMean, AreEntered, AreRefusedAt}
+
+-- the option that a word names, and the value's text in it
+abbrev pub setting_in : OptionWord → Setting
+setting_in (Alone setting) = setting
+setting_in (With setting text) = setting
+
+abbrev pub text_in : OptionWord → Option (List ℕ)
+text_in (Alone setting) = None
+text_in (With setting text) = Some text.now
+
+-- a word is that of an option
+abbrev pub IsOption : List ℕ → OptionWord → Type 0
+IsOption word option = word ≡ option_text (setting_in option) (text_in option)
+
+-- the option's word stands first, before the others
+pub record IsFirstOption (option : OptionWord) (others words : List (List ℕ)) : Type 0 where
+  pub word : List ℕ
+  pub whole : words ≡ word ∷ others
+  pub names : IsOption word option
+
+-- a field of the settings found: nothing where the option isn't given, else what the text tells
+abbrev pub IsFound : {X : Type 0} → (List ℕ → X → Type 0) → Option (List ℕ) → Option X → Type 0
+IsFound Tells None found = found ≡ None
+IsFound {X} Tells (Some text) found = (value : X) × (found ≡ Some value) × Tells text value
+
+-- an option's field is what its text tells, if it's given
+abbrev pub IsSetTo : Setting → Option (List ℕ) → Settings → Type 0
+IsSetTo Visits text settings = IsFound IsVisits text settings.visits
+IsSetTo Depth text settings = IsFound IsDepth text settings.depth
+IsSetTo Events text settings = IsFound IsEvents text settings.events
+IsSetTo Model text settings = IsFound IsModel text settings.model
+
+-- whether an option's field is set
+abbrev pub is_set : Setting → Settings → Bool
+is_set Visits settings = is_some settings.visits
+is_set Depth settings = is_some settings.depth
+is_set Events settings = is_some settings.events
+is_set Model settings = is_some settings.model
+
+-- a text is that of some value of an option
+abbrev pub HasValue : Setting → List ℕ → Type 0
+HasValue Visits text = (value : ℕ) × IsVisits text value
+HasValue Depth text = (value : ℕ) × IsDepth text value
+HasValue Events text = (value : ℕ) × IsEvents text value
+HasValue Model text = (value : DataModel) × IsModel text value
+
+-- settings with one more: the option is set to the text's value, and the others are as before
+pub record IsSetBesides (setting : Setting) (text : List ℕ) (before after : Settings) : Type 0 where
+  pub here : IsSetTo setting (Some text) after
+  pub elsewhere : (other : Setting) → is_same other setting ≡ false → (told : Option (List ℕ)) → IsSetTo other told before → IsSetTo other told after
+
+-- words that are read up to the rest: a command's word, and settings of its options that the fields tell
+pub record AreReadTo (verb : Verb) (words : List (List ℕ)) (settings : Settings) (rest : List (List ℕ)) : Type 0 where
+  pub given : List Given
+  pub done : List (List ℕ)
+  pub whole : words ≡ (verb_text verb ∷ done) ++ rest
+  pub spelled : BeginWithSettings given [] done
+  pub taken : AreTaken verb given
+  pub different : AreDifferent given
+  pub fields : (setting : Setting) → IsSetTo setting (text_of setting given) settings
+
+-- no option's word stands first
+abbrev pub BeginWithNoOption : List (List ℕ) → Type 0
+BeginWithNoOption [] = Unit {0}
+BeginWithNoOption (word ∷ words) = (setting : Setting) (text : Option (List ℕ)) → word ≡ option_text setting text → ⊥
+
+-- all settings are read
+pub record AreReadWhole (verb : Verb) (words : List (List ℕ)) (settings : Settings) (rest : List (List ℕ)) : Type 0 where
+  pub read : AreReadTo verb words settings rest
+  pub no_more : BeginWithNoOption rest
+
+-- words are refused rightly
+abbrev pub IsRefusal : List (List ℕ) → WordsRefusal → Type 0
+IsRefusal words (Words number) = AreRefusedAt words number
+IsRefusal words Memory = Unit {0}
+
+-- the refusal of a word, by its number from 1, behind which and with which so many of all words are left
+abbrev pub IsRefusalBefore : ℕ → ℕ → WordsRefusal → Type 0
+IsRefusalBefore total left (Words number) = number + left ≡ total + 1
+IsRefusalBefore total left Memory = ⊥
+
+-- the same of a word that is no input's, unless memory ran out
+abbrev pub IsRefusalFor : PathRefusal → ℕ → ℕ → WordsRefusal → Type 0
+IsRefusalFor paths.BadPath total left refusal = IsRefusalBefore total left refusal
+IsRefusalFor paths.BadNumber total left refusal = IsRefusalBefore total left refusal
+IsRefusalFor paths.TooWide total left refusal = IsRefusalBefore total left refusal
+IsRefusalFor paths.Memory total left refusal = refusal ≡ Memory
+
+-- the words' one command, or a right refusal
+abbrev pub IsRight : List (List ℕ) → Result Command WordsRefusal → Type 0
+IsRight words (Ok command) = WordsMean words command × ((other : Command) → WordsMean words other → other ≡ command)
+IsRight words (Err refusal) = IsRefusal words refusal
+
+-- the first word that is no input's, of those behind a function's name: the words behind it and it are the number's
+-- distance from the end
+pub record IsNoInputAt (words : List (List ℕ)) (total number : ℕ) : Type 0 where
+  pub before : List (List ℕ)
+  pub word : List ℕ
+  pub behind : List (List ℕ)
+  pub whole : words ≡ before ++ word ∷ behind
+  pub counts : number + length (word ∷ behind) ≡ total + 1
+  pub inputs : List (Path × ℤ)
+  pub entered : AreEntered [] before inputs
+  pub none : (path : Path) (number : ℤ) → SpellsInput word path number → ⊥
+
+-- inputs that are read, or why they aren't
+abbrev pub AreInputsRead : List (List ℕ) → ℕ → Result (List (Path × ℤ)) WordsRefusal → Type 0
+AreInputsRead words total (Ok inputs) = AreEntered [] words inputs
+AreInputsRead words total (Err (Words number)) = IsNoInputAt words total number
+AreInputsRead words total (Err Memory) = Unit {0}

@@ -1,0 +1,67 @@
+-- Settings, each an option and its value's text, and the words that give them.
+use Rattle.std.specs.Prelude.{◌≡◌, ℕ, ◌⊎◌, Bool, nat_eq, IsTrue, List, [], ◌∷◌, ◌++◌, Option, Some, None, codes, if◌then◌else◌}
+use Rattle.cs_runs.specs.declared.outcome.RunBudgets.{RunBudgets}
+use Rattle.cs_types.specs.declared.data_model.DataModel.TheVariants.{Lp64}
+use Rattle.cs_words.specs.declared.setting.Setting.TheVariants.{Visits, Depth, Events, Model}
+pub use Rattle.cs_words.specs.Options.{Setting}
+use Rattle.cs_words.specs.Options.{Verb, setting_text, takes}
+use Rattle.cs_words.specs.Values.{DataModel, IsVisits, IsDepth, IsEvents, IsModel}
+
+-- a setting
+pub record Given : Type 0 where
+  pub setting : Setting
+  pub text : List ℕ
+
+-- the word `--name`, or `--name=value` with a value's text
+abbrev pub option_text : Setting → Option (List ℕ) → List ℕ
+option_text setting None = codes "--" ++ setting_text setting
+option_text setting (Some text) = codes "--" ++ setting_text setting ++ codes "=" ++ text
+
+-- words begin with a setting's, as `--name value` or `--name=value`, and go on with others
+abbrev pub BeginWithSetting : Given → List (List ℕ) → List (List ℕ) → Type 0
+BeginWithSetting given others words = (words ≡ option_text given.setting None ∷ given.text ∷ others) ⊎ (words ≡ option_text given.setting (Some given.text) ∷ others)
+
+-- words are those of settings, in order, and others behind them
+abbrev pub BeginWithSettings : List Given → List (List ℕ) → List (List ℕ) → Type 0
+BeginWithSettings [] others words = words ≡ others
+BeginWithSettings (given ∷ rest) others words = (behind : List (List ℕ)) × BeginWithSetting given behind words × BeginWithSettings rest others behind
+
+-- the options' places in their table, which tell them apart
+abbrev pub place_of : Setting → ℕ
+place_of Visits = 0
+place_of Depth = 1
+place_of Events = 2
+place_of Model = 3
+
+abbrev pub is_same : Setting → Setting → Bool
+is_same one other = nat_eq (place_of one) (place_of other)
+
+-- the text of an option's value, if it's given
+abbrev pub text_of : Setting → List Given → Option (List ℕ)
+text_of setting [] = None
+text_of setting (given ∷ rest) = if is_same setting given.setting then Some given.text else text_of setting rest
+
+-- each is a setting of an option that the command has
+abbrev pub AreTaken : Verb → List Given → Type 0
+AreTaken verb [] = Unit {0}
+AreTaken verb (given ∷ rest) = IsTrue (takes verb given.setting) × AreTaken verb rest
+
+-- no option is given twice
+abbrev pub AreDifferent : List Given → Type 0
+AreDifferent [] = Unit {0}
+AreDifferent (given ∷ rest) = (text_of given.setting rest ≡ None) × AreDifferent rest
+
+-- a value: what its text tells where it's given, else the default
+abbrev pub IsGivenOr : {X : Type 0} → (List ℕ → X → Type 0) → X → Option (List ℕ) → X → Type 0
+IsGivenOr Tells default None value = value ≡ default
+IsGivenOr Tells default (Some text) value = Tells text value
+
+-- the budgets of a run, with their defaults
+pub record AreBudgets (given : List Given) (budgets : RunBudgets) : Type 0 where
+  pub visits : IsGivenOr IsVisits 4 (text_of Visits given) budgets.visits
+  pub depth : IsGivenOr IsDepth 5 (text_of Depth given) budgets.depth
+  pub events : IsGivenOr IsEvents 20000 (text_of Events given) budgets.events
+
+-- the data model, by default LP64
+abbrev pub IsDataModel : List Given → DataModel → Type 0
+IsDataModel given model = IsGivenOr IsModel Lp64 (text_of Model given) model

@@ -1,0 +1,34 @@
+-- The values of options: their texts and their ranges.
+use Rattle.std.specs.Prelude.{◌≡◌, ℕ, ◌<◌, ◌≤◌, IsTrue, List, length, codes}
+use Rattle.std.specs.List.{list_all}
+use Rattle.std.specs.Str.Parse.{digits_value}
+use Rattle.cs_inputs.specs.InputText.{is_digit}
+pub use Rattle.cs_types.specs.declared.data_model.DataModel.{DataModel}
+use Rattle.cs_types.specs.declared.data_model.DataModel.TheVariants.{Lp64, Ilp32}
+
+-- one to nine digits, of which zeros may be the first, with a value in a range
+pub record IsNumberIn (least greatest : ℕ) (text : List ℕ) (number : ℕ) : Type 0 where
+  pub digits : IsTrue (list_all is_digit text)
+  pub some : 0 < length text
+  pub few : length text ≤ 9
+  pub value : number ≡ digits_value 10 text
+  pub from_least : least ≤ number
+  pub to_greatest : number ≤ greatest
+
+-- the values that each budget may have
+abbrev pub IsVisits : List ℕ → ℕ → Type 0
+IsVisits text number = IsNumberIn 1 1000 text number
+
+abbrev pub IsDepth : List ℕ → ℕ → Type 0
+IsDepth text number = IsNumberIn 1 64 text number
+
+abbrev pub IsEvents : List ℕ → ℕ → Type 0
+IsEvents text number = IsNumberIn 1 1000000 text number
+
+-- a data model's name
+abbrev pub model_text : DataModel → List ℕ
+model_text Lp64 = codes "lp64"
+model_text Ilp32 = codes "ilp32"
+
+abbrev pub IsModel : List ℕ → DataModel → Type 0
+IsModel text model = model_text model ≡ text

@@ -1,0 +1,20 @@
+//! The words of csa's command line: the commands, their options with ranges and defaults, and which words are refused.
+#![tactic(auto)]
+
+mod command;
+mod inputs;
+mod name;
+mod option_word;
+mod refusal;
+mod scan;
+mod setting;
+mod settings;
+#[cfg(test)]
+mod tests;
+mod value;
+mod verb;
+mod words;
+
+pub use command::{AnalyzeWords, Command, ReplayWords};
+pub use refusal::WordsRefusal;
+pub use words::words_of;

@@ -1,0 +1,110 @@
+//! The settings behind a command's word.
+ghost use Rattle.std.specs.Prelude.{◌≡◌, ◌∷◌, ◌≤◌, IfOk, MatchResult, length};
+ghost use Rattle.cs_words.specs.Meaning.{words_text};
+ghost use Rattle.cs_words.specs.Options.{verb_text};
+ghost use Rattle.cs_words.specs.Scan.{AreReadTo, AreReadWhole, IsFirstOption, IsRefusal, IsRefusalBefore, IsSetBesides, HasValue};
+
+use crate::option_word::{OptionWord, option_of};
+use crate::refusal::WordsRefusal;
+use crate::setting::Setting;
+use crate::settings::Settings;
+use crate::verb::{Verb, takes};
+
+/// The settings that are found, and the words that are left behind them.
+#[derive(Clone, Copy, Debug)]
+pub struct Found<'a> {
+    pub settings: Settings,
+    pub rest: &'a [String],
+}
+
+/// The settings of a command, from the words behind its own.
+pub fn settings_of<'a>(
+    verb: Verb,
+    words: &[String],
+    behind: &'a [String],
+) -> Result<Found<'a>, WordsRefusal>
+    requires { words_text words.now ≡ verb_text verb ∷ words_text behind.now }
+    ensures { MatchResult result (λ found. AreReadWhole verb (words_text words.now) found.settings (words_text found.rest.now)) (IsRefusal (words_text words.now)) }
+{
+    let mut found = Found {
+        settings: Settings::none(),
+        rest: behind,
+    };
+    while let Some((word, others)) = found.rest.split_first() {
+        let Some(option) = option_of(word.as_bytes()) else {
+            return Ok(found);
+        };
+        found = with_option(verb, words, found, option, others)?;
+    }
+    Ok(found)
+}
+
+// The settings with the one whose option's word stands first in the rest, before others.
+fn with_option<'a>(
+    verb: Verb,
+    words: &[String],
+    found: Found<'a>,
+    option: OptionWord<'_>,
+    others: &'a [String],
+) -> Result<Found<'a>, WordsRefusal>
+    requires read { AreReadTo verb (words_text words.now) found.settings (words_text found.rest.now) }
+    requires first { IsFirstOption option (words_text others.now) (words_text found.rest.now) }
+    ensures read { MatchResult result (λ after. AreReadTo verb (words_text words.now) after.settings (words_text after.rest.now)) (IsRefusal (words_text words.now)) }
+    ensures shorter { IfOk result (λ after. length after.rest.now ≤ length others.now) }
+{
+    let setting = option.setting();
+    if !takes(verb, setting) || found.settings.has(setting) {
+        return Err(refused(words, found.rest));
+    }
+    match option {
+        OptionWord::With(_, text) => with_value(
+            words,
+            found.settings,
+            setting,
+            text,
+            found.rest,
+            others,
+        ),
+        OptionWord::Alone(_) => match others.split_first() {
+            Some((text, left)) => with_value(
+                words,
+                found.settings,
+                setting,
+                text.as_bytes(),
+                others,
+                left,
+            ),
+            None => Err(refused(words, others)),
+        },
+    }
+}
+
+// The settings with one more, before the words that are left. The word that `at` begins with is refused if the text is
+// no value's.
+fn with_value<'a>(
+    words: &[String],
+    settings: Settings,
+    setting: Setting,
+    text: &[u8],
+    at: &[String],
+    left: &'a [String],
+) -> Result<Found<'a>, WordsRefusal>
+    requires { length at.now ≤ length words.now }
+    ensures { MatchResult result (λ after. IsSetBesides setting text.now settings after.settings × (after.rest.now ≡ left.now)) (λ refusal. (HasValue setting text.now → ⊥) × IsRefusalBefore (length words.now) (length at.now) refusal) }
+{
+    match settings.with(setting, text) {
+        Some(settings) => Ok(Found {
+            settings,
+            rest: left,
+        }),
+        None => Err(refused(words, at)),
+    }
+}
+
+/// The refusal of the word that the rest begins with, by its number.
+pub fn refused(words: &[String], rest: &[String]) -> WordsRefusal
+    requires { length rest.now ≤ length words.now }
+    ensures { IsRefusalBefore (length words.now) (length rest.now) result }
+{
+    WordsRefusal::Words((words.len() - rest.len()) as u64 + 1)
+}

@@ -1,0 +1,224 @@
+//! Words that mean a command, with their values, and words that are refused, with the number of the word, with ample memory.
+use super::*;
+use cs_runs::RunBudgets;
+use cs_types::DataModel;
+use std::alloc::{AllocError, Global};
+use std::test::Fail;
+
+// The words of a line, cut at its spaces.
+fn words_in(alloc: Global, line: &str) -> Result<Vec<String>, AllocError> {
+    let mut words = Vec::new(alloc);
+    for word in line.split(' ') {
+        words.push(String::from_str(alloc, word)?)?;
+    }
+    Ok(words)
+}
+
+#[test]
+fn reads_words_of_analyze(rt: HostRuntime) -> Result<(), Fail> {
+    let alloc = rt.alloc();
+    for (line, model) in [
+        ("analyze", DataModel::Lp64),
+        ("analyze --model lp64", DataModel::Lp64),
+        ("analyze --model ilp32", DataModel::Ilp32),
+        ("analyze --model=ilp32", DataModel::Ilp32),
+    ] {
+        let words = words_in(alloc, line)?;
+        match words_of(alloc, words.as_slice())? {
+            Command::Analyze(read) => assert_eq!(rt; read.model, model, "{line}"),
+            Command::Replay(_) => assert!(rt; false, "{line}"),
+        }
+    }
+    Ok(())
+}
+
+#[test]
+fn reads_words_of_replay(rt: HostRuntime) -> Result<(), Fail> {
+    let alloc = rt.alloc();
+    let usual = RunBudgets {
+        visits: 4,
+        depth: 5,
+        events: 20_000,
+    };
+    for (line, budgets, model, entry, inputs) in [
+        ("replay f", usual, DataModel::Lp64, "f", 0),
+        ("replay f x=3", usual, DataModel::Lp64, "f", 1),
+        (
+            "replay int int=3 $g@0=-1 int=4",
+            usual,
+            DataModel::Lp64,
+            "int",
+            2,
+        ),
+        (
+            "replay --model=ilp32 _f1",
+            usual,
+            DataModel::Ilp32,
+            "_f1",
+            0,
+        ),
+        (
+            "replay --visits 1 f",
+            RunBudgets { visits: 1, ..usual },
+            DataModel::Lp64,
+            "f",
+            0,
+        ),
+        (
+            "replay --visits=000001000 f",
+            RunBudgets {
+                visits: 1_000,
+                ..usual
+            },
+            DataModel::Lp64,
+            "f",
+            0,
+        ),
+        (
+            "replay --depth 6 f n=5",
+            RunBudgets { depth: 6, ..usual },
+            DataModel::Lp64,
+            "f",
+            1,
+        ),
+        (
+            "replay --depth=64 f",
+            RunBudgets { depth: 64, ..usual },
+            DataModel::Lp64,
+            "f",
+            0,
+        ),
+        (
+            "replay --events 1000000 f",
+            RunBudgets {
+                events: 1_000_000,
+                ..usual
+            },
+            DataModel::Lp64,
+            "f",
+            0,
+        ),
+        (
+            "replay --events=1 --model ilp32 --depth 1 --visits=7 f",
+            RunBudgets {
+                visits: 7,
+                depth: 1,
+                events: 1,
+            },
+            DataModel::Ilp32,
+            "f",
+            0,
+        ),
+    ] {
+        let words = words_in(alloc, line)?;
+        match words_of(alloc, words.as_slice())? {
+            Command::Replay(read) => {
+                assert_eq!(rt; read.budgets, budgets, "{line}");
+                assert_eq!(rt; read.model, model, "{line}");
+                assert_eq!(rt; read.entry.as_bytes(), entry.as_bytes(), "{line}");
+                assert_eq!(rt; read.inputs.list().len(), inputs, "{line}");
+            }
+            Command::Analyze(_) => assert!(rt; false, "{line}"),
+        }
+    }
+    Ok(())
+}
+
+#[test]
+fn the_last_of_one_path_holds(rt: HostRuntime) -> Result<(), Fail> {
+    let alloc = rt.alloc();
+    let words = words_in(alloc, "replay f y=1 x=2 x=-3 x=007")?;
+    match words_of(alloc, words.as_slice())? {
+        Command::Replay(read) => {
+            let inputs = read.inputs.list();
+            assert_eq!(rt; inputs.len(), 2);
+            assert_eq!(rt; inputs[0].1, 7);
+            assert_eq!(rt; inputs[1].1, 1);
+        }
+        Command::Analyze(_) => assert!(rt; false),
+    }
+    Ok(())
+}
+
+// The refusal of the words of a line, if they are refused.
+fn refusal_of(alloc: Global, line: &str) -> Result<Option<WordsRefusal>, AllocError> {
+    let words = words_in(alloc, line)?;
+    Ok(words_of(alloc, words.as_slice()).err())
+}
+
+#[test]
+fn refuses_commands(rt: HostRuntime) -> Result<(), Fail> {
+    let alloc = rt.alloc();
+    assert_eq!(rt; words_of(alloc, &[]).err(), Some(WordsRefusal::Words(1)));
+    for (line, number) in [
+        ("", 1),
+        ("Analyze", 1),
+        ("analyze ", 2),
+        ("analyze f", 2),
+        ("analyze --visits 0", 2),
+        ("analyze --model", 3),
+        ("analyze --model lp32", 3),
+        ("analyze --model=", 2),
+        ("analyze --model lp64 lp64", 4),
+        ("analyze --model lp64 --model=lp64", 4),
+    ] {
+        assert_eq!(rt;
+            refusal_of(alloc, line)?,
+            Some(WordsRefusal::Words(number)),
+            "{line}"
+        );
+    }
+    Ok(())
+}
+
+#[test]
+fn refuses_settings(rt: HostRuntime) -> Result<(), Fail> {
+    let alloc = rt.alloc();
+    for (line, number) in [
+        ("replay --visits 0", 3),
+        ("replay --visits 0 f", 3),
+        ("replay --visits 1001 f", 3),
+        ("replay --visits=1001 f", 2),
+        ("replay --visits 0000000001 f", 3),
+        ("replay --visits +1 f", 3),
+        ("replay --visits --depth 1 f", 3),
+        ("replay --visits", 3),
+        ("replay --visits 1", 4),
+        ("replay --visits 1 --visits 1 f", 4),
+        ("replay --visits 1 --visits=x f", 4),
+        ("replay --depth 65 f", 3),
+        ("replay --depth 0 f", 3),
+        ("replay --events 1000001 f", 3),
+        ("replay --events=0 f", 2),
+        ("replay --event 1 f", 2),
+        ("replay -visits 1 f", 2),
+    ] {
+        assert_eq!(rt;
+            refusal_of(alloc, line)?,
+            Some(WordsRefusal::Words(number)),
+            "{line}"
+        );
+    }
+    Ok(())
+}
+
+#[test]
+fn refuses_entries_and_inputs(rt: HostRuntime) -> Result<(), Fail> {
+    let alloc = rt.alloc();
+    for (line, number) in [
+        ("replay", 2),
+        ("replay 1f", 2),
+        ("replay f@0=1", 2),
+        ("replay f x=", 3),
+        ("replay f x=1 y", 4),
+        ("replay f x=1 --depth 6", 4),
+        ("replay f x=18446744073709551616", 3),
+    ] {
+        assert_eq!(rt;
+            refusal_of(alloc, line)?,
+            Some(WordsRefusal::Words(number)),
+            "{line}"
+        );
+    }
+    Ok(())
+}

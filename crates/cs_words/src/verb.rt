@@ -1,0 +1,34 @@
+//! The first word: the command's.
+ghost use Rattle.std.specs.Prelude.{◌≡◌, ◌≢◌, MatchOption};
+ghost use Rattle.cs_words.specs.Options as options;
+ghost use Rattle.cs_words.specs.Options.{verb_text};
+
+use crate::setting::Setting;
+
+/// The commands.
+#[derive(Clone, Copy, PartialEq, Eq, Debug)]
+pub enum Verb {
+    Analyze,
+    Replay,
+}
+
+/// The command with this word.
+pub fn verb_named(word: &[u8]) -> Option<Verb>
+    ensures { MatchOption result ((verb : options.Verb) → verb_text verb ≢ word.now) (λ verb. verb_text verb ≡ word.now) }
+{
+    match word {
+        b"analyze" => Some(Verb::Analyze),
+        b"replay" => Some(Verb::Replay),
+        _ => None,
+    }
+}
+
+/// Whether a command has an option.
+pub fn takes(verb: Verb, setting: Setting) -> bool
+    ensures { result ≡ options.takes verb setting }
+{
+    match verb {
+        Verb::Analyze => matches!(setting, Setting::Model),
+        Verb::Replay => true,
+    }
+}
