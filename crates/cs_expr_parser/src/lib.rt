@@ -11,8 +11,6 @@ mod parser;
 mod postfix;
 mod primary;
 mod stop;
-#[cfg(test)]
-mod tests;
 mod tokens;
 mod types;
 mod unary;

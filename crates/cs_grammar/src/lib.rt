@@ -4,8 +4,6 @@
 mod marks;
 mod refusal;
 mod spelling;
-#[cfg(test)]
-mod tests;
 mod type_words;
 mod typedef_names;
 

@@ -10,8 +10,6 @@ mod path;
 mod refusal;
 mod root_text;
 mod split;
-#[cfg(test)]
-mod tests;
 mod text;
 
 pub use cells::Cells;

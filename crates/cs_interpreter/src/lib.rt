@@ -21,8 +21,6 @@ pub mod operators;
 pub mod pieces;
 mod scalars;
 mod settings;
-#[cfg(test)]
-mod tests;
 pub mod types;
 mod writes;
 

@@ -20,8 +20,6 @@ mod refusal;
 mod spelling;
 mod spot;
 mod tail;
-#[cfg(test)]
-mod tests;
 mod texts;
 mod word;
 

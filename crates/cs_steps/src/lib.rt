@@ -13,8 +13,6 @@ mod loops;
 mod marks;
 mod outside;
 mod putting;
-#[cfg(test)]
-mod run_tests;
 mod runner;
 mod runs;
 mod starting;

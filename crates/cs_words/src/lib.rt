@@ -9,8 +9,6 @@ mod refusal;
 mod scan;
 mod setting;
 mod settings;
-#[cfg(test)]
-mod tests;
 mod value;
 mod verb;
 mod words;

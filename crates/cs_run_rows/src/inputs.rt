@@ -1,5 +1,5 @@
 //! Paths printed and ordered, inputs set and read, with ample memory.
-use super::*;
+use cs_inputs::{Cells, Inputs, Path, PathRefusal, Root, parse, print};
 use cs_names::{Bytes, Name};
 use std::alloc::{AllocError, Global};
 use std::cmp::Ordering;

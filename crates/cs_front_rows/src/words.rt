@@ -1,7 +1,7 @@
 //! Words that mean a command, with their values, and words that are refused, with the number of the word, with ample memory.
-use super::*;
 use cs_runs::RunBudgets;
 use cs_types::DataModel;
+use cs_words::{Command, WordsRefusal, words_of};
 use std::alloc::{AllocError, Global};
 use std::test::Fail;
 

@@ -1,11 +1,11 @@
 //! What asked operations answer, and what memory holds, with ample memory.
-use super::*;
-use crate::blocks::{Block, BlockType, Change, Fill};
-use crate::memory::Memory;
 use cs_ast::Place;
 use cs_ast::typed::operator::BinOp;
 use cs_ast::typed::program::Program;
 use cs_inputs::Inputs;
+use cs_interpreter::blocks::{Block, BlockType, Change, Fill};
+use cs_interpreter::memory::Memory;
+use cs_interpreter::{Cell, Log, Object, Setting, Stop};
 use cs_model::{Kind, Standing};
 use cs_runs::{Budget, Event, Guess, Label, Outcome, RunBudgets, Wrap};
 use cs_types::{DataModel, IntType, StructTable, Structs};

@@ -1,8 +1,8 @@
 //! Expressions of C, and what the grammar says of them: a table of trees, and one of refusals.
-use super::*;
 use cs_ast::raw::expression::{RawExpr, RawExprKind};
 use cs_ast::raw::written_type::{TypeWord, WrittenType};
 use cs_ast::{IntegerConstant, Keyword, LeftOut, Length, Mark, Place, Token, TokenKind};
+use cs_expr_parser::{ExprLevel, Phrase, expression};
 use cs_grammar::{Reason, SyntaxRefusal, TypedefNames};
 use cs_names::{Bytes, Name};
 use std::alloc::{AllocError, Global};

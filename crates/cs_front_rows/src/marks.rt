@@ -1,8 +1,10 @@
 //! Typedef names, marks and words of types with known answers.
-use super::*;
 use cs_ast::raw::operator::{InfixOp, PrefixOp, Step};
 use cs_ast::raw::written_type::{IntegerWord, TypeWord};
 use cs_ast::{LeftOut, Mark, TokenKind};
+use cs_grammar::{
+    TypeSoFar, TypedefNames, infix_level, infix_operator, left_out_text, prefix_operator, step,
+};
 use cs_names::Name;
 use std::test::Fail;
 

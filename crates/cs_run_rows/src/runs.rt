@@ -1,7 +1,6 @@
 //! Whole runs of programs that are built by hand.
 ghost use Rattle.cs_types.specs.Layout.{IsLaidOut};
 
-use super::*;
 use cs_ast::Place;
 use cs_ast::typed::expression::{Expr, ExprKind};
 use cs_ast::typed::operator::{Allocator, BinOp, CmpOp};
@@ -12,6 +11,7 @@ use cs_interpreter::Setting;
 use cs_model::Kind;
 use cs_names::Name;
 use cs_runs::{Budget, Outcome, Returned, RunBudgets};
+use cs_steps::run;
 use cs_types::{CType, DataModel, IntType, StructTable, Structs};
 use std::alloc::{AllocError, Global};
 use std::test::Fail;

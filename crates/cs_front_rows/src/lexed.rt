@@ -1,7 +1,6 @@
 //! Tokens, places and refusals of small texts, and the limit of tokens.
-use super::*;
-use crate::found::Fault;
 use cs_ast::{IntegerConstant, Keyword, LeftOut, Length, Mark, Place};
+use cs_lexer::{LexRefusal, Lexed, Token, TokenKind, tokens};
 use cs_names::Name;
 use std::alloc::Global;
 use std::test::Fail;
@@ -11,6 +10,24 @@ const fn at(line: u32, column: u32) -> Place {
         file: 0,
         line,
         column,
+    }
+}
+
+// What is wrong with a text that is refused at a place.
+#[derive(Clone, Copy)]
+enum Fault {
+    BadByte,
+    Unclosed,
+    WideNumber,
+    BadLine,
+}
+
+fn refusal(fault: Fault, place: Place, file: Name) -> LexRefusal {
+    match fault {
+        Fault::BadByte => LexRefusal::BadByte(place, file),
+        Fault::Unclosed => LexRefusal::Unclosed(place, file),
+        Fault::WideNumber => LexRefusal::WideNumber(place, file),
+        Fault::BadLine => LexRefusal::BadLine(place, file),
     }
 }
 
@@ -104,7 +121,7 @@ fn a_bad_text_is_refused_at_its_first_fault(rt: HostRuntime) -> Result<(), Fail>
         let file = Name::from_slice(rt.alloc(), b"<input>")?;
         match lexed(rt.alloc(), text.as_bytes()) {
             Ok(_) => assert!(rt; false, "{text} has tokens"),
-            Err(found) => assert_eq!(rt; found, LexRefusal::of(fault, place, file), "{text}"),
+            Err(found) => assert_eq!(rt; found, refusal(fault, place, file), "{text}"),
         }
     }
     Ok(())

@@ -1,0 +1,9 @@
+//! Tables of single layers of the plain machine: inputs, operations and whole runs, with ample memory.
+#![tactic(auto)]
+
+#[cfg(test)]
+mod inputs;
+#[cfg(test)]
+mod operations;
+#[cfg(test)]
+mod runs;
