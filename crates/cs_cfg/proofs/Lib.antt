@@ -2,3 +2,4 @@ pub mod Building
 mod Samples
 pub mod Alike
 pub mod Acting
+pub mod Related

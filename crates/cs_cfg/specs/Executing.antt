@@ -1,5 +1,5 @@
 -- Where a point of the code executes a statement, and behind it the graph goes on at a point. No temporary is in use there.
-use Rattle.std.specs.Prelude.{◌≡◌, ℤ, ℕ, zero, suc, ◌+◌, true, List, [], ◌∷◌, Option, Some, None, unwrap_or, option_map, slice_get}
+use Rattle.std.specs.Prelude.{◌≡◌, ℤ, ℕ, zero, suc, ◌+◌, ⊤, List, [], ◌∷◌, Option, Some, None, unwrap_or, option_map, slice_get}
 use Rattle.cs_types.specs.Shape.{Shape, void}
 use Rattle.cs_ast.specs.declared.place.Place.{Place}
 use Rattle.cs_ast.specs.declared.typed.statement.Case.{Case}
@@ -10,12 +10,11 @@ use Rattle.cs_plain.specs.Types.{type_of, is_scalar}
 use Rattle.cs_plain.specs.Initials.{Piece, Evaluated, Spelled, pieces}
 use Rattle.cs_plain.specs.Machine.{body_of}
 use Rattle.cs_plain.specs.Marks.{marks, marks_in}
-use Rattle.cs_plain.specs.Jumps.{landing}
+use Rattle.cs_plain.specs.Jumps.{Landing, landing}
 use Rattle.cs_plain.specs.Statements.{default_item, count_of}
 use Rattle.cs_cfg.specs.Graph as graph
 use Rattle.cs_cfg.specs.Graph.{SwitchCase, Point, Flow, block_of}
 use Rattle.cs_cfg.specs.Placing.{does, split, Joins, evaluates, used}
-use Rattle.cs_cfg.specs.Lowered.{is_there}
 
 -- the type of a local of a function
 abbrev pub type_in : Routine → ℕ → Shape
@@ -106,6 +105,16 @@ module _ (program : TypedProgram) (flow : Flow) where
     cases_lead entries [] cases = cases ≡ []
     cases_lead entries (one ∷ others) cases = case_leads entries one.value one.item cases (cases_lead entries others)
 
+    -- a `goto` leads to its label; one whose label isn't there leads on (C11 6.8.6.1)
+    abbrev pub goes_to : Option Landing → Point → Point → Point → Type 0
+    goes_to None label p q = Joins program flow p q
+    goes_to (Some landing) label p q = Joins program flow p label
+
+    -- a label with a mark is the point to which its `goto`s lead, where it is the first of its name
+    abbrev pub is_led_to : Option Landing → ℕ → Point → Point → Type 0
+    is_led_to None mark label head = ⊤
+    is_led_to (Some landing) mark label head = landing.mark ≡ mark → label ≡ head
+
     abbrev mutual
       -- the point executes a statement, the first mark of which has this number, and then the graph goes on at a point; `break` and
       -- `continue` lead to two others
@@ -129,9 +138,10 @@ module _ (program : TypedProgram) (flow : Flow) where
           × used program flow value 0 p (record { operations = []; end = graph.Switch at 0 ways otherwise })
           × ((item : ℕ) → from_at item statements mark q again (entries item) q) × cases_lead entries cases ways
           × (block_of flow otherwise ≡ entries (default_item cases (count_of statements)))
-      executes_at (Goto at label) mark out again p q = Joins program flow p (labels label) × (is_there (landing label (body_of routine) 0 []) ≡ true)
+      executes_at (Goto at label) mark out again p q = goes_to (landing label (body_of routine) 0 []) (labels label) p q
       executes_at (Label at label body) mark out again p q =
-          (r : Point) × Joins program flow p (labels label) × (labels label ≡ does at 0 (graph.Reach point.Label mark) r) × executes_at body (mark + 1) out again r q
+          (head r : Point) × Joins program flow p head × (head ≡ does at 0 (graph.Reach point.Label mark) r)
+          × is_led_to (landing label (body_of routine) 0 []) mark (labels label) head × executes_at body (mark + 1) out again r q
       executes_at (Break at) mark out again p q = Joins program flow p out
       executes_at (Continue at) mark out again p q = Joins program flow p again
       executes_at (Return at value) mark out again p q = returns_at at value p

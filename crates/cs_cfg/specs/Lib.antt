@@ -9,3 +9,4 @@ pub mod Lowered
 pub mod Placing
 pub mod Executing
 pub mod Standing
+pub mod Placed

@@ -142,7 +142,9 @@ module _ (program : TypedProgram) (flow : Flow) where
     item_at (Again s mark) out again behind depth p = (depth ≡ 0) × (again ≡ p) × ((head : Point) × loops_at s mark head p out × behind 0 out)
     item_at Out out again behind depth p = (depth ≡ 0) × (p ≡ out) × behind 0 p
     item_at (Begin at) out again behind depth p = (depth ≡ 0) × worked at (graph.Meet point.Enter) 0 behind 0 p
-    item_at (End at value) out again behind depth p = (depth ≡ 0) × ((nothing : Bool) × (value ≡ closed_with nothing) × (p ≡ does at 0 (graph.Close nothing) leaving))
+    item_at (End at value) out again behind depth p =
+        (depth ≡ 0) × ((nothing : Bool) × (value ≡ closed_with nothing) × (p ≡ does at 0 (graph.Close nothing) leaving))
+        × Joins program flow out finishing × Joins program flow again finishing
     item_at (Give at) out again behind depth p = (depth ≡ 1) × (p ≡ does at 1 (graph.Meet point.Return) leaving)
     item_at Leave out again behind depth p = (depth ≡ 1) × (p ≡ leaving)
 
