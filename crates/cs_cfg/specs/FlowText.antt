@@ -7,7 +7,7 @@ use Rattle.cs_ast.specs.TypedTree.{Statement}
 use Rattle.cs_ast.specs.TypedProgram.{TypedProgram, Routine}
 use Rattle.cs_runs.specs.declared.point.PointKind.{PointKind}
 use Rattle.cs_runs.specs.declared.point.PointKind.TheVariants.{Enter, Head, Label, Branch, Switch, Return, End}
-use Rattle.cs_cfg.specs.ControlPoints.{Exit, Onward, TruthOf, CaseOf, Way, ControlPoint, control_points}
+use Rattle.cs_cfg.specs.ControlPoints.{Exit, Onward, TruthOf, CaseOf, Next, Way, ControlPoint, control_points}
 
 -- `FILE:LINE:COLUMN`, the files by their numbers
 abbrev pub place_text : List (List ℕ) → Place → List ℕ
@@ -33,9 +33,13 @@ exit_text (CaseOf number) = codes " case " ++ decimal number
 abbrev pub point_text : List (List ℕ) → PointKind → Place → List ℕ
 point_text files kind at = kind_text kind ++ codes " " ++ place_text files at
 
--- `  KIND PLACE WAY -> KIND PLACE`: a way out of a point
+-- `  KIND PLACE WAY -> KIND PLACE`: a way out of a point, if something is met on it
+abbrev pub next_line : List (List ℕ) → ControlPoint → Exit → Next → List ℕ
+next_line files one exit None = []
+next_line files one exit (Some next) = codes "  " ++ point_text files one.kind one.at ++ exit_text exit ++ codes " -> " ++ point_text files next.kind next.at ++ codes "\n"
+
 abbrev pub way_line : List (List ℕ) → ControlPoint → Way → List ℕ
-way_line files one way = codes "  " ++ point_text files one.kind one.at ++ exit_text way.exit ++ codes " -> " ++ point_text files way.next.kind way.next.at ++ codes "\n"
+way_line files one way = next_line files one way.exit way.next
 
 -- the lines of a point: one for each way
 abbrev pub point_lines : List (List ℕ) → ControlPoint → List ℕ

@@ -3,14 +3,14 @@ use Rattle.std.specs.Prelude.{◌≡◌, ℕ, Bool, true, false, List, [], ◌++
 use Rattle.cs_ast.specs.declared.place.Place.{Place}
 use Rattle.cs_runs.specs.declared.point.PointKind.{PointKind}
 use Rattle.cs_runs.specs.declared.point.PointKind.TheVariants as point
-use Rattle.cs_cfg.specs.Graph.{Work, Reach, Meet, Close, Operation, SwitchCase, Jump, Branch, Switch, Point, before, Flow, block_of}
-use Rattle.cs_cfg.specs.ControlPoints.{Met, met, Exit, Onward, TruthOf, CaseOf, Way, ControlPoint}
+use Rattle.cs_cfg.specs.Graph.{Work, Reach, Meet, Close, Operation, SwitchCase, Jump, Branch, Switch, Finish, Point, before, Flow, block_of}
+use Rattle.cs_cfg.specs.ControlPoints.{Met, Next, the_point, met, Exit, Onward, TruthOf, CaseOf, Way, ControlPoint}
 
 -- the control point that an operation is, if it is one
 abbrev pub met_in : Place → Work → Option Met
-met_in at (Reach kind mark) = Some (met kind at)
-met_in at (Meet kind) = Some (met kind at)
-met_in at (Close nothing) = Some (met point.End at)
+met_in at (Reach kind mark) = met kind at
+met_in at (Meet kind) = met kind at
+met_in at (Close nothing) = met point.End at
 met_in at other = None
 
 abbrev pub met_by : Operation → Option Met
@@ -25,24 +25,25 @@ goes_on other = true
 -- a point at which the graph goes on is a control point
 pub data IsMet : Point → Met → Type 0 where
   by_operation : {operation : Operation} {p : Point} {m : Met} → met_by operation ≡ Some m → IsMet (before operation p) m
-  by_branch : {at : Place} {temporary one other : ℕ} → IsMet (record { operations = []; end = Branch at temporary one other }) (met point.Branch at)
-  by_switch : {at : Place} {temporary otherwise : ℕ} {cases : List SwitchCase} → IsMet (record { operations = []; end = Switch at temporary cases otherwise }) (met point.Switch at)
+  by_branch : {at : Place} {temporary one other : ℕ} → IsMet (record { operations = []; end = Branch at temporary one other }) (the_point point.Branch at)
+  by_switch : {at : Place} {temporary otherwise : ℕ} {cases : List SwitchCase} → IsMet (record { operations = []; end = Switch at temporary cases otherwise }) (the_point point.Switch at)
 
 -- a way out of a control point, and the point at which the graph goes on
 pub data Leads (flow : Flow) : Point → Met → Exit → Point → Type 0 where
   onward : {operation : Operation} {p : Point} {m : Met} → met_by operation ≡ Some m → goes_on m.kind ≡ true → Leads flow (before operation p) m Onward p
   on_truth : {at : Place} {temporary one other : ℕ} {holds : Bool} →
-      Leads flow (record { operations = []; end = Branch at temporary one other }) (met point.Branch at) (TruthOf holds) (block_of flow (if holds then one else other))
+      Leads flow (record { operations = []; end = Branch at temporary one other }) (the_point point.Branch at) (TruthOf holds) (block_of flow (if holds then one else other))
   on_case : {at : Place} {temporary otherwise number : ℕ} {cases : List SwitchCase} {taken : SwitchCase} → slice_get cases number ≡ Some taken →
-      Leads flow (record { operations = []; end = Switch at temporary cases otherwise }) (met point.Switch at) (CaseOf number) (block_of flow taken.block)
+      Leads flow (record { operations = []; end = Switch at temporary cases otherwise }) (the_point point.Switch at) (CaseOf number) (block_of flow taken.block)
   on_no_case : {at : Place} {temporary otherwise : ℕ} {cases : List SwitchCase} →
-      Leads flow (record { operations = []; end = Switch at temporary cases otherwise }) (met point.Switch at) (CaseOf (length cases)) (block_of flow otherwise)
+      Leads flow (record { operations = []; end = Switch at temporary cases otherwise }) (the_point point.Switch at) (CaseOf (length cases)) (block_of flow otherwise)
 
--- the control point that is met next from a point on
-pub data MeetsNext (flow : Flow) : Point → Met → Type 0 where
-  here : {p : Point} {m : Met} → IsMet p m → MeetsNext flow p m
-  past : {operation : Operation} {p : Point} {m : Met} → met_by operation ≡ None → MeetsNext flow p m → MeetsNext flow (before operation p) m
-  past_jump : {block : ℕ} {m : Met} → MeetsNext flow (block_of flow block) m → MeetsNext flow (record { operations = []; end = Jump block }) m
+-- the control point that is met next from a point on; none is where the frame is left at once
+pub data MeetsNext (flow : Flow) : Point → Next → Type 0 where
+  here : {p : Point} {m : Met} → IsMet p m → MeetsNext flow p (Some m)
+  past : {operation : Operation} {p : Point} {next : Next} → met_by operation ≡ None → MeetsNext flow p next → MeetsNext flow (before operation p) next
+  past_jump : {block : ℕ} {next : Next} → MeetsNext flow (block_of flow block) next → MeetsNext flow (record { operations = []; end = Jump block }) next
+  never : MeetsNext flow (record { operations = []; end = Finish }) None
 
 -- a point is what is left of some block
 pub record Occurs (flow : Flow) (p : Point) : Type 0 where
@@ -55,12 +56,12 @@ pub record Occurs (flow : Flow) (p : Point) : Type 0 where
 -- the graph has just these control points, and on each way out of each of them meets next just what they say
 pub record HasPoints (flow : Flow) (points : List ControlPoint) : Type 0 where
   -- each of them is there
-  pub has : (one : ControlPoint) → Contains points one → (p : Point) × Occurs flow p × IsMet p (met one.kind one.at)
+  pub has : (one : ControlPoint) → Contains points one → (p : Point) × Occurs flow p × IsMet p (the_point one.kind one.at)
   -- no other is
-  pub has_only : (p : Point) (m : Met) → Occurs flow p → IsMet p m → (one : ControlPoint) × Contains points one × (met one.kind one.at ≡ m)
+  pub has_only : (p : Point) (m : Met) → Occurs flow p → IsMet p m → (one : ControlPoint) × Contains points one × (the_point one.kind one.at ≡ m)
   -- each of their ways is there
   pub leads : (one : ControlPoint) (way : Way) → Contains points one → Contains one.ways way →
-      (p q : Point) × Occurs flow p × Leads flow p (met one.kind one.at) way.exit q × MeetsNext flow q way.next
+      (p q : Point) × Occurs flow p × Leads flow p (the_point one.kind one.at) way.exit q × MeetsNext flow q way.next
   -- no other is, and each leads on to what they say
   pub leads_only : (p q : Point) (m : Met) (exit : Exit) → Occurs flow p → Leads flow p m exit q →
-      (one : ControlPoint) × (way : Way) × Contains points one × Contains one.ways way × (met one.kind one.at ≡ m) × (way.exit ≡ exit) × MeetsNext flow q way.next
+      (one : ControlPoint) × (way : Way) × Contains points one × Contains one.ways way × (the_point one.kind one.at ≡ m) × (way.exit ≡ exit) × MeetsNext flow q way.next
