@@ -26,7 +26,23 @@ fn reads_words_of_analyze(rt: HostRuntime) -> Result<(), Fail> {
         let words = words_in(alloc, line)?;
         match words_of(alloc, words.as_slice())? {
             Command::Analyze(read) => assert_eq!(rt; read.model, model, "{line}"),
-            Command::Replay(_) => assert!(rt; false, "{line}"),
+            Command::Flow(_) | Command::Replay(_) => assert!(rt; false, "{line}"),
+        }
+    }
+    Ok(())
+}
+
+#[test]
+fn reads_words_of_flow(rt: HostRuntime) -> Result<(), Fail> {
+    let alloc = rt.alloc();
+    for (line, model) in [
+        ("flow", DataModel::Lp64),
+        ("flow --model ilp32", DataModel::Ilp32),
+    ] {
+        let words = words_in(alloc, line)?;
+        match words_of(alloc, words.as_slice())? {
+            Command::Flow(read) => assert_eq!(rt; read.model, model, "{line}"),
+            Command::Analyze(_) | Command::Replay(_) => assert!(rt; false, "{line}"),
         }
     }
     Ok(())
@@ -118,7 +134,7 @@ fn reads_words_of_replay(rt: HostRuntime) -> Result<(), Fail> {
                 assert_eq!(rt; read.entry.as_bytes(), entry.as_bytes(), "{line}");
                 assert_eq!(rt; read.inputs.list().len(), inputs, "{line}");
             }
-            Command::Analyze(_) => assert!(rt; false, "{line}"),
+            Command::Analyze(_) | Command::Flow(_) => assert!(rt; false, "{line}"),
         }
     }
     Ok(())
@@ -135,7 +151,7 @@ fn the_last_of_one_path_holds(rt: HostRuntime) -> Result<(), Fail> {
             assert_eq!(rt; inputs[0].1, 7);
             assert_eq!(rt; inputs[1].1, 1);
         }
-        Command::Analyze(_) => assert!(rt; false),
+        Command::Analyze(_) | Command::Flow(_) => assert!(rt; false),
     }
     Ok(())
 }
@@ -161,6 +177,8 @@ fn refuses_commands(rt: HostRuntime) -> Result<(), Fail> {
         ("analyze --model=", 2),
         ("analyze --model lp64 lp64", 4),
         ("analyze --model lp64 --model=lp64", 4),
+        ("flow f", 2),
+        ("flow --visits 1", 2),
     ] {
         assert_eq!(rt;
             refusal_of(alloc, line)?,

@@ -9,17 +9,18 @@ use Rattle.cs_inputs.specs.PathText.{is_name}
 use Rattle.cs_inputs.specs.Reading.{SplitsBefore, IsEmptyOrAt}
 use Rattle.cs_inputs.proofs.Splits.{one_cut}
 use Rattle.cs_words.specs.declared.setting.Setting.TheVariants.{Visits, Depth, Events, Model}
-use Rattle.cs_words.specs.declared.verb.Verb.TheVariants.{Analyze, Replay}
+use Rattle.cs_words.specs.declared.verb.Verb.TheVariants.{Analyze, Flow, Replay}
 use Rattle.cs_words.specs.Options.{Verb, Setting, verb_text, setting_text}
 use Rattle.cs_words.specs.Settings.{option_text, place_of, is_same}
 
 -- ---- commands and options by their texts and places
 verb_of : List ℕ → Verb
-verb_of word = if pointwise nat_eq word (codes "analyze") then Analyze else Replay
+verb_of word = if pointwise nat_eq word (codes "analyze") then Analyze else if pointwise nat_eq word (codes "flow") then Flow else Replay
 
 verb_back : (verb : Verb) → verb_of (verb_text verb) ≡ verb
 unfolding verb_of
 verb_back Analyze = refl
+verb_back Flow = refl
 verb_back Replay = refl
 
 pub same_verb : (one other : Verb) → verb_text one ≡ verb_text other → one ≡ other

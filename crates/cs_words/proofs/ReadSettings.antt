@@ -3,7 +3,7 @@
 use Rattle.std.proofs.Common.{◌≡◌, ℕ, Bool, true, false, List, [], ◌∷◌, ◌++◌, Option, Some, None, ap, sym, ◌∙◌, refl, subst, append_assoc, inl, inr}
 use Rattle.std.specs.Prelude.{◌⊎◌, codes}
 use Rattle.std.proofs.lemmas.List.{append-nil}
-use Rattle.cs_words.specs.declared.command.Command.TheVariants.{Analyze, Replay}
+use Rattle.cs_words.specs.declared.command.Command.TheVariants.{Analyze, Flow, Replay}
 use Rattle.cs_words.specs.declared.setting.Setting.TheVariants.{Visits, Depth, Events, Model}
 use Rattle.cs_words.specs.declared.verb.Verb.TheVariants as verbs
 use Rattle.cs_words.specs.Options.{Verb, Setting, verb_text, takes}
@@ -71,6 +71,9 @@ completed : (verb : Verb) (given : List Given) → ((setting : Setting) → IsTo
 completed verbs.Analyze given told =
     let model = some_model given told in
     ([], Analyze (record { model = model.0 }), (refl, model.1))
+completed verbs.Flow given told =
+    let model = some_model given told in
+    ([], Flow (record { model = model.0 }), (refl, model.1))
 completed verbs.Replay given told =
     let model = some_model given told in
     let budgets = some_budgets given told in
@@ -126,9 +129,15 @@ read_more verb g words before after rest own left read whole begins taken unset 
 -- ---- an option's word that goes on
 asked_value : (verb : Verb) (setting : Setting) (given : List Given) (others : List (List ℕ)) (command : Command) (text : List ℕ) → AskFor verb given others command → takes verb setting ≡ true → text_of setting given ≡ Some text → HasValue setting text
 asked_value verbs.Analyze Model given others (Analyze words) text asks taken e = model_told given words.model text asks.1 e
+asked_value verbs.Analyze Model given others (Flow words) text asks taken e = absurd asks
 asked_value verbs.Analyze Model given others (Replay words) text asks taken e = absurd asks
 asked_value verbs.Analyze setting given others command text asks taken e = absurd (cc)
+asked_value verbs.Flow Model given others (Analyze words) text asks taken e = absurd asks
+asked_value verbs.Flow Model given others (Flow words) text asks taken e = model_told given words.model text asks.1 e
+asked_value verbs.Flow Model given others (Replay words) text asks taken e = absurd asks
+asked_value verbs.Flow setting given others command text asks taken e = absurd (cc)
 asked_value verbs.Replay setting given others (Analyze words) text asks taken e = absurd asks
+asked_value verbs.Replay setting given others (Flow words) text asks taken e = absurd asks
 asked_value verbs.Replay Visits given others (Replay words) text asks taken e = visits_told given words.budgets text asks.budgets e
 asked_value verbs.Replay Depth given others (Replay words) text asks taken e = depth_told given words.budgets text asks.budgets e
 asked_value verbs.Replay Events given others (Replay words) text asks taken e = events_told given words.budgets text asks.budgets e

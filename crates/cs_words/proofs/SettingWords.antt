@@ -1,7 +1,7 @@
 -- The words of settings are read in one way, and go on with those of others: for `settings_of`.
 use Rattle.std.proofs.Common.{◌≡◌, ℕ, true, false, List, [], ◌∷◌, ◌++◌, Some, None, ap, sym, ◌∙◌, refl, subst, inl, inr}
 use Rattle.cs_inputs.specs.PathText.{is_name}
-use Rattle.cs_words.specs.declared.command.Command.TheVariants.{Analyze, Replay}
+use Rattle.cs_words.specs.declared.command.Command.TheVariants.{Analyze, Flow, Replay}
 use Rattle.cs_words.specs.declared.verb.Verb.TheVariants as verbs
 use Rattle.cs_words.specs.Options.{Verb}
 use Rattle.cs_words.specs.Settings.{Given, option_text, BeginWithSetting, BeginWithSettings}
@@ -81,8 +81,13 @@ nothing_first (word ∷ words) e = absurd (cc)
 
 pub asks_no_option : (verb : Verb) (given : List Given) (others : List (List ℕ)) (command : Command) → AskFor verb given others command → BeginWithNoOption others
 asks_no_option verbs.Analyze given others (Analyze words) asks = nothing_first others asks.0
+asks_no_option verbs.Analyze given others (Flow words) asks = absurd asks
 asks_no_option verbs.Analyze given others (Replay words) asks = absurd asks
+asks_no_option verbs.Flow given others (Analyze words) asks = absurd asks
+asks_no_option verbs.Flow given others (Flow words) asks = nothing_first others asks.0
+asks_no_option verbs.Flow given others (Replay words) asks = absurd asks
 asks_no_option verbs.Replay given others (Analyze words) asks = absurd asks
+asks_no_option verbs.Replay given others (Flow words) asks = absurd asks
 asks_no_option verbs.Replay given others (Replay words) asks = named_first words.entry asks.input_words others asks.name asks.whole
 
 -- ---- settings that were read are the first of all

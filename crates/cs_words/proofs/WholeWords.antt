@@ -7,8 +7,9 @@ use Rattle.cs_inputs.specs.declared.path.Path.{Path}
 use Rattle.cs_inputs.specs.InputText.{SpellsInput}
 use Rattle.cs_inputs.specs.PathText.{is_name}
 use Rattle.cs_types.specs.declared.data_model.DataModel.TheVariants.{Lp64}
-use Rattle.cs_words.specs.declared.command.Command.TheVariants.{Analyze, Replay}
+use Rattle.cs_words.specs.declared.command.Command.TheVariants.{Analyze, Flow, Replay}
 use Rattle.cs_words.specs.declared.command.AnalyzeWords.{AnalyzeWords}
+use Rattle.cs_words.specs.declared.command.FlowWords.{FlowWords}
 use Rattle.cs_words.specs.declared.command.ReplayWords.{ReplayWords}
 use Rattle.cs_words.specs.declared.refusal.WordsRefusal.{WordsRefusal}
 use Rattle.cs_words.specs.declared.refusal.WordsRefusal.TheVariants.{Words, Memory}
@@ -51,30 +52,54 @@ all_meant : (verb : Verb) (words : List (List ℕ)) (settings : Settings) (rest 
 all_meant verb words settings rest read command asks =
     subst (λ (w : List (List ℕ)). WordsMean w command) (sym read.whole) (means_with verb read.given read.done rest command read.spelled read.taken read.different asks)
 
--- ---- `analyze`
+-- ---- `analyze` and `flow`
 only_analyze : (given : List Given) (rest : List (List ℕ)) (words : AnalyzeWords) → IsDataModel given words.model → (other : Command) → AskFor verbs.Analyze given rest other → other ≡ Analyze words
 only_analyze given rest words model (Analyze other) asks =
     let models : other.model ≡ words.model = same_model given other.model words.model asks.1 model in
     (λ i. Analyze (record { model = models i }))
+only_analyze given rest words model (Flow other) asks = absurd asks
 only_analyze given rest words model (Replay other) asks = absurd asks
+
+only_flow : (given : List Given) (rest : List (List ℕ)) (words : FlowWords) → IsDataModel given words.model → (other : Command) → AskFor verbs.Flow given rest other → other ≡ Flow words
+only_flow given rest words model (Analyze other) asks = absurd asks
+only_flow given rest words model (Flow other) asks =
+    let models : other.model ≡ words.model = same_model given other.model words.model asks.1 model in
+    (λ i. Flow (record { model = models i }))
+only_flow given rest words model (Replay other) asks = absurd asks
 
 pub analyze_right : (words : List (List ℕ)) (settings : Settings) (rest : List (List ℕ)) (found : AnalyzeWords) → AreReadWhole verbs.Analyze words settings rest → rest ≡ [] → found.model ≡ unwrap_or settings.model Lp64 → IsRight words (Ok (Analyze found))
 analyze_right words settings rest found whole none is =
     let model = model_found whole.read.given settings found.model whole.read.fields is in
     (all_meant verbs.Analyze words settings rest whole.read (Analyze found) (none, model), λ other m. only_analyze whole.read.given rest found model other (all_asked verbs.Analyze words settings rest whole other m))
 
-nothing_more : (given : List Given) (word : List ℕ) (more : List (List ℕ)) (command : Command) → AskFor verbs.Analyze given (word ∷ more) command → ⊥
-nothing_more given word more (Analyze words) asks = let e = asks.0 in absurd (cc)
-nothing_more given word more (Replay words) asks = asks
+pub flow_right : (words : List (List ℕ)) (settings : Settings) (rest : List (List ℕ)) (found : FlowWords) → AreReadWhole verbs.Flow words settings rest → rest ≡ [] → found.model ≡ unwrap_or settings.model Lp64 → IsRight words (Ok (Flow found))
+flow_right words settings rest found whole none is =
+    let model = model_found whole.read.given settings found.model whole.read.fields is in
+    (all_meant verbs.Flow words settings rest whole.read (Flow found) (none, model), λ other m. only_flow whole.read.given rest found model other (all_asked verbs.Flow words settings rest whole other m))
 
-pub analyze_extra : (words : List (List ℕ)) (settings : Settings) (rest : List (List ℕ)) (number : ℕ) → AreReadWhole verbs.Analyze words settings rest → 0 < length rest → number + length rest ≡ length words + 1 → AreRefusedAt words number
-analyze_extra words settings [] number whole some counts = absurd (omega arith)
-analyze_extra words settings (word ∷ behind) number whole some counts =
-    refused_first verbs.Analyze words settings (word ∷ behind) number word behind whole.read refl counts (λ more command on. nothing_more whole.read.given word more command (asks_here verbs.Analyze whole.read.given (word ∷ more) command whole.no_more on))
+-- a command that asks for nothing behind its settings
+abbrev pub AsksForNoMore : Verb → Type 0
+AsksForNoMore verb = (given : List Given) (word : List ℕ) (more : List (List ℕ)) (command : Command) → AskFor verb given (word ∷ more) command → ⊥
+
+pub nothing_analyzed : AsksForNoMore verbs.Analyze
+nothing_analyzed given word more (Analyze words) asks = let e = asks.0 in absurd (cc)
+nothing_analyzed given word more (Flow words) asks = asks
+nothing_analyzed given word more (Replay words) asks = asks
+
+pub nothing_told : AsksForNoMore verbs.Flow
+nothing_told given word more (Analyze words) asks = asks
+nothing_told given word more (Flow words) asks = let e = asks.0 in absurd (cc)
+nothing_told given word more (Replay words) asks = asks
+
+pub one_more : (verb : Verb) → AsksForNoMore verb → (words : List (List ℕ)) (settings : Settings) (rest : List (List ℕ)) (number : ℕ) → AreReadWhole verb words settings rest → 0 < length rest → number + length rest ≡ length words + 1 → AreRefusedAt words number
+one_more verb none words settings [] number whole some counts = absurd (omega arith)
+one_more verb none words settings (word ∷ behind) number whole some counts =
+    refused_first verb words settings (word ∷ behind) number word behind whole.read refl counts (λ more command on. none whole.read.given word more command (asks_here verb whole.read.given (word ∷ more) command whole.no_more on))
 
 -- ---- `replay`
 no_entry_asked : (given : List Given) (command : Command) → AskFor verbs.Replay given [] command → ⊥
 no_entry_asked given (Analyze words) asks = asks
+no_entry_asked given (Flow words) asks = asks
 no_entry_asked given (Replay words) asks = let e = asks.whole in absurd (cc)
 
 pub no_entry : (words : List (List ℕ)) (settings : Settings) (rest : List (List ℕ)) (number : ℕ) → AreReadWhole verbs.Replay words settings rest → rest ≡ [] → number + length rest ≡ length words + 1 → AreRefusedAt words number
@@ -83,6 +108,7 @@ no_entry words settings rest number whole none counts =
 
 entry_asked : (given : List Given) (word : List ℕ) (more : List (List ℕ)) (command : Command) → is_name word ≡ false → AskFor verbs.Replay given (word ∷ more) command → ⊥
 entry_asked given word more (Analyze words) absent asks = asks
+entry_asked given word more (Flow words) absent asks = asks
 entry_asked given word more (Replay words) absent asks =
     let e = asks.whole in
     let same : words.entry ≡ word = cc in
@@ -108,6 +134,7 @@ replay_of given settings rest found numbers budgets model whole name inputs = re
 
 input_asked : (given : List Given) (entry : List ℕ) (before : List (List ℕ)) (word : List ℕ) (more : List (List ℕ)) (command : Command) → ((path : Path) (number : ℤ) → SpellsInput word path number → ⊥) → AskFor verbs.Replay given (entry ∷ before ++ word ∷ more) command → ⊥
 input_asked given entry before word more (Analyze words) none asks = asks
+input_asked given entry before word more (Flow words) none asks = asks
 input_asked given entry before word more (Replay words) none asks =
     let e = asks.whole in
     let numbers : asks.input_words ≡ before ++ word ∷ more = cc in
@@ -141,6 +168,7 @@ bad_input words settings rest number entry others whole is name bad =
 
 only_replay : (given : List Given) (rest : List (List ℕ)) (found : ReplayWords) → IsReplay given rest found → (other : Command) → AskFor verbs.Replay given rest other → other ≡ Replay found
 only_replay given rest found is (Analyze other) asks = absurd asks
+only_replay given rest found is (Flow other) asks = absurd asks
 only_replay given rest found is (Replay other) asks =
     let budgets : other.budgets ≡ found.budgets = same_budgets given other.budgets found.budgets asks.budgets is.budgets in
     let model : other.model ≡ found.model = same_model given other.model found.model asks.model is.model in
@@ -160,8 +188,13 @@ replay_right words settings rest found others whole is name inputs v d e m =
 -- ---- words mean one command
 only_asked : (verb : Verb) (given : List Given) (rest : List (List ℕ)) (one other : Command) → AskFor verb given rest one → AskFor verb given rest other → other ≡ one
 only_asked verbs.Analyze given rest (Analyze found) other one asks = only_analyze given rest found one.1 other asks
+only_asked verbs.Analyze given rest (Flow found) other one asks = absurd one
 only_asked verbs.Analyze given rest (Replay found) other one asks = absurd one
+only_asked verbs.Flow given rest (Analyze found) other one asks = absurd one
+only_asked verbs.Flow given rest (Flow found) other one asks = only_flow given rest found one.1 other asks
+only_asked verbs.Flow given rest (Replay found) other one asks = absurd one
 only_asked verbs.Replay given rest (Analyze found) other one asks = absurd one
+only_asked verbs.Replay given rest (Flow found) other one asks = absurd one
 only_asked verbs.Replay given rest (Replay found) other one asks = only_replay given rest found one other asks
 
 pub one_command : (words : List (List ℕ)) (one other : Command) → WordsMean words one → WordsMean words other → other ≡ one

@@ -20,7 +20,7 @@ use Rattle.cs_words.specs.Scan.{Settings, is_set, HasValue, IsSetBesides, AreRea
 use Rattle.cs_words.proofs.EnteredInputs.{AreEnteredTo, no_input}
 use Rattle.cs_words.proofs.SettingWords.{heads}
 use Rattle.cs_words.proofs.Refusals.{unfit, bad_joined, bad_behind, joined_read, behind_read}
-use Rattle.cs_words.proofs.WholeWords.{analyze_extra, no_entry, bad_entry, bad_input}
+use Rattle.cs_words.proofs.WholeWords.{AsksForNoMore, one_more, no_entry, bad_entry, bad_input}
 
 -- ---- lists of words
 words_length : (words : List Word) → length (words_text words) ≡ length words
@@ -99,9 +99,9 @@ nothing_behind verb words rest others settings option refusal read first is none
     (λ number c. bad_behind verb (words_text words) settings (words_text rest) (words_text others) number option read first c is taken unset (λ told more e value. absurd (let no_more = no_text others none in cc)))
 
 -- ---- what stands behind the settings
-pub extra_word : (words rest : List Word) (settings : Settings) (refusal : WordsRefusal) → AreReadWhole verbs.Analyze (words_text words) settings (words_text rest) → 0 < length rest → IsRefusalBefore (length words) (length rest) refusal → IsRefusal (words_text words) refusal
-extra_word words rest settings refusal whole some counts =
-    refusal_before words rest refusal counts (λ number c. analyze_extra (words_text words) settings (words_text rest) number whole (some_text rest some) c)
+pub extra_word : (verb : Verb) → AsksForNoMore verb → (words rest : List Word) (settings : Settings) (refusal : WordsRefusal) → AreReadWhole verb (words_text words) settings (words_text rest) → 0 < length rest → IsRefusalBefore (length words) (length rest) refusal → IsRefusal (words_text words) refusal
+extra_word verb none words rest settings refusal whole some counts =
+    refusal_before words rest refusal counts (λ number c. one_more verb none (words_text words) settings (words_text rest) number whole (some_text rest some) c)
 
 pub missing_entry : (words rest : List Word) (settings : Settings) (refusal : WordsRefusal) → AreReadWhole verbs.Replay (words_text words) settings (words_text rest) → length rest ≡ 0 → IsRefusalBefore (length words) (length rest) refusal → IsRefusal (words_text words) refusal
 missing_entry words rest settings refusal whole none counts =

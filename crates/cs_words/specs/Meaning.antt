@@ -8,7 +8,7 @@ use Rattle.cs_inputs.specs.InputText.{SpellsInput}
 use Rattle.cs_inputs.specs.PathOrder.{path_order}
 use Rattle.cs_inputs.specs.PathText.{is_name}
 pub use Rattle.cs_words.specs.declared.command.Command.{Command}
-use Rattle.cs_words.specs.declared.command.Command.TheVariants.{Analyze, Replay}
+use Rattle.cs_words.specs.declared.command.Command.TheVariants.{Analyze, Flow, Replay}
 use Rattle.cs_words.specs.declared.command.ReplayWords.{ReplayWords}
 use Rattle.cs_words.specs.declared.verb.Verb.TheVariants as verbs
 use Rattle.cs_words.specs.Options.{Verb, verb_text}
@@ -39,9 +39,9 @@ pub record IsReplay (given : List Given) (others : List (List ℕ)) (replay : Re
 -- what a command's settings and the words behind them ask for
 abbrev pub AskFor : Verb → List Given → List (List ℕ) → Command → Type 0
 AskFor verbs.Analyze given others (Analyze words) = (others ≡ []) × IsDataModel given words.model
-AskFor verbs.Analyze given others (Replay words) = ⊥
-AskFor verbs.Replay given others (Analyze words) = ⊥
+AskFor verbs.Flow given others (Flow words) = (others ≡ []) × IsDataModel given words.model
 AskFor verbs.Replay given others (Replay words) = IsReplay given others words
+AskFor verb given others command = ⊥
 
 -- words mean a command: its own word, then settings of its options, none twice, then what else it asks for
 pub record WordsMean (words : List (List ℕ)) (command : Command) : Type 0 where

@@ -10,6 +10,8 @@ use cs_types::DataModel;
 pub enum Command {
     /// The analysis of the file on standard input.
     Analyze(AnalyzeWords),
+    /// The control points of the functions of the file on standard input.
+    Flow(FlowWords),
     /// One run of the file on standard input.
     Replay(ReplayWords),
 }
@@ -17,6 +19,13 @@ pub enum Command {
 /// How a file is analyzed.
 #[derive(Debug, Drop)]
 pub struct AnalyzeWords {
+    /// The sizes of `long` and of pointers.
+    pub model: DataModel,
+}
+
+/// How a file's control points are told.
+#[derive(Debug, Drop)]
+pub struct FlowWords {
     /// The sizes of `long` and of pointers.
     pub model: DataModel,
 }

@@ -13,6 +13,6 @@ mod value;
 mod verb;
 mod words;
 
-pub use command::{AnalyzeWords, Command, ReplayWords};
+pub use command::{AnalyzeWords, Command, FlowWords, ReplayWords};
 pub use refusal::WordsRefusal;
 pub use words::words_of;

@@ -9,6 +9,7 @@ use crate::setting::Setting;
 #[derive(Clone, Copy, PartialEq, Eq, Debug)]
 pub enum Verb {
     Analyze,
+    Flow,
     Replay,
 }
 
@@ -18,6 +19,7 @@ pub fn verb_named(word: &[u8]) -> Option<Verb>
 {
     match word {
         b"analyze" => Some(Verb::Analyze),
+        b"flow" => Some(Verb::Flow),
         b"replay" => Some(Verb::Replay),
         _ => None,
     }
@@ -28,7 +30,7 @@ pub fn takes(verb: Verb, setting: Setting) -> bool
     ensures { result ≡ options.takes verb setting }
 {
     match verb {
-        Verb::Analyze => matches!(setting, Setting::Model),
+        Verb::Analyze | Verb::Flow => matches!(setting, Setting::Model),
         Verb::Replay => true,
     }
 }

@@ -6,7 +6,7 @@ ghost use Rattle.cs_words.specs.Meaning.{words_text, WordsMean, AreRefusedAt};
 ghost use Rattle.cs_words.specs.Options.{verb_text};
 ghost use Rattle.cs_words.specs.Scan.{IsRight, IsRefusal};
 
-use crate::command::{AnalyzeWords, Command, ReplayWords};
+use crate::command::{AnalyzeWords, Command, FlowWords, ReplayWords};
 use crate::inputs::inputs_of;
 use crate::name::is_name;
 use crate::refusal::WordsRefusal;
@@ -43,6 +43,7 @@ fn command_of(
 {
     match verb_named(first) {
         Some(Verb::Analyze) => analyze_words(words, behind),
+        Some(Verb::Flow) => flow_words(words, behind),
         Some(Verb::Replay) => replay_words(alloc, words, behind),
         None => Err(WordsRefusal::Words(1)),
     }
@@ -58,6 +59,20 @@ fn analyze_words(words: &[String], behind: &[String]) -> Result<Command, WordsRe
         return Err(refused(words, found.rest));
     }
     Ok(Command::Analyze(AnalyzeWords {
+        model: found.settings.data_model(),
+    }))
+}
+
+// What `flow` is to do, by the words behind it.
+fn flow_words(words: &[String], behind: &[String]) -> Result<Command, WordsRefusal>
+    requires { words_text words.now ≡ verb_text verbs.Flow ∷ words_text behind.now }
+    ensures { IsRight (words_text words.now) result }
+{
+    let found = settings_of(Verb::Flow, words, behind)?;
+    if !found.rest.is_empty() {
+        return Err(refused(words, found.rest));
+    }
+    Ok(Command::Flow(FlowWords {
         model: found.settings.data_model(),
     }))
 }
