@@ -11,7 +11,7 @@ use Rattle.cs_decl_parser.specs.Files.{parts_of, IsTheFile}
 use Rattle.cs_consts.specs.declared.refusal.TypeCode.{TypeCode}
 use Rattle.cs_consts.specs.Verdicts.{Verdict, Fine, Fault}
 use Rattle.cs_words.specs.declared.command.Command.{Command}
-use Rattle.cs_words.specs.declared.command.Command.TheVariants.{Analyze, Replay}
+use Rattle.cs_words.specs.declared.command.Command.TheVariants.{Analyze, Flow, Replay}
 use Rattle.cs_app.specs.Trees.{Parses, typed_tree}
 use Rattle.cs_app.specs.Refusals.{IsLexLine, IsSyntaxLine, IsRefusal, too_long, by_lexing, by_syntax, by_type}
 use Rattle.cs_app.specs.declared.status.Status.{Status}
@@ -44,6 +44,12 @@ program_is_answered (Analyze words) files program ReadFault text suits answer = 
 program_is_answered (Analyze words) files program WriteFault text suits answer = no_analysis WriteFault (list_any has_report answer.2.results) (λ e. cc) (λ e. cc) answer.2.found
 program_is_answered (Analyze words) files program Memory text suits answer = no_analysis Memory (list_any has_report answer.2.results) (λ e. cc) (λ e. cc) answer.2.found
 program_is_answered (Analyze words) files program NoEntry text suits answer = no_analysis NoEntry (list_any has_report answer.2.results) (λ e. cc) (λ e. cc) answer.2.found
+program_is_answered (Flow words) files program BadFile text suits answer = absurd (let is = answer.0 in cc)
+program_is_answered (Flow words) files program BadWords text suits answer = absurd (let is = answer.0 in cc)
+program_is_answered (Flow words) files program ReadFault text suits answer = absurd (let is = answer.0 in cc)
+program_is_answered (Flow words) files program WriteFault text suits answer = absurd (let is = answer.0 in cc)
+program_is_answered (Flow words) files program Memory text suits answer = absurd (let is = answer.0 in cc)
+program_is_answered (Flow words) files program NoEntry text suits answer = absurd (let is = answer.0 in cc)
 program_is_answered (Replay words) files program NoEntry text suits answer =
     let both : None ≡ Some suits.0 = sym answer.0 ∙ suits.1 in
     absurd cc

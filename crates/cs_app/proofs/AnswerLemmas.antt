@@ -16,7 +16,7 @@ use Rattle.cs_consts.specs.declared.refusal.TypeRefusal.TheVariants as types
 use Rattle.cs_consts.specs.Verdicts as verdicts
 use Rattle.cs_consts.specs.Verdicts.{Fine}
 use Rattle.cs_words.specs.declared.command.Command.{Command}
-use Rattle.cs_words.specs.declared.command.Command.TheVariants.{Analyze, Replay}
+use Rattle.cs_words.specs.declared.command.Command.TheVariants.{Analyze, Flow, Replay}
 use Rattle.cs_words.specs.declared.refusal.WordsRefusal.{WordsRefusal}
 use Rattle.cs_words.specs.declared.refusal.WordsRefusal.TheVariants as words_refusal
 use Rattle.cs_words.specs.Meaning.{WordsMean}
@@ -47,6 +47,7 @@ answers_program command file lexed parsed program _ text h typed answer =
 -- a program has no answer of words
 no_answer_of_words : {A : Type 0} (command : Command) (files : List (List ℕ)) (program : TypedProgram) (text : List ℕ) → IsProgramAnswer command files program BadWords text → A
 no_answer_of_words (Analyze words) files program text answer = no_analysis BadWords (list_any has_report answer.2.results) (λ e. cc) (λ e. cc) answer.2.found
+no_answer_of_words (Flow words) files program text answer = absurd (let is = answer.0 in cc)
 no_answer_of_words (Replay words) files program text answer = no_outcome BadWords answer.2.outcome (λ e. cc) (λ e. cc) answer.2.tells
 
 -- ---- a file

@@ -15,9 +15,10 @@ use Rattle.cs_runs.specs.declared.outcome.Outcome.{Outcome}
 use Rattle.cs_runs.specs.declared.outcome.Outcome.TheVariants.{Done, Fault, Over}
 use Rattle.cs_runs.specs.Runs.{Log}
 use Rattle.cs_plain.specs.PlainRuns.{RunGives}
+use Rattle.cs_cfg.specs.FlowText.{program_flow}
 use Rattle.cs_report.specs.ReplayLines.{replay_line}
 use Rattle.cs_words.specs.declared.command.Command.{Command}
-use Rattle.cs_words.specs.declared.command.Command.TheVariants.{Analyze, Replay}
+use Rattle.cs_words.specs.declared.command.Command.TheVariants.{Analyze, Flow, Replay}
 use Rattle.cs_words.specs.declared.command.ReplayWords.{ReplayWords}
 use Rattle.cs_words.specs.Meaning.{WordsMean, AreRefusedAt}
 use Rattle.cs_app.specs.Trees.{Parses, HasProgram, IsOfNoForm, typed_tree, entry_of}
@@ -50,14 +51,20 @@ abbrev pub IsReplayAnswer : List (List ℕ) → TypedProgram → ReplayWords →
 IsReplayAnswer files program words NoEntry text = (entry_of words.entry program ≡ None) × (text ≡ codes "refused entry " ++ (words.entry ++ codes "\n"))
 IsReplayAnswer files program words status text = (entry : ℕ) × (entry_of words.entry program ≡ Some entry) × IsReplayOf files program words entry status text
 
+-- the text tells the control points of each function, and what is met next on each way out of them
+abbrev pub IsFlowAnswer : TypedProgram → Status → List ℕ → Type 0
+IsFlowAnswer program status text = (status ≡ Clean) × (text ≡ program_flow program)
+
 -- the data model that a command speaks of
 abbrev pub model_of : Command → DataModel
 model_of (Analyze words) = words.model
+model_of (Flow words) = words.model
 model_of (Replay words) = words.model
 
 -- the answer of a command to a program, whose places are in these files
 abbrev pub IsProgramAnswer : Command → List (List ℕ) → TypedProgram → Status → List ℕ → Type 0
 IsProgramAnswer (Analyze words) files program status text = IsAnalysisAnswer files program status text
+IsProgramAnswer (Flow words) files program status text = IsFlowAnswer program status text
 IsProgramAnswer (Replay words) files program status text = IsReplayAnswer files program words status text
 
 -- the file is a program, and the command answers it so
@@ -94,7 +101,7 @@ IsRead Found = Unit {0}
 IsRead NoEntry = Unit {0}
 IsRead _ = ⊥
 
--- the program was analyzed, or its entry was run
+-- the program was analyzed, its flow was told, or its entry was run
 abbrev pub IsAnswered : Status → Type 0
 IsAnswered Clean = Unit {0}
 IsAnswered Found = Unit {0}
@@ -122,9 +129,10 @@ IsPartWritten words file before now =
 abbrev pub SinkRose : (faults faults' empty_takes empty_takes' : ℕ) → Type 0
 SinkRose faults faults' empty_takes empty_takes' = Rose faults faults' ⊎ Rose empty_takes empty_takes'
 
--- what a command asks of a program: that it is of the form; that it has the entry
+-- what a command asks of a program: that it is of the form; nothing; that it has the entry
 abbrev pub Suits : Command → TypedProgram → Type 0
 Suits (Analyze words) program = (functions : List Definition) × IsOfForm program functions
+Suits (Flow words) program = Unit {0}
 Suits (Replay words) program = (entry : ℕ) × (entry_of words.entry program ≡ Some entry)
 
 -- the words mean one command, and the file has a tree that is a program which suits it, whichever tree of the file is taken

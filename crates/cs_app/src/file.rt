@@ -8,6 +8,7 @@ ghost use Rattle.cs_app.specs.Answers.{IsAnalysisAnswer, IsProgramAnswer, IsAnsw
 
 use crate::answer::Answer;
 use crate::entries::analyzed;
+use crate::flow::flow;
 use crate::refused::{refused_form, refused_syntax, refused_tokens, refused_type};
 use crate::replay::replayed;
 use cs_ast::raw::external::RawExternal;
@@ -62,6 +63,7 @@ fn model_of(command: &Command) -> DataModel
 {
     match command {
         Command::Analyze(words) => words.model,
+        Command::Flow(words) => words.model,
         Command::Replay(words) => words.model,
     }
 }
@@ -101,6 +103,10 @@ fn answer_of(
     match command {
         Command::Analyze(_) => {
             let answer = analysis(alloc, files, program)?;
+            Ok(answer)
+        }
+        Command::Flow(_) => {
+            let answer = flow(alloc, program)?;
             Ok(answer)
         }
         Command::Replay(words) => {

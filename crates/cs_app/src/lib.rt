@@ -6,6 +6,7 @@ mod app;
 mod command;
 mod entries;
 mod file;
+mod flow;
 mod refused;
 mod replay;
 mod status;
