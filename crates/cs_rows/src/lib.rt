@@ -6,6 +6,8 @@ mod analyzed;
 #[cfg(test)]
 mod edited;
 #[cfg(test)]
+mod flows;
+#[cfg(test)]
 mod front;
 #[cfg(test)]
 mod parsed;
