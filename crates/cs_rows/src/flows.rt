@@ -7,7 +7,7 @@ use std::test::Fail;
 
 /// A file, and its flow: every form of statement, the operators that choose, initializers, functions of two files.
 const FLOWS: [(&str, &str); 13] = [
-    // A loop over an array (the worked row)
+    // A loop over an array
     (
         "int f(int n){int a[3];int i;for(i=0;i<n;i++)a[i]=0;return a[0];}",
         "flow f
