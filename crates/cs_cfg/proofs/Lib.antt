@@ -3,3 +3,5 @@ mod Samples
 pub mod Alike
 pub mod Acting
 pub mod Related
+pub mod Arriving
+pub mod Landings
