@@ -11,7 +11,7 @@ use Rattle.cs_plain.specs.Jumps.{executes, Landing, first_of_two, landing, landi
 use Rattle.cs_cfg.specs.Graph as graph
 use Rattle.cs_cfg.specs.Graph.{Point, Flow, block_of}
 use Rattle.cs_cfg.specs.Placing.{does, Joins, there}
-use Rattle.cs_cfg.specs.Executing.{is_led_to, executes_at, all_at}
+use Rattle.cs_cfg.specs.Executing.{goes_to, is_led_to, executes_at, all_at}
 use Rattle.cs_cfg.proofs.Arriving.{Arrives, arrives_from, again_stands, out_stands, row_arrives, from_first}
 
 -- the mark of a landing
@@ -134,3 +134,42 @@ module _ (program : TypedProgram) (flow : Flow) (routine : Routine) (labels : �
         first_is (landing wanted first mark (executes others (mark + marks first) items)) (landing_in wanted others (mark + marks first) items) l e
         (λ f. lands_in wanted first mark (executes others (mark + marks first) items) l out again p it.1.0 it.1.1 (arrives_from program flow routine labels (executes others (mark + marks first) items) out again 0 it.1.2 others_stand) f)
         (λ f. lands_among wanted others (mark + marks first) items l out again it.0 q it.2 s f)
+
+  -- where a label has a landing, it is one whatever is to be done at the end, with the same mark
+  led_same : (wanted : ℕ) (first : Option Landing) (l : Landing) (head : Point) → mark_of first ≡ mark_of (Some l) → is_led_to program flow routine labels first l.mark (labels wanted) head → labels wanted ≡ head
+  led_same wanted None l head e led = cc
+  led_same wanted (Some l') l head e led =
+      let same : l'.mark ≡ l.mark = cc in
+      led same
+
+  -- a `goto` in the body of a function lands
+  pub record Landed (wanted : ℕ) (l : Landing) : Type 0 where
+    pub inside : Point
+    pub reaches : labels wanted ≡ does l.at 0 (graph.Reach point.Label l.mark) inside
+    pub out : Point
+    pub again : Point
+    pub stands : Arrives program flow routine labels l.todo out again 0 inside
+
+  pub goto_lands : (wanted : ℕ) (items : List Item) (l : Landing) (out again inside behind : Point) → executes_at program flow routine labels (body_of routine) 0 out again inside behind →
+      Arrives program flow routine labels items out again 0 behind → landing wanted (body_of routine) 0 items ≡ Some l → Landed wanted l
+  goto_lands wanted items l out again inside behind it rest e =
+      let lands = lands_in wanted (body_of routine) 0 items l out again inside behind it rest e in
+      let marked = marked_alike wanted (body_of routine) 0 [] items ∙ ap mark_of e in
+      let led = led_same wanted (landing wanted (body_of routine) 0 []) l lands.head marked lands.led in
+      record { inside = lands.inside; reaches = led ∙ lands.reaches; out = lands.out; again = lands.again; stands = lands.stands }
+
+  -- and one that has no label goes on
+  nothing_led : (first : Option Landing) (label p q : Point) → mark_of first ≡ None → goes_to program flow routine labels first label p q → Joins program flow p q
+  nothing_led None label p q e way = way
+  nothing_led (Some l) label p q e way = cc
+
+  pub goto_goes_on : (wanted : ℕ) (items : List Item) (p q : Point) → landing wanted (body_of routine) 0 items ≡ None → goes_to program flow routine labels (landing wanted (body_of routine) 0 []) (labels wanted) p q → Joins program flow p q
+  goto_goes_on wanted items p q e way = nothing_led (landing wanted (body_of routine) 0 []) (labels wanted) p q (marked_alike wanted (body_of routine) 0 [] items ∙ ap mark_of e) way
+
+  -- one that has a label jumps to it
+  somewhere_led : (first : Option Landing) (l : Landing) (label p q : Point) → mark_of first ≡ Some l.mark → goes_to program flow routine labels first label p q → Joins program flow p label
+  somewhere_led None l label p q e way = cc
+  somewhere_led (Some l') l label p q e way = way
+
+  pub goto_jumps : (wanted : ℕ) (items : List Item) (l : Landing) (p q : Point) → landing wanted (body_of routine) 0 items ≡ Some l → goes_to program flow routine labels (landing wanted (body_of routine) 0 []) (labels wanted) p q → Joins program flow p (labels wanted)
+  goto_jumps wanted items l p q e way = somewhere_led (landing wanted (body_of routine) 0 []) l (labels wanted) p q (marked_alike wanted (body_of routine) 0 [] items ∙ ap mark_of e) way

@@ -5,3 +5,4 @@ pub mod Acting
 pub mod Related
 pub mod Arriving
 pub mod Landings
+pub mod Breaking
