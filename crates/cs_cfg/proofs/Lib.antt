@@ -3,3 +3,4 @@ mod Samples
 pub mod Alike
 pub mod Acting
 pub mod Related
+pub mod Moving
