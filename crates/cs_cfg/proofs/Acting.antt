@@ -1,10 +1,10 @@
 -- What an expression does with its parts, the operation of the code does with its operands.
-use Rattle.std.proofs.Common.{◌≡◌, ℕ, zero, suc, ◌+◌, ◌-◌, List, [], ◌∷◌, drop, length, Bool, true, false, not, Option, Some, None, arith, refl, ap, ◌∙◌, if◌then◌else◌}
+use Rattle.std.proofs.Common.{◌≡◌, ℕ, zero, suc, ◌+◌, List, [], ◌∷◌, drop, length, Bool, true, false, Option, Some, None, arith, refl, ap, ◌∙◌}
 use Rattle.cs_types.specs.Shape.{Shape, integer}
 use Rattle.cs_ast.specs.declared.place.Place.{Place}
 use Rattle.cs_ast.specs.declared.typed.operator.Allocator.{Allocator}
 use Rattle.cs_ast.specs.declared.typed.operator.Allocator.TheVariants.{Malloc, Calloc}
-use Rattle.cs_ast.specs.TypedTree.{Typed, Of, Form, Number, Null, Text, Local, Global, Through, Index, Member, Arrow, Load, Address, Decay, Convert, Unary, Not, Binary, Compare, Sum, Difference, And, Or, Choice, Comma, Assign, Update, Move, Call, Allocate, Free, TypedList}
+use Rattle.cs_ast.specs.TypedTree.{Form, Number, Null, Text, Local, Global, Through, Index, Member, Arrow, Load, Address, Decay, Convert, Unary, Not, Binary, Compare, Sum, Difference, And, Or, Choice, Comma, Assign, Update, Move, Call, Allocate, Free, TypedList}
 use Rattle.cs_ast.specs.TypedProgram.{TypedProgram}
 use Rattle.cs_model.specs.declared.standing.Standing.{Standing}
 use Rattle.cs_model.specs.declared.standing.Standing.TheVariants.{Live, Freed, Ended}
@@ -21,11 +21,11 @@ use Rattle.cs_plain.specs.Memory.{Block, Fill, UnsetFill, ZeroFill}
 use Rattle.cs_types.specs.DataModel.{size_type_of}
 use Rattle.cs_ast.specs.declared.typed.operator.BinOp.TheVariants.{Mul}
 use Rattle.cs_plain.specs.Access.{Access, access_of}
-use Rattle.cs_plain.specs.Machine.{Operand, Scalar, Nothing as NoOperand, CallFrame, Running, State, push, pop, pop_many, with_memory, operand_at, cell_at}
+use Rattle.cs_plain.specs.Machine.{Operand, Scalar, Nothing as NoOperand, CallFrame, State, push, pop, pop_many, with_memory, operand_at, cell_at}
 use Rattle.cs_plain.specs.Calls.{allocated, allocate, release, release_block, release_known, release_object}
 use Rattle.cs_plain.specs.Expressions.{pointer_age, amount_age, given, number_at, stores_to, act_form}
 use Rattle.cs_cfg.specs.Graph.{Work, Point, Code}
-use Rattle.cs_cfg.specs.Working.{CodeState, allocator_takes, takes, below, cut, do_work}
+use Rattle.cs_cfg.specs.Working.{CodeState, allocator_takes, takes, do_work}
 use Rattle.cs_cfg.specs.Standing.{work_of}
 use Rattle.cs_cfg.proofs.Alike.{tells_if, tells_shows, tells_load, tells_store, tells_truth, tells_operate, tells_convert_number, tells_convert, tells_sum, tells_compare, tells_difference, tells_arrow}
 

@@ -3,6 +3,7 @@ mod Samples
 pub mod Alike
 pub mod Acting
 pub mod Related
+pub mod Moving
 pub mod Arriving
 pub mod Landings
 pub mod Breaking
