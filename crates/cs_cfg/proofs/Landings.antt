@@ -173,3 +173,11 @@ module _ (program : TypedProgram) (flow : Flow) (routine : Routine) (labels : �
 
   pub goto_jumps : (wanted : ℕ) (items : List Item) (l : Landing) (p q : Point) → landing wanted (body_of routine) 0 items ≡ Some l → goes_to program flow routine labels (landing wanted (body_of routine) 0 []) (labels wanted) p q → Joins program flow p (labels wanted)
   goto_jumps wanted items l p q e way = somewhere_led (landing wanted (body_of routine) 0 []) l (labels wanted) p q (marked_alike wanted (body_of routine) 0 [] items ∙ ap mark_of e) way
+
+  -- a `goto` with a label leads on from the label too
+  stays_led : (first : Option Landing) (l : Landing) (label q : Point) → mark_of first ≡ Some l.mark → goes_to program flow routine labels first label label q
+  stays_led None l label q e = cc
+  stays_led (Some l') l label q e = there
+
+  pub goto_stays : (wanted : ℕ) (items : List Item) (l : Landing) (q : Point) → landing wanted (body_of routine) 0 items ≡ Some l → goes_to program flow routine labels (landing wanted (body_of routine) 0 []) (labels wanted) (labels wanted) q
+  goto_stays wanted items l q e = stays_led (landing wanted (body_of routine) 0 []) l (labels wanted) q (marked_alike wanted (body_of routine) 0 [] items ∙ ap mark_of e)

@@ -7,3 +7,4 @@ pub mod Moving
 pub mod Arriving
 pub mod Landings
 pub mod Breaking
+pub mod Executed
