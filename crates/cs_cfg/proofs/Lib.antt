@@ -8,3 +8,4 @@ pub mod Arriving
 pub mod Landings
 pub mod Breaking
 pub mod Executed
+pub mod Stored
