@@ -9,3 +9,4 @@ pub mod Landings
 pub mod Breaking
 pub mod Executed
 pub mod Stored
+pub mod Decided
