@@ -81,3 +81,25 @@ module _ (code : Code) (program : TypedProgram) (budgets : RunBudgets) (m : Stat
         split_answers (Decide (IfElse at test body other) mark) items at it.0 it.1 it.2 p (λ holds. if holds then Execute body mark ∷ items else Execute other (mark + marks body) ∷ items) single it.3 it.4 refl elim [
         true ↦ (home.out, (home.again, (block_of home.flow it.1, there, (refl, (it.5.1.0, it.5.1.1, jumps_to code program home items 0 it.5.1.2 it.5.3)))))
       | false ↦ (home.out, (home.again, (block_of home.flow it.2, there, (refl, (it.5.2.0, it.5.2.1, jumps_to code program home items 0 it.5.2.2 it.5.3))))) ]
+
+    while_decides : (at : Place) (test : Typed) (body : Statement) → Decides (While at test body)
+    while_decides at test body it =
+        let way = it.3 in
+        split_answers (Decide (While at test body) mark) items at way.0 way.1 way.2 p (λ holds. if holds then Execute body (mark + 1) ∷ (Again (While at test body) mark ∷ items) else items) single way.3 way.4 refl elim [
+        true ↦ (home.out, (it.0, (block_of home.flow way.1, there, (refl, (way.5.0.0, way.5.0.1, (it.0, way.5.0.2, (refl, refl, (it.0, (refl, it.1), (home.again, it.2)))))))))
+      | false ↦ behind_jumps way.5.1 it.2 ]
+
+    do_decides : (at : Place) (body : Statement) (test : Typed) → Decides (Do at body test)
+    do_decides at body test it =
+        let way = it.4 in
+        split_answers (Decide (Do at body test) mark) items at way.0 way.1 way.2 p (λ holds. if holds then Turn (Do at body test) mark ∷ items else items) single way.3 way.4 refl elim [
+        true ↦ (home.out, (home.again, (it.0, way.5.0, (refl, (it.1, it.2, it.3)))))
+      | false ↦ behind_jumps way.5.1 it.3 ]
+
+    for_decides : (at : Place) (first : Statements) (test last : Option Typed) (body : Statement) → Decides (For at first test last body)
+    for_decides at first test last body it =
+        let way = it.4 in
+        let loop = For at first test last body in
+        split_answers (Decide loop mark) items at way.0 way.1 way.2 p (λ holds. if holds then Execute body (mark + 1 + marks_in first) ∷ (Again loop mark ∷ items) else items) single way.3 way.4 refl elim [
+        true ↦ (home.out, (it.1, (block_of home.flow way.1, there, (refl, (way.5.0.0, way.5.0.1, (it.1, way.5.0.2, (refl, refl, (it.0, it.2, (home.again, it.3)))))))))
+      | false ↦ behind_jumps way.5.1 it.3 ]

@@ -10,3 +10,4 @@ pub mod Breaking
 pub mod Executed
 pub mod Stored
 pub mod Decided
+pub mod Switched
