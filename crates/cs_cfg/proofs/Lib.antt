@@ -11,3 +11,5 @@ pub mod Executed
 pub mod Stored
 pub mod Decided
 pub mod Switched
+pub mod Looped
+pub mod Left
