@@ -4,3 +4,4 @@ pub mod Alike
 pub mod Acting
 pub mod Related
 pub mod Moving
+mod Evaluated
