@@ -51,9 +51,12 @@ module _ (code : Code) (program : TypedProgram) {function : ℕ} (home : Home co
       stands code program home (Evaluate a ∷ (Evaluate b ∷ (act ∷ items))) depth p
   of_two a b at work act items depth p r q acts two placed also s =
       let e : suc (suc depth) ≡ takes work + depth = omega arith in
-      let v = does at depth work q in
-      (r, placed, right_there code program home (Evaluate b ∷ (act ∷ items)) (suc depth) r
-      (v, also, right_there code program home (act ∷ items) (suc (suc depth)) v (acts (suc (suc depth)) v (works at work items (suc (suc depth)) depth v q e refl s))))
+      let v = does at depth work q in (
+        r,
+        placed,
+        right_there code program home (Evaluate b ∷ (act ∷ items)) (suc depth) r
+            (v, also, right_there code program home (act ∷ items) (suc (suc depth)) v (acts (suc (suc depth)) v (works at work items (suc (suc depth)) depth v q e refl s))),
+      )
 
   -- expressions in a row
   in_row : (arguments : TypedList) (items : List Item) (depth : ℕ) (p q : Point) → used_all program home.flow arguments depth p q →
@@ -63,9 +66,12 @@ module _ (code : Code) (program : TypedProgram) {function : ℕ} (home : Home co
       subst (λ x. stands code program home items depth x) (sym placed) (subst (λ d. stands code program home items d q) none s)
   in_row (Further e others) items depth p q placed s =
       let more : count_all (Further e others) + depth ≡ count_all others + suc depth = omega arith in
-      let behind = lists.evaluates_all others items in
-      (placed.0, placed.1, right_there code program home behind (suc depth) placed.0
-      (in_row others items (suc depth) placed.0 q placed.2 (subst (λ d. stands code program home items d q) more s)))
+      let behind = lists.evaluates_all others items in (
+        placed.0,
+        placed.1,
+        right_there code program home behind (suc depth) placed.0
+            (in_row others items (suc depth) placed.0 q placed.2 (subst (λ d. stands code program home items d q) more s)),
+      )
 
   -- the same, and then an operation on them
   of_row : (arguments : TypedList) (at : Place) (work : Work) (act : Item) (items : List Item) (depth : ℕ) (p q : Point) →
@@ -137,9 +143,12 @@ module _ (code : Code) (program : TypedProgram) {function : ℕ} (home : Home co
       let none : depth ≡ 0 + depth = omega arith in
       let r = placed.0 in
       let v = does at depth graph.Drop r in
-      let behind = Evaluate b ∷ items in
-      (v, placed.1, right_there code program home (Drop ∷ behind) (suc depth) v
-      (at, (depth, r, one_more, refl, with_depth code program home behind r none (right_there code program home behind depth r (q, placed.2, s)))))
+      let behind = Evaluate b ∷ items in (
+        v,
+        placed.1,
+        right_there code program home (Drop ∷ behind) (suc depth) v
+            (at, (depth, r, one_more, refl, with_depth code program home behind r none (right_there code program home behind depth r (q, placed.2, s)))),
+      )
   parts_stand at ty (Assign a b) items depth p q placed s = of_two a b at (graph.Store (access_of a)) (Act (Of at ty (Assign a b))) items depth p placed.0 q (λ n r w. w) refl placed.1 placed.2 s
   parts_stand at ty (Update op a b works_in gives) items depth p q placed s =
       let one_more : suc depth ≡ 1 + depth = omega arith in
@@ -148,10 +157,18 @@ module _ (code : Code) (program : TypedProgram) {function : ℕ} (home : Home co
       let work = graph.Update op (access_of a) works_in gives in
       let r = placed.0 in
       let v = does at depth (graph.FetchNumber (access_of a) works_in) r in
-      let w = does at depth work q in
-      (v, placed.1, right_there code program home (Fetch expression ∷ (Evaluate b ∷ (Act expression ∷ items))) (suc depth) v
-      (depth, r, one_more, refl, right_there code program home (Evaluate b ∷ (Act expression ∷ items)) (3 + depth) r
-      (w, placed.2, right_there code program home (Act expression ∷ items) (suc (3 + depth)) w (works at work items (suc (3 + depth)) depth w q e refl s))))
+      let w = does at depth work q in (
+        v,
+        placed.1,
+        right_there code program home (Fetch expression ∷ (Evaluate b ∷ (Act expression ∷ items))) (suc depth) v (
+          depth,
+          r,
+          one_more,
+          refl,
+          right_there code program home (Evaluate b ∷ (Act expression ∷ items)) (3 + depth) r
+              (w, placed.2, right_there code program home (Act expression ∷ items) (suc (3 + depth)) w (works at work items (suc (3 + depth)) depth w q e refl s)),
+        ),
+      )
   parts_stand at ty (Move a n direction gives) items depth p q placed s =
       let one_more : suc depth ≡ 1 + depth = omega arith in
       let e : suc (2 + depth) ≡ 3 + depth = omega arith in
@@ -159,10 +176,18 @@ module _ (code : Code) (program : TypedProgram) {function : ℕ} (home : Home co
       let work = graph.Move (access_of a) (step_of program (type_of a)) direction gives in
       let r = placed.0 in
       let v = does at depth (graph.FetchPointer (access_of a)) r in
-      let w = does at depth work q in
-      (v, placed.1, right_there code program home (Fetch expression ∷ (Evaluate n ∷ (Act expression ∷ items))) (suc depth) v
-      (depth, r, one_more, refl, right_there code program home (Evaluate n ∷ (Act expression ∷ items)) (2 + depth) r
-      (w, placed.2, right_there code program home (Act expression ∷ items) (suc (2 + depth)) w (works at work items (suc (2 + depth)) depth w q e refl s))))
+      let w = does at depth work q in (
+        v,
+        placed.1,
+        right_there code program home (Fetch expression ∷ (Evaluate n ∷ (Act expression ∷ items))) (suc depth) v (
+          depth,
+          r,
+          one_more,
+          refl,
+          right_there code program home (Evaluate n ∷ (Act expression ∷ items)) (2 + depth) r
+              (w, placed.2, right_there code program home (Act expression ∷ items) (suc (2 + depth)) w (works at work items (suc (2 + depth)) depth w q e refl s)),
+        ),
+      )
   parts_stand at ty (Call callee arguments) items depth p q placed s =
       of_row arguments at (graph.Call callee (count_all arguments)) (Act (Of at ty (Call callee arguments))) items depth p q (λ n r w. w) refl placed s
   parts_stand at ty (Allocate allocator arguments element) items depth p q placed s =

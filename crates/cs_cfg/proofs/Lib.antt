@@ -5,3 +5,4 @@ pub mod Acting
 pub mod Related
 pub mod Moving
 mod Evaluated
+mod Acted

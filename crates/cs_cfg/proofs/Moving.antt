@@ -13,7 +13,7 @@ use Rattle.cs_cfg.specs.Graph.{Work, Point, Flow, Code, no_flow, block_of, flow_
 use Rattle.cs_cfg.specs.Working.{CodeState, takes, cut, do_work}
 use Rattle.cs_cfg.specs.CodeSteps.{enters, code_step}
 use Rattle.cs_cfg.specs.Placing.{does, Joins, there, jumps}
-use Rattle.cs_cfg.specs.Standing.{Behind, stands_at}
+use Rattle.cs_cfg.specs.Standing.{Behind, worked, stands_at}
 use Rattle.cs_cfg.specs.Placed.{LowersBody}
 use Rattle.cs_cfg.proofs.Acting.{as_code, Leaves}
 use Rattle.cs_cfg.proofs.Related.{FrameStands, CallersStand, Aligned, Related, now, soon}
@@ -155,3 +155,11 @@ module _ (code : Code) (program : TypedProgram) where
     work_answers item items m at work number p q callers deep e tells =
         subst (λ x. Answer (to_do (item ∷ items) m) (as_code x callers m)) (sym e)
         (together (subst (Tells (Related code program budgets) (do_item program budgets item (to_do items m))) (sym (code_works at work number q callers m deep)) tells))
+
+    -- the same where the relation of states says which operation it is
+    pub worked_answers : (item : Item) (items : List Item) (m : State) (home : Home m.frame.function) (at : Place) (work : Work) (count : ℕ) (here : Point) (callers : List (CallFrame Point)) →
+        worked at work count (onward home items) (length m.frame.stack) here →
+        ((number : ℕ) (q : Point) → length m.frame.stack ≡ takes work + number → onward home items (count + number) q →
+        Tells (Related code program budgets) (do_item program budgets item (to_do items m)) (do_work code program budgets at work (as_code q callers m))) →
+        Answer (to_do (item ∷ items) m) (as_code here callers m)
+    worked_answers item items m home at work count here callers s tells = work_answers item items m at work s.0 here s.1 callers s.2 s.3 (tells s.0 s.1 s.2 s.4)
