@@ -6,3 +6,5 @@ pub mod Related
 pub mod Moving
 mod Evaluated
 mod Acted
+pub mod Entered
+mod Called
