@@ -1,9 +1,9 @@
 -- What one operation of the code does with the newest temporaries, as the first thing to do does with the newest values: it answers.
 -- Calls stand elsewhere. For the simulation.
-use Rattle.std.proofs.Common.{◌≡◌, ℕ, suc, ◌+◌, List, ◌∷◌, length, drop, Option, Some, None, arith, refl, ap, ◌∙◌}
-use Rattle.cs_types.specs.Shape.{Shape, integer}
+use Rattle.std.proofs.Common.{◌≡◌, ℕ, suc, ◌+◌, List, ◌∷◌, length, drop, Option, Some, None, arith, refl, ◌∙◌}
+use Rattle.cs_types.specs.Shape.{Shape}
 use Rattle.cs_ast.specs.declared.place.Place.{Place}
-use Rattle.cs_ast.specs.TypedTree.{Typed, Of, Form, Update, Move, Call, TypedList}
+use Rattle.cs_ast.specs.TypedTree.{Typed, Of, Form, Update, Move}
 use Rattle.cs_ast.specs.TypedProgram.{TypedProgram}
 use Rattle.cs_runs.specs.declared.outcome.RunBudgets.{RunBudgets}
 use Rattle.cs_runs.specs.Objects.{NumberCell}
@@ -13,10 +13,10 @@ use Rattle.cs_plain.specs.Initials.{number_in, truth_cell}
 use Rattle.cs_plain.specs.Access.{access_of}
 use Rattle.cs_plain.specs.Calls.{call}
 use Rattle.cs_plain.specs.Machine.{Operand, Scalar, Whole, Nothing, Item, Act, Fetch, Judge, Use, Drop, CallFrame, State, to_do, push, push_cell, with_memory, operand_at, cell_of, cell_at}
-use Rattle.cs_plain.specs.Expressions.{count_all, act_form, use_result}
+use Rattle.cs_plain.specs.Expressions.{count_all, use_result}
 use Rattle.cs_cfg.specs.Graph as graph
 use Rattle.cs_cfg.specs.Graph.{Work, Point, Code}
-use Rattle.cs_cfg.specs.Working.{takes, do_work}
+use Rattle.cs_cfg.specs.Working.{do_work}
 use Rattle.cs_cfg.specs.Standing.{work_of, acts_by}
 use Rattle.cs_cfg.proofs.Alike.{tells_set, tells_load, tells_truth, tells_shows, tells_convert_number}
 use Rattle.cs_cfg.proofs.Acting.{as_code, dropped, Leaves, TellsBy, acts_tell, put}

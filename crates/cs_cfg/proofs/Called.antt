@@ -1,5 +1,5 @@
 -- Calls: what a call of a function with a body or without one tells. For the simulation.
-use Rattle.std.proofs.Common.{◌≡◌, ℕ, suc, ◌+◌, nat_lt, Bool, true, false, List, [], ◌∷◌, length, drop, Option, Some, None, if◌then◌else◌, arith, refl, sym, ap, ◌∙◌, subst}
+use Rattle.std.proofs.Common.{◌≡◌, ℕ, suc, ◌+◌, nat_lt, Bool, true, false, List, [], ◌∷◌, length, drop, Option, Some, None, if◌then◌else◌, refl, sym, ap, subst}
 use Rattle.cs_types.specs.Shape.{Shape, void, integer, pointer, array, struct}
 use Rattle.cs_ast.specs.declared.place.Place.{Place}
 use Rattle.cs_ast.specs.TypedTree.{Statement}
@@ -14,9 +14,8 @@ use Rattle.cs_runs.specs.Acts.{Act, Goes, Stops}
 use Rattle.cs_runs.specs.Simulation.{Tells, both_go, both_stop}
 use Rattle.cs_plain.specs.Access.{shows_then}
 use Rattle.cs_plain.specs.Memory.{Memory, Unknown}
-use Rattle.cs_plain.specs.Machine.{Operand, Scalar, Nothing, Item, CallFrame, Frame, State, to_do, push, pop_many, newest, cell_of, routine_of}
+use Rattle.cs_plain.specs.Machine.{Operand, Scalar, Nothing, CallFrame, Frame, State, to_do, push, pop_many, newest, cell_of, routine_of}
 use Rattle.cs_plain.specs.Calls.{inside, entered, enter_as, enter, result_path, write_through, write_arguments, outside_result, call_outside, call_routine}
-use Rattle.cs_cfg.specs.Graph as graph
 use Rattle.cs_cfg.specs.Graph.{Point, Flow, Code, flow_of}
 use Rattle.cs_cfg.specs.Working.{code_frame, call_flow}
 use Rattle.cs_cfg.specs.Lowered.{is_there}

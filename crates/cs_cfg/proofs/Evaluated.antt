@@ -16,7 +16,7 @@ use Rattle.cs_plain.specs.Expressions.{uses, count_all}
 use Rattle.cs_cfg.specs.Graph as graph
 use Rattle.cs_cfg.specs.Graph.{Work, Point, Code}
 use Rattle.cs_cfg.specs.Working.{takes}
-use Rattle.cs_cfg.specs.Placing.{does, split, step_of, used_then, evaluates_form, used, used_all}
+use Rattle.cs_cfg.specs.Placing.{does, split, step_of, evaluates_form, used, used_all}
 use Rattle.cs_cfg.specs.Standing.{worked}
 use Rattle.cs_cfg.proofs.Acting.{as_code}
 use Rattle.cs_cfg.proofs.Related.{CallersStand, now}

@@ -8,3 +8,4 @@ mod Evaluated
 mod Acted
 pub mod Entered
 mod Called
+mod Chosen
