@@ -4,6 +4,11 @@ pub mod Alike
 pub mod Acting
 pub mod Related
 pub mod Moving
+mod Evaluated
+mod Acted
+pub mod Entered
+mod Called
+mod Chosen
 pub mod Arriving
 pub mod Landings
 pub mod Breaking

@@ -1,20 +1,22 @@
 -- How states of the machine and of the code's run stay related: silent jumps first, and one operation for one thing to do. For the
 -- simulation.
-use Rattle.std.proofs.Common.{◌≡◌, ℕ, ◌+◌, ◌-◌, List, ◌∷◌, length, drop, Some, unwrap_or, arith, refl, sym, ap, subst}
+use Rattle.std.proofs.Common.{◌≡◌, ℕ, suc, ◌+◌, ◌-◌, List, ◌∷◌, length, drop, Option, Some, unwrap_or, if◌then◌else◌, Bool, arith, refl, sym, ap, ◌∙◌, subst}
 use Rattle.cs_ast.specs.declared.place.Place.{Place}
 use Rattle.cs_ast.specs.TypedTree.{Statement}
 use Rattle.cs_ast.specs.TypedProgram.{TypedProgram}
 use Rattle.cs_runs.specs.declared.outcome.RunBudgets.{RunBudgets}
 use Rattle.cs_runs.specs.Acts.{Goes}
-use Rattle.cs_runs.specs.Simulation.{Tells, Answers, together, first, Simulates}
-use Rattle.cs_plain.specs.Machine.{Operand, Item, CallFrame, Frame, State, to_do, with_stack, routine_of}
+use Rattle.cs_runs.specs.Simulation.{Tells, both_go, Answers, together, first, Simulates}
+use Rattle.cs_plain.specs.Machine.{Operand, Item, CallFrame, Frame, State, to_do, with_stack, pop, cell_at, routine_of}
+use Rattle.cs_plain.specs.Operators.{branch}
 use Rattle.cs_plain.specs.Steps.{do_item, step}
 use Rattle.cs_cfg.specs.Graph.{Work, Point, Flow, Code, no_flow, block_of, flow_of}
 use Rattle.cs_cfg.specs.Working.{CodeState, takes, cut, do_work}
 use Rattle.cs_cfg.specs.CodeSteps.{enters, code_step}
-use Rattle.cs_cfg.specs.Placing.{does, Joins, there, jumps}
-use Rattle.cs_cfg.specs.Standing.{Behind, stands_at}
+use Rattle.cs_cfg.specs.Placing.{does, split, Joins, there, jumps}
+use Rattle.cs_cfg.specs.Standing.{Behind, worked, stands_at}
 use Rattle.cs_cfg.specs.Placed.{LowersBody}
+use Rattle.cs_cfg.proofs.Alike.{tells_branch}
 use Rattle.cs_cfg.proofs.Acting.{as_code, Leaves}
 use Rattle.cs_cfg.proofs.Related.{FrameStands, CallersStand, Aligned, Related, now, soon}
 
@@ -155,3 +157,34 @@ module _ (code : Code) (program : TypedProgram) where
     work_answers item items m at work number p q callers deep e tells =
         subst (λ x. Answer (to_do (item ∷ items) m) (as_code x callers m)) (sym e)
         (together (subst (Tells (Related code program budgets) (do_item program budgets item (to_do items m))) (sym (code_works at work number q callers m deep)) tells))
+
+    -- the same where the relation of states says which operation it is
+    pub worked_answers : (item : Item) (items : List Item) (m : State) (home : Home m.frame.function) (at : Place) (work : Work) (count : ℕ) (here : Point) (callers : List (CallFrame Point)) →
+        worked at work count (onward home items) (length m.frame.stack) here →
+        ((number : ℕ) (q : Point) → length m.frame.stack ≡ takes work + number → onward home items (count + number) q →
+        Tells (Related code program budgets) (do_item program budgets item (to_do items m)) (do_work code program budgets at work (as_code q callers m))) →
+        Answer (to_do (item ∷ items) m) (as_code here callers m)
+    worked_answers item items m home at work count here callers s tells = work_answers item items m at work s.0 here s.1 callers s.2 s.3 (tells s.0 s.1 s.2 s.4)
+
+    -- a test of the newest temporary
+    code_branches : (at : Place) (number one other : ℕ) (callers : List (CallFrame Point)) (m : State) (home : Home m.frame.function) → length m.frame.stack ≡ suc number →
+        code_step code program budgets (as_code (split at number one other) callers m)
+        ≡ branch at (cell_at m 0) (λ holds. Goes (as_code (block_of home.flow (if holds then one else other)) callers (pop m)))
+    code_branches at number one other callers m home e =
+        let enough : length m.frame.stack ≡ number + 1 = omega arith in
+        let ways = λ (t : CodeState). branch at (cell_at t 0) (λ holds. Goes (enters code (if holds then one else other) (pop t))) in
+        let goes = λ (flow : Option Flow). branch at (cell_at m 0) (λ holds. Goes (as_code (block_of (unwrap_or flow no_flow) (if holds then one else other)) callers (pop m))) in
+        ap ways (uncut (number + 1) (split at number one other) callers m enough) ∙ ap goes home.has_flow
+
+    -- a test tells what the first thing to do does, where the state to which each way leads is related to the code's at the way's block
+    pub branch_answers : (item : Item) (items : List Item) (m : State) (home : Home m.frame.function) (at : Place) (number one other : ℕ) (here : Point) (callers : List (CallFrame Point)) (next : Bool → State) →
+        length m.frame.stack ≡ suc number → here ≡ split at number one other →
+        do_item program budgets item (to_do items m) ≡ branch at (cell_at m 0) (λ holds. Goes (next holds)) →
+        ((holds : Bool) → Related code program budgets (next holds) (as_code (block_of home.flow (if holds then one else other)) callers (pop m))) →
+        Answer (to_do (item ∷ items) m) (as_code here callers m)
+    branch_answers item items m home at number one other here callers next deep placed does_so related =
+        let R = Related code program budgets in
+        let tells = tells_branch R at (cell_at m 0) {f = λ holds. Goes (next holds)} {g = λ holds. Goes (as_code (block_of home.flow (if holds then one else other)) callers (pop m))} (λ holds. both_go (related holds)) in
+        let code_tells = subst (Tells R (branch at (cell_at m 0) (λ holds. Goes (next holds)))) (sym (code_branches at number one other callers m home deep)) tells in
+        subst (λ x. Answer (to_do (item ∷ items) m) (as_code x callers m)) (sym placed)
+        (together (subst (λ act. Tells R act (code_step code program budgets (as_code (split at number one other) callers m))) (sym does_so) code_tells))
