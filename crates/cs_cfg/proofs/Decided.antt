@@ -71,32 +71,32 @@ module _ (code : Code) (program : TypedProgram) (budgets : RunBudgets) (m : Stat
     behind_jumps : {x y : Point} → Joins program home.flow x y → onward code program home items 0 y → Leads items x
     behind_jumps way rest = (home.out, (home.again, jumps_to code program home items 0 way rest))
 
-    if_decides : (at : Place) (test : Typed) (body : Statement) → Decides (If at test body)
+    pub if_decides : (at : Place) (test : Typed) (body : Statement) → Decides (If at test body)
     if_decides at test body it = split_answers (Decide (If at test body) mark) items at it.0 it.1 it.2 p (λ holds. if holds then Execute body mark ∷ items else items) single it.3 it.4 refl elim [
         true ↦ (home.out, (home.again, (block_of home.flow it.1, there, (refl, (it.5.1.0, it.5.1.1, jumps_to code program home items 0 it.5.1.2 it.5.3)))))
       | false ↦ behind_jumps it.5.2 it.5.3 ]
 
-    if_else_decides : (at : Place) (test : Typed) (body other : Statement) → Decides (IfElse at test body other)
+    pub if_else_decides : (at : Place) (test : Typed) (body other : Statement) → Decides (IfElse at test body other)
     if_else_decides at test body other it =
         split_answers (Decide (IfElse at test body other) mark) items at it.0 it.1 it.2 p (λ holds. if holds then Execute body mark ∷ items else Execute other (mark + marks body) ∷ items) single it.3 it.4 refl elim [
         true ↦ (home.out, (home.again, (block_of home.flow it.1, there, (refl, (it.5.1.0, it.5.1.1, jumps_to code program home items 0 it.5.1.2 it.5.3)))))
       | false ↦ (home.out, (home.again, (block_of home.flow it.2, there, (refl, (it.5.2.0, it.5.2.1, jumps_to code program home items 0 it.5.2.2 it.5.3))))) ]
 
-    while_decides : (at : Place) (test : Typed) (body : Statement) → Decides (While at test body)
+    pub while_decides : (at : Place) (test : Typed) (body : Statement) → Decides (While at test body)
     while_decides at test body it =
         let way = it.3 in
         split_answers (Decide (While at test body) mark) items at way.0 way.1 way.2 p (λ holds. if holds then Execute body (mark + 1) ∷ (Again (While at test body) mark ∷ items) else items) single way.3 way.4 refl elim [
         true ↦ (home.out, (it.0, (block_of home.flow way.1, there, (refl, (way.5.0.0, way.5.0.1, (it.0, way.5.0.2, (refl, refl, (it.0, (refl, it.1), (home.again, it.2)))))))))
       | false ↦ behind_jumps way.5.1 it.2 ]
 
-    do_decides : (at : Place) (body : Statement) (test : Typed) → Decides (Do at body test)
+    pub do_decides : (at : Place) (body : Statement) (test : Typed) → Decides (Do at body test)
     do_decides at body test it =
         let way = it.4 in
         split_answers (Decide (Do at body test) mark) items at way.0 way.1 way.2 p (λ holds. if holds then Turn (Do at body test) mark ∷ items else items) single way.3 way.4 refl elim [
         true ↦ (home.out, (home.again, (it.0, way.5.0, (refl, (it.1, it.2, it.3)))))
       | false ↦ behind_jumps way.5.1 it.3 ]
 
-    for_decides : (at : Place) (first : Statements) (test last : Option Typed) (body : Statement) → Decides (For at first test last body)
+    pub for_decides : (at : Place) (first : Statements) (test last : Option Typed) (body : Statement) → Decides (For at first test last body)
     for_decides at first test last body it =
         let way = it.4 in
         let loop = For at first test last body in

@@ -82,44 +82,44 @@ module _ (code : Code) (program : TypedProgram) (budgets : RunBudgets) where
     outside : onward code program (home_with home q home.again) (Out ∷ items) 0 q
     outside = (q, there, out_stands program home.flow (routine_of program m.frame.function) home.lowers.labels items q home.out home.again rest)
 
-    block_answers : (at : Place) (statements : Statements) → Executes (Block at statements)
+    pub block_answers : (at : Place) (statements : Statements) → Executes (Block at statements)
     block_answers at statements it = goes_to_parts (Block at statements) (executes statements mark items) home.out home.again refl
         (row_arrives program home.flow (routine_of program m.frame.function) home.lowers.labels statements mark items home.out home.again p q it rest)
 
-    run_answers : (at : Place) (e : Typed) → Executes (Run at e)
+    pub run_answers : (at : Place) (e : Typed) → Executes (Run at e)
     run_answers at e it = goes_to_parts (Run at e) (EvaluateUnused e ∷ Drop ∷ items) home.out home.again refl
         (p, there, (does at 0 graph.Drop q, it, (does at 0 graph.Drop q, there, (at, (0, q, refl, refl, rest)))))
 
-    if_answers : (at : Place) (test : Typed) (body : Statement) → Executes (If at test body)
+    pub if_answers : (at : Place) (test : Typed) (body : Statement) → Executes (If at test body)
     if_answers at test body it = goes_to_parts (If at test body) (Evaluate test ∷ Decide (If at test body) mark ∷ items) home.out home.again refl
         (p, there, (split at 0 it.0 it.1, it.2, (split at 0 it.0 it.1, there, (refl, (0, it.0, it.1, refl, refl, (q, it.3.0, it.3.1, rest))))))
 
-    if_else_answers : (at : Place) (test : Typed) (body other : Statement) → Executes (IfElse at test body other)
+    pub if_else_answers : (at : Place) (test : Typed) (body other : Statement) → Executes (IfElse at test body other)
     if_else_answers at test body other it = goes_to_parts (IfElse at test body other) (Evaluate test ∷ Decide (IfElse at test body other) mark ∷ items) home.out home.again refl
         (p, there, (split at 0 it.0 it.1, it.2, (split at 0 it.0 it.1, there, (refl, (0, it.0, it.1, refl, refl, (q, it.3.0, it.3.1, rest))))))
 
-    while_answers : (at : Place) (test : Typed) (body : Statement) → Executes (While at test body)
+    pub while_answers : (at : Place) (test : Typed) (body : Statement) → Executes (While at test body)
     while_answers at test body it = goes_to_parts (While at test body) (Turn (While at test body) mark ∷ Out ∷ items) q home.again refl
         (it.0, it.1, (refl, (it.0, (refl, it.2), outside)))
 
-    do_answers : (at : Place) (body : Statement) (test : Typed) → Executes (Do at body test)
+    pub do_answers : (at : Place) (body : Statement) (test : Typed) → Executes (Do at body test)
     do_answers at body test it = goes_to_parts (Do at body test) (Turn (Do at body test) mark ∷ Out ∷ items) q home.again refl
         (it.0, it.2, (refl, (it.1, it.3, outside)))
 
-    for_answers : (at : Place) (first : Statements) (test last : Option Typed) (body : Statement) → Executes (For at first test last body)
+    pub for_answers : (at : Place) (first : Statements) (test last : Option Typed) (body : Statement) → Executes (For at first test last body)
     for_answers at first test last body it =
         let loop = Turn (For at first test last body) mark ∷ Out ∷ items in
         goes_to_parts (For at first test last body) (executes first (mark + 1) loop) q home.again refl
         (row_arrives program home.flow (routine_of program m.frame.function) home.lowers.labels first (mark + 1) loop q home.again p it.0 it.2 (it.0, there, (refl, (it.1, it.3, outside))))
 
-    switch_answers : (at : Place) (value : Typed) (cases : List Case) (statements : Statements) → Executes (Switch at value cases statements)
+    pub switch_answers : (at : Place) (value : Typed) (cases : List Case) (statements : Statements) → Executes (Switch at value cases statements)
     switch_answers at value cases statements it =
         let ways : Point = record { operations = []; end = graph.Switch at 0 it.0 it.1 } in
         goes_to_parts (Switch at value cases statements) (Evaluate value ∷ Decide (Switch at value cases statements) mark ∷ Out ∷ items) q home.again refl
         (p, there, (ways, it.3, (ways, there, (refl, (it.0, it.1, it.2, refl, it.4, it.5, it.6, outside)))))
 
     -- a `goto` lands, or goes on
-    goto_answers : (at : Place) (wanted : ℕ) (found : Option Landing) → landing wanted (body_of (routine_of program m.frame.function)) 0 (at_end (routine_of program m.frame.function)) ≡ found → Executes (Goto at wanted)
+    pub goto_answers : (at : Place) (wanted : ℕ) (found : Option Landing) → landing wanted (body_of (routine_of program m.frame.function)) 0 (at_end (routine_of program m.frame.function)) ≡ found → Executes (Goto at wanted)
     goto_answers at wanted None e it = goes_to_parts (Goto at wanted) items home.out home.again (ap (λ found. lands budgets found (to_do items m)) e)
         (jumps_to code program home items 0 (goto_goes_on program home.flow (routine_of program m.frame.function) home.lowers.labels wanted (at_end (routine_of program m.frame.function)) p q e it) rest)
     goto_answers at wanted (Some l) e it =
@@ -133,25 +133,25 @@ module _ (code : Code) (program : TypedProgram) (budgets : RunBudgets) where
         (work_answers code program budgets (Execute (Goto at wanted) mark) items m l.at (graph.Reach point.Label l.mark) 0 label land.inside callers empty land.reaches
         (subst (λ found. Tells (Related code program budgets) (lands budgets found (to_do items m)) (reach_mark budgets l.at point.Label l.mark (as_code land.inside callers m))) (sym e) told))
 
-    label_answers : (at : Place) (label : ℕ) (body : Statement) → Executes (Label at label body)
+    pub label_answers : (at : Place) (label : ℕ) (body : Statement) → Executes (Label at label body)
     label_answers at label body it =
         let told = mark_reached m home callers waiting empty at point.Label mark (Execute body (mark + 1) ∷ items) it.1 (it.1, there, (refl, (q, it.5, rest))) in
         arrives code program budgets (to_do (Execute (Label at label body) mark ∷ items) m) home p it.0 callers it.2 (empty, (q, (it.0, it.1, there, it.3, it.4, it.5), rest)) waiting
         (work_answers code program budgets (Execute (Label at label body) mark) items m at (graph.Reach point.Label mark) 0 it.0 it.1 callers empty it.3 told)
 
-    break_answers : (at : Place) → Executes (Break at)
+    pub break_answers : (at : Place) → Executes (Break at)
     break_answers at it =
         let out = escapes program home.flow (routine_of program m.frame.function) home.lowers.labels items home.out home.again 0 rest.0 rest.2 in
         goes_to_parts (Break at) (broken_out items) out.broken_outer out.broken_again refl
         (jumps_to code program (home_with home out.broken_outer out.broken_again) (broken_out items) 0 it out.broken)
 
-    continue_answers : (at : Place) → Executes (Continue at)
+    pub continue_answers : (at : Place) → Executes (Continue at)
     continue_answers at it =
         let out = escapes program home.flow (routine_of program m.frame.function) home.lowers.labels items home.out home.again 0 rest.0 rest.2 in
         goes_to_parts (Continue at) (continued items) out.continued_out out.continued_again refl
         (jumps_to code program (home_with home out.continued_out out.continued_again) (continued items) 0 it out.continues)
 
-    return_answers : (at : Place) (value : Option Typed) → Executes (Return at value)
+    pub return_answers : (at : Place) (value : Option Typed) → Executes (Return at value)
     return_answers at None it =
         let gives = does at 1 (graph.Meet point.Return) leaving in
         let next = to_do (Give at ∷ items) (push Nothing m) in

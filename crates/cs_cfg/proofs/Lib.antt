@@ -18,3 +18,4 @@ pub mod Decided
 pub mod Switched
 pub mod Looped
 pub mod Left
+pub mod Simulating
