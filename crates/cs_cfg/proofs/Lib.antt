@@ -19,3 +19,4 @@ pub mod Switched
 pub mod Looped
 pub mod Left
 pub mod Simulating
+pub mod Runs
