@@ -20,3 +20,5 @@ pub mod Looped
 pub mod Left
 pub mod Simulating
 pub mod Runs
+pub mod Returning
+pub mod Staying
