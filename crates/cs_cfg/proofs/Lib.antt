@@ -22,3 +22,4 @@ pub mod Simulating
 pub mod Runs
 pub mod Returning
 pub mod Staying
+pub mod Returned
