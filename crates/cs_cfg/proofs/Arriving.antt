@@ -1,8 +1,8 @@
 -- What stands at a point where jumps lead to what is to be done: for jumps of the program and for statements in a row.
-use Rattle.std.proofs.Common.{◌≡◌, ℕ, zero, suc, ◌+◌, List, [], ◌∷◌, refl}
+use Rattle.std.proofs.Common.{ℕ, zero, suc, ◌+◌, List, ◌∷◌, refl}
 use Rattle.cs_ast.specs.TypedTree.{Statement, Statements, Empty, Then}
 use Rattle.cs_ast.specs.TypedProgram.{TypedProgram, Routine}
-use Rattle.cs_plain.specs.Machine.{Item, Execute, Again, Out}
+use Rattle.cs_plain.specs.Machine.{Item, Again, Out}
 use Rattle.cs_plain.specs.Marks.{marks}
 use Rattle.cs_plain.specs.Jumps.{executes}
 use Rattle.cs_plain.specs.Statements.{executes_from}

@@ -1,14 +1,13 @@
 -- Where `break` and `continue` lead, what the plain machine has to do there stands (C11 6.8.6.2, 6.8.6.3).
 use Rattle.std.proofs.Common.{◌≡◌, ℕ, List, [], ◌∷◌, Option, Some, None, refl, sym, subst}
 use Rattle.cs_ast.specs.declared.place.Place.{Place}
-use Rattle.cs_types.specs.Shape.{Shape}
-use Rattle.cs_ast.specs.TypedTree.{Typed, Of, Form, Number, Null, Text, Local, Global, Through, Index, Member, Arrow, Load, Address, Decay, Convert, Unary, Not, Binary, Compare, Sum, Difference, And, Or, Choice, Comma, Assign, Update, Move, Call, Allocate, Free, Statement, Block, Declare, Run, If, IfElse, While, Do, For, Switch, Goto, Label, Break, Continue, Return}
+use Rattle.cs_ast.specs.TypedTree.{Of, Form, And, Or, Choice, Update, Move, Statement, If, IfElse, While, Do, For, Switch}
 use Rattle.cs_ast.specs.TypedProgram.{TypedProgram, Routine}
 use Rattle.cs_plain.specs.Machine.{Item, Evaluate, EvaluateUnused, Act, Fetch, Choose, Judge, Use, Drop, Store, Spell, Execute, Decide, Turn, Again, Out, Begin, End, Give, Leave}
 use Rattle.cs_plain.specs.Jumps.{broken_out, continued}
 use Rattle.cs_cfg.specs.Graph.{Work, Point, Flow}
 use Rattle.cs_cfg.specs.Placing.{there}
-use Rattle.cs_cfg.specs.Standing.{Behind, worked, work_of, acts_by, acts_at, fetches_form, fetches_at, chooses_form, chooses_at, loops_at, decides_at, item_at, stands_at}
+use Rattle.cs_cfg.specs.Standing.{Behind, worked, work_of, acts_by, fetches_form, chooses_form, loops_at, decides_at, item_at, stands_at}
 use Rattle.cs_cfg.specs.Executing.{finishing}
 use Rattle.cs_cfg.proofs.Arriving.{Arrives}
 

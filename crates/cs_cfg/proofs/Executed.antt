@@ -1,29 +1,29 @@
 -- Executing a statement: the machine goes on silently to the statement's parts, which stand at the same point, or reaches a label; what the
 -- code does first is a jump or one operation. For the simulation.
-use Rattle.std.proofs.Common.{◌≡◌, ℕ, ◌+◌, nat_lt, Bool, true, false, List, [], ◌∷◌, length, Option, Some, None, slice_get, unwrap_or, if◌then◌else◌, arith, refl, sym, ap, ◌∙◌, subst}
+use Rattle.std.proofs.Common.{◌≡◌, ℕ, ◌+◌, nat_lt, List, [], ◌∷◌, length, Option, Some, None, slice_get, unwrap_or, arith, refl, sym, ap, subst}
 use Rattle.cs_ast.specs.declared.place.Place.{Place}
 use Rattle.cs_ast.specs.declared.typed.statement.Case.{Case}
-use Rattle.cs_ast.specs.TypedTree.{Typed, Initial, Value, Parts, Bytes, Statement, Block, Declare, Run, If, IfElse, While, Do, For, Switch, Goto, Label, Break, Continue, Return, Statements, Empty}
-use Rattle.cs_ast.specs.TypedProgram.{TypedProgram, Routine}
+use Rattle.cs_ast.specs.TypedTree.{Typed, Statement, Block, Run, If, IfElse, While, Do, For, Switch, Goto, Label, Break, Continue, Return, Statements, Empty}
+use Rattle.cs_ast.specs.TypedProgram.{TypedProgram}
 use Rattle.cs_runs.specs.declared.outcome.RunBudgets.{RunBudgets}
 use Rattle.cs_runs.specs.declared.point.PointKind.{PointKind}
 use Rattle.cs_runs.specs.declared.point.PointKind.TheVariants as point
 use Rattle.cs_runs.specs.Acts.{Goes}
 use Rattle.cs_runs.specs.Simulation.{Tells, alone, both_go, both_stop, both_touch}
-use Rattle.cs_plain.specs.Machine.{Nothing, Item, Evaluate, EvaluateUnused, Drop, Execute, Decide, Turn, Again, Out, Give, CallFrame, State, to_do, push, routine_of, body_of}
-use Rattle.cs_plain.specs.Marks.{marks, marks_in, with_visits, reached_again, reach_mark}
+use Rattle.cs_plain.specs.Machine.{Nothing, Item, Evaluate, EvaluateUnused, Drop, Execute, Decide, Turn, Out, Give, CallFrame, State, to_do, push, routine_of, body_of}
+use Rattle.cs_plain.specs.Marks.{with_visits, reached_again, reach_mark}
 use Rattle.cs_plain.specs.Jumps.{executes, broken_out, continued, Landing, landing}
 use Rattle.cs_plain.specs.Statements.{lands}
 use Rattle.cs_plain.specs.Steps.{at_end, do_item}
 use Rattle.cs_cfg.specs.Graph as graph
 use Rattle.cs_cfg.specs.Graph.{Point, Flow, Code, block_of}
-use Rattle.cs_cfg.specs.Placing.{does, split, Joins, there}
+use Rattle.cs_cfg.specs.Placing.{does, split, there}
 use Rattle.cs_cfg.specs.Executing.{leaving, finishing, executes_at}
 use Rattle.cs_cfg.proofs.Acting.{as_code}
 use Rattle.cs_cfg.proofs.Alike.{tells_if}
 use Rattle.cs_cfg.proofs.Related.{CallersStand, Related, now}
-use Rattle.cs_cfg.proofs.Moving.{Home, stands, onward, right_there, jumps_to, with_depth, aligned, Answer, arrives, work_answers}
-use Rattle.cs_cfg.proofs.Arriving.{arrives_from, out_stands, row_arrives}
+use Rattle.cs_cfg.proofs.Moving.{Home, onward, jumps_to, with_depth, aligned, Answer, arrives, work_answers}
+use Rattle.cs_cfg.proofs.Arriving.{out_stands, row_arrives}
 use Rattle.cs_cfg.proofs.Landings.{Landed, goto_lands, goto_goes_on, goto_jumps, goto_stays}
 use Rattle.cs_cfg.proofs.Breaking.{escapes}
 

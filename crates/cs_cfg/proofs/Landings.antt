@@ -1,6 +1,6 @@
 -- Where a label stands in what a graph executes, a `goto` lands: the point to which it leads reaches the label's mark, and what the
 -- plain machine has to do from there stands behind it (C11 6.8.6.1).
-use Rattle.std.proofs.Common.{◌≡◌, ℕ, ◌+◌, ◌==◌, Bool, true, false, List, [], ◌∷◌, Option, Some, None, option_map, if◌then◌else◌, refl, sym, ap, ◌∙◌, subst, eqb-true}
+use Rattle.std.proofs.Common.{◌≡◌, ℕ, ◌+◌, ◌==◌, Bool, true, false, List, [], ◌∷◌, Option, Some, None, option_map, if◌then◌else◌, refl, ap, ◌∙◌, subst, eqb-true}
 use Rattle.cs_ast.specs.declared.place.Place.{Place}
 use Rattle.cs_ast.specs.TypedTree.{Statement, Block, Declare, Run, If, IfElse, While, Do, For, Switch, Goto, Label, Break, Continue, Return, Statements, Empty, Then}
 use Rattle.cs_ast.specs.TypedProgram.{TypedProgram, Routine}

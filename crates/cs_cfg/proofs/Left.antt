@@ -8,14 +8,13 @@ use Rattle.cs_runs.specs.Objects.{UnsetCell}
 use Rattle.cs_runs.specs.Touches.{Meets}
 use Rattle.cs_runs.specs.Acts.{Goes, Touches}
 use Rattle.cs_runs.specs.Simulation.{Tells, together, both_go, both_stop, both_touch}
-use Rattle.cs_plain.specs.Machine.{Operand, Scalar, Item, Out, Begin, End, Give, Leave, CallFrame, Frame, State, to_do, push, operand_at, routine_of}
+use Rattle.cs_plain.specs.Machine.{Operand, Scalar, Item, Out, Begin, End, Give, Leave, CallFrame, Frame, State, to_do, push, operand_at}
 use Rattle.cs_plain.specs.Calls.{leave_to, leave}
 use Rattle.cs_plain.specs.Steps.{do_item}
 use Rattle.cs_cfg.specs.Graph as graph
 use Rattle.cs_cfg.specs.Graph.{Point, Flow, Code}
-use Rattle.cs_cfg.specs.Working.{do_work}
 use Rattle.cs_cfg.specs.CodeSteps.{code_step}
-use Rattle.cs_cfg.specs.Placing.{does, there}
+use Rattle.cs_cfg.specs.Placing.{there}
 use Rattle.cs_cfg.specs.Executing.{leaving, finishing}
 use Rattle.cs_cfg.proofs.Acting.{as_code}
 use Rattle.cs_cfg.proofs.Related.{FrameStands, CallersStand, nobody, waits, Related, now}
@@ -77,7 +76,7 @@ module _ (code : Code) (program : TypedProgram) (budgets : RunBudgets) where
     end_answers at value items p it =
         let next = to_do (Leave ∷ []) (push value m) in
         let told : Tells (Related code program budgets) (do_item program budgets (End at value) (to_do items m)) (Touches (Meets point.End at) (Goes (push value (as_code leaving callers m))))
-            = both_touch (both_go (now (aligned code program next (home_with code program budgets home finishing finishing) leaving callers (leaves_next (suc (length m.frame.stack)) (omega arith)) waiting))) in
+        = both_touch (both_go (now (aligned code program next (home_with code program budgets home finishing finishing) leaving callers (leaves_next (suc (length m.frame.stack)) (omega arith)) waiting))) in
         work_answers code program budgets (End at value) items m at (graph.Close it.1.0) 0 p leaving callers it.0 it.1.2
         (subst (λ x. Tells (Related code program budgets) (do_item program budgets (End at value) (to_do items m)) (Touches (Meets point.End at) (Goes (push x (as_code leaving callers m))))) it.1.1 told)
 

@@ -1,21 +1,21 @@
 -- Loops in the simulation: their heads are reached, and behind their bodies the code goes back to them (C11 6.8.5).
-use Rattle.std.proofs.Common.{◌≡◌, ℕ, ◌+◌, List, [], ◌∷◌, length, Option, Some, None, refl, sym, subst}
+use Rattle.std.proofs.Common.{◌≡◌, ℕ, ◌+◌, List, ◌∷◌, length, Option, Some, None, refl, sym, subst}
 use Rattle.cs_ast.specs.declared.place.Place.{Place}
-use Rattle.cs_ast.specs.TypedTree.{Typed, Statement, Block, Declare, Run, If, IfElse, While, Do, For, Switch, Goto, Label, Break, Continue, Return, Statements}
+use Rattle.cs_ast.specs.TypedTree.{Typed, Statement, While, Do, For, Statements}
 use Rattle.cs_ast.specs.TypedProgram.{TypedProgram}
 use Rattle.cs_runs.specs.declared.outcome.RunBudgets.{RunBudgets}
 use Rattle.cs_runs.specs.declared.point.PointKind.TheVariants as point
-use Rattle.cs_plain.specs.Machine.{Item, Evaluate, Drop, Execute, Decide, Turn, Again, CallFrame, State, to_do, routine_of}
+use Rattle.cs_plain.specs.Machine.{Item, Evaluate, Execute, Decide, Turn, Again, CallFrame, State, to_do, routine_of}
 use Rattle.cs_plain.specs.Marks.{marks_in}
-use Rattle.cs_plain.specs.Statements.{tests, turned, last_part, again}
+use Rattle.cs_plain.specs.Statements.{last_part, again}
 use Rattle.cs_cfg.specs.Graph as graph
 use Rattle.cs_cfg.specs.Graph.{Point, Flow, Code, block_of}
-use Rattle.cs_cfg.specs.Placing.{does, split, Joins, there}
-use Rattle.cs_cfg.specs.Executing.{part_to, while_loop, for_test_at, for_loop, last_at}
+use Rattle.cs_cfg.specs.Placing.{does, split, there}
+use Rattle.cs_cfg.specs.Executing.{part_to, while_loop, last_at}
 use Rattle.cs_cfg.specs.Standing.{part_of, loops_at}
 use Rattle.cs_cfg.proofs.Acting.{as_code}
 use Rattle.cs_cfg.proofs.Related.{CallersStand}
-use Rattle.cs_cfg.proofs.Moving.{Home, stands, onward, Answer, work_answers}
+use Rattle.cs_cfg.proofs.Moving.{Home, onward, Answer, work_answers}
 use Rattle.cs_cfg.proofs.Executed.{silently, home_with, mark_reached}
 
 module _ (code : Code) (program : TypedProgram) (budgets : RunBudgets) (m : State) (home : Home code program m.frame.function) (callers : List (CallFrame Point)) (waiting : CallersStand code program m.callers callers) (empty : length m.frame.stack ≡ 0) where
@@ -30,13 +30,13 @@ module _ (code : Code) (program : TypedProgram) (budgets : RunBudgets) (m : Stat
         let one = loop.2.0 in
         let other = loop.2.1 in
         let told = mark_reached code program budgets m home callers waiting empty at point.Head mark (Evaluate test ∷ Decide (While at test body) mark ∷ items) loop.0
-            (loop.0, there, (split at 0 one other, loop.2.2, (split at 0 one other, there, (refl, (p, loop, rest, (0, one, other, refl, refl, loop.2.3)))))) in
+        (loop.0, there, (split at 0 one other, loop.2.2, (split at 0 one other, there, (refl, (p, loop, rest, (0, one, other, refl, refl, loop.2.3)))))) in
         work_answers code program budgets (Turn (While at test body) mark) items m at (graph.Reach point.Head mark) 0 p loop.0 callers empty loop.1 told
 
     do_turns : (at : Place) (body : Statement) (test : Typed) → Turns (Do at body test)
     do_turns at body test it =
         let told = mark_reached code program budgets m (home_with code program budgets home home.out after_body) callers waiting empty at point.Head mark (Execute body (mark + 1) ∷ Again (Do at body test) mark ∷ items) it.0
-            (it.0, there, (refl, (it.2.0, it.2.1, (after_body, it.2.2, (refl, refl, (p, it, (home.again, rest))))))) in
+        (it.0, there, (refl, (it.2.0, it.2.1, (after_body, it.2.2, (refl, refl, (p, it, (home.again, rest))))))) in
         work_answers code program budgets (Turn (Do at body test) mark) items m at (graph.Reach point.Head mark) 0 p it.0 callers empty it.1 told
 
     for_turns : (at : Place) (first : Statements) (test last : Option Typed) (body : Statement) → Turns (For at first test last body)
@@ -45,7 +45,7 @@ module _ (code : Code) (program : TypedProgram) (budgets : RunBudgets) (m : Stat
         let inside = mark + 1 + marks_in first in
         let body_stands = subst (λ x. part_to program home.flow (part_of program home.flow (routine_of program m.frame.function) home.lowers.labels body inside) home.out after_body x after_body) (sym it.3) it.4 in
         let told = mark_reached code program budgets m (home_with code program budgets home home.out after_body) callers waiting empty at point.Head mark (Execute body inside ∷ Again loop mark ∷ items) it.0
-            (it.0, there, (refl, (body_stands.0, body_stands.1, (after_body, body_stands.2, (refl, refl, (p, it, (home.again, rest))))))) in
+        (it.0, there, (refl, (body_stands.0, body_stands.1, (after_body, body_stands.2, (refl, refl, (p, it, (home.again, rest))))))) in
         work_answers code program budgets (Turn loop mark) items m at (graph.Reach point.Head mark) 0 p it.0 callers empty it.2 told
     for_turns at first (Some test) last body it =
         let loop = For at first (Some test) last body in
@@ -54,7 +54,7 @@ module _ (code : Code) (program : TypedProgram) (budgets : RunBudgets) (m : Stat
         let other = it.3.1 in
         let body_stands = subst (λ x. part_to program home.flow (part_of program home.flow (routine_of program m.frame.function) home.lowers.labels body inside) home.out after_body x after_body) (sym it.3.3.0) it.4 in
         let told = mark_reached code program budgets m home callers waiting empty at point.Head mark (Evaluate test ∷ Decide loop mark ∷ items) it.0
-            (it.0, there, (split at 0 one other, it.3.2, (split at 0 one other, there, (refl, (p, after_body, it, rest, (0, one, other, refl, refl, (body_stands, it.3.3.1))))))) in
+        (it.0, there, (split at 0 one other, it.3.2, (split at 0 one other, there, (refl, (p, after_body, it, rest, (0, one, other, refl, refl, (body_stands, it.3.3.1))))))) in
         work_answers code program budgets (Turn loop mark) items m at (graph.Reach point.Head mark) 0 p it.0 callers empty it.2 told
 
   -- the head of a loop

@@ -8,8 +8,8 @@ use Rattle.cs_runs.specs.declared.outcome.Outcome.TheVariants.{Done}
 use Rattle.cs_runs.specs.declared.outcome.Returned.{Returned}
 use Rattle.cs_runs.specs.declared.outcome.RunBudgets.{RunBudgets}
 use Rattle.cs_runs.specs.Acts.{Act, Goes}
-use Rattle.cs_runs.specs.Runs.{Setting, Log, Performed, Continues, Finishes, perform, Leads, stays, goes, EndsFrom}
-use Rattle.cs_plain.specs.Machine.{Operand, Item, Leave, State, to_do, operand_at, routine_of}
+use Rattle.cs_runs.specs.Runs.{Setting, Log, Continues, Finishes, perform, Leads, stays, goes, EndsFrom}
+use Rattle.cs_plain.specs.Machine.{Item, Leave, State, to_do, operand_at, routine_of}
 use Rattle.cs_plain.specs.Steps.{do_item, step_with, step}
 use Rattle.cs_plain.specs.PlainRuns.{PlainRun, setting_of, RunGives}
 use Rattle.cs_cfg.specs.Graph.{Point, Flow, Code, flow_of}

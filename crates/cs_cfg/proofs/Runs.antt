@@ -4,7 +4,7 @@ use Rattle.cs_ast.specs.TypedTree.{Statement}
 use Rattle.cs_ast.specs.TypedProgram.{TypedProgram}
 use Rattle.cs_runs.specs.declared.outcome.Outcome.{Outcome}
 use Rattle.cs_runs.specs.declared.outcome.RunBudgets.{RunBudgets}
-use Rattle.cs_runs.specs.Runs.{Setting, Log, empty}
+use Rattle.cs_runs.specs.Runs.{Log, empty}
 use Rattle.cs_runs.specs.Pending.{Pending}
 use Rattle.cs_runs.specs.Silence.{Ending}
 use Rattle.cs_runs.proofs.Simulations.{EndsTogether, ends_too, pends_too, ends_back, pends_back}
@@ -16,7 +16,7 @@ use Rattle.cs_cfg.specs.Graph.{Flow, Code, no_flow, flow_of}
 use Rattle.cs_cfg.specs.Working.{code_frame}
 use Rattle.cs_cfg.specs.CodeSteps.{code_step, code_start, CodeGives, CodeIsPending}
 use Rattle.cs_cfg.specs.Lowered.{is_there}
-use Rattle.cs_cfg.specs.Placed.{LowersBody, IsPlaced}
+use Rattle.cs_cfg.specs.Placed.{IsPlaced}
 use Rattle.cs_cfg.proofs.Related.{FrameStands, nobody, Related, now}
 use Rattle.cs_cfg.proofs.Entered.{frame_begins}
 use Rattle.cs_cfg.proofs.Simulating.{placed_simulates}

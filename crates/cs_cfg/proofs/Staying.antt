@@ -1,13 +1,13 @@
 -- Whatever the plain machine has to do first, it doesn't return from the run with it, unless it leaves a frame.
 use Rattle.std.specs.Prelude.{⊤, ◌⊎◌}
-use Rattle.std.proofs.Common.{inl, inr, ◌≡◌, ℕ, ◌+◌, nat_lt, ℤ, pos, int_eq, Bool, true, false, List, [], ◌∷◌, length, Option, Some, None, slice_get, if◌then◌else◌}
+use Rattle.std.proofs.Common.{inl, inr, ℕ, ◌+◌, nat_lt, ℤ, pos, int_eq, Bool, true, false, List, [], ◌∷◌, length, Option, Some, None, slice_get}
 use Rattle.cs_types.specs.Shape.{Shape, void, integer, pointer, array, struct}
 use Rattle.cs_inputs.specs.declared.path.Path.{Path}
 use Rattle.cs_ast.specs.declared.place.Place.{Place}
 use Rattle.cs_ast.specs.declared.typed.operator.Allocator.{Allocator}
 use Rattle.cs_ast.specs.declared.typed.operator.Allocator.TheVariants.{Malloc, Calloc}
 use Rattle.cs_ast.specs.declared.typed.operator.BinOp.TheVariants.{Mul}
-use Rattle.cs_ast.specs.TypedTree.{Typed, Of, Form, Number, Null, Text, Local, Global, Through, Index, Member, Arrow, Load, Address, Decay, Convert, Unary, Not, Binary, Compare, Sum, Difference, And, Or, Choice, Comma, Assign, Update, Move, Call, Allocate, Free, Initial, Value, Parts, Bytes, Statement, Block as Compound, Declare, Run, If, IfElse, While, Do, For, Switch, Goto, Label, Break, Continue, Return}
+use Rattle.cs_ast.specs.TypedTree.{Typed, Of, Form, Number, Null, Text, Local, Global, Index, Member, Arrow, Load, Convert, Unary, Not, Binary, Compare, Sum, Difference, And, Or, Choice, Assign, Update, Move, Call, Allocate, Free, Initial, Value, Parts, Bytes, Statement, Declare, If, IfElse, While, Do, For, Switch, Goto, Label}
 use Rattle.cs_ast.specs.TypedProgram.{TypedProgram, Routine}
 use Rattle.cs_model.specs.declared.standing.Standing.{Standing}
 use Rattle.cs_model.specs.declared.standing.Standing.TheVariants.{Live, Freed, Ended}
@@ -25,10 +25,10 @@ use Rattle.cs_plain.specs.Memory.{Block, Memory, Unknown}
 use Rattle.cs_plain.specs.Access.{access_of}
 use Rattle.cs_plain.specs.Operators.{branch}
 use Rattle.cs_plain.specs.Machine.{Operand, Scalar, Whole, Nothing, Item, Evaluate, EvaluateUnused, Act as Acting, Fetch, Choose, Judge, Use, Drop, Store, Spell, Execute, Decide, Turn, Again, Out, Begin, End, Give, Leave, State, push, push_cell, with_memory, operand_at, cell_at, cell_of, newest, pop_many, routine_of, body_of}
-use Rattle.cs_plain.specs.Marks.{reached_again, reach_mark}
+use Rattle.cs_plain.specs.Marks.{reached_again}
 use Rattle.cs_plain.specs.Jumps.{Landing, landing}
-use Rattle.cs_plain.specs.Calls.{wrote_path, result_path, write_through, write_arguments, outside_result, call_outside, call_routine, call, allocate, release_block, release_known, release_object, release}
-use Rattle.cs_plain.specs.Expressions.{pointer_age, amount_age, given, number_at, stores, act_form, fetch_form, choose_form, judge, use_result}
+use Rattle.cs_plain.specs.Calls.{wrote_path, result_path, write_through, write_arguments, outside_result, call_routine, call, allocate, release_block, release_known, release_object, release}
+use Rattle.cs_plain.specs.Expressions.{pointer_age, amount_age, given, number_at, stores, act_form, fetch_form, choose_form, use_result}
 use Rattle.cs_plain.specs.Statements.{if_scalar, local_type, declare, lands, execute, turn, decide}
 use Rattle.cs_plain.specs.Steps.{at_end, do_item}
 use Rattle.cs_cfg.proofs.Returning.{NeverReturns, goes, stops, asks, allocates, touches, Each, EachOfTwo, stays_if, stays_shows, stays_touches, stays_receive, stays_set, stays_load, stays_store, stays_truth, stays_operate, stays_convert_number, stays_convert, stays_sum, stays_compare, stays_difference, stays_arrow}

@@ -2,7 +2,7 @@
 use Rattle.std.proofs.Common.{◌≡◌, ℕ, ◌+◌, List, [], ◌∷◌, length, drop, Option, Some, None, arith, refl, sym, subst}
 use Rattle.cs_types.specs.Shape.{Shape}
 use Rattle.cs_ast.specs.declared.place.Place.{Place}
-use Rattle.cs_ast.specs.TypedTree.{Typed, Initial, Value, Parts, Bytes, Declare}
+use Rattle.cs_ast.specs.TypedTree.{Initial, Value, Parts, Bytes, Declare}
 use Rattle.cs_ast.specs.TypedProgram.{TypedProgram, Routine}
 use Rattle.cs_runs.specs.declared.outcome.RunBudgets.{RunBudgets}
 use Rattle.cs_runs.specs.Touches.{Clears, Stores}
@@ -11,14 +11,14 @@ use Rattle.cs_runs.specs.Acts.{Goes}
 use Rattle.cs_runs.specs.Simulation.{Tells, both_go}
 use Rattle.cs_plain.specs.Types.{type_of, is_scalar}
 use Rattle.cs_plain.specs.Initials.{Piece, Evaluated, Spelled, pieces}
-use Rattle.cs_plain.specs.Memory.{Fill, UnsetFill, ZeroFill, changed}
+use Rattle.cs_plain.specs.Memory.{UnsetFill, ZeroFill, changed}
 use Rattle.cs_plain.specs.Access.{write_operand, write_bytes}
 use Rattle.cs_plain.specs.Machine.{Item, Evaluate, Store, Spell, Execute, CallFrame, State, to_do, pop, with_memory, operand_at, routine_of}
 use Rattle.cs_plain.specs.Steps.{do_item}
 use Rattle.cs_plain.specs.Statements.{if_scalar, local_type, refilled, stores_pieces}
 use Rattle.cs_cfg.specs.Graph as graph
 use Rattle.cs_cfg.specs.Graph.{Point, Flow, Code}
-use Rattle.cs_cfg.specs.Placing.{does, Joins, there}
+use Rattle.cs_cfg.specs.Placing.{does, there}
 use Rattle.cs_cfg.specs.Executing.{type_in, stores_at, declares_at}
 use Rattle.cs_cfg.proofs.Acting.{as_code, dropped}
 use Rattle.cs_cfg.proofs.Alike.{tells_touches}

@@ -17,8 +17,8 @@ use Rattle.cs_plain.specs.Machine.{Item, Decide, CallFrame, State, to_do, pop, c
 use Rattle.cs_plain.specs.Statements.{Chosen, stands_for, has_value, case_of, default_item, values_in, count_of, chosen_case, switch_to, executes_from}
 use Rattle.cs_cfg.specs.Graph as graph
 use Rattle.cs_cfg.specs.Graph.{SwitchCase, Point, Flow, Code, block_of}
-use Rattle.cs_cfg.specs.CodeSteps.{enters, Way, way_of, goes_way, code_step}
-use Rattle.cs_cfg.specs.Executing.{case_leads, cases_lead, from_at}
+use Rattle.cs_cfg.specs.CodeSteps.{Way, way_of, goes_way, code_step}
+use Rattle.cs_cfg.specs.Executing.{case_leads, cases_lead}
 use Rattle.cs_cfg.specs.Standing.{decides_at}
 use Rattle.cs_cfg.proofs.Acting.{as_code, dropped}
 use Rattle.cs_cfg.proofs.Alike.{tells_shows}
@@ -89,8 +89,8 @@ module _ (code : Code) (program : TypedProgram) (budgets : RunBudgets) (m : Stat
       let s = rest_arrives program home.flow routine home.lowers.labels chosen.item statements mark items home.out home.again (it.2 chosen.item) home.out (it.4 chosen.item) it.7 in
       let acts = λ (number : ℕ) (q : Point). Touches (Meets point.Switch at) (shows_then at (label.Case number) (Goes (as_code q callers (pop m)))) in
       let told : Tells (Related code program budgets) (switch_to at statements mark chosen (pop (to_do items m))) (acts chosen.number (it.2 chosen.item))
-          = both_touch (tells_shows (Related code program budgets) at (label.Case chosen.number)
-          (both_go (now (aligned code program (to_do rest (pop m)) home (it.2 chosen.item) callers (with_depth code program home rest (it.2 chosen.item) left s) waiting)))) in
+      = both_touch (tells_shows (Related code program budgets) at (label.Case chosen.number)
+      (both_go (now (aligned code program (to_do rest (pop m)) home (it.2 chosen.item) callers (with_depth code program home rest (it.2 chosen.item) left s) waiting)))) in
       let same : acts way.number (block_of home.flow way.block) ≡ acts chosen.number (it.2 chosen.item) = ap (λ k. acts k (block_of home.flow way.block)) pick.number ∙ ap (acts chosen.number) pick.leads in
       let code_acts = subst (Tells (Related code program budgets) (switch_to at statements mark chosen (pop (to_do items m)))) (sym (switches_so at it.0 it.1 single ∙ same)) told in
       subst (λ x. Answer code program budgets (to_do (Decide (Switch at value cases statements) mark ∷ items) m) (as_code x callers m)) (sym it.3)
