@@ -119,7 +119,7 @@ module _ (code : Code) (program : TypedProgram) where
     answers_all h m t (soon e r) = first e r (answers_all h m _ r)
 
     -- jumps alone are silent
-    arrives : (m : State) (home : Home m.frame.function) (p here : Point) (callers : List (CallFrame Point)) → Joins program home.flow p here →
+    pub arrives : (m : State) (home : Home m.frame.function) (p here : Point) (callers : List (CallFrame Point)) → Joins program home.flow p here →
         stands home m.frame.todo (length m.frame.stack) here → CallersStand code program m.callers callers → Answer m (as_code here callers m) → Answer m (as_code p callers m)
     arrives m home p here callers there s waiting h = h
     arrives m home p here callers (jumps {block = block} way) s waiting h =
@@ -134,6 +134,11 @@ module _ (code : Code) (program : TypedProgram) where
         let home = home_of a.frame in
         subst (Answer m) (sym (told_by a))
         (arrives m home t.frame.todo a.frame.here t.callers a.frame.joins a.frame.stands a.callers (h home a.frame.here t.callers a.frame.stands a.callers))
+
+    -- where the code's run stands right where the first thing to do is done, the machine and the run answer one another
+    abbrev pub Answered : Item → Type 0
+    Answered item = (items : List Item) (m : State) (home : Home m.frame.function) (here : Point) (callers : List (CallFrame Point)) →
+        stands home (item ∷ items) (length m.frame.stack) here → CallersStand code program m.callers callers → Answer (to_do (item ∷ items) m) (as_code here callers m)
 
     -- a state with the same frame but for what it has as operands, in which a point does what is to be done
     pub leaves : (m : State) (home : Home m.frame.function) (q : Point) (callers : List (CallFrame Point)) (depth : ℕ) →
