@@ -21,7 +21,7 @@ use Rattle.cs_cfg.specs.Standing.{work_of, acts_by}
 use Rattle.cs_cfg.proofs.Alike.{tells_set, tells_load, tells_truth, tells_shows, tells_convert_number}
 use Rattle.cs_cfg.proofs.Acting.{as_code, dropped, Leaves, TellsBy, acts_tell, put}
 use Rattle.cs_cfg.proofs.Related.{CallersStand, Related}
-use Rattle.cs_cfg.proofs.Moving.{Home, stands, onward, with_depth, leaves, Answer, worked_answers}
+use Rattle.cs_cfg.proofs.Moving.{Home, onward, with_depth, leaves, Answer, Answered, worked_answers}
 
 module _ (code : Code) (program : TypedProgram) (budgets : RunBudgets) where
   -- one more operand is there
@@ -32,9 +32,7 @@ module _ (code : Code) (program : TypedProgram) (budgets : RunBudgets) where
       leaves code program budgets (to_do items m) home q callers (suc number) (with_depth code program home items q one_more on) waiting
 
   -- an operand is dropped
-  pub drop_answers : (items : List Item) (m : State) (home : Home code program m.frame.function) (here : Point) (callers : List (CallFrame Point)) →
-      stands code program home (Drop ∷ items) (length m.frame.stack) here → CallersStand code program m.callers callers →
-      Answer code program budgets (to_do (Drop ∷ items) m) (as_code here callers m)
+  pub drop_answers : Answered code program budgets Drop
   drop_answers items m home here callers s waiting =
       worked_answers code program budgets Drop items m home s.0 graph.Drop 0 here callers s.1 (λ number q e on.
       let h = leaves code program budgets (to_do items m) home q callers (0 + number) on waiting in
@@ -48,18 +46,14 @@ module _ (code : Code) (program : TypedProgram) (budgets : RunBudgets) where
   uses_tell at (Whole cells) items m q callers h = both_go h
   uses_tell at Nothing items m q callers h = both_go h
 
-  pub use_answers : (at : Place) (items : List Item) (m : State) (home : Home code program m.frame.function) (here : Point) (callers : List (CallFrame Point)) →
-      stands code program home (Use at ∷ items) (length m.frame.stack) here → CallersStand code program m.callers callers →
-      Answer code program budgets (to_do (Use at ∷ items) m) (as_code here callers m)
+  pub use_answers : (at : Place) → Answered code program budgets (Use at)
   use_answers at items m home here callers s waiting =
       worked_answers code program budgets (Use at) items m home at graph.Use 1 here callers s (λ number q e on.
       let h = leaves code program budgets (to_do items m) home q callers (1 + number) on waiting in
       uses_tell at (operand_at m 0) items m q callers (h (to_do items m) (record { function = refl; number = refl; todo = refl; visits = refl; callers = refl; deep = e })))
 
   -- the right part of `&&` or `||` is made a truth
-  pub judge_answers : (at : Place) (items : List Item) (m : State) (home : Home code program m.frame.function) (here : Point) (callers : List (CallFrame Point)) →
-      stands code program home (Judge at ∷ items) (length m.frame.stack) here → CallersStand code program m.callers callers →
-      Answer code program budgets (to_do (Judge at ∷ items) m) (as_code here callers m)
+  pub judge_answers : (at : Place) → Answered code program budgets (Judge at)
   judge_answers at items m home here callers s waiting =
       let R = Related code program budgets in
       worked_answers code program budgets (Judge at) items m home at graph.Judge 1 here callers s (λ number q e on.
@@ -67,10 +61,8 @@ module _ (code : Code) (program : TypedProgram) (budgets : RunBudgets) where
       tells_truth R at (cell_at m 0) (λ holds. tells_shows R at _ (both_go (put R code program budgets (to_do items m) _ q callers 1 number (Scalar (truth_cell holds)) e h refl refl refl refl refl refl))))
 
   -- the load of an update
-  fetch_tells : (at : Place) (ty : Shape) (form : Form) (items : List Item) (m : State) (home : Home code program m.frame.function) (here : Point) (callers : List (CallFrame Point)) →
-      stands code program home (Fetch (Of at ty form) ∷ items) (length m.frame.stack) here → CallersStand code program m.callers callers →
-      Answer code program budgets (to_do (Fetch (Of at ty form) ∷ items) m) (as_code here callers m)
-  fetch_tells at ty (Update op a b works_in gives) items m home here callers s waiting =
+  fetches_answer : (at : Place) (ty : Shape) (form : Form) → Answered code program budgets (Fetch (Of at ty form))
+  fetches_answer at ty (Update op a b works_in gives) items m home here callers s waiting =
       let R = Related code program budgets in
       worked_answers code program budgets (Fetch (Of at ty (Update op a b works_in gives))) items m home at (graph.FetchNumber (access_of a) works_in) 3 here callers s (λ number q e on.
       let h = leaves code program budgets (to_do items m) home q callers (3 + number) on waiting in
@@ -78,19 +70,17 @@ module _ (code : Code) (program : TypedProgram) (budgets : RunBudgets) where
       tells_load R program m.memory m.frame.number (access_of a) (cell_at m 0) (λ memory operand.
       tells_convert_number R program.model at (type_of a) works_in (number_in (cell_of operand)) (λ n.
       both_go (h (push_cell (NumberCell n) (push operand (with_memory memory (to_do items m)))) (record { function = refl; number = refl; todo = refl; visits = refl; callers = refl; deep = more })))))
-  fetch_tells at ty (Move a n direction gives) items m home here callers s waiting =
+  fetches_answer at ty (Move a n direction gives) items m home here callers s waiting =
       let R = Related code program budgets in
       worked_answers code program budgets (Fetch (Of at ty (Move a n direction gives))) items m home at (graph.FetchPointer (access_of a)) 2 here callers s (λ number q e on.
       let h = leaves code program budgets (to_do items m) home q callers (2 + number) on waiting in
       let more : suc (length m.frame.stack) ≡ 2 + number = omega (arith, e) in
       tells_load R program m.memory m.frame.number (access_of a) (cell_at m 0) (λ memory operand.
       both_go (h (push operand (with_memory memory (to_do items m))) (record { function = refl; number = refl; todo = refl; visits = refl; callers = refl; deep = more }))))
-  fetch_tells at ty form items m home here callers s waiting = absurd s
+  fetches_answer at ty form items m home here callers s waiting = absurd s
 
-  pub fetch_answers : (e : Typed) (items : List Item) (m : State) (home : Home code program m.frame.function) (here : Point) (callers : List (CallFrame Point)) →
-      stands code program home (Fetch e ∷ items) (length m.frame.stack) here → CallersStand code program m.callers callers →
-      Answer code program budgets (to_do (Fetch e ∷ items) m) (as_code here callers m)
-  fetch_answers (Of at ty form) items m home here callers s waiting = fetch_tells at ty form items m home here callers s waiting
+  pub fetch_answers : (e : Typed) → Answered code program budgets (Fetch e)
+  fetch_answers (Of at ty form) = fetches_answer at ty form
 
   -- what an expression does with its parts, by the operation that does it
   acts_answer : (at : Place) (ty : Shape) (form : Form) (work : Option Work) (items : List Item) (m : State) (home : Home code program m.frame.function) (here : Point) (callers : List (CallFrame Point)) →
@@ -108,9 +98,7 @@ module _ (code : Code) (program : TypedProgram) (budgets : RunBudgets) where
       length m.frame.stack ≡ count + number → onward code program home items (suc number) q → CallersStand code program m.callers callers →
       Tells (Related code program budgets) (call program budgets at callee count (to_do items m)) (do_work code program budgets at (graph.Call callee count) (as_code q callers m))
 
-  pub act_answers : CallsTell → (e : Typed) (items : List Item) (m : State) (home : Home code program m.frame.function) (here : Point) (callers : List (CallFrame Point)) →
-      stands code program home (Act e ∷ items) (length m.frame.stack) here → CallersStand code program m.callers callers →
-      Answer code program budgets (to_do (Act e ∷ items) m) (as_code here callers m)
+  pub act_answers : CallsTell → (e : Typed) → Answered code program budgets (Act e)
   act_answers calls (Of at ty form) items m home here callers s waiting =
       acts_answer at ty form (work_of program ty form) items m home here callers s waiting (λ number q on.
       acts_tell (Related code program budgets) code program budgets at ty form (to_do items m) q callers number (λ callee arguments e h.

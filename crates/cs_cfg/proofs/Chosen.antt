@@ -14,7 +14,7 @@ use Rattle.cs_cfg.specs.Working.{takes}
 use Rattle.cs_cfg.specs.Placing.{does, known, joined, judged}
 use Rattle.cs_cfg.proofs.Acting.{as_code, dropped}
 use Rattle.cs_cfg.proofs.Related.{CallersStand, Related, now, soon}
-use Rattle.cs_cfg.proofs.Moving.{Home, stands, onward, right_there, jumps_to, with_depth, aligned, Answer, code_works, branch_answers}
+use Rattle.cs_cfg.proofs.Moving.{Home, stands, onward, right_there, jumps_to, with_depth, aligned, Answered, code_works, branch_answers}
 use Rattle.cs_cfg.proofs.Evaluated.{works}
 
 module _ (code : Code) (program : TypedProgram) {function : ℕ} (home : Home code program function) where
@@ -87,9 +87,7 @@ module _ (code : Code) (program : TypedProgram) (budgets : RunBudgets) where
   goes_choice b c items m home number one other q callers deep second third s waiting false =
       tested (Evaluate c ∷ items) m home number (block_of home.flow other) callers deep (joined_stands code program home c items number (block_of home.flow other) q third s) waiting
 
-  choices_answer : (at : Place) (ty : Shape) (form : Form) (items : List Item) (m : State) (home : Home code program m.frame.function) (here : Point) (callers : List (CallFrame Point)) →
-      stands code program home (Choose (Of at ty form) ∷ items) (length m.frame.stack) here → CallersStand code program m.callers callers →
-      Answer code program budgets (to_do (Choose (Of at ty form) ∷ items) m) (as_code here callers m)
+  choices_answer : (at : Place) (ty : Shape) (form : Form) → Answered code program budgets (Choose (Of at ty form))
   choices_answer at ty (And a b) items m home here callers s waiting =
       branch_answers code program budgets (Choose (Of at ty (And a b))) items m home at s.0 s.1 s.2 here callers (λ holds. goes_on_to holds at b false (pop (to_do items m))) s.3 s.4 refl
       (goes_and at b items m home s.0 s.1 s.2 s.5.0 callers s.3 s.5.1 s.5.2 s.5.3 waiting)
@@ -101,7 +99,5 @@ module _ (code : Code) (program : TypedProgram) (budgets : RunBudgets) where
       (goes_choice b c items m home s.0 s.1 s.2 s.5.0 callers s.3 s.5.1 s.5.2 s.5.3 waiting)
   choices_answer at ty form items m home here callers s waiting = absurd s
 
-  pub choose_answers : (e : Typed) (items : List Item) (m : State) (home : Home code program m.frame.function) (here : Point) (callers : List (CallFrame Point)) →
-      stands code program home (Choose e ∷ items) (length m.frame.stack) here → CallersStand code program m.callers callers →
-      Answer code program budgets (to_do (Choose e ∷ items) m) (as_code here callers m)
-  choose_answers (Of at ty form) items m home here callers s waiting = choices_answer at ty form items m home here callers s waiting
+  pub choose_answers : (e : Typed) → Answered code program budgets (Choose e)
+  choose_answers (Of at ty form) = choices_answer at ty form

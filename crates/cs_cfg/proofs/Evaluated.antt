@@ -10,7 +10,7 @@ use Rattle.cs_runs.specs.declared.outcome.RunBudgets.{RunBudgets}
 use Rattle.cs_runs.specs.Simulation.{alone}
 use Rattle.cs_plain.specs.Types.{size_of, type_of, integer_of}
 use Rattle.cs_plain.specs.Access.{access_of}
-use Rattle.cs_plain.specs.Machine.{Item, Evaluate, EvaluateUnused, Act, Fetch, Choose, Use, Drop, CallFrame, State, to_do}
+use Rattle.cs_plain.specs.Machine.{Item, Evaluate, EvaluateUnused, Act, Fetch, Choose, Use, Drop, to_do}
 use Rattle.cs_plain.specs.Expressions as lists
 use Rattle.cs_plain.specs.Expressions.{uses, count_all}
 use Rattle.cs_cfg.specs.Graph as graph
@@ -18,9 +18,8 @@ use Rattle.cs_cfg.specs.Graph.{Work, Point, Code}
 use Rattle.cs_cfg.specs.Working.{takes}
 use Rattle.cs_cfg.specs.Placing.{does, split, step_of, evaluates_form, used, used_all}
 use Rattle.cs_cfg.specs.Standing.{worked}
-use Rattle.cs_cfg.proofs.Acting.{as_code}
-use Rattle.cs_cfg.proofs.Related.{CallersStand, now}
-use Rattle.cs_cfg.proofs.Moving.{Home, stands, onward, right_there, with_depth, aligned, Answer}
+use Rattle.cs_cfg.proofs.Related.{now}
+use Rattle.cs_cfg.proofs.Moving.{Home, stands, onward, right_there, with_depth, aligned, Answered}
 
 module _ (code : Code) (program : TypedProgram) {function : ℕ} (home : Home code program function) where
   -- an operation that leaves a temporary in place of its operands
@@ -205,18 +204,14 @@ module _ (code : Code) (program : TypedProgram) {function : ℕ} (home : Home co
 
 module _ (code : Code) (program : TypedProgram) (budgets : RunBudgets) where
   -- the machine evaluates an expression, and the code's run stays where it is
-  pub evaluate_answers : (e : Typed) (items : List Item) (m : State) (home : Home code program m.frame.function) (here : Point) (callers : List (CallFrame Point)) →
-      stands code program home (Evaluate e ∷ items) (length m.frame.stack) here → CallersStand code program m.callers callers →
-      Answer code program budgets (to_do (Evaluate e ∷ items) m) (as_code here callers m)
+  pub evaluate_answers : (e : Typed) → Answered code program budgets (Evaluate e)
   evaluate_answers e items m home here callers s waiting =
       let put = lists.evaluates e (uses e items) in
       alone refl (now (aligned code program (to_do put m) home here callers
       (right_there code program home put (length m.frame.stack) here (used_stands code program home e items (length m.frame.stack) here s.0 s.1 s.2)) waiting))
 
   -- an expression whose value is dropped or made void
-  pub evaluate_unused_answers : (e : Typed) (items : List Item) (m : State) (home : Home code program m.frame.function) (here : Point) (callers : List (CallFrame Point)) →
-      stands code program home (EvaluateUnused e ∷ items) (length m.frame.stack) here → CallersStand code program m.callers callers →
-      Answer code program budgets (to_do (EvaluateUnused e ∷ items) m) (as_code here callers m)
+  pub evaluate_unused_answers : (e : Typed) → Answered code program budgets (EvaluateUnused e)
   evaluate_unused_answers (Of at ty form) items m home here callers s waiting =
       let put = lists.evaluates (Of at ty form) items in
       alone refl (now (aligned code program (to_do put m) home here callers

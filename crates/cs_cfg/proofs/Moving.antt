@@ -135,6 +135,11 @@ module _ (code : Code) (program : TypedProgram) where
         subst (Answer m) (sym (told_by a))
         (arrives m home t.frame.todo a.frame.here t.callers a.frame.joins a.frame.stands a.callers (h home a.frame.here t.callers a.frame.stands a.callers))
 
+    -- where the code's run stands right where the first thing to do is done, the machine and the run answer one another
+    abbrev pub Answered : Item → Type 0
+    Answered item = (items : List Item) (m : State) (home : Home m.frame.function) (here : Point) (callers : List (CallFrame Point)) →
+        stands home (item ∷ items) (length m.frame.stack) here → CallersStand code program m.callers callers → Answer (to_do (item ∷ items) m) (as_code here callers m)
+
     -- a state with the same frame but for what it has as operands, in which a point does what is to be done
     pub leaves : (m : State) (home : Home m.frame.function) (q : Point) (callers : List (CallFrame Point)) (depth : ℕ) →
         onward home m.frame.todo depth q → CallersStand code program m.callers callers → Leaves (Related code program budgets) code program budgets m q callers depth
