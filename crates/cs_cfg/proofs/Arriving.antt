@@ -7,14 +7,10 @@ use Rattle.cs_plain.specs.Marks.{marks}
 use Rattle.cs_plain.specs.Jumps.{executes}
 use Rattle.cs_plain.specs.Statements.{executes_from}
 use Rattle.cs_cfg.specs.Graph.{Point, Flow}
-use Rattle.cs_cfg.specs.Placing.{Joins, there, jumps}
+use Rattle.cs_cfg.specs.Placing.{Joins, there}
 use Rattle.cs_cfg.specs.Executing.{all_at, from_at}
+use Rattle.cs_cfg.proofs.Moving.{joins_on}
 use Rattle.cs_cfg.specs.Standing.{Behind, loops_at, stands_at}
-
--- jumps, and then more jumps
-pub jumps_on : {program : TypedProgram} {flow : Flow} {p q r : Point} → Joins program flow p q → Joins program flow q r → Joins program flow p r
-jumps_on there way = way
-jumps_on (jumps first) way = jumps (jumps_on first way)
 
 module _ (program : TypedProgram) (flow : Flow) (routine : Routine) (labels : ℕ → Point) where
   -- jumps alone lead to where the things to do stand
@@ -23,7 +19,7 @@ module _ (program : TypedProgram) (flow : Flow) (routine : Routine) (labels : �
 
   -- more jumps before
   pub arrives_from : {p q : Point} (items : List Item) (out again : Point) (depth : ℕ) → Joins program flow p q → Arrives items out again depth q → Arrives items out again depth p
-  arrives_from items out again depth way s = (s.0, jumps_on way s.1, s.2)
+  arrives_from items out again depth way s = (s.0, joins_on way s.1, s.2)
 
   -- behind the body of a loop
   pub again_stands : (s : Statement) (mark : ℕ) (items : List Item) (head after_body behind out again : Point) →

@@ -1,36 +1,23 @@
 -- A test decides the way of a statement, and a number the case of a `switch`, in the simulation (C11 6.8.4).
-use Rattle.std.proofs.Common.{◌≡◌, ℕ, suc, ◌+◌, Bool, true, false, List, ◌∷◌, length, drop, Option, if◌then◌else◌, arith, refl, sym, ap, ◌∙◌, subst}
+use Rattle.std.proofs.Common.{◌≡◌, ℕ, suc, ◌+◌, Bool, true, false, List, ◌∷◌, length, drop, Option, if◌then◌else◌, arith, refl, sym}
 use Rattle.cs_ast.specs.declared.place.Place.{Place}
 use Rattle.cs_ast.specs.TypedTree.{Typed, Statement, If, IfElse, While, Do, For, Statements}
 use Rattle.cs_ast.specs.TypedProgram.{TypedProgram}
-use Rattle.cs_runs.specs.declared.event.Label.TheVariants as label
 use Rattle.cs_runs.specs.declared.outcome.RunBudgets.{RunBudgets}
 use Rattle.cs_runs.specs.Acts.{Goes}
-use Rattle.cs_runs.specs.Simulation.{Tells, together, both_go, both_touch}
 use Rattle.cs_plain.specs.Operators.{branch}
 use Rattle.cs_plain.specs.Machine.{Item, Execute, Decide, Turn, Again, CallFrame, State, to_do, pop, cell_at, routine_of}
 use Rattle.cs_plain.specs.Marks.{marks, marks_in}
 use Rattle.cs_plain.specs.Steps.{do_item}
 use Rattle.cs_cfg.specs.Graph.{Point, Code, block_of}
-use Rattle.cs_cfg.specs.CodeSteps.{enters, code_step}
 use Rattle.cs_cfg.specs.Placing.{split, Joins, there}
 use Rattle.cs_cfg.specs.Standing.{decides_at}
 use Rattle.cs_cfg.proofs.Acting.{as_code, dropped}
-use Rattle.cs_cfg.proofs.Alike.{tells_truth, tells_shows}
-use Rattle.cs_cfg.proofs.Related.{CallersStand, Related, now}
-use Rattle.cs_cfg.proofs.Moving.{uncut, Home, onward, jumps_to, with_depth, aligned, enters_block, Answer}
+use Rattle.cs_cfg.proofs.Related.{CallersStand, now}
+use Rattle.cs_cfg.proofs.Moving.{Home, onward, jumps_to, with_depth, aligned, Answer, branch_answers}
 use Rattle.cs_cfg.proofs.Executed.{home_with}
 
 module _ (code : Code) (program : TypedProgram) (budgets : RunBudgets) (m : State) (home : Home code program m.frame.function) (callers : List (CallFrame Point)) (waiting : CallersStand code program m.callers callers) where
-  -- the code's run goes on in the block to which the newest temporary leads, once it is dropped
-  splits_so : (at : Place) (number one other : ℕ) → length m.frame.stack ≡ suc number →
-      code_step code program budgets (as_code (split at number one other) callers m)
-      ≡ branch at (cell_at m 0) (λ holds. Goes (as_code (block_of home.flow (if holds then one else other)) callers (pop m)))
-  splits_so at number one other deep =
-      let enough : length m.frame.stack ≡ number + 1 = omega arith in
-      ap (λ t. branch at (cell_at t 0) (λ holds. Goes (enters code (if holds then one else other) (pop t)))) (uncut (number + 1) (split at number one other) callers m enough)
-      ∙ (λ i. branch at (cell_at m 0) (λ holds. Goes (enters_block code program (if holds then one else other) (split at number one other) callers (pop m) home i)))
-
   -- a test leads both to related states, in each of which `break` and `continue` may lead elsewhere
   abbrev pub Leads : List Item → Point → Type 0
   Leads items p = (out : Point) × ((again : Point) × onward code program (home_with code program budgets home out again) items 0 p)
@@ -42,13 +29,10 @@ module _ (code : Code) (program : TypedProgram) (budgets : RunBudgets) (m : Stat
   split_answers item items at number one other p next deep single here e s =
       let left : 0 ≡ length (drop 1 m.frame.stack) = sym (dropped 1 0 m.frame.stack deep) in
       let deep' : length m.frame.stack ≡ suc number = omega arith in
-      let tells : Tells (Related code program budgets) (branch at (cell_at m 0) (λ holds. Goes (to_do (next holds) (pop m)))) (branch at (cell_at m 0) (λ holds. Goes (as_code (block_of home.flow (if holds then one else other)) callers (pop m))))
-      = tells_truth (Related code program budgets) at (cell_at m 0) (λ holds. both_touch (tells_shows (Related code program budgets) at (label.Branch holds)
-      (both_go (now (aligned code program (to_do (next holds) (pop m)) (home_with code program budgets home (s holds).0 (s holds).1.0) (block_of home.flow (if holds then one else other)) callers
-      (with_depth code program (home_with code program budgets home (s holds).0 (s holds).1.0) (next holds) (block_of home.flow (if holds then one else other)) left (s holds).1.1) waiting))))) in
-      subst (λ x. Answer code program budgets (to_do (item ∷ items) m) (as_code x callers m)) (sym here)
-      (together (subst (λ act. Tells (Related code program budgets) act (code_step code program budgets (as_code (split at number one other) callers m))) (sym e)
-      (subst (Tells (Related code program budgets) (branch at (cell_at m 0) (λ holds. Goes (to_do (next holds) (pop m))))) (sym (splits_so at number one other deep')) tells)))
+      branch_answers code program budgets item items m home at number one other p callers (λ holds. to_do (next holds) (pop m)) deep' here e
+      (λ holds. let to = home_with code program budgets home (s holds).0 (s holds).1.0 in
+      let block = block_of home.flow (if holds then one else other) in
+      now (aligned code program (to_do (next holds) (pop m)) to block callers (with_depth code program to (next holds) block left (s holds).1.1) waiting))
 
   module _ (mark : ℕ) (items : List Item) (p : Point) (single : length m.frame.stack ≡ 1) where
     -- the machine and the code's run answer one another where a statement's way is to be decided

@@ -14,7 +14,7 @@ use Rattle.cs_cfg.specs.Graph as graph
 use Rattle.cs_cfg.proofs.Related.{FrameStands}
 
 -- a function with a body is executed by it
-executed : (routine : Routine) (body : Statement) → routine.body ≡ Some body → body_of routine ≡ body
+pub executed : (routine : Routine) (body : Statement) → routine.body ≡ Some body → body_of routine ≡ body
 executed routine body e = ap (λ some. unwrap_or some (Block routine.at Empty)) e
 
 module _ (code : Code) (program : TypedProgram) where

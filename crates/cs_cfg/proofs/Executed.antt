@@ -1,9 +1,9 @@
 -- Executing a statement: the machine goes on silently to the statement's parts, which stand at the same point, or reaches a label; what the
 -- code does first is a jump or one operation. For the simulation.
-use Rattle.std.proofs.Common.{◌≡◌, ℕ, ◌+◌, nat_lt, List, [], ◌∷◌, length, Option, Some, None, slice_get, unwrap_or, arith, refl, sym, ap, subst}
+use Rattle.std.proofs.Common.{◌≡◌, ℕ, ◌+◌, nat_lt, List, [], ◌∷◌, length, Option, Some, None, slice_get, arith, refl, sym, ap, subst}
 use Rattle.cs_ast.specs.declared.place.Place.{Place}
 use Rattle.cs_ast.specs.declared.typed.statement.Case.{Case}
-use Rattle.cs_ast.specs.TypedTree.{Typed, Statement, Block, Run, If, IfElse, While, Do, For, Switch, Goto, Label, Break, Continue, Return, Statements, Empty}
+use Rattle.cs_ast.specs.TypedTree.{Typed, Statement, Block, Run, If, IfElse, While, Do, For, Switch, Goto, Label, Break, Continue, Return, Statements}
 use Rattle.cs_ast.specs.TypedProgram.{TypedProgram}
 use Rattle.cs_runs.specs.declared.outcome.RunBudgets.{RunBudgets}
 use Rattle.cs_runs.specs.declared.point.PointKind.{PointKind}
@@ -23,6 +23,7 @@ use Rattle.cs_cfg.proofs.Acting.{as_code}
 use Rattle.cs_cfg.proofs.Alike.{tells_if}
 use Rattle.cs_cfg.proofs.Related.{CallersStand, Related, now}
 use Rattle.cs_cfg.proofs.Moving.{Home, onward, jumps_to, with_depth, aligned, Answer, arrives, work_answers}
+use Rattle.cs_cfg.proofs.Entered.{executed}
 use Rattle.cs_cfg.proofs.Arriving.{out_stands, row_arrives}
 use Rattle.cs_cfg.proofs.Landings.{Landed, goto_lands, goto_goes_on, goto_jumps, goto_stays}
 use Rattle.cs_cfg.proofs.Breaking.{escapes}
@@ -63,7 +64,7 @@ module _ (code : Code) (program : TypedProgram) (budgets : RunBudgets) where
       Landed program home.flow (routine_of program function) home.lowers.labels wanted l
   landed {function = function} home wanted l e =
       let routine = routine_of program function in
-      let is_body : home.body ≡ body_of routine = sym (ap (λ body. unwrap_or body (Block routine.at Empty)) home.has_body) in
+      let is_body : home.body ≡ body_of routine = sym (executed routine home.body home.has_body) in
       goto_lands program home.flow routine home.lowers.labels wanted (at_end routine) l finishing finishing home.lowers.inside home.lowers.behind
       (subst (λ body. executes_at program home.flow routine home.lowers.labels body 0 finishing finishing home.lowers.inside home.lowers.behind) is_body home.lowers.executes) (end_arrives home) e
 

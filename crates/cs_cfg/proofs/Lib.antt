@@ -9,17 +9,17 @@ mod Acted
 pub mod Entered
 mod Called
 mod Chosen
-pub mod Arriving
+mod Arriving
 pub mod Landings
-pub mod Breaking
-pub mod Executed
-pub mod Stored
-pub mod Decided
-pub mod Switched
-pub mod Looped
-pub mod Left
+mod Breaking
+mod Executed
+mod Stored
+mod Decided
+mod Switched
+mod Looped
+mod Left
 pub mod Simulating
 pub mod Runs
-pub mod Returning
-pub mod Staying
+mod Returning
+mod Staying
 pub mod Returned
