@@ -3,3 +3,23 @@ mod Samples
 pub mod Alike
 pub mod Acting
 pub mod Related
+pub mod Moving
+mod Evaluated
+mod Acted
+pub mod Entered
+mod Called
+mod Chosen
+mod Arriving
+pub mod Landings
+mod Breaking
+mod Executed
+mod Stored
+mod Decided
+mod Switched
+mod Looped
+mod Left
+pub mod Simulating
+pub mod Runs
+mod Returning
+mod Staying
+pub mod Returned
