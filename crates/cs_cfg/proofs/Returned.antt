@@ -16,7 +16,7 @@ use Rattle.cs_cfg.specs.Graph.{Point, Flow, Code, flow_of}
 use Rattle.cs_cfg.specs.Working.{CodeState, cut}
 use Rattle.cs_cfg.specs.CodeSteps.{step_at, code_step, CodeGives}
 use Rattle.cs_cfg.specs.Placing.{Joins, there, jumps}
-use Rattle.cs_cfg.specs.Lowered.{returned_with, returned_value, end_value, code_returned, ReadsOff, IsLowered}
+use Rattle.cs_cfg.specs.Lowered.{returned_with, returned_value, end_value, code_returned, RunsAlike, ReadsOff, IsLowered}
 use Rattle.cs_cfg.specs.Placed.{IsPlaced}
 use Rattle.cs_cfg.proofs.Related.{Aligned, Related, now, soon}
 use Rattle.cs_cfg.proofs.Moving.{uncut, Home, stands, home_of, told_by}
@@ -97,14 +97,15 @@ module _ (code : Code) (program : TypedProgram) (placed : IsPlaced code program)
       let related = subst (λ t. Related code program budgets one.last t) same both.related in
       related_return code program budgets setting one.last other.last one.before other.before log log what (Done what) related one.finishes other.finishes
 
-  -- placed code is the lowering of the program, where its control points are those of the statements
-  pub is_lowered : ((function : ℕ) → ReadsOff (routine_of program function) (flow_of code function)) → IsLowered code program
-  is_lowered flows = record {
-    graphs = placed.graphs;
+  pub runs_alike : RunsAlike code program
+  runs_alike = record {
     ends = code_ends code program placed;
     ends_only = code_ends_only code program placed;
     pends = code_pends code program placed;
     pends_only = code_pends_only code program placed;
     returns = code_returns;
-    flows = flows;
   }
+
+  -- placed code is the lowering of the program, where its control points are those of the statements
+  pub is_lowered : ((function : ℕ) → ReadsOff (routine_of program function) (flow_of code function)) → IsLowered code program
+  is_lowered flows = record { graphs = placed.graphs; runs = runs_alike; flows = flows }

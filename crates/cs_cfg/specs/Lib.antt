@@ -10,3 +10,4 @@ pub mod Placing
 pub mod Executing
 pub mod Standing
 pub mod Placed
+pub mod Laws

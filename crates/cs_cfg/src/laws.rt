@@ -1,0 +1,9 @@
+//! Laws of code and its runs: what holds for all programs.
+ghost use Rattle.cs_cfg.specs.Laws.{PlacedCodeRunsAlike};
+
+/// Code whose graphs execute the bodies of a program's functions runs as the plain machine does: for every entry with a body, all
+/// inputs, guesses and budgets, both runs end alike, with the same events, paths read and touches, and neither ends where the other
+/// doesn't; the same is pending at each event; and both return the same value and leave the same memory.
+pub fn placed_code_runs_alike()
+    ensures { PlacedCodeRunsAlike }
+{}
