@@ -122,15 +122,15 @@ module _ (code : Code) (program : TypedProgram) (budgets : RunBudgets) where
     -- a `goto` lands, or goes on
     pub goto_answers : (at : Place) (wanted : ℕ) (found : Option Landing) → landing wanted (body_of (routine_of program m.frame.function)) 0 (at_end (routine_of program m.frame.function)) ≡ found → Executes (Goto at wanted)
     goto_answers at wanted None e it = goes_to_parts (Goto at wanted) items home.out home.again (ap (λ found. lands budgets found (to_do items m)) e)
-        (jumps_to code program home items 0 (goto_goes_on program home.flow (routine_of program m.frame.function) home.lowers.labels wanted (at_end (routine_of program m.frame.function)) p q e it) rest)
+        (jumps_to code program home items 0 (goto_goes_on program home.flow (routine_of program m.frame.function) home.lowers.labels wanted (at_end (routine_of program m.frame.function)) p q e it.0) rest)
     goto_answers at wanted (Some l) e it =
         let routine = routine_of program m.frame.function in
         let label = home.lowers.labels wanted in
         let land = landed home wanted l e in
         let stays = goto_stays program home.flow routine home.lowers.labels wanted (at_end routine) l q e in
-        let way = goto_jumps program home.flow routine home.lowers.labels wanted (at_end routine) l p q e it in
+        let way = goto_jumps program home.flow routine home.lowers.labels wanted (at_end routine) l p q e it.0 in
         let told = mark_reached m (home_with home land.out land.again) callers waiting empty l.at point.Label l.mark l.todo land.inside land.stands in
-        arrives code program budgets (to_do (Execute (Goto at wanted) mark ∷ items) m) home p label callers way (empty, (q, stays, rest)) waiting
+        arrives code program budgets (to_do (Execute (Goto at wanted) mark ∷ items) m) home p label callers way (empty, (q, (stays, it.1), rest)) waiting
         (work_answers code program budgets (Execute (Goto at wanted) mark) items m l.at (graph.Reach point.Label l.mark) 0 label land.inside callers empty land.reaches
         (subst (λ found. Tells (Related code program budgets) (lands budgets found (to_do items m)) (reach_mark budgets l.at point.Label l.mark (as_code land.inside callers m))) (sym e) told))
 
@@ -144,22 +144,22 @@ module _ (code : Code) (program : TypedProgram) (budgets : RunBudgets) where
     break_answers at it =
         let out = escapes program home.flow (routine_of program m.frame.function) home.lowers.labels items home.out home.again 0 rest.0 rest.2 in
         goes_to_parts (Break at) (broken_out items) out.broken_outer out.broken_again refl
-        (jumps_to code program (home_with home out.broken_outer out.broken_again) (broken_out items) 0 it out.broken)
+        (jumps_to code program (home_with home out.broken_outer out.broken_again) (broken_out items) 0 it.0 out.broken)
 
     pub continue_answers : (at : Place) → Executes (Continue at)
     continue_answers at it =
         let out = escapes program home.flow (routine_of program m.frame.function) home.lowers.labels items home.out home.again 0 rest.0 rest.2 in
         goes_to_parts (Continue at) (continued items) out.continued_out out.continued_again refl
-        (jumps_to code program (home_with home out.continued_out out.continued_again) (continued items) 0 it out.continues)
+        (jumps_to code program (home_with home out.continued_out out.continued_again) (continued items) 0 it.0 out.continues)
 
     pub return_answers : (at : Place) (value : Option Typed) → Executes (Return at value)
     return_answers at None it =
         let gives = does at 1 (graph.Meet point.Return) leaving in
         let next = to_do (Give at ∷ items) (push Nothing m) in
         let deep : length m.frame.stack + 1 ≡ 1 = omega arith in
-        work_answers code program budgets (Execute (Return at None) mark) items m at graph.Nothing 0 p gives callers empty it
+        work_answers code program budgets (Execute (Return at None) mark) items m at graph.Nothing 0 p gives callers empty it.0
         (both_go (now (aligned code program next home gives callers (gives, there, (omega arith, refl, (q, rest))) waiting)))
     return_answers at (Some e) it =
         let gives = does at 1 (graph.Meet point.Return) leaving in
         goes_to_parts (Return at (Some e)) (Evaluate e ∷ Give at ∷ items) home.out home.again refl
-        (p, there, (gives, it, (gives, there, (refl, refl, (q, rest)))))
+        (p, there, (gives, it.0, (gives, there, (refl, refl, (q, rest)))))

@@ -23,3 +23,4 @@ pub mod Runs
 mod Returning
 mod Staying
 pub mod Returned
+pub mod Meeting

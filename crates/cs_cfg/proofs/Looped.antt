@@ -43,7 +43,7 @@ module _ (code : Code) (program : TypedProgram) (budgets : RunBudgets) (m : Stat
     for_turns at first None last body it =
         let loop = For at first None last body in
         let inside = mark + 1 + marks_in first in
-        let body_stands = subst (λ x. part_to program home.flow (part_of program home.flow (routine_of program m.frame.function) home.lowers.labels body inside) home.out after_body x after_body) (sym it.3) it.4 in
+        let body_stands = subst (λ x. part_to program home.flow (part_of program home.flow (routine_of program m.frame.function) home.lowers.labels body inside) home.out after_body x after_body) (sym it.3.0) it.4 in
         let told = mark_reached code program budgets m (home_with code program budgets home home.out after_body) callers waiting empty at point.Head mark (Execute body inside ∷ Again loop mark ∷ items) it.0
         (it.0, there, (refl, (body_stands.0, body_stands.1, (after_body, body_stands.2, (refl, refl, (p, it, (home.again, rest))))))) in
         work_answers code program budgets (Turn loop mark) items m at (graph.Reach point.Head mark) 0 p it.0 callers empty it.2 told

@@ -5,6 +5,7 @@ pub mod CodeSteps
 pub mod ControlPoints
 pub mod FlowText
 pub mod GraphPoints
+pub mod Fitting
 pub mod Lowered
 pub mod Placing
 pub mod Executing
