@@ -24,3 +24,4 @@ mod Returning
 mod Staying
 pub mod Returned
 pub mod Meeting
+pub mod Keeping

@@ -1,6 +1,6 @@
 -- What is met next from a point on follows from where code is placed: an expression, or a statement, is entered at its first control
 -- point, or at what is met behind it. For the control points of placed code.
-use Rattle.std.proofs.Common.{◌≡◌, ℕ, zero, suc, ◌+◌, List, [], ◌∷◌, ◌++◌, Option, Some, None, refl, sym, ap, subst}
+use Rattle.std.proofs.Common.{◌≡◌, ℕ, suc, ◌+◌, ℤ, Some, None, refl, sym, subst}
 use Rattle.cs_types.specs.Shape.{Shape, void, integer, pointer, array, struct}
 use Rattle.cs_ast.specs.declared.place.Place.{Place}
 use Rattle.cs_ast.specs.declared.typed.operator.Order.TheVariants.{PointerFirst, AmountFirst}
@@ -12,11 +12,11 @@ use Rattle.cs_cfg.specs.Graph as graph
 use Rattle.cs_cfg.specs.Graph.{Work, Point, Flow}
 use Rattle.cs_cfg.specs.ControlPoints.{Next, Met, the_point, met, first, first_of, first_in}
 use Rattle.cs_cfg.specs.GraphPoints.{met_in, IsMet, by_operation, by_branch, MeetsNext, here, past, past_jump}
-use Rattle.cs_cfg.specs.Placing.{does, split, used_then, Joins, there, jumps, evaluates, used, evaluates_form, used_all}
+use Rattle.cs_cfg.specs.Placing.{does, split, used_then, Joins, there, jumps, known, evaluates, used, evaluates_form, used_all, joined, judged}
 
-module _ {program : TypedProgram} {flow : Flow} where
+module _ {flow : Flow} where
   -- through jumps
-  pub joins_meet : {p q : Point} {next : Next} → Joins program flow p q → MeetsNext flow q next → MeetsNext flow p next
+  pub joins_meet : {program : TypedProgram} {p q : Point} {next : Next} → Joins program flow p q → MeetsNext flow q next → MeetsNext flow p next
   joins_meet there m = m
   joins_meet (jumps way) m = past_jump (joins_meet way m)
 
@@ -41,6 +41,7 @@ module _ {program : TypedProgram} {flow : Flow} where
   use_meets (Of at ty (Call function arguments)) number q m = does_meets at number graph.Use q refl m
   use_meets (Of at ty other) number q m = m
 
+module _ (program : TypedProgram) (flow : Flow) where
   -- a conversion's part is used, but for one to void
   pub convert_part : {Goal : Type 0} (at : Place) (ty : Shape) (a : Typed) (number : ℕ) (p q : Point) → evaluates_form program flow at ty (Convert a) number p q →
       ((work : Work) → met_in at work ≡ None → evaluates program flow a number p (does at number work q) → Goal) →
@@ -99,3 +100,14 @@ module _ {program : TypedProgram} {flow : Flow} where
     pub all_meet : (row : TypedList) (number : ℕ) (p q : Point) {next : Next} → used_all program flow row number p q → MeetsNext flow q next → MeetsNext flow p (first_in row next)
     all_meet NoMore number p q it m = same_meets it m
     all_meet (Further e others) number p q it m = used_meets e number p it.0 it.1 (all_meet others (suc number) it.0 q it.2 m)
+
+  -- and then jumps, as behind both ways of `&&`, `||` and `?:`
+  pub joined_meets : (e : Typed) (number : ℕ) (p q : Point) {next : Next} → joined program flow e number p q → MeetsNext flow q next → MeetsNext flow p (first e next)
+  joined_meets (Of at ty form) number p q it m = form_meets at ty form number p _ it.1 (use_meets (Of at ty form) number it.0 (joins_meet it.2 m))
+
+  pub judged_meets : (place : Place) (e : Typed) (number : ℕ) (p q : Point) {next : Next} → judged program flow place e number p q → MeetsNext flow q next → MeetsNext flow p (first e next)
+  judged_meets place (Of at ty form) number p q it m =
+      form_meets at ty form number p _ it.1 (use_meets (Of at ty form) number _ (does_meets place number graph.Judge it.0 refl (joins_meet it.2 m)))
+
+  pub known_meets : (at : Place) (n : ℤ) (number : ℕ) (p q : Point) {next : Next} → known program flow at n number p q → MeetsNext flow q next → MeetsNext flow p next
+  known_meets at n number p q it m = same_meets it.1 (does_meets at number (graph.Number n) it.0 refl (joins_meet it.2 m))
