@@ -25,3 +25,5 @@ mod Staying
 pub mod Returned
 pub mod Meeting
 pub mod Keeping
+mod Showing
+pub mod Shown
