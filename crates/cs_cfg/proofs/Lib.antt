@@ -27,3 +27,5 @@ pub mod Meeting
 pub mod Keeping
 mod Showing
 pub mod Shown
+pub mod Starting
+pub mod Cases

@@ -1,6 +1,6 @@
 -- What is met next from a point on follows from where code is placed: an expression, or a statement, is entered at its first control
 -- point, or at what is met behind it. For the control points of placed code.
-use Rattle.std.proofs.Common.{◌≡◌, ℕ, suc, ◌+◌, ℤ, Some, None, refl, sym, subst}
+use Rattle.std.proofs.Common.{◌≡◌, ℕ, suc, ◌+◌, ℤ, List, [], Some, None, refl, sym, subst}
 use Rattle.cs_types.specs.Shape.{Shape, void, integer, pointer, array, struct}
 use Rattle.cs_ast.specs.declared.place.Place.{Place}
 use Rattle.cs_ast.specs.declared.typed.operator.Order.TheVariants.{PointerFirst, AmountFirst}
@@ -9,9 +9,9 @@ use Rattle.cs_ast.specs.TypedProgram.{TypedProgram}
 use Rattle.cs_runs.specs.declared.point.PointKind.TheVariants as point
 use Rattle.cs_plain.specs.Types.{type_of}
 use Rattle.cs_cfg.specs.Graph as graph
-use Rattle.cs_cfg.specs.Graph.{Work, Point, Flow}
+use Rattle.cs_cfg.specs.Graph.{Work, SwitchCase, Point, Flow}
 use Rattle.cs_cfg.specs.ControlPoints.{Next, Met, the_point, met, first, first_of, first_in}
-use Rattle.cs_cfg.specs.GraphPoints.{met_in, IsMet, by_operation, by_branch, MeetsNext, here, past, past_jump}
+use Rattle.cs_cfg.specs.GraphPoints.{met_in, IsMet, by_operation, by_branch, by_switch, MeetsNext, here, past, past_jump}
 use Rattle.cs_cfg.specs.Placing.{does, split, used_then, Joins, there, jumps, known, evaluates, used, evaluates_form, used_all, joined, judged}
 
 module _ {flow : Flow} where
@@ -31,6 +31,10 @@ module _ {flow : Flow} where
   -- a test
   pub split_meets : (at : Place) (number one other : ℕ) → MeetsNext flow (split at number one other) (met point.Branch at)
   split_meets at number one other = here by_branch
+
+  -- a `switch`
+  pub switch_meets : (at : Place) (ways : List SwitchCase) (otherwise : ℕ) → MeetsNext flow (record { operations = []; end = graph.Switch at 0 ways otherwise }) (met point.Switch at)
+  switch_meets at ways otherwise = here by_switch
 
   -- at an equal point
   pub same_meets : {p q : Point} {next : Next} → p ≡ q → MeetsNext flow q next → MeetsNext flow p next
