@@ -29,3 +29,4 @@ mod Showing
 pub mod Shown
 pub mod Starting
 pub mod Cases
+pub mod ShownStatements
