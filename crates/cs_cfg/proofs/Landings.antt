@@ -14,48 +14,62 @@ use Rattle.cs_cfg.specs.Placing.{does, Joins, there}
 use Rattle.cs_cfg.specs.Executing.{goes_to, is_led_to, executes_at, all_at}
 use Rattle.cs_cfg.proofs.Arriving.{Arrives, arrives_from, again_stands, out_stands, row_arrives, from_first}
 
--- the mark of a landing
+-- what is seen of a landing, and in this file mostly its mark
+abbrev pub seen_of : {A : Type 0} → (ℕ → Place → A) → Option Landing → Option A
+seen_of see landing = option_map (λ (l : Landing). see l.mark l.at) landing
+
 abbrev pub mark_of : Option Landing → Option ℕ
-mark_of landing = option_map (λ (l : Landing). l.mark) landing
+mark_of landing = seen_of (λ mark at. mark) landing
 
--- the first of two has the mark of the first of two others with the same marks
-first_marked : (one one' other other' : Option Landing) → mark_of one ≡ mark_of one' → mark_of other ≡ mark_of other' → mark_of (first_of_two one other) ≡ mark_of (first_of_two one' other')
-first_marked (Some l) (Some l') other other' e f = e
-first_marked (Some l) None other other' e f = cc
-first_marked None (Some l') other other' e f = cc
-first_marked None None other other' e f = f
+module _ {A : Type 0} (see : ℕ → Place → A) where
+  -- of the first of two the same is seen as of the first of two others of which the same is seen
+  first_seen : (one one' other other' : Option Landing) → seen_of see one ≡ seen_of see one' → seen_of see other ≡ seen_of see other' → seen_of see (first_of_two one other) ≡ seen_of see (first_of_two one' other')
+  first_seen (Some l) (Some l') other other' e f = e
+  first_seen (Some l) None other other' e f = cc
+  first_seen None (Some l') other other' e f = cc
+  first_seen None None other other' e f = f
 
--- the same of a label that is the wanted one, or not
-label_marked : (found : Bool) (l l' : Landing) (one other : Option Landing) → l.mark ≡ l'.mark → mark_of one ≡ mark_of other → mark_of (if found then Some l else one) ≡ mark_of (if found then Some l' else other)
-label_marked true l l' one other e f = ap Some e
-label_marked false l l' one other e f = f
+  -- the same of a label that is the wanted one, or not
+  label_seen : (found : Bool) (l l' : Landing) (one other : Option Landing) → see l.mark l.at ≡ see l'.mark l'.at → seen_of see one ≡ seen_of see other → seen_of see (if found then Some l else one) ≡ seen_of see (if found then Some l' else other)
+  label_seen true l l' one other e f = ap Some e
+  label_seen false l l' one other e f = f
 
-mutual
-  -- whatever is to be done behind a statement, a label's mark in it is the same
-  pub marked_alike : (wanted : ℕ) (s : Statement) (mark : ℕ) (items items' : List Item) → mark_of (landing wanted s mark items) ≡ mark_of (landing wanted s mark items')
-  marked_alike wanted (Block at statements) mark items items' = marked_alike_in wanted statements mark items items'
-  marked_alike wanted (Declare at declaration initial) mark items items' = refl
-  marked_alike wanted (Run at e) mark items items' = refl
-  marked_alike wanted (If at test body) mark items items' = marked_alike wanted body mark items items'
-  marked_alike wanted (IfElse at test body other) mark items items' =
-      first_marked (landing wanted body mark items) (landing wanted body mark items') (landing wanted other (mark + marks body) items) (landing wanted other (mark + marks body) items')
-      (marked_alike wanted body mark items items') (marked_alike wanted other (mark + marks body) items items')
-  marked_alike wanted (While at test body) mark items items' = marked_alike wanted body (mark + 1) (Again (While at test body) mark ∷ (Out ∷ items)) (Again (While at test body) mark ∷ (Out ∷ items'))
-  marked_alike wanted (Do at body test) mark items items' = marked_alike wanted body (mark + 1) (Again (Do at body test) mark ∷ (Out ∷ items)) (Again (Do at body test) mark ∷ (Out ∷ items'))
-  marked_alike wanted (For at first test last body) mark items items' =
-      marked_alike wanted body (mark + 1 + marks_in first) (Again (For at first test last body) mark ∷ (Out ∷ items)) (Again (For at first test last body) mark ∷ (Out ∷ items'))
-  marked_alike wanted (Switch at value cases statements) mark items items' = marked_alike_in wanted statements mark (Out ∷ items) (Out ∷ items')
-  marked_alike wanted (Goto at label) mark items items' = refl
-  marked_alike wanted (Label at label body) mark items items' = label_marked (label == wanted) _ _ _ _ refl (marked_alike wanted body (mark + 1) items items')
-  marked_alike wanted (Break at) mark items items' = refl
-  marked_alike wanted (Continue at) mark items items' = refl
-  marked_alike wanted (Return at value) mark items items' = refl
+  mutual
+    -- whatever is to be done behind a statement, the same is seen of a label in it
+    pub seen_alike : (wanted : ℕ) (s : Statement) (mark : ℕ) (items items' : List Item) → seen_of see (landing wanted s mark items) ≡ seen_of see (landing wanted s mark items')
+    seen_alike wanted (Block at statements) mark items items' = seen_alike_in wanted statements mark items items'
+    seen_alike wanted (Declare at declaration initial) mark items items' = refl
+    seen_alike wanted (Run at e) mark items items' = refl
+    seen_alike wanted (If at test body) mark items items' = seen_alike wanted body mark items items'
+    seen_alike wanted (IfElse at test body other) mark items items' =
+        first_seen (landing wanted body mark items) (landing wanted body mark items') (landing wanted other (mark + marks body) items) (landing wanted other (mark + marks body) items')
+        (seen_alike wanted body mark items items') (seen_alike wanted other (mark + marks body) items items')
+    seen_alike wanted (While at test body) mark items items' = seen_alike wanted body (mark + 1) (Again (While at test body) mark ∷ (Out ∷ items)) (Again (While at test body) mark ∷ (Out ∷ items'))
+    seen_alike wanted (Do at body test) mark items items' = seen_alike wanted body (mark + 1) (Again (Do at body test) mark ∷ (Out ∷ items)) (Again (Do at body test) mark ∷ (Out ∷ items'))
+    seen_alike wanted (For at first test last body) mark items items' =
+        seen_alike wanted body (mark + 1 + marks_in first) (Again (For at first test last body) mark ∷ (Out ∷ items)) (Again (For at first test last body) mark ∷ (Out ∷ items'))
+    seen_alike wanted (Switch at value cases statements) mark items items' = seen_alike_in wanted statements mark (Out ∷ items) (Out ∷ items')
+    seen_alike wanted (Goto at label) mark items items' = refl
+    seen_alike wanted (Label at label body) mark items items' = label_seen (label == wanted) _ _ _ _ refl (seen_alike wanted body (mark + 1) items items')
+    seen_alike wanted (Break at) mark items items' = refl
+    seen_alike wanted (Continue at) mark items items' = refl
+    seen_alike wanted (Return at value) mark items items' = refl
 
-  marked_alike_in : (wanted : ℕ) (statements : Statements) (mark : ℕ) (items items' : List Item) → mark_of (landing_in wanted statements mark items) ≡ mark_of (landing_in wanted statements mark items')
-  marked_alike_in wanted Empty mark items items' = refl
-  marked_alike_in wanted (Then first others) mark items items' =
-      first_marked (landing wanted first mark (executes others (mark + marks first) items)) (landing wanted first mark (executes others (mark + marks first) items')) (landing_in wanted others (mark + marks first) items) (landing_in wanted others (mark + marks first) items')
-      (marked_alike wanted first mark (executes others (mark + marks first) items) (executes others (mark + marks first) items')) (marked_alike_in wanted others (mark + marks first) items items')
+    seen_alike_in : (wanted : ℕ) (statements : Statements) (mark : ℕ) (items items' : List Item) → seen_of see (landing_in wanted statements mark items) ≡ seen_of see (landing_in wanted statements mark items')
+    seen_alike_in wanted Empty mark items items' = refl
+    seen_alike_in wanted (Then first others) mark items items' =
+        first_seen (landing wanted first mark (executes others (mark + marks first) items)) (landing wanted first mark (executes others (mark + marks first) items')) (landing_in wanted others (mark + marks first) items) (landing_in wanted others (mark + marks first) items')
+        (seen_alike wanted first mark (executes others (mark + marks first) items) (executes others (mark + marks first) items')) (seen_alike_in wanted others (mark + marks first) items items')
+
+-- so a label's mark is the same, and its place
+pub marked_alike : (wanted : ℕ) (s : Statement) (mark : ℕ) (items items' : List Item) → mark_of (landing wanted s mark items) ≡ mark_of (landing wanted s mark items')
+marked_alike wanted s mark items items' = seen_alike (λ mark at. mark) wanted s mark items items'
+
+abbrev pub place_of : Option Landing → Option Place
+place_of landing = seen_of (λ mark at. at) landing
+
+pub placed_alike : (wanted : ℕ) (s : Statement) (mark : ℕ) (items items' : List Item) → place_of (landing wanted s mark items) ≡ place_of (landing wanted s mark items')
+placed_alike wanted s mark items items' = seen_alike (λ mark at. at) wanted s mark items items'
 
 -- a first of two that is there is one of them
 first_is : {Goal : Type 0} (one other : Option Landing) (l : Landing) → first_of_two one other ≡ Some l → (one ≡ Some l → Goal) → (other ≡ Some l → Goal) → Goal
