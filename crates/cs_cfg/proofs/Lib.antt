@@ -30,3 +30,4 @@ pub mod Shown
 pub mod Starting
 pub mod Cases
 pub mod ShownStatements
+pub mod ReadOff
