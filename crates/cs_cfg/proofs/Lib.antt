@@ -31,3 +31,5 @@ pub mod Starting
 pub mod Cases
 pub mod ShownStatements
 pub mod ReadOff
+pub mod Fitting
+pub mod Choosing

@@ -82,7 +82,7 @@ module _ (program : TypedProgram) (flow : Flow) (routine : Routine) (body : Stat
   module _ (fit : AllFit flow (control_points routine) flow.blocks) where
     -- each control point of the graph fits one of them
     fits_some : (p : Point) (m : Met) → Occurs flow p → IsMet p m → FitsSome flow (control_points routine) p m
-    fits_some p m occurs is = (All-contains (BlockFits flow (control_points routine)) flow.blocks occurs.block fit occurs.among).each p m occurs.rest is
+    fits_some p m occurs is = (All-contains (BlockFits flow (control_points routine)) flow.blocks occurs.block fit.all occurs.among).each p m occurs.rest is
 
     pub has_points : HasPoints flow (control_points routine)
     has_points = record {

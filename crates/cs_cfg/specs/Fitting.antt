@@ -1,6 +1,6 @@
 -- When the blocks of a graph have no control points but those of a list, and each of them no ways but its own: what only the builder of
 -- a graph can know, since nothing need lead to a block.
-use Rattle.std.specs.Prelude.{◌≡◌, ℕ, ⊤, List, Contains, Option, Some, None}
+use Rattle.std.specs.Prelude.{◌≡◌, ℕ, ⊤, List, ◌∷◌, Contains, Option, Some, None}
 use Rattle.std.specs.List.{All}
 use Rattle.cs_ast.specs.TypedProgram.{TypedProgram, Routine}
 use Rattle.cs_plain.specs.Machine.{routine_of}
@@ -22,8 +22,8 @@ pub record BlockFits (flow : Flow) (points : List ControlPoint) (block : Point) 
   pub each : (p : Point) (m : Met) → IsRest block p → IsMet p m → FitsSome flow points p m
 
 -- the same of each of the blocks
-abbrev pub AllFit : Flow → List ControlPoint → List Point → Type 0
-AllFit flow points blocks = All (BlockFits flow points) blocks
+pub record AllFit (flow : Flow) (points : List ControlPoint) (blocks : List Point) : Type 0 where
+  pub all : All (BlockFits flow points) blocks
 
 -- each control point in the graph of a function, if it has one, fits one of the function's statements
 abbrev pub GraphFits : Routine → Option Flow → Type 0
@@ -33,3 +33,15 @@ GraphFits routine (Some flow) = AllFit flow (control_points routine) flow.blocks
 -- the same of each function
 abbrev pub CodeFits : Code → TypedProgram → Type 0
 CodeFits code program = (function : ℕ) → GraphFits (routine_of program function) (flow_of code function)
+
+-- a list has these control points among its own
+pub record Includes (points some : List ControlPoint) : Type 0 where
+  pub all : All (Contains points) some
+
+-- code was put before a point, and blocks were made for it: they bring in no control points but these
+pub record Adds (flow : Flow) (some : List ControlPoint) (old new : List Point) (p q : Point) : Type 0 where
+  pub keeps : (points : List ControlPoint) → Includes points some → AllFit flow points (q ∷ old) → AllFit flow points (p ∷ new)
+
+-- a point was made a block
+pub record Seals (flow : Flow) (old : List Point) (p : Point) (new : List Point) : Type 0 where
+  pub keeps : (points : List ControlPoint) → AllFit flow points (p ∷ old) → AllFit flow points new
