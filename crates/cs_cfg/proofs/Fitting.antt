@@ -11,7 +11,7 @@ use Rattle.cs_cfg.specs.Graph as graph
 use Rattle.cs_cfg.specs.Graph.{Work, Operation, SwitchCase, BlockEnd, Jump, Branch, Switch, Point, before, Flow, block_of}
 use Rattle.cs_cfg.specs.ControlPoints.{Met, Next, the_point, met, Exit, Onward, TruthOf, CaseOf, way, Way, ControlPoint, passed, tested, last_point}
 use Rattle.cs_cfg.specs.GraphPoints.{met_in, met_by, goes_on, IsMet, by_operation, by_branch, Leads, onward, on_truth, on_case, on_no_case, MeetsNext, IsRest}
-use Rattle.cs_cfg.specs.Fitting.{Fits, FitsSome, BlockFits, AllFit, Includes, Adds, Seals}
+use Rattle.cs_cfg.specs.Fitting.{Fits, FitsSome, BlockFits, AllFit, Includes, Brings}
 use Rattle.cs_cfg.specs.Placing.{does, split}
 use Rattle.cs_cfg.proofs.Keeping.{met_at, met_of, is_met}
 
@@ -165,6 +165,9 @@ fit_wider {flow = flow} {some = some} {points = points} {blocks = blocks} wider 
 
 -- a list with others among it has each part of them
 module _ {points : List ControlPoint} where
+  pub includes_none : Includes points []
+  includes_none = record { all = All-nil (Contains points) }
+
   pub includes_part : {all some : List ControlPoint} → Includes points all → All (Contains all) some → Includes points some
   includes_part {all = all} {some = some} whole part =
       record { all = All-weaker (Contains all) (Contains points) (λ one among. All-contains (Contains points) all one whole.all among) some part }
@@ -181,31 +184,52 @@ module _ {points : List ControlPoint} where
   pub includes_others : {one : ControlPoint} {others : List ControlPoint} → Includes points (one ∷ others) → Includes points others
   includes_others {one = one} {others = others} whole = record { all = All-tail (Contains points) one others whole.all }
 
+-- a jump to a block, and nothing before it
+abbrev pub jump_to : ℕ → Point
+jump_to block = record { operations = []; end = Jump block }
+
 module _ {flow : Flow} where
-  -- a test before blocks that fit
+  -- a jump before blocks that fit
+  pub fit_jump : {points : List ControlPoint} {blocks : List Point} (block : ℕ) → AllFit flow points blocks → AllFit flow points (jump_to block ∷ blocks)
+  fit_jump block fit = fit_more (block_end (Jump block) refl) fit
+
+  -- a test before them
   pub fit_split : {points : List ControlPoint} {blocks : List Point} {one_next other_next : Next} (at : Place) (number one other : ℕ) → Contains points (tested at one_next other_next) →
       MeetsNext flow (block_of flow one) one_next → MeetsNext flow (block_of flow other) other_next → AllFit flow points blocks → AllFit flow points (split at number one other ∷ blocks)
   fit_split at number one other among m m' fit = fit_more (block_choice (Branch at number one other) among (fits_tested at number one other m m')) fit
 
-  -- what is put before a point, step by step
-  pub adds_none : {blocks : List Point} {p : Point} → Adds flow [] blocks blocks p p
-  adds_none = record { keeps = λ points includes fit. fit }
+  -- the same blocks, some of them, or the same in another order
+  pub brings_among : (old new : List Point) → All (Contains old) new → Brings flow [] old new
+  brings_among old new among = record { keeps = λ points includes fit. fit_among new old among fit }
 
-  pub adds_silent : {blocks : List Point} (at : Place) (number : ℕ) (work : Work) (q : Point) → met_in at work ≡ None → Adds flow [] blocks blocks (does at number work q) q
-  adds_silent at number work q silent = record { keeps = λ points includes fit. fit_silent at number work q silent fit }
+  -- a jump, with which other code begins
+  pub brings_jump : {blocks : List Point} (block : ℕ) → Brings flow [] blocks (jump_to block ∷ blocks)
+  brings_jump block = record { keeps = λ points includes fit. fit_jump block fit }
 
-  pub adds_point : {one : ControlPoint} {blocks : List Point} (at : Place) (number : ℕ) (work : Work) (q : Point) → Fits flow one (does at number work q) →
-      Adds flow (one ∷ []) blocks blocks (does at number work q) q
-  adds_point at number work q fits = record { keeps = λ points includes fit. fit_point at number work q (includes_one includes) fits fit }
+  -- an operation before the first of the blocks
+  pub brings_silent : {blocks : List Point} (at : Place) (number : ℕ) (work : Work) (q : Point) → met_in at work ≡ None → Brings flow [] (q ∷ blocks) (does at number work q ∷ blocks)
+  brings_silent at number work q silent = record { keeps = λ points includes fit. fit_silent at number work q silent fit }
 
-  -- the later part first, since code is put together from its end
-  pub adds_then : {xs ys : List ControlPoint} {old between new : List Point} {p r q : Point} → Adds flow ys old between r q → Adds flow xs between new p r → Adds flow (xs ++ ys) old new p q
-  adds_then {xs = xs} {ys = ys} later sooner = record { keeps = λ points includes fit. sooner.keeps points (includes_first xs ys includes) (later.keeps points (includes_second xs ys includes) fit) }
+  pub brings_point : {one : ControlPoint} {blocks : List Point} (at : Place) (number : ℕ) (work : Work) (q : Point) → Fits flow one (does at number work q) →
+      Brings flow (one ∷ []) (q ∷ blocks) (does at number work q ∷ blocks)
+  brings_point at number work q fits = record { keeps = λ points includes fit. fit_point at number work q (includes_one includes) fits fit }
+
+  -- one after another: what is done first is met last, since code is put together from its end
+  pub brings_both : {xs ys : List ControlPoint} {old between new : List Point} → Brings flow ys old between → Brings flow xs between new → Brings flow (xs ++ ys) old new
+  brings_both {xs = xs} {ys = ys} later sooner = record { keeps = λ points includes fit. sooner.keeps points (includes_first xs ys includes) (later.keeps points (includes_second xs ys includes) fit) }
+
+  -- the same where one of them brings in nothing
+  pub nothing_then : {some : List ControlPoint} {old between new : List Point} → Brings flow [] old between → Brings flow some between new → Brings flow some old new
+  nothing_then first rest = record { keeps = λ points includes fit. rest.keeps points includes (first.keeps points includes_none fit) }
+
+  pub then_nothing : {some : List ControlPoint} {old between new : List Point} → Brings flow some old between → Brings flow [] between new → Brings flow some old new
+  then_nothing first rest = record { keeps = λ points includes fit. rest.keeps points includes_none (first.keeps points includes fit) }
+
+  -- an operation that is no control point, before further code
+  pub brings_past : {some : List ControlPoint} {old new : List Point} (at : Place) (number : ℕ) (work : Work) (q : Point) → met_in at work ≡ None →
+      Brings flow some (does at number work q ∷ old) new → Brings flow some (q ∷ old) new
+  brings_past at number work q silent rest = nothing_then (brings_silent at number work q silent) rest
 
   -- more is allowed
-  pub adds_wider : {some more : List ControlPoint} {old new : List Point} {p q : Point} → All (Contains more) some → Adds flow some old new p q → Adds flow more old new p q
-  adds_wider wider adds = record { keeps = λ points includes fit. adds.keeps points (includes_part includes wider) fit }
-
-  -- a point that is made a block, in whatever order the blocks stand
-  pub seals : (old new : List Point) (p : Point) → All (Contains (p ∷ old)) new → Seals flow old p new
-  seals old new p among = record { keeps = λ points fit. fit_among new (p ∷ old) among fit }
+  pub brings_wider : {some more : List ControlPoint} {old new : List Point} → All (Contains more) some → Brings flow some old new → Brings flow more old new
+  brings_wider wider brings = record { keeps = λ points includes fit. brings.keeps points (includes_part includes wider) fit }

@@ -1,6 +1,6 @@
 -- When the blocks of a graph have no control points but those of a list, and each of them no ways but its own: what only the builder of
 -- a graph can know, since nothing need lead to a block.
-use Rattle.std.specs.Prelude.{◌≡◌, ℕ, ⊤, List, ◌∷◌, Contains, Option, Some, None}
+use Rattle.std.specs.Prelude.{◌≡◌, ℕ, ⊤, List, Contains, Option, Some, None}
 use Rattle.std.specs.List.{All}
 use Rattle.cs_ast.specs.TypedProgram.{TypedProgram, Routine}
 use Rattle.cs_plain.specs.Machine.{routine_of}
@@ -38,10 +38,6 @@ CodeFits code program = (function : ℕ) → GraphFits (routine_of program funct
 pub record Includes (points some : List ControlPoint) : Type 0 where
   pub all : All (Contains points) some
 
--- code was put before a point, and blocks were made for it: they bring in no control points but these
-pub record Adds (flow : Flow) (some : List ControlPoint) (old new : List Point) (p q : Point) : Type 0 where
-  pub keeps : (points : List ControlPoint) → Includes points some → AllFit flow points (q ∷ old) → AllFit flow points (p ∷ new)
-
--- a point was made a block
-pub record Seals (flow : Flow) (old : List Point) (p : Point) (new : List Point) : Type 0 where
-  pub keeps : (points : List ControlPoint) → AllFit flow points (p ∷ old) → AllFit flow points new
+-- of some blocks others were made, as by code put before the first of them, which brings in no control points but these
+pub record Brings (flow : Flow) (some : List ControlPoint) (old new : List Point) : Type 0 where
+  pub keeps : (points : List ControlPoint) → Includes points some → AllFit flow points old → AllFit flow points new
