@@ -33,3 +33,4 @@ pub mod ShownStatements
 pub mod ReadOff
 pub mod Fitting
 pub mod Choosing
+pub mod Bringing
