@@ -178,6 +178,9 @@ module _ {points : List ControlPoint} where
   pub includes_second : (xs ys : List ControlPoint) → Includes points (xs ++ ys) → Includes points ys
   includes_second xs ys whole = includes_part whole (All-weaker (Contains ys) (Contains (xs ++ ys)) (λ one among. Contains-append_right xs ys one among) ys (All-contains_itself ys))
 
+  pub includes_both : (xs ys : List ControlPoint) → Includes points xs → Includes points ys → Includes points (xs ++ ys)
+  includes_both xs ys first rest = record { all = All-append (Contains points) xs ys first.all rest.all }
+
   pub includes_one : {one : ControlPoint} {others : List ControlPoint} → Includes points (one ∷ others) → Contains points one
   includes_one {one = one} {others = others} whole = All-head (Contains points) one others whole.all
 

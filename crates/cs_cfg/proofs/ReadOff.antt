@@ -60,12 +60,19 @@ module _ (program : TypedProgram) (flow : Flow) (routine : Routine) (body : Stat
       joins_meet it (label_met label l (landing label (body_of routine) 0 (at_end routine)) refl (ap place_of (sym e) ∙ placed_alike label (body_of routine) 0 [] (at_end routine)))
 
   -- jumps lead where the targets of the body say
-  aims : Aims program flow routine lowers.labels (body_targets routine) finishing finishing
+  pub aims : Aims program flow routine lowers.labels (body_targets routine) finishing finishing
   aims = record {
     out_meets = never;
     again_meets = never;
     labels_meet = λ label p q behind it m. goto_meets label (landing label (body_of routine) 0 []) refl p q behind it m;
   }
+
+  -- what is met behind the body, and where it begins
+  end_met : MeetsNext flow lowers.behind (end_of routine)
+  end_met = joins_meet lowers.ends (point_meets routine.closes 0 (graph.Close lowers.nothing) leaving refl)
+
+  pub body_meets : MeetsNext flow lowers.inside (starts (body_targets routine) (body_of routine) (end_of routine))
+  body_meets = starts_meet program flow routine lowers.labels (body_of routine) 0 finishing finishing lowers.inside lowers.behind aims executes_body end_met
 
   -- each control point is in the graph, with all of its ways
   all_shown : Shown flow (control_points routine)
@@ -73,11 +80,9 @@ module _ (program : TypedProgram) (flow : Flow) (routine : Routine) (body : Stat
       let enters = graph.Meet point.Enter in
       let closes = graph.Close lowers.nothing in
       let begins = kept_same lowers.begins (kept_block flow.entry) in
-      let end_met = joins_meet lowers.ends (point_meets routine.closes 0 closes leaving refl) in
       let inside = statements.executed program flow routine lowers.labels (body_of routine) 0 finishing finishing lowers.inside lowers.behind aims executes_body end_met (kept_past routine.at 0 enters lowers.inside begins) in
-      let entered = starts_meet program flow routine lowers.labels (body_of routine) 0 finishing finishing lowers.inside lowers.behind aims executes_body end_met in
       let ends = kept_joins lowers.ends inside.kept in
-      shown_more (shows_passed 0 enters lowers.inside begins refl refl entered) (shown_both inside.shown (shown_more (shows_last 0 closes leaving ends refl) shown_none))
+      shown_more (shows_passed 0 enters lowers.inside begins refl refl body_meets) (shown_both inside.shown (shown_more (shows_last 0 closes leaving ends refl) shown_none))
 
   module _ (fit : AllFit flow (control_points routine) flow.blocks) where
     -- each control point of the graph fits one of them
