@@ -1,9 +1,9 @@
 -- What the code of each statement brings in: no control points but those of the statement. For the builder of a graph.
-use Rattle.std.proofs.Common.{◌≡◌, ℕ, zero, suc, ◌+◌, List, [], ◌∷◌, ◌++◌, false, Option, Some, None, refl}
+use Rattle.std.proofs.Common.{◌≡◌, ℕ, ◌+◌, List, [], ◌∷◌, ◌++◌, Option, Some, refl}
 use Rattle.std.proofs.lemmas.List.Elements.{All-contains_itself}
 use Rattle.cs_ast.specs.declared.place.Place.{Place}
 use Rattle.cs_ast.specs.declared.typed.statement.Case.{Case}
-use Rattle.cs_ast.specs.TypedTree.{Typed, Statement, If, IfElse, While, Do, For, Switch, Label, Break, Continue, Return, Statements, Then}
+use Rattle.cs_ast.specs.TypedTree.{Typed, Statement, If, IfElse, While, Do, For, Switch, Label, Return, Statements}
 use Rattle.cs_ast.specs.TypedProgram.{TypedProgram, Routine}
 use Rattle.cs_runs.specs.declared.point.PointKind.TheVariants as point
 use Rattle.cs_plain.specs.Machine.{body_of}
@@ -11,11 +11,11 @@ use Rattle.cs_plain.specs.Marks.{marks, marks_in}
 use Rattle.cs_plain.specs.Statements.{default_item, count_of}
 use Rattle.cs_cfg.specs.Graph as graph
 use Rattle.cs_cfg.specs.Graph.{Point, Flow, block_of}
-use Rattle.cs_cfg.specs.ControlPoints.{Next, met, first, first_some, passed, tested, last_point, ControlPoint, points, points_some, Targets, for_test, for_tested, for_points, flows, flows_in, starts, starts_in, in_loop, in_switch, end_of, body_targets, control_points}
+use Rattle.cs_cfg.specs.ControlPoints.{Next, met, first, first_some, last_point, points, points_some, Targets, for_tested, for_points, flows, flows_in, starts, in_loop, in_switch, end_of, body_targets, control_points}
 use Rattle.cs_cfg.specs.GraphPoints.{MeetsNext}
 use Rattle.cs_cfg.specs.Fitting.{AllFit, Includes, Brings}
 use Rattle.cs_cfg.specs.Placing.{does, split}
-use Rattle.cs_cfg.specs.Executing.{leaving, for_test_at, executes_at}
+use Rattle.cs_cfg.specs.Executing.{leaving, executes_at}
 use Rattle.cs_cfg.specs.Placed.{LowersBody}
 use Rattle.cs_cfg.proofs.ReadOff.{body_meets}
 use Rattle.cs_cfg.proofs.Cases.{chooses, fits_switched}

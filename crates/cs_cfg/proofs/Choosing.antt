@@ -1,6 +1,6 @@
 -- `&&`, `||` and `?:` bring in no control points but their own, where the point behind was made a block, and their ways. For the builder
 -- of a graph.
-use Rattle.std.proofs.Common.{ℕ, pos, List, [], ◌∷◌, ◌++◌, Some, None, refl}
+use Rattle.std.proofs.Common.{ℕ, pos, List, [], ◌∷◌, ◌++◌, refl}
 use Rattle.cs_types.specs.Shape.{Shape}
 use Rattle.cs_ast.specs.declared.place.Place.{Place}
 use Rattle.cs_ast.specs.TypedTree.{Typed, Of, Call, And, Or, Choice}

@@ -2,15 +2,14 @@
 -- builder of a graph.
 use Rattle.std.specs.Prelude.{◌⊎◌, Contains, slice_get}
 use Rattle.std.specs.List.{All}
-use Rattle.std.proofs.Common.{◌≡◌, ℕ, Bool, true, false, pos, List, [], ◌∷◌, ◌++◌, length, Option, Some, None, if◌then◌else◌, arith, refl, sym, ap, ◌∙◌, subst, inl, inr}
+use Rattle.std.proofs.Common.{◌≡◌, ℕ, true, false, List, [], ◌∷◌, ◌++◌, length, Some, None, if◌then◌else◌, arith, refl, sym, ap, ◌∙◌, subst, inl, inr}
 use Rattle.std.proofs.lemmas.List.Elements.{All-nil, All-cons, All-head, All-tail, All-append, All-weaker, All-contains, All-contains_itself, Contains-append_left, Contains-append_right}
 use Rattle.cs_ast.specs.declared.place.Place.{Place}
 use Rattle.cs_runs.specs.declared.point.PointKind.{PointKind}
 use Rattle.cs_runs.specs.declared.point.PointKind.TheVariants as point
-use Rattle.cs_cfg.specs.Graph as graph
-use Rattle.cs_cfg.specs.Graph.{Work, Operation, SwitchCase, BlockEnd, Jump, Branch, Switch, Point, before, Flow, block_of}
-use Rattle.cs_cfg.specs.ControlPoints.{Met, Next, the_point, met, Exit, Onward, TruthOf, CaseOf, way, Way, ControlPoint, passed, tested, last_point}
-use Rattle.cs_cfg.specs.GraphPoints.{met_in, met_by, goes_on, IsMet, by_operation, by_branch, Leads, onward, on_truth, on_case, on_no_case, MeetsNext, IsRest}
+use Rattle.cs_cfg.specs.Graph.{Work, Operation, SwitchCase, BlockEnd, Jump, Branch, Switch, Point, Flow, block_of}
+use Rattle.cs_cfg.specs.ControlPoints.{Met, Next, the_point, Exit, Onward, TruthOf, CaseOf, way, ControlPoint, passed, tested, last_point}
+use Rattle.cs_cfg.specs.GraphPoints.{met_in, goes_on, IsMet, by_operation, by_branch, Leads, onward, on_truth, on_case, on_no_case, MeetsNext, IsRest}
 use Rattle.cs_cfg.specs.Fitting.{Fits, FitsSome, BlockFits, AllFit, Includes, Brings}
 use Rattle.cs_cfg.specs.Placing.{does, split}
 use Rattle.cs_cfg.proofs.Keeping.{met_at, met_of, is_met}

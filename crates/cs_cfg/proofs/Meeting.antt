@@ -10,8 +10,8 @@ use Rattle.cs_runs.specs.declared.point.PointKind.TheVariants as point
 use Rattle.cs_plain.specs.Types.{type_of}
 use Rattle.cs_cfg.specs.Graph as graph
 use Rattle.cs_cfg.specs.Graph.{Work, SwitchCase, Point, Flow}
-use Rattle.cs_cfg.specs.ControlPoints.{Next, Met, the_point, met, first, first_of, first_in}
-use Rattle.cs_cfg.specs.GraphPoints.{met_in, IsMet, by_operation, by_branch, by_switch, MeetsNext, here, past, past_jump}
+use Rattle.cs_cfg.specs.ControlPoints.{Next, Met, met, first, first_of, first_in}
+use Rattle.cs_cfg.specs.GraphPoints.{met_in, by_operation, by_branch, by_switch, MeetsNext, here, past, past_jump}
 use Rattle.cs_cfg.specs.Placing.{does, split, used_then, Joins, there, jumps, known, evaluates, used, evaluates_form, used_all, joined, judged}
 
 module _ {flow : Flow} where

@@ -1,10 +1,8 @@
 -- The graph of a function has just the control points of its statements, where it executes the function's body and its blocks fit them.
 -- For the law on placed code whose blocks fit.
 use Rattle.std.specs.Prelude.{Contains}
-use Rattle.std.specs.List.{All}
-use Rattle.std.proofs.Common.{◌≡◌, ℕ, true, List, [], ◌∷◌, ◌++◌, Option, Some, None, refl, sym, ap, ◌∙◌, subst}
+use Rattle.std.proofs.Common.{◌≡◌, ℕ, [], Option, Some, None, refl, sym, ap, ◌∙◌, subst}
 use Rattle.std.proofs.lemmas.List.Elements.{All-contains}
-use Rattle.cs_ast.specs.declared.place.Place.{Place}
 use Rattle.cs_ast.specs.TypedTree.{Statement}
 use Rattle.cs_ast.specs.TypedProgram.{TypedProgram, Routine}
 use Rattle.cs_runs.specs.declared.point.PointKind.TheVariants as point
@@ -13,10 +11,10 @@ use Rattle.cs_plain.specs.Jumps.{Landing, landing}
 use Rattle.cs_plain.specs.Steps.{at_end}
 use Rattle.cs_cfg.specs.Graph as graph
 use Rattle.cs_cfg.specs.Graph.{Point, Flow, Code, block_of, flow_of}
-use Rattle.cs_cfg.specs.ControlPoints.{Met, Next, the_point, met, Exit, way, Way, ControlPoint, at_label, starts, flows, end_of, landed, body_targets, control_points}
+use Rattle.cs_cfg.specs.ControlPoints.{Met, Next, the_point, met, Exit, way, Way, ControlPoint, at_label, starts, end_of, landed, body_targets, control_points}
 use Rattle.cs_cfg.specs.GraphPoints.{IsMet, Leads, onward, on_truth, on_case, on_no_case, by_operation, by_branch, by_switch, MeetsNext, never, Occurs, HasPoints}
 use Rattle.cs_cfg.specs.Fitting.{FitsSome, BlockFits, AllFit, GraphFits, CodeFits}
-use Rattle.cs_cfg.specs.Placing.{does, Joins, there}
+use Rattle.cs_cfg.specs.Placing.{does, there}
 use Rattle.cs_cfg.specs.Executing.{leaving, finishing, goes_to, executes_at}
 use Rattle.cs_cfg.specs.Placed.{LowersBody, IsPlaced}
 use Rattle.cs_cfg.specs.Lowered.{is_there, ReadsOff}
@@ -24,7 +22,7 @@ use Rattle.cs_cfg.proofs.Entered.{executed}
 use Rattle.cs_cfg.proofs.Arriving.{Arrives}
 use Rattle.cs_cfg.proofs.Landings.{place_of, placed_alike, goto_lands}
 use Rattle.cs_cfg.proofs.Meeting.{joins_meet, point_meets, same_meets}
-use Rattle.cs_cfg.proofs.Keeping.{Kept, kept_block, kept_same, kept_past, kept_joins}
+use Rattle.cs_cfg.proofs.Keeping.{kept_block, kept_same, kept_past, kept_joins}
 use Rattle.cs_cfg.proofs.Showing.{GoesOn, Shows, Shown, shown_none, shown_more, shown_both, shows_passed, shows_last}
 use Rattle.cs_cfg.proofs.Starting.{Aims, starts_meet}
 use Rattle.cs_cfg.proofs.ShownStatements as statements

@@ -1,20 +1,19 @@
 -- Each control point of an expression is in the graph, with all of its ways, where the expression is placed at a point of the graph. For
 -- the control points of placed code.
-use Rattle.std.proofs.Common.{◌≡◌, ℕ, suc, ◌+◌, ℤ, pos, List, [], ◌∷◌, ◌++◌, refl}
+use Rattle.std.proofs.Common.{◌≡◌, ℕ, suc, ◌+◌, pos, List, [], ◌∷◌, refl}
 use Rattle.cs_types.specs.Shape.{Shape}
 use Rattle.cs_ast.specs.declared.place.Place.{Place}
 use Rattle.cs_ast.specs.declared.typed.operator.Order.TheVariants.{PointerFirst, AmountFirst}
 use Rattle.cs_ast.specs.TypedTree.{Typed, Of, Form, Number, Null, Text, Local, Global, Through, Index, Member, Arrow, Load, Address, Decay, Convert, Unary, Not, Binary, Compare, Sum, Difference, And, Or, Choice, Comma, Assign, Update, Move, Call, Allocate, Free, TypedList, NoMore, Further}
 use Rattle.cs_ast.specs.TypedProgram.{TypedProgram}
-use Rattle.cs_runs.specs.declared.point.PointKind.TheVariants as point
 use Rattle.cs_cfg.specs.Graph as graph
 use Rattle.cs_cfg.specs.Graph.{Work, Point, Flow, block_of}
-use Rattle.cs_cfg.specs.ControlPoints.{Next, met, first, first_in, tested, points, points_of, points_in, ControlPoint}
+use Rattle.cs_cfg.specs.ControlPoints.{Next, tested, points, points_of, points_in, ControlPoint}
 use Rattle.cs_cfg.specs.GraphPoints.{MeetsNext}
-use Rattle.cs_cfg.specs.Placing.{does, split, used_then, known, evaluates, used, evaluates_form, used_all, joined, judged}
+use Rattle.cs_cfg.specs.Placing.{does, split, used_then, evaluates, used, evaluates_form, used_all, joined, judged}
 use Rattle.cs_cfg.proofs.Meeting.{does_meets, split_meets, joins_meet, use_meets, convert_part, used_meets, all_meet, judged_meets, joined_meets, known_meets}
-use Rattle.cs_cfg.proofs.Keeping.{Kept, kept_block, kept_same, kept_past, kept_joins}
-use Rattle.cs_cfg.proofs.Showing.{Shown, shown_more, shown_both, Walked, walked_none, walked_past, walked_use, walked_joins, walked_then, shows_tested}
+use Rattle.cs_cfg.proofs.Keeping.{Kept, kept_block, kept_same, kept_past}
+use Rattle.cs_cfg.proofs.Showing.{shown_more, Walked, walked_none, walked_past, walked_use, walked_joins, walked_then, shows_tested}
 
 module _ (program : TypedProgram) (flow : Flow) where
   -- a leaf has none

@@ -1,9 +1,8 @@
 -- Each control point of a statement is in the graph, with all of its ways, where the statement is placed at a point of the graph. For the
 -- control points of placed code.
-use Rattle.std.proofs.Common.{◌≡◌, ℕ, zero, ◌+◌, List, [], ◌∷◌, ◌++◌, Option, Some, None, refl, sym}
+use Rattle.std.proofs.Common.{ℕ, ◌+◌, List, ◌∷◌, Option, Some, None, refl}
 use Rattle.cs_types.specs.Shape.{Shape}
 use Rattle.cs_ast.specs.declared.place.Place.{Place}
-use Rattle.cs_ast.specs.declared.typed.statement.Case.{Case}
 use Rattle.cs_ast.specs.TypedTree.{Typed, Initial, Value, Parts, Bytes, Initials, NoPart, Part, Statement, Block, Declare, Run, If, IfElse, While, Do, For, Switch, Goto, Label, Break, Continue, Return, Statements, Empty, Then}
 use Rattle.cs_ast.specs.TypedProgram.{TypedProgram, Routine}
 use Rattle.cs_runs.specs.declared.point.PointKind.TheVariants as point
@@ -13,17 +12,17 @@ use Rattle.cs_plain.specs.Marks.{marks, marks_in}
 use Rattle.cs_plain.specs.Statements.{default_item, count_of}
 use Rattle.cs_cfg.specs.Graph as graph
 use Rattle.cs_cfg.specs.Graph.{Work, Point, Flow, block_of}
-use Rattle.cs_cfg.specs.ControlPoints.{Next, met, first, first_some, passed, tested, ControlPoint, points, points_initial, points_parts, points_some, Targets, for_tested, for_points, flows, flows_in, starts, in_loop, in_switch}
+use Rattle.cs_cfg.specs.ControlPoints.{Next, met, tested, ControlPoint, points, points_initial, points_parts, points_some, Targets, for_tested, for_points, flows, flows_in, in_switch}
 use Rattle.cs_cfg.specs.GraphPoints.{MeetsNext}
-use Rattle.cs_cfg.specs.Placing.{does, split, Joins, used}
-use Rattle.cs_cfg.specs.Executing.{type_in, leaving, part_to, while_loop, do_loop, for_loop, last_at, for_test_at, stores_at, declares_at, returns_at, executes_at, all_at}
+use Rattle.cs_cfg.specs.Placing.{does, split, used}
+use Rattle.cs_cfg.specs.Executing.{type_in, leaving, last_at, for_test_at, stores_at, declares_at, returns_at, executes_at, all_at}
 use Rattle.cs_cfg.proofs.Arriving.{from_first}
 use Rattle.cs_cfg.proofs.Cases.{shows_switched}
 use Rattle.cs_cfg.proofs.Meeting.{joins_meet, does_meets, point_meets, split_meets, switch_meets, same_meets, used_meets}
 use Rattle.cs_cfg.proofs.Keeping.{Kept, kept_block, kept_is, kept_same, kept_past, kept_joins}
 use Rattle.cs_cfg.proofs.Showing.{Shows, Shown, shown_none, shown_more, shown_both, Walked, walked_none, walked_past, walked_joins, walked_then, shows_passed, shows_last, shows_tested}
 use Rattle.cs_cfg.proofs.Shown.{walks, used_walks}
-use Rattle.cs_cfg.proofs.Starting.{stores_split, parts_meet, initial_meets, last_meets, for_test_meets, Aims, aims_in_loop, aims_in_switch, starts_meet, all_start, from_start}
+use Rattle.cs_cfg.proofs.Starting.{stores_split, parts_meet, last_meets, for_test_meets, Aims, aims_in_loop, aims_in_switch, starts_meet, all_start, from_start}
 
 -- more control points before
 also : {program : TypedProgram} {flow : Flow} {q : Point} {one : ControlPoint} {others : List ControlPoint} → Shows flow one → Walked program flow q others → Walked program flow q (one ∷ others)
