@@ -34,3 +34,4 @@ pub mod ReadOff
 pub mod Fitting
 pub mod Choosing
 pub mod Bringing
+pub mod Pieces

@@ -1,13 +1,13 @@
 -- Each control point of a statement is in the graph, with all of its ways, where the statement is placed at a point of the graph. For the
 -- control points of placed code.
-use Rattle.std.proofs.Common.{ℕ, ◌+◌, List, ◌∷◌, Option, Some, None, refl}
+use Rattle.std.proofs.Common.{ℕ, ◌+◌, List, [], ◌∷◌, Option, Some, None, refl, subst}
 use Rattle.cs_types.specs.Shape.{Shape}
 use Rattle.cs_ast.specs.declared.place.Place.{Place}
 use Rattle.cs_ast.specs.TypedTree.{Typed, Initial, Value, Parts, Bytes, Initials, NoPart, Part, Statement, Block, Declare, Run, If, IfElse, While, Do, For, Switch, Goto, Label, Break, Continue, Return, Statements, Empty, Then}
 use Rattle.cs_ast.specs.TypedProgram.{TypedProgram, Routine}
 use Rattle.cs_runs.specs.declared.point.PointKind.TheVariants as point
 use Rattle.cs_plain.specs.Types.{part_type, part_offset}
-use Rattle.cs_plain.specs.Initials.{pieces, pieces_from}
+use Rattle.cs_plain.specs.Initials.{Piece, Evaluated, Spelled, pieces}
 use Rattle.cs_plain.specs.Marks.{marks, marks_in}
 use Rattle.cs_plain.specs.Statements.{default_item, count_of}
 use Rattle.cs_cfg.specs.Graph as graph
@@ -16,13 +16,15 @@ use Rattle.cs_cfg.specs.ControlPoints.{Next, met, tested, ControlPoint, points, 
 use Rattle.cs_cfg.specs.GraphPoints.{MeetsNext}
 use Rattle.cs_cfg.specs.Placing.{does, split, used}
 use Rattle.cs_cfg.specs.Executing.{type_in, leaving, last_at, for_test_at, stores_at, declares_at, returns_at, executes_at, all_at}
+use Rattle.cs_cfg.specs.PiecePoints.{points_pieces}
+use Rattle.cs_cfg.proofs.Pieces.{points_same}
 use Rattle.cs_cfg.proofs.Arriving.{from_first}
 use Rattle.cs_cfg.proofs.Cases.{shows_switched}
 use Rattle.cs_cfg.proofs.Meeting.{joins_meet, does_meets, point_meets, split_meets, switch_meets, same_meets, used_meets}
 use Rattle.cs_cfg.proofs.Keeping.{Kept, kept_block, kept_is, kept_same, kept_past, kept_joins}
 use Rattle.cs_cfg.proofs.Showing.{Shows, Shown, shown_none, shown_more, shown_both, Walked, walked_none, walked_past, walked_joins, walked_then, shows_passed, shows_last, shows_tested}
 use Rattle.cs_cfg.proofs.Shown.{walks, used_walks}
-use Rattle.cs_cfg.proofs.Starting.{stores_split, parts_meet, last_meets, for_test_meets, Aims, aims_in_loop, aims_in_switch, starts_meet, all_start, from_start}
+use Rattle.cs_cfg.proofs.Starting.{stores_meet, last_meets, for_test_meets, Aims, aims_in_loop, aims_in_switch, starts_meet, all_start, from_start}
 
 -- more control points before
 also : {program : TypedProgram} {flow : Flow} {q : Point} {one : ControlPoint} {others : List ControlPoint} → Shows flow one → Walked program flow q others → Walked program flow q (one ∷ others)
@@ -63,34 +65,29 @@ module _ (program : TypedProgram) (flow : Flow) where
       walked_joins it.3 (walked_past it.0 0 graph.Drop it.1 (used_walks program flow e 0 p _ it.2 (does_meets it.0 0 graph.Drop it.1 refl (joins_meet it.3 m)) kept))
 
   module _ (routine : Routine) (labels : ℕ → Point) where
-    mutual
-      -- the pieces of an initializer
-      initial_walks : (initial : Initial) (at : Place) (declaration : ℕ) (shape : Shape) (from : ℕ) (p q : Point) {next : Next} →
-          stores_at program flow routine labels at declaration (pieces program shape from initial) p q → MeetsNext flow q next → Kept program flow p → Walked program flow q (points_initial initial next)
-      initial_walks (Value e) at declaration shape from p q it m kept =
-          let walked = walked_past at 0 _ it.0 (used_walks program flow e 0 p _ it.1 (does_meets at 0 _ it.0 refl (same_meets it.2 m)) kept) in
-          record { kept = kept_same it.2 walked.kept; shown = walked.shown }
-      initial_walks (Bytes bytes) at declaration shape from p q it m kept = walked_none (kept_same it.2 (kept_past at 0 _ it.0 (kept_same it.1 kept)))
-      initial_walks (Parts parts) at declaration shape from p q it m kept = parts_walk parts at declaration shape from 0 p q it m kept
+    -- the pieces of an initializer
+    stores_walk : (list : List Piece) (at : Place) (declaration : ℕ) (p q : Point) {next : Next} → stores_at program flow routine labels at declaration list p q → MeetsNext flow q next → Kept program flow p →
+        Walked program flow q (points_pieces list next)
+    stores_walk [] at declaration p q it m kept = walked_none (kept_same it kept)
+    stores_walk (Evaluated offset e ∷ others) at declaration p q it m kept =
+        let later = stores_meet program flow routine labels others at declaration it.0 q it.2 m in
+        walked_then (walked_past at 0 _ it.0 (used_walks program flow e 0 p _ it.1 (does_meets at 0 _ it.0 refl later) kept)) (λ k. stores_walk others at declaration it.0 q it.2 m k)
+    stores_walk (Spelled offset bytes ∷ others) at declaration p q it m kept = stores_walk others at declaration it.0 q it.2 m (kept_past at 0 _ it.0 (kept_same it.1 kept))
 
-      parts_walk : (parts : Initials) (at : Place) (declaration : ℕ) (shape : Shape) (from number : ℕ) (p q : Point) {next : Next} →
-          stores_at program flow routine labels at declaration (pieces_from program shape from number parts) p q → MeetsNext flow q next → Kept program flow p → Walked program flow q (points_parts parts next)
-      parts_walk NoPart at declaration shape from number p q it m kept = walked_none (kept_same it kept)
-      parts_walk (Part one others) at declaration shape from number p q it m kept =
-          let place = from + part_offset program shape number in
-          let ty = part_type program shape number in
-          let both = stores_split program flow routine labels at declaration (pieces program ty place one) (pieces_from program shape from (number + 1) others) p q it in
-          walked_then (initial_walks one at declaration ty place p both.0 both.1 (parts_meet program flow routine labels others at declaration shape from (number + 1) both.0 q both.2 m) kept)
-          (λ k. parts_walk others at declaration shape from (number + 1) both.0 q both.2 m k)
+    initial_walks : (initial : Initial) (at : Place) (declaration : ℕ) (p q : Point) {next : Next} → stores_at program flow routine labels at declaration (pieces program (type_in routine declaration) 0 initial) p q →
+        MeetsNext flow q next → Kept program flow p → Walked program flow q (points_initial initial next)
+    initial_walks initial at declaration p q {next = next} it m kept =
+        let ty = type_in routine declaration in
+        subst (Walked program flow q) (points_same program initial ty 0 next) (stores_walk (pieces program ty 0 initial) at declaration p q it m kept)
 
     -- a declaration
     declares_walk : (at : Place) (declaration : ℕ) (initial : Initial) (p q : Point) {next : Next} → declares_at program flow routine labels at declaration (Some initial) p q →
         MeetsNext flow q next → Kept program flow p → Walked program flow q (points_initial initial next)
     declares_walk at declaration (Value e) p q it m kept = walked_past at 0 _ q (used_walks program flow e 0 p _ it (does_meets at 0 _ q refl m) kept)
     declares_walk at declaration (Parts parts) p q it m kept =
-        initial_walks (Parts parts) at declaration (type_in routine declaration) 0 it.0 q it.2 m (kept_past at 0 (graph.Zero declaration) it.0 (kept_same it.1 kept))
+        initial_walks (Parts parts) at declaration it.0 q it.2 m (kept_past at 0 (graph.Zero declaration) it.0 (kept_same it.1 kept))
     declares_walk at declaration (Bytes bytes) p q it m kept =
-        initial_walks (Bytes bytes) at declaration (type_in routine declaration) 0 it.0 q it.2 m (kept_past at 0 (graph.Zero declaration) it.0 (kept_same it.1 kept))
+        initial_walks (Bytes bytes) at declaration it.0 q it.2 m (kept_past at 0 (graph.Zero declaration) it.0 (kept_same it.1 kept))
 
     -- a `return`
     returns_shown : (at : Place) (value : Option Typed) (p : Point) → returns_at program flow routine labels at value p → Kept program flow p →

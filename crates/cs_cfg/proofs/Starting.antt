@@ -1,5 +1,5 @@
 -- What is met first where a statement is executed follows from where it is placed. For the control points of placed code.
-use Rattle.std.proofs.Common.{ℕ, zero, suc, ◌+◌, List, [], ◌∷◌, ◌++◌, Option, Some, None, refl}
+use Rattle.std.proofs.Common.{ℕ, zero, suc, ◌+◌, List, [], ◌∷◌, ◌++◌, Option, Some, None, refl, subst}
 use Rattle.cs_types.specs.Shape.{Shape}
 use Rattle.cs_ast.specs.declared.place.Place.{Place}
 use Rattle.cs_ast.specs.TypedTree.{Typed, Initial, Value, Parts, Bytes, Initials, NoPart, Part, Statement, Block, Declare, Run, If, IfElse, While, Do, For, Switch, Goto, Label, Break, Continue, Return, Statements, Empty, Then}
@@ -15,44 +15,32 @@ use Rattle.cs_cfg.specs.Graph.{Work, Point, Flow, block_of}
 use Rattle.cs_cfg.specs.ControlPoints.{Next, met, first, first_initial, first_parts, first_some, Targets, for_test, at_label, starts, starts_in, starts_from, in_loop, in_switch}
 use Rattle.cs_cfg.specs.GraphPoints.{MeetsNext}
 use Rattle.cs_cfg.specs.Executing.{type_in, leaving, last_at, for_test_at, stores_at, declares_at, returns_at, goes_to, executes_at, all_at, from_at}
+use Rattle.cs_cfg.specs.PiecePoints.{first_pieces}
+use Rattle.cs_cfg.proofs.Pieces.{first_same}
 use Rattle.cs_cfg.proofs.Meeting.{joins_meet, does_meets, point_meets, split_meets, switch_meets, same_meets, meets, used_meets}
 
 module _ (program : TypedProgram) (flow : Flow) (routine : Routine) (labels : ℕ → Point) where
-  -- two lists of pieces, stored one after another
-  pub stores_split : (at : Place) (declaration : ℕ) (first others : List Piece) (p q : Point) → stores_at program flow routine labels at declaration (first ++ others) p q →
-      (r : Point) × stores_at program flow routine labels at declaration first p r × stores_at program flow routine labels at declaration others r q
-  stores_split at declaration [] others p q it = (p, refl, it)
-  stores_split at declaration (Evaluated offset e ∷ first) others p q it =
-      let rest = stores_split at declaration first others it.0 q it.2 in
-      (rest.0, (it.0, it.1, rest.1), rest.2)
-  stores_split at declaration (Spelled offset bytes ∷ first) others p q it =
-      let rest = stores_split at declaration first others it.0 q it.2 in
-      (rest.0, (it.0, it.1, rest.1), rest.2)
+  -- the pieces of an initializer
+  pub stores_meet : (list : List Piece) (at : Place) (declaration : ℕ) (p q : Point) {next : Next} → stores_at program flow routine labels at declaration list p q → MeetsNext flow q next →
+      MeetsNext flow p (first_pieces list next)
+  stores_meet [] at declaration p q it m = same_meets it m
+  stores_meet (Evaluated offset e ∷ others) at declaration p q it m = used_meets program flow e 0 p _ it.1 (does_meets at 0 _ it.0 refl (stores_meet others at declaration it.0 q it.2 m))
+  stores_meet (Spelled offset bytes ∷ others) at declaration p q it m = same_meets it.1 (does_meets at 0 _ it.0 refl (stores_meet others at declaration it.0 q it.2 m))
 
-  mutual
-    -- the pieces of an initializer
-    pub initial_meets : (initial : Initial) (at : Place) (declaration : ℕ) (shape : Shape) (from : ℕ) (p q : Point) {next : Next} →
-        stores_at program flow routine labels at declaration (pieces program shape from initial) p q → MeetsNext flow q next → MeetsNext flow p (first_initial initial next)
-    initial_meets (Value e) at declaration shape from p q it m = used_meets program flow e 0 p _ it.1 (does_meets at 0 _ it.0 refl (same_meets it.2 m))
-    initial_meets (Bytes bytes) at declaration shape from p q it m = same_meets it.1 (does_meets at 0 _ it.0 refl (same_meets it.2 m))
-    initial_meets (Parts parts) at declaration shape from p q it m = parts_meet parts at declaration shape from 0 p q it m
-
-    pub parts_meet : (parts : Initials) (at : Place) (declaration : ℕ) (shape : Shape) (from number : ℕ) (p q : Point) {next : Next} →
-        stores_at program flow routine labels at declaration (pieces_from program shape from number parts) p q → MeetsNext flow q next → MeetsNext flow p (first_parts parts next)
-    parts_meet NoPart at declaration shape from number p q it m = same_meets it m
-    parts_meet (Part one others) at declaration shape from number p q it m =
-        let place = from + part_offset program shape number in
-        let both = stores_split at declaration (pieces program (part_type program shape number) place one) (pieces_from program shape from (number + 1) others) p q it in
-        initial_meets one at declaration (part_type program shape number) place p both.0 both.1 (parts_meet others at declaration shape from (number + 1) both.0 q both.2 m)
+  initial_meets : (initial : Initial) (at : Place) (declaration : ℕ) (p q : Point) {next : Next} → stores_at program flow routine labels at declaration (pieces program (type_in routine declaration) 0 initial) p q →
+      MeetsNext flow q next → MeetsNext flow p (first_initial initial next)
+  initial_meets initial at declaration p q {next = next} it m =
+      let ty = type_in routine declaration in
+      subst (MeetsNext flow p) (first_same program initial ty 0 next) (stores_meet (pieces program ty 0 initial) at declaration p q it m)
 
   -- a declaration
   pub declares_meet : (at : Place) (declaration : ℕ) (initial : Initial) (p q : Point) {next : Next} → declares_at program flow routine labels at declaration (Some initial) p q →
       MeetsNext flow q next → MeetsNext flow p (first_initial initial next)
   declares_meet at declaration (Value e) p q it m = used_meets program flow e 0 p _ it (does_meets at 0 _ q refl m)
   declares_meet at declaration (Parts parts) p q it m =
-      same_meets it.1 (does_meets at 0 (graph.Zero declaration) it.0 refl (initial_meets (Parts parts) at declaration (type_in routine declaration) 0 it.0 q it.2 m))
+      same_meets it.1 (does_meets at 0 (graph.Zero declaration) it.0 refl (initial_meets (Parts parts) at declaration it.0 q it.2 m))
   declares_meet at declaration (Bytes bytes) p q it m =
-      same_meets it.1 (does_meets at 0 (graph.Zero declaration) it.0 refl (initial_meets (Bytes bytes) at declaration (type_in routine declaration) 0 it.0 q it.2 m))
+      same_meets it.1 (does_meets at 0 (graph.Zero declaration) it.0 refl (initial_meets (Bytes bytes) at declaration it.0 q it.2 m))
 
   -- the test of a `for`, if it has one, and the body
   pub for_test_meets : (at : Place) (test : Option Typed) (p inside q : Point) {next : Next} → for_test_at program flow at test p inside q → MeetsNext flow inside next → MeetsNext flow p (for_test at test next)

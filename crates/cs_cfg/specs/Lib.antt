@@ -6,6 +6,7 @@ pub mod ControlPoints
 pub mod FlowText
 pub mod GraphPoints
 pub mod Fitting
+pub mod PiecePoints
 pub mod Lowered
 pub mod Placing
 pub mod Executing
