@@ -1,19 +1,52 @@
--- `&&`, `||` and `?:` bring in no control points but their own, where the point behind was made a block, and their ways. For the builder
--- of a graph.
-use Rattle.std.proofs.Common.{ℕ, pos, List, [], ◌∷◌, ◌++◌, refl}
+-- What an expression does with its parts is no control point; `&&`, `||` and `?:` bring in no control points but their own, where the
+-- point behind was made a block, and their ways. For the builder of a graph.
+use Rattle.std.specs.Prelude.{⊤}
+use Rattle.std.proofs.Common.{◌≡◌, Option, Some, None, ℕ, pos, List, [], ◌∷◌, ◌++◌, refl}
 use Rattle.cs_types.specs.Shape.{Shape}
 use Rattle.cs_ast.specs.declared.place.Place.{Place}
-use Rattle.cs_ast.specs.TypedTree.{Typed, Of, Call, And, Or, Choice}
+use Rattle.cs_ast.specs.TypedTree.{Typed, Of, Form, Number, Null, Text, Local, Global, Index, Member, Arrow, Load, Convert, Unary, Not, Binary, Compare, Sum, Difference, And, Or, Choice, Assign, Update, Move, Call, Allocate, Free}
 use Rattle.cs_ast.specs.TypedProgram.{TypedProgram}
 use Rattle.cs_runs.specs.declared.point.PointKind.TheVariants as point
 use Rattle.cs_cfg.specs.Graph as graph
-use Rattle.cs_cfg.specs.Graph.{Point, Flow}
+use Rattle.cs_cfg.specs.Graph.{Work, Point, Flow}
 use Rattle.cs_cfg.specs.ControlPoints.{Next, met, first, tested, ControlPoint, points, points_of}
-use Rattle.cs_cfg.specs.GraphPoints.{MeetsNext}
+use Rattle.cs_cfg.specs.GraphPoints.{met_in, MeetsNext}
 use Rattle.cs_cfg.specs.Fitting.{Brings}
 use Rattle.cs_cfg.specs.Placing.{does, split, used_then, evaluates_form}
+use Rattle.cs_cfg.specs.Standing.{work_of}
 use Rattle.cs_cfg.proofs.Meeting.{judged_meets, known_meets, joined_meets}
 use Rattle.cs_cfg.proofs.Fitting.{includes_none, jump_to, fit_jump, fit_silent, includes_first, includes_second, includes_one, includes_others, fit_split, brings_past}
+
+-- an operation that may be there is no control point
+abbrev pub IsSilent : Place → Option Work → Type 0
+IsSilent at None = ⊤
+IsSilent at (Some work) = met_in at work ≡ None
+
+-- what an expression does with its parts
+pub acts_silently : (program : TypedProgram) (at : Place) (ty : Shape) (form : Form) → IsSilent at (work_of program ty form)
+acts_silently program at ty (Number n) = refl
+acts_silently program at ty Null = refl
+acts_silently program at ty (Text literal) = refl
+acts_silently program at ty (Local declaration) = refl
+acts_silently program at ty (Global global) = refl
+acts_silently program at ty (Index a i order) = refl
+acts_silently program at ty (Member a offset) = refl
+acts_silently program at ty (Arrow a offset) = refl
+acts_silently program at ty (Load a) = refl
+acts_silently program at ty (Convert a) = refl
+acts_silently program at ty (Unary op a) = refl
+acts_silently program at ty (Not a) = refl
+acts_silently program at ty (Binary op a b) = refl
+acts_silently program at ty (Compare op a b) = refl
+acts_silently program at ty (Sum a n direction order) = refl
+acts_silently program at ty (Difference a b) = refl
+acts_silently program at ty (Assign a b) = refl
+acts_silently program at ty (Update op a b works_in gives) = refl
+acts_silently program at ty (Move a n direction gives) = refl
+acts_silently program at ty (Call function arguments) = refl
+acts_silently program at ty (Allocate allocator arguments element) = refl
+acts_silently program at ty (Free a) = refl
+acts_silently program at ty other = tt
 
 -- the use of a value, before further code
 pub brings_use : {flow : Flow} {some : List ControlPoint} {old new : List Point} (e : Typed) (number : ℕ) (q : Point) → Brings flow some (used_then e number q ∷ old) new → Brings flow some (q ∷ old) new

@@ -1,18 +1,16 @@
 -- What is met first where a statement is executed follows from where it is placed. For the control points of placed code.
-use Rattle.std.proofs.Common.{ℕ, zero, suc, ◌+◌, List, [], ◌∷◌, ◌++◌, Option, Some, None, refl, subst}
-use Rattle.cs_types.specs.Shape.{Shape}
+use Rattle.std.proofs.Common.{ℕ, zero, suc, ◌+◌, List, [], ◌∷◌, Option, Some, None, refl, subst}
 use Rattle.cs_ast.specs.declared.place.Place.{Place}
-use Rattle.cs_ast.specs.TypedTree.{Typed, Initial, Value, Parts, Bytes, Initials, NoPart, Part, Statement, Block, Declare, Run, If, IfElse, While, Do, For, Switch, Goto, Label, Break, Continue, Return, Statements, Empty, Then}
+use Rattle.cs_ast.specs.TypedTree.{Typed, Initial, Value, Parts, Bytes, Statement, Block, Declare, Run, If, IfElse, While, Do, For, Switch, Goto, Label, Break, Continue, Return, Statements, Empty, Then}
 use Rattle.cs_ast.specs.TypedProgram.{TypedProgram, Routine}
 use Rattle.cs_runs.specs.declared.point.PointKind.TheVariants as point
-use Rattle.cs_plain.specs.Types.{part_type, part_offset}
-use Rattle.cs_plain.specs.Initials.{Piece, Evaluated, Spelled, pieces, pieces_from}
+use Rattle.cs_plain.specs.Initials.{Piece, Evaluated, Spelled, pieces}
 use Rattle.cs_plain.specs.Machine.{body_of}
 use Rattle.cs_plain.specs.Marks.{marks}
 use Rattle.cs_plain.specs.Jumps.{landing}
 use Rattle.cs_cfg.specs.Graph as graph
 use Rattle.cs_cfg.specs.Graph.{Work, Point, Flow, block_of}
-use Rattle.cs_cfg.specs.ControlPoints.{Next, met, first, first_initial, first_parts, first_some, Targets, for_test, at_label, starts, starts_in, starts_from, in_loop, in_switch}
+use Rattle.cs_cfg.specs.ControlPoints.{Next, met, first_initial, first_some, Targets, for_test, at_label, starts, starts_in, starts_from, in_loop, in_switch}
 use Rattle.cs_cfg.specs.GraphPoints.{MeetsNext}
 use Rattle.cs_cfg.specs.Executing.{type_in, leaving, last_at, for_test_at, stores_at, declares_at, returns_at, goes_to, executes_at, all_at, from_at}
 use Rattle.cs_cfg.specs.PiecePoints.{first_pieces}
