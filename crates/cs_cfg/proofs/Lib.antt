@@ -35,3 +35,4 @@ pub mod Fitting
 pub mod Choosing
 pub mod Bringing
 pub mod Pieces
+mod Unreached
