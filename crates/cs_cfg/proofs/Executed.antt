@@ -122,15 +122,15 @@ module _ (code : Code) (program : TypedProgram) (budgets : RunBudgets) where
     -- a `goto` lands, or goes on
     pub goto_answers : (at : Place) (wanted : ℕ) (found : Option Landing) → landing wanted (body_of (routine_of program m.frame.function)) 0 (at_end (routine_of program m.frame.function)) ≡ found → Executes (Goto at wanted)
     goto_answers at wanted None e it = goes_to_parts (Goto at wanted) items home.out home.again (ap (λ found. lands budgets found (to_do items m)) e)
-        (jumps_to code program home items 0 (goto_goes_on program home.flow (routine_of program m.frame.function) home.lowers.labels wanted (at_end (routine_of program m.frame.function)) p q e it.0) rest)
+        (jumps_to code program home items 0 (goto_goes_on program home.flow (routine_of program m.frame.function) home.lowers.labels wanted (at_end (routine_of program m.frame.function)) p q e it) rest)
     goto_answers at wanted (Some l) e it =
         let routine = routine_of program m.frame.function in
         let label = home.lowers.labels wanted in
         let land = landed home wanted l e in
-        let stays = goto_stays program home.flow routine home.lowers.labels wanted (at_end routine) l q e in
-        let way = goto_jumps program home.flow routine home.lowers.labels wanted (at_end routine) l p q e it.0 in
+        let stays = goto_stays program home.flow routine home.lowers.labels wanted (at_end routine) l p q e it in
+        let way = goto_jumps program home.flow routine home.lowers.labels wanted (at_end routine) l p q e it in
         let told = mark_reached m (home_with home land.out land.again) callers waiting empty l.at point.Label l.mark l.todo land.inside land.stands in
-        arrives code program budgets (to_do (Execute (Goto at wanted) mark ∷ items) m) home p label callers way (empty, (q, (stays, it.1), rest)) waiting
+        arrives code program budgets (to_do (Execute (Goto at wanted) mark ∷ items) m) home p label callers way (empty, (q, stays, rest)) waiting
         (work_answers code program budgets (Execute (Goto at wanted) mark) items m l.at (graph.Reach point.Label l.mark) 0 label land.inside callers empty land.reaches
         (subst (λ found. Tells (Related code program budgets) (lands budgets found (to_do items m)) (reach_mark budgets l.at point.Label l.mark (as_code land.inside callers m))) (sym e) told))
 

@@ -183,15 +183,16 @@ module _ (program : TypedProgram) (flow : Flow) (routine : Routine) (labels : �
   -- one that has a label jumps to it
   somewhere_led : (first : Option Landing) (l : Landing) (label p q : Point) → mark_of first ≡ Some l.mark → goes_to program flow routine labels first label p q → Joins program flow p label
   somewhere_led None l label p q e way = cc
-  somewhere_led (Some l') l label p q e way = way
+  somewhere_led (Some l') l label p q e way = way.0
 
   pub goto_jumps : (wanted : ℕ) (items : List Item) (l : Landing) (p q : Point) → landing wanted (body_of routine) 0 items ≡ Some l → goes_to program flow routine labels (landing wanted (body_of routine) 0 []) (labels wanted) p q → Joins program flow p (labels wanted)
   goto_jumps wanted items l p q e way = somewhere_led (landing wanted (body_of routine) 0 []) l (labels wanted) p q (marked_alike wanted (body_of routine) 0 [] items ∙ ap mark_of e) way
 
   -- a `goto` with a label leads on from the label too
-  stays_led : (first : Option Landing) (l : Landing) (label q : Point) → mark_of first ≡ Some l.mark → goes_to program flow routine labels first label label q
-  stays_led None l label q e = cc
-  stays_led (Some l') l label q e = there
+  stays_led : (first : Option Landing) (l : Landing) (label p q : Point) → mark_of first ≡ Some l.mark → goes_to program flow routine labels first label p q → goes_to program flow routine labels first label label q
+  stays_led None l label p q e way = cc
+  stays_led (Some l') l label p q e way = (there, way.1)
 
-  pub goto_stays : (wanted : ℕ) (items : List Item) (l : Landing) (q : Point) → landing wanted (body_of routine) 0 items ≡ Some l → goes_to program flow routine labels (landing wanted (body_of routine) 0 []) (labels wanted) (labels wanted) q
-  goto_stays wanted items l q e = stays_led (landing wanted (body_of routine) 0 []) l (labels wanted) q (marked_alike wanted (body_of routine) 0 [] items ∙ ap mark_of e)
+  pub goto_stays : (wanted : ℕ) (items : List Item) (l : Landing) (p q : Point) → landing wanted (body_of routine) 0 items ≡ Some l → goes_to program flow routine labels (landing wanted (body_of routine) 0 []) (labels wanted) p q →
+      goes_to program flow routine labels (landing wanted (body_of routine) 0 []) (labels wanted) (labels wanted) q
+  goto_stays wanted items l p q e way = stays_led (landing wanted (body_of routine) 0 []) l (labels wanted) p q (marked_alike wanted (body_of routine) 0 [] items ∙ ap mark_of e) way

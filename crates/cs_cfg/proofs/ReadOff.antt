@@ -55,7 +55,7 @@ module _ (program : TypedProgram) (flow : Flow) (routine : Routine) (body : Stat
       MeetsNext flow q behind → MeetsNext flow p (at_label (landed found) behind)
   goto_meets label None e p q behind it m = joins_meet it m
   goto_meets label (Some l) e p q behind it m =
-      joins_meet it (label_met label l (landing label (body_of routine) 0 (at_end routine)) refl (ap place_of (sym e) ∙ placed_alike label (body_of routine) 0 [] (at_end routine)))
+      joins_meet it.0 (label_met label l (landing label (body_of routine) 0 (at_end routine)) refl (ap place_of (sym e) ∙ placed_alike label (body_of routine) 0 [] (at_end routine)))
 
   -- jumps lead where the targets of the body say
   pub aims : Aims program flow routine lowers.labels (body_targets routine) finishing finishing

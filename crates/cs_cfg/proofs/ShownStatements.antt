@@ -6,6 +6,8 @@ use Rattle.cs_ast.specs.TypedTree.{Typed, Initial, Value, Parts, Bytes, Statemen
 use Rattle.cs_ast.specs.TypedProgram.{TypedProgram, Routine}
 use Rattle.cs_runs.specs.declared.point.PointKind.TheVariants as point
 use Rattle.cs_plain.specs.Initials.{Piece, Evaluated, Spelled, pieces}
+use Rattle.cs_plain.specs.Machine.{body_of}
+use Rattle.cs_plain.specs.Jumps.{Landing, landing}
 use Rattle.cs_plain.specs.Marks.{marks, marks_in}
 use Rattle.cs_plain.specs.Statements.{default_item, count_of}
 use Rattle.cs_cfg.specs.Graph as graph
@@ -13,7 +15,7 @@ use Rattle.cs_cfg.specs.Graph.{Work, Point, Flow, block_of}
 use Rattle.cs_cfg.specs.ControlPoints.{Next, met, tested, ControlPoint, points, points_initial, points_some, Targets, for_tested, for_points, flows, flows_in, in_switch}
 use Rattle.cs_cfg.specs.GraphPoints.{MeetsNext}
 use Rattle.cs_cfg.specs.Placing.{does, split, used}
-use Rattle.cs_cfg.specs.Executing.{type_in, leaving, last_at, for_test_at, stores_at, declares_at, returns_at, executes_at, all_at}
+use Rattle.cs_cfg.specs.Executing.{type_in, leaving, last_at, for_test_at, stores_at, declares_at, goes_to, returns_at, executes_at, all_at}
 use Rattle.cs_cfg.specs.PiecePoints.{points_pieces}
 use Rattle.cs_cfg.proofs.Pieces.{points_same}
 use Rattle.cs_cfg.proofs.Arriving.{from_first}
@@ -93,6 +95,11 @@ module _ (program : TypedProgram) (flow : Flow) where
     returns_shown at None p it kept = walked_none (kept_past at 0 graph.Nothing _ (kept_same it kept))
     returns_shown at (Some e) p it kept = used_walks program flow e 0 p _ it (point_meets at 1 (graph.Meet point.Return) leaving refl) kept
 
+    -- behind a `goto`
+    behind_goto : (found : Option Landing) (label p q : Point) → goes_to program flow routine labels found label p q → Kept program flow p → Kept program flow q
+    behind_goto None label p q it kept = kept_joins it kept
+    behind_goto (Some l) label p q it kept = kept_is it.1
+
     mutual
       -- a statement
       pub executed : (s : Statement) {to : Targets} (mark : ℕ) (out again p q : Point) {next : Next} → Aims program flow routine labels to out again → executes_at program flow routine labels s mark out again p q →
@@ -170,7 +177,7 @@ module _ (program : TypedProgram) (flow : Flow) where
           let inside = all_executed statements mark q again (entries 0) q aims' (from_first program flow routine labels statements mark q again (entries 0) q (it.4 0)) m (kept_is it.7) in
           also (shows_switched program flow routine labels entries (in_switch to next) statements next enters at it.0 it.1 _ (same_meets it.6 (enters (default_item cases (count_of statements)))) cases value_shown.kept it.5)
           (record { kept = inside.kept; shown = shown_both value_shown.shown inside.shown })
-      executed (Goto at label) mark out again p q aims it m kept = walked_none (kept_is it.1)
+      executed (Goto at label) mark out again p q aims it m kept = walked_none (behind_goto (landing label (body_of routine) 0 []) (labels label) p q it kept)
       executed (Label at label body) mark out again p q aims it m kept =
           let work = graph.Reach point.Label mark in
           let at_label = kept_same it.3 (kept_joins it.2 kept) in

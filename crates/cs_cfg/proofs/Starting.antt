@@ -84,7 +84,7 @@ module _ (program : TypedProgram) (flow : Flow) (routine : Routine) (labels : â„
     starts_meet (For at beginning test last body) mark out again p q aims it m =
         all_start beginning (mark + 1) q again p it.0 (aims_in_switch q aims m) it.2 (same_meets it.3.2 (point_meets at 0 (graph.Reach point.Head mark) it.3.0 refl))
     starts_meet (Switch at value cases statements) mark out again p q aims it m = used_meets program flow value 0 p _ it.3 (switch_meets at it.0 it.1)
-    starts_meet (Goto at label) mark out again p q {next = next} aims it m = aims.labels_meet label p q next it.0 m
+    starts_meet (Goto at label) mark out again p q {next = next} aims it m = aims.labels_meet label p q next it m
     starts_meet (Label at label body) mark out again p q aims it m = joins_meet it.2 (same_meets it.3 (point_meets at 0 (graph.Reach point.Label mark) it.1 refl))
     starts_meet (Break at) mark out again p q aims it m = joins_meet it.0 aims.out_meets
     starts_meet (Continue at) mark out again p q aims it m = joins_meet it.0 aims.again_meets

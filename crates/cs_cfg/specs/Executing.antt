@@ -112,7 +112,7 @@ module _ (program : TypedProgram) (flow : Flow) where
     -- a `goto` leads to its label; one whose label isn't there leads on (C11 6.8.6.1)
     abbrev pub goes_to : Option Landing → Point → Point → Point → Type 0
     goes_to None label p q = Joins program flow p q
-    goes_to (Some landing) label p q = Joins program flow p label
+    goes_to (Some landing) label p q = Joins program flow p label × IsKept q
 
     -- a label with a mark is the point to which its `goto`s lead, where it is the first of its name
     abbrev pub is_led_to : Option Landing → ℕ → Point → Point → Type 0
@@ -143,7 +143,7 @@ module _ (program : TypedProgram) (flow : Flow) where
           × ((item : ℕ) → from_at item statements mark q again (entries item) q) × cases_lead entries cases ways
           × (block_of flow otherwise ≡ entries (default_item cases (count_of statements)))
           × IsKept (entries 0)
-      executes_at (Goto at label) mark out again p q = goes_to (landing label (body_of routine) 0 []) (labels label) p q × IsKept q
+      executes_at (Goto at label) mark out again p q = goes_to (landing label (body_of routine) 0 []) (labels label) p q
       executes_at (Label at label body) mark out again p q =
           (head r : Point) × Joins program flow p head × (head ≡ does at 0 (graph.Reach point.Label mark) r)
           × is_led_to (landing label (body_of routine) 0 []) mark (labels label) head × executes_at body (mark + 1) out again r q
