@@ -193,6 +193,13 @@ abbrev pub for_points : Place → Option Typed → List ControlPoint
 for_points at None = []
 for_points at (Some test) = points test (met point.Branch at)
 
+-- the targets inside a loop, and inside a `switch` or the first part of a `for`
+abbrev pub in_loop : Targets → Next → Next → Targets
+in_loop to out again = record to { out = out; again = again }
+
+abbrev pub in_switch : Targets → Next → Targets
+in_switch to out = record to { out = out }
+
 -- a `goto` meets its label; one whose label isn't there leads on (C11 6.8.6.1)
 abbrev pub at_label : Next → Next → Next
 at_label None behind = behind
@@ -209,7 +216,7 @@ abbrev mutual
   starts to (IfElse at test body other) behind = first test (met point.Branch at)
   starts to (While at test body) behind = met point.Head at
   starts to (Do at body test) behind = met point.Head at
-  starts to (For at beginning test last body) behind = starts_in to beginning (met point.Head at)
+  starts to (For at beginning test last body) behind = starts_in (in_switch to behind) beginning (met point.Head at)
   starts to (Switch at value cases statements) behind = first value (met point.Switch at)
   starts to (Goto at label) behind = at_label (to.labels label) behind
   starts to (Label at label body) behind = met point.Label at
@@ -226,13 +233,6 @@ abbrev pub starts_from : Targets → ℕ → Statements → Next → Next
 starts_from to number Empty behind = behind
 starts_from to zero (Then one others) behind = starts_in to (Then one others) behind
 starts_from to (suc number) (Then one others) behind = starts_from to number others behind
-
--- the targets inside a loop, and inside a `switch`
-abbrev pub in_loop : Targets → Next → Next → Targets
-in_loop to out again = record to { out = out; again = again }
-
-abbrev pub in_switch : Targets → Next → Targets
-in_switch to out = record to { out = out }
 
 -- the way of a case, if it has a value, before the ways of others
 abbrev pub with_case : Option ℤ → ℕ → Next → List Way → List Way
@@ -269,7 +269,7 @@ abbrev mutual
   flows to (For at beginning test last body) behind =
       passed point.Head at (for_test at test (starts (in_loop to behind (first_some last (met point.Head at))) body (first_some last (met point.Head at))))
       ∷ (for_tested at test (starts (in_loop to behind (first_some last (met point.Head at))) body (first_some last (met point.Head at))) behind
-      ++ flows_in to beginning (met point.Head at)
+      ++ flows_in (in_switch to behind) beginning (met point.Head at)
       ++ for_points at test
       ++ points_some last (met point.Head at)
       ++ flows (in_loop to behind (first_some last (met point.Head at))) body (first_some last (met point.Head at)))

@@ -37,6 +37,10 @@ module _ (program : TypedProgram) (flow : Flow) where
   abbrev pub falls_to : ℕ → Point → Type 0
   falls_to block q = Joins program flow (block_of flow block) q
 
+  -- code to which nothing leads is in the graph too: the point is a block, or jumps to one
+  abbrev pub IsKept : Point → Type 0
+  IsKept q = (block : ℕ) × Joins program flow q (block_of flow block)
+
   -- a part, and then jumps to a point
   abbrev pub part_to : Part → Point → Point → Point → Point → Type 0
   part_to part out again p q = (v : Point) × part out again p v × Joins program flow v q
@@ -64,7 +68,7 @@ module _ (program : TypedProgram) (flow : Flow) where
 
   -- the test of a `for`, if it has one, before its body
   abbrev pub for_test_at : Place → Option Typed → Point → Point → Point → Type 0
-  for_test_at at None r body q = r ≡ body
+  for_test_at at None r body q = (r ≡ body) × IsKept q
   for_test_at at (Some test) r body q = tests_at at test r (λ one other. (one ≡ body) × Joins program flow other q)
 
   -- a `for` with this head, and with this point behind its body (C11 6.8.5.3)
@@ -108,7 +112,7 @@ module _ (program : TypedProgram) (flow : Flow) where
     -- a `goto` leads to its label; one whose label isn't there leads on (C11 6.8.6.1)
     abbrev pub goes_to : Option Landing → Point → Point → Point → Type 0
     goes_to None label p q = Joins program flow p q
-    goes_to (Some landing) label p q = Joins program flow p label
+    goes_to (Some landing) label p q = Joins program flow p label × IsKept q
 
     -- a label with a mark is the point to which its `goto`s lead, where it is the first of its name
     abbrev pub is_led_to : Option Landing → ℕ → Point → Point → Type 0
@@ -117,7 +121,7 @@ module _ (program : TypedProgram) (flow : Flow) where
 
     abbrev mutual
       -- the point executes a statement, the first mark of which has this number, and then the graph goes on at a point; `break` and
-      -- `continue` lead to two others
+      -- `continue` lead to two others. The first part of a `for` stands in the loop for `break`, and outside of it for `continue`
       pub executes_at : Statement → ℕ → Point → Point → Point → Point → Type 0
       executes_at (Block at statements) mark out again p q = all_at statements mark out again p q
       executes_at (Declare at declaration initial) mark out again p q = declares_at at declaration initial p q
@@ -131,20 +135,21 @@ module _ (program : TypedProgram) (flow : Flow) where
       executes_at (Do at body test) mark out again p q =
           (head test_at : Point) × Joins program flow p head × do_loop at test mark (λ o a x y. executes_at body (mark + 1) o a x y) head test_at q
       executes_at (For at first test last body) mark out again p q =
-          (head last_part : Point) × all_at first (mark + 1) out again p head
+          (head last_part : Point) × all_at first (mark + 1) q again p head
           × for_loop at test last mark (λ o a x y. executes_at body (mark + 1 + marks_in first) o a x y) head last_part q
       executes_at (Switch at value cases statements) mark out again p q =
           (ways : List SwitchCase) × (otherwise : ℕ) × (entries : ℕ → Point)
           × used program flow value 0 p (record { operations = []; end = graph.Switch at 0 ways otherwise })
           × ((item : ℕ) → from_at item statements mark q again (entries item) q) × cases_lead entries cases ways
           × (block_of flow otherwise ≡ entries (default_item cases (count_of statements)))
+          × IsKept (entries 0)
       executes_at (Goto at label) mark out again p q = goes_to (landing label (body_of routine) 0 []) (labels label) p q
       executes_at (Label at label body) mark out again p q =
           (head r : Point) × Joins program flow p head × (head ≡ does at 0 (graph.Reach point.Label mark) r)
           × is_led_to (landing label (body_of routine) 0 []) mark (labels label) head × executes_at body (mark + 1) out again r q
-      executes_at (Break at) mark out again p q = Joins program flow p out
-      executes_at (Continue at) mark out again p q = Joins program flow p again
-      executes_at (Return at value) mark out again p q = returns_at at value p
+      executes_at (Break at) mark out again p q = Joins program flow p out × IsKept q
+      executes_at (Continue at) mark out again p q = Joins program flow p again × IsKept q
+      executes_at (Return at value) mark out again p q = returns_at at value p × IsKept q
 
       -- statements one after another
       pub all_at : Statements → ℕ → Point → Point → Point → Point → Type 0

@@ -45,13 +45,17 @@ pub data MeetsNext (flow : Flow) : Point → Next → Type 0 where
   past_jump : {block : ℕ} {next : Next} → MeetsNext flow (block_of flow block) next → MeetsNext flow (record { operations = []; end = Jump block }) next
   never : MeetsNext flow (record { operations = []; end = Finish }) None
 
--- a point is what is left of some block
-pub record Occurs (flow : Flow) (p : Point) : Type 0 where
-  pub block : Point
-  pub among : Contains flow.blocks block
+-- a point is what is left of a block
+pub record IsRest (block p : Point) : Type 0 where
   pub done : List Operation
   pub left : block.operations ≡ done ++ p.operations
   pub ends : block.end ≡ p.end
+
+-- and this of some block of a graph
+pub record Occurs (flow : Flow) (p : Point) : Type 0 where
+  pub block : Point
+  pub among : Contains flow.blocks block
+  pub rest : IsRest block p
 
 -- the graph has just these control points, and on each way out of each of them meets next just what they say
 pub record HasPoints (flow : Flow) (points : List ControlPoint) : Type 0 where

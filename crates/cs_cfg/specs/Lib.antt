@@ -5,8 +5,11 @@ pub mod CodeSteps
 pub mod ControlPoints
 pub mod FlowText
 pub mod GraphPoints
+pub mod Fitting
+pub mod PiecePoints
 pub mod Lowered
 pub mod Placing
 pub mod Executing
 pub mod Standing
 pub mod Placed
+pub mod Laws

@@ -46,10 +46,8 @@ abbrev pub ReadsOff : Routine → Option Flow → Type 0
 ReadsOff routine None = ⊤
 ReadsOff routine (Some flow) = HasPoints flow (control_points routine)
 
--- the code is the lowering of a program: its runs end as those of the plain machine do, with the same events, paths read and touches;
--- the same is pending at each event; and its control points are those of the statements
-pub record IsLowered (code : Code) (program : TypedProgram) : Type 0 where
-  pub graphs : HasGraphs code program
+-- runs of the code end as those of the plain machine do, with the same events, paths read and touches; the same is pending at each event
+pub record RunsAlike (code : Code) (program : TypedProgram) : Type 0 where
   -- the run of the code ends so where the machine's run does, with the same log
   pub ends : (entry : ℕ) (body : Statement) (run : PlainRun) (budgets : RunBudgets) (outcome : Outcome) (log : Log) →
       (routine_of program entry).body ≡ Some body → RunGives program entry run budgets outcome log → CodeGives code program entry run budgets outcome log
@@ -65,5 +63,10 @@ pub record IsLowered (code : Code) (program : TypedProgram) : Type 0 where
   pub returns : (entry : ℕ) (body : Statement) (run : PlainRun) (budgets : RunBudgets) (what : Returned) (log : Log) → (routine_of program entry).body ≡ Some body →
       (one : RunGives program entry run budgets (Done what) log) (other : CodeGives code program entry run budgets (Done what) log) →
       (returned_value one.last ≡ code_returned other.last) × (one.last.memory ≡ other.last.memory)
+
+-- the code is the lowering of a program: it runs as the plain machine does, and its control points are those of the statements
+pub record IsLowered (code : Code) (program : TypedProgram) : Type 0 where
+  pub graphs : HasGraphs code program
+  pub runs : RunsAlike code program
   -- the control points of each graph are just those of the function's statements, with what is met next on each way
   pub flows : (function : ℕ) → ReadsOff (routine_of program function) (flow_of code function)

@@ -4,6 +4,7 @@
 #![tactic(auto)]
 
 pub mod code;
+pub mod laws;
 pub mod operation;
 
 pub use code::{Block, BlockEnd, Code, Flow, Mark, Spot, SwitchCase};
