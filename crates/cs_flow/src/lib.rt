@@ -1,0 +1,7 @@
+//! The text of a program's flow: for each function its control points, and what is met next on each way out of them.
+#![tactic(auto)]
+
+mod point;
+mod points;
+
+pub use point::{ControlPoint, Exit, Met, Next, Way};
