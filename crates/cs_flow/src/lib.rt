@@ -1,6 +1,7 @@
 //! The text of a program's flow: for each function its control points, and what is met next on each way out of them.
 #![tactic(auto)]
 
+mod expressions;
 mod point;
 mod points;
 
