@@ -1,11 +1,11 @@
-//! The control points of expressions (C11 6.5) and initializers (C11 6.7.9).
+//! The control points of expressions (C11 6.5).
 ghost use Rattle.std.specs.Prelude.{◌≡◌, ◌++◌, ◌∷◌, IfOk, OnOk};
 ghost use Rattle.cs_ast.specs.TypedView.{typed, typed_list, some_typed};
 ghost use Rattle.cs_runs.specs.declared.point.PointKind.TheVariants as kinds;
 ghost use Rattle.cs_cfg.specs.ControlPoints as cfg;
 ghost use Rattle.cs_flow.specs.PointView.{next_of, points_of};
 
-use crate::point::{Met, Next};
+use crate::point::{Next, meets};
 use crate::points::Points;
 use cs_ast::Place;
 use cs_ast::typed::expression::{Expr, ExprKind};
@@ -85,8 +85,7 @@ impl Points {
         ensures first { IfOk result (λ first. next_of first ≡ cfg.first (typed test.now) (cfg.met kinds.Branch place)) }
     {
         self.put_tested(place, one, other)?;
-        let kind = PointKind::Branch;
-        self.expression(test, Some(Met { kind, place }))
+        self.expression(test, meets(PointKind::Branch, place))
     }
 
     /// The same of expressions one after another.
@@ -100,5 +99,16 @@ impl Points {
             next = self.expression(e, next)?;
         }
         Ok(next)
+    }
+
+    /// The same of an expression that may be left out.
+    pub(crate) fn optional(&mut self, e: &Option<Expr>, behind: Next) -> Result<Next, AllocError>
+        ensures points { OnOk result (points_of self.new ≡ cfg.points_some (some_typed e.now) (next_of behind) ++ points_of self.old) }
+        ensures first { IfOk result (λ first. next_of first ≡ cfg.first_some (some_typed e.now) (next_of behind)) }
+    {
+        match e {
+            Some(e) => self.expression(e, behind),
+            None => Ok(behind),
+        }
     }
 }

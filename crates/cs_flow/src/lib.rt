@@ -2,6 +2,7 @@
 #![tactic(auto)]
 
 mod expressions;
+mod initials;
 mod point;
 mod points;
 

@@ -1,4 +1,7 @@
 //! Control points, the ways out of them, and what is met next.
+ghost use Rattle.std.specs.Prelude.{◌≡◌};
+ghost use Rattle.cs_cfg.specs.ControlPoints as cfg;
+ghost use Rattle.cs_flow.specs.PointView.{next_of};
 
 use cs_ast::Place;
 use cs_runs::PointKind;
@@ -12,6 +15,13 @@ pub struct Met {
 
 /// What is met next: nothing where the frame is left without a control point, as behind a `break` that stands in no loop.
 pub type Next = Option<Met>;
+
+/// A control point of a kind at a place, which is met next.
+pub fn meets(kind: PointKind, place: Place) -> Next
+    ensures { next_of result ≡ cfg.met kind place }
+{
+    Some(Met { kind, place })
+}
 
 /// A way out of a control point.
 #[derive(Clone, Copy, Debug, PartialEq, Eq)]
