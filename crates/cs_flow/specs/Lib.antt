@@ -1,1 +1,3 @@
+pub mod LabelView
 pub mod PointView
+pub mod TargetView

@@ -3,7 +3,9 @@
 
 mod expressions;
 mod initials;
+mod labels;
 mod point;
 mod points;
+mod targets;
 
-pub use point::{ControlPoint, Exit, Met, Next, Way};
+pub use point::{ControlPoint, Exit, Met, Next, Way, meets};
