@@ -1,2 +1,3 @@
 pub mod LabelsInPlace
 pub mod RowsFromTheEnd
+pub mod SwitchWays

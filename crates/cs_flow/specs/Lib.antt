@@ -1,3 +1,4 @@
 pub mod LabelView
 pub mod PointView
+pub mod SwitchView
 pub mod TargetView

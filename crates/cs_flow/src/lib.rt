@@ -4,8 +4,11 @@
 mod expressions;
 mod initials;
 mod labels;
+mod loops;
 mod point;
 mod points;
+mod statements;
+mod switches;
 mod targets;
 
 pub use point::{ControlPoint, Exit, Met, Next, Way, meets};

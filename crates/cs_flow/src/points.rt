@@ -1,5 +1,5 @@
 //! The control points of a function, which are found from its end.
-ghost use Rattle.std.specs.Prelude.{◌≡◌, ◌∷◌, List, [], OnOk, map, true, false};
+ghost use Rattle.std.specs.Prelude.{◌≡◌, ◌∷◌, ◌++◌, List, [], OnOk, map, true, false};
 ghost use Rattle.cs_runs.specs.declared.point.PointKind.TheVariants as kinds;
 ghost use Rattle.cs_cfg.specs.ControlPoints as cfg;
 ghost use Rattle.cs_flow.specs.PointView.{next_of, point_of, points_of};
@@ -32,6 +32,16 @@ impl Points {
         ensures { OnOk result (points_of self.new ≡ point_of point ∷ points_of self.old) }
     {
         self.list.push_front(point)?;
+        Ok(())
+    }
+
+    /// Puts other control points before these, in their order.
+    pub(crate) fn put_all(&mut self, mut others: Points) -> Result<(), AllocError>
+        ensures { OnOk result (points_of self.new ≡ points_of others ++ points_of self.old) }
+    {
+        while let Some(point) = others.list.pop_back() {
+            self.put(point)?;
+        }
         Ok(())
     }
 
