@@ -2,3 +2,4 @@ pub mod LabelView
 pub mod PointView
 pub mod SwitchView
 pub mod TargetView
+pub mod WholeFlows

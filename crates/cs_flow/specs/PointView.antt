@@ -1,5 +1,5 @@
 -- Control points seen as those that are read off a function's statements.
-use Rattle.std.specs.Prelude.{List, map, Option}
+use Rattle.std.specs.Prelude.{List, [], map, Option}
 use Rattle.std.specs.Option.{option_map}
 use Rattle.cs_cfg.specs.ControlPoints as cfg
 use Rattle.cs_flow.specs.declared.point.Met.{Met}
@@ -11,6 +11,10 @@ use Rattle.cs_flow.specs.declared.points.Points.{Points}
 
 abbrev pub met_of : Met → cfg.Met
 met_of m = cfg.the_point m.kind m.place
+
+-- a control point whose ways aren't looked at
+abbrev pub from_of : Met → cfg.ControlPoint
+from_of m = record { kind = m.kind; at = m.place; ways = [] }
 
 abbrev pub next_of : Option Met → cfg.Next
 next_of next = option_map met_of next

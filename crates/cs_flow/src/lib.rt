@@ -2,8 +2,11 @@
 #![tactic(auto)]
 
 mod expressions;
+mod flow;
+mod function;
 mod initials;
 mod labels;
+mod lines;
 mod loops;
 mod point;
 mod points;
@@ -11,4 +14,5 @@ mod statements;
 mod switches;
 mod targets;
 
+pub use flow::append_flow;
 pub use point::{ControlPoint, Exit, Met, Next, Way, meets};
