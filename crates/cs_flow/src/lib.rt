@@ -13,6 +13,8 @@ mod points;
 mod statements;
 mod switches;
 mod targets;
+#[cfg(test)]
+mod tests;
 
 pub use flow::append_flow;
 pub use point::{ControlPoint, Exit, Met, Next, Way, meets};
