@@ -1,5 +1,5 @@
 -- What the labels of a function lead to.
-use Rattle.std.specs.Prelude.{ℕ, ◌==◌, nat_eq, List, [], Option, Some, None, if◌then◌else◌}
+use Rattle.std.specs.Prelude.{ℕ, ◌==◌, nat_eq, [], Option, Some, None, if◌then◌else◌}
 use Rattle.std.specs.HashMap.{get}
 use Rattle.cs_ast.specs.declared.place.Place.{Place}
 use Rattle.cs_ast.specs.TypedTree.{Statement, Statements}

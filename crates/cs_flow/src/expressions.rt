@@ -37,13 +37,10 @@ impl Points {
             ExprKind::Index(a, b, Order::AmountFirst) => self.pair(b, a, behind),
             ExprKind::Sum(a, b, _, Order::PointerFirst) => self.pair(a, b, behind),
             ExprKind::Sum(a, b, _, Order::AmountFirst) => self.pair(b, a, behind),
-            ExprKind::Binary(_, a, b) => self.pair(a, b, behind),
-            ExprKind::Compare(_, a, b) => self.pair(a, b, behind),
-            ExprKind::Difference(a, b) => self.pair(a, b, behind),
-            ExprKind::Comma(a, b) => self.pair(a, b, behind),
-            ExprKind::Assign(a, b) => self.pair(a, b, behind),
+            ExprKind::Binary(_, a, b) | ExprKind::Compare(_, a, b) => self.pair(a, b, behind),
+            ExprKind::Difference(a, b) | ExprKind::Comma(a, b) => self.pair(a, b, behind),
+            ExprKind::Assign(a, b) | ExprKind::Move(a, b, _, _) => self.pair(a, b, behind),
             ExprKind::Update(_, a, b, _, _) => self.pair(a, b, behind),
-            ExprKind::Move(a, b, _, _) => self.pair(a, b, behind),
             ExprKind::And(a, b) => {
                 let right = self.expression(b, behind)?;
                 self.test(e.place, a, right, behind)

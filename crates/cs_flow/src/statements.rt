@@ -51,15 +51,28 @@ impl Points {
                 self.switch(place, list, cases, value, to, behind)
             }
             StmtKind::Goto(label) => Ok(to.labels.next(*label).or(behind)),
-            StmtKind::Label(_, body) => {
-                let first = self.statement(body, to, behind)?;
-                self.put_passed(PointKind::Label, place, first)?;
-                Ok(meets(PointKind::Label, place))
-            }
+            StmtKind::Label(_, body) => self.label(place, body, to, behind),
             StmtKind::Break => Ok(to.out),
             StmtKind::Continue => Ok(to.again),
             StmtKind::Return(value) => self.leave(place, value),
         }
+    }
+
+    /// The same of a label and the statement behind it (C11 6.8.1).
+    #[cycle(statement)]
+    fn label(
+        &mut self,
+        place: Place,
+        body: &Stmt,
+        to: Targets<'_>,
+        behind: Next,
+    ) -> Result<Next, AllocError>
+        ensures points { OnOk result (points_of self.new ≡ cfg.passed kinds.Label place (cfg.starts (targets_of to.entry) (statement body.now) (next_of behind)) ∷ (cfg.flows (targets_of to.entry) (statement body.now) (next_of behind) ++ points_of self.old)) }
+        ensures first { IfOk result (λ first. next_of first ≡ cfg.met kinds.Label place) }
+    {
+        let first = self.statement(body, to, behind)?;
+        self.put_passed(PointKind::Label, place, first)?;
+        Ok(meets(PointKind::Label, place))
     }
 
     /// The same of statements one after another.

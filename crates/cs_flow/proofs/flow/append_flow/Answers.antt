@@ -1,4 +1,4 @@
-use Rattle.std.proofs.Common.{◌≡◌, ◌++◌, ap, ◌∙◌, refl, add-one, append_assoc}
+use Rattle.std.proofs.Common.{◌≡◌, add-one, append_assoc}
 use Rattle.cs_ast.specs.TypedProgram.{routine, typed_program}
 use Rattle.cs_flow.specs.WholeFlows.{flow_of, first_flows}
 use Rattle.cs_flow.proofs.FlowsSoFar.{one_more_flow}

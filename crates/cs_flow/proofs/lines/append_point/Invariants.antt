@@ -1,5 +1,5 @@
 -- Printed so far: the lines of the ways before the index.
-use Rattle.std.proofs.Common.{◌≡◌, ◌++◌, map, take, drop}
+use Rattle.std.proofs.Common.{◌≡◌, ◌++◌, map, drop}
 use Rattle.std.specs.List.{flat_map}
 use Rattle.cs_cfg.specs.FlowText.{way_line}
 use Rattle.cs_flow.specs.PointView.{way_of, point_of}

@@ -1,4 +1,4 @@
-use Rattle.std.proofs.Common.{◌≡◌, ◌++◌, ◌∷◌, map, refl, ap, ◌∙◌, append_assoc}
+use Rattle.std.proofs.Common.{◌≡◌, map, refl, ap, ◌∙◌, append_assoc}
 use Rattle.cs_ast.specs.TypedView.{statement_at, statement_list}
 use Rattle.cs_ast.proofs.TypedRows.{statement_at-Block, statement_at-For, statement_at-Switch}
 use Rattle.cs_cfg.specs.ControlPoints.{in_switch}

@@ -12,6 +12,9 @@ use Rattle.cs_flow.proofs.points.Points.+statement.Given as goal
 abbrev pub decreases-statement : goal.decreases-statement
 decreases-statement l = 3 * size-Stmt l.s.now
 
+abbrev pub decreases-label : goal.decreases-label
+decreases-label l = 3 * size-Stmt l.body.now + 1
+
 abbrev pub decreases-while_loop : goal.decreases-while_loop
 decreases-while_loop l = 3 * size-Stmt l.body.now + 1
 
