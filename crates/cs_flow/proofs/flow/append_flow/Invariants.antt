@@ -5,4 +5,4 @@ use Rattle.cs_flow.specs.WholeFlows.{first_flows}
 use Rattle.cs_flow.proofs.flow.append_flow.Given as goal
 
 abbrev pub invariant-loop-function : goal.invariant-loop-function
-invariant-loop-function l = l.out.items ≡ l.initial.out.items ++ first_flows (typed_program l.program) l.function-index
+invariant-loop-function l = l.out.items ≡ l.fn.out.items ++ first_flows (typed_program l.program) l.function-index
