@@ -1,0 +1,4 @@
+pub mod FlowsSoFar
+pub mod LabelsInPlace
+pub mod RowsFromTheEnd
+pub mod SwitchWays

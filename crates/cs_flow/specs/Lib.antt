@@ -1,0 +1,5 @@
+pub mod LabelView
+pub mod PointView
+pub mod SwitchView
+pub mod TargetView
+pub mod WholeFlows

@@ -1,0 +1,38 @@
+//! The control points of initializers (C11 6.7.9).
+ghost use Rattle.std.specs.Prelude.{◌≡◌, ◌++◌, IfOk, OnOk};
+ghost use Rattle.cs_ast.specs.TypedView.{initial, initial_list};
+ghost use Rattle.cs_cfg.specs.ControlPoints as cfg;
+ghost use Rattle.cs_flow.specs.PointView.{next_of, points_of};
+
+use crate::point::Next;
+use crate::points::Points;
+use cs_ast::typed::statement::Initial;
+use std::alloc::AllocError;
+
+impl Points {
+    /// Puts the control points of an initializer before the others, which are met behind it, and gives what is met first.
+    #[cycle(initial)]
+    pub(crate) fn initial(&mut self, first: &Initial, behind: Next) -> Result<Next, AllocError>
+        ensures points { OnOk result (points_of self.new ≡ cfg.points_initial (initial first.now) (next_of behind) ++ points_of self.old) }
+        ensures first { IfOk result (λ first_met. next_of first_met ≡ cfg.first_initial (initial first.now) (next_of behind)) }
+    {
+        match first {
+            Initial::Value(e) => self.expression(e, behind),
+            Initial::List(parts) => self.parts(parts, behind),
+            Initial::Text(_) => Ok(behind),
+        }
+    }
+
+    /// The same of the initializers of parts, which are stored one after another.
+    #[cycle(initial)]
+    fn parts(&mut self, list: &[Initial], behind: Next) -> Result<Next, AllocError>
+        ensures points { OnOk result (points_of self.new ≡ cfg.points_parts (initial_list list.now) (next_of behind) ++ points_of self.old) }
+        ensures first { IfOk result (λ first_met. next_of first_met ≡ cfg.first_parts (initial_list list.now) (next_of behind)) }
+    {
+        let mut next = behind;
+        for part in list.iter().rev() {
+            next = self.initial(part, next)?;
+        }
+        Ok(next)
+    }
+}

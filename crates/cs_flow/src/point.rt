@@ -1,0 +1,50 @@
+//! Control points, the ways out of them, and what is met next.
+ghost use Rattle.std.specs.Prelude.{◌≡◌};
+ghost use Rattle.cs_cfg.specs.ControlPoints as cfg;
+ghost use Rattle.cs_flow.specs.PointView.{next_of};
+
+use cs_ast::Place;
+use cs_runs::PointKind;
+
+/// A control point that a run meets.
+#[derive(Clone, Copy, Debug, PartialEq, Eq)]
+pub struct Met {
+    pub kind: PointKind,
+    pub place: Place,
+}
+
+/// What is met next: nothing where the frame is left without a control point, as behind a `break` that stands in no loop.
+pub type Next = Option<Met>;
+
+/// A control point of a kind at a place, which is met next.
+pub fn meets(kind: PointKind, place: Place) -> Next
+    ensures { next_of result ≡ cfg.met kind place }
+{
+    Some(Met { kind, place })
+}
+
+/// A way out of a control point.
+#[derive(Clone, Copy, Debug, PartialEq, Eq)]
+pub enum Exit {
+    /// The one way there is.
+    Onward,
+    /// Where a test holds, or where it doesn't.
+    Truth(bool),
+    /// A case of a `switch`, by its number among those with a value.
+    Case(usize),
+}
+
+/// A way out of a control point, and what is met next.
+#[derive(Clone, Copy, Debug, PartialEq, Eq)]
+pub struct Way {
+    pub exit: Exit,
+    pub next: Next,
+}
+
+/// A control point with its ways.
+#[derive(Drop)]
+pub struct ControlPoint {
+    pub kind: PointKind,
+    pub place: Place,
+    pub ways: Vec<Way>,
+}

@@ -1,0 +1,93 @@
+//! The control points of a function, which are found from its end.
+ghost use Rattle.std.specs.Prelude.{◌≡◌, ◌∷◌, ◌++◌, List, [], OnOk, map, true, false};
+ghost use Rattle.cs_runs.specs.declared.point.PointKind.TheVariants as kinds;
+ghost use Rattle.cs_cfg.specs.ControlPoints as cfg;
+ghost use Rattle.cs_flow.specs.PointView.{next_of, point_of, points_of};
+
+use crate::point::{ControlPoint, Exit, Next, Way};
+use cs_ast::Place;
+use cs_runs::PointKind;
+use std::alloc::{AllocError, Global};
+use std::collections::VecDeque;
+
+/// Control points in the order in which they stand in the file. What comes before them is put before them, so that all that is met
+/// behind a part of a function is known where its points are made.
+#[derive(Drop)]
+pub(crate) struct Points {
+    pub(crate) list: VecDeque<ControlPoint>,
+}
+
+impl Points {
+    /// No control points.
+    pub(crate) fn new(alloc: Global) -> Points
+        ensures { points_of result ≡ [] }
+    {
+        Points {
+            list: VecDeque::new(alloc),
+        }
+    }
+
+    /// Puts a control point before the others.
+    pub(crate) fn put(&mut self, point: ControlPoint) -> Result<(), AllocError>
+        ensures { OnOk result (points_of self.new ≡ point_of point ∷ points_of self.old) }
+    {
+        self.list.push_front(point)?;
+        Ok(())
+    }
+
+    /// Puts other control points before these, in their order.
+    pub(crate) fn put_all(&mut self, mut others: Points) -> Result<(), AllocError>
+        ensures { OnOk result (points_of self.new ≡ points_of others ++ points_of self.old) }
+    {
+        while let Some(point) = others.list.pop_back() {
+            self.put(point)?;
+        }
+        Ok(())
+    }
+
+    /// Puts a control point with one way before the others.
+    pub(crate) fn put_passed(
+        &mut self,
+        kind: PointKind,
+        place: Place,
+        next: Next,
+    ) -> Result<(), AllocError>
+        ensures { OnOk result (points_of self.new ≡ cfg.passed kind place (next_of next) ∷ points_of self.old) }
+    {
+        let alloc = *self.list.allocator();
+        let exit = Exit::Onward;
+        let ways = vec![in alloc; Way { exit, next }]?;
+        self.put(ControlPoint { kind, place, ways })
+    }
+
+    /// Puts a test before the others: what is met where it holds, and where it doesn't.
+    pub(crate) fn put_tested(
+        &mut self,
+        place: Place,
+        one: Next,
+        other: Next,
+    ) -> Result<(), AllocError>
+        ensures { OnOk result (points_of self.new ≡ cfg.tested place (next_of one) (next_of other) ∷ points_of self.old) }
+    {
+        let alloc = *self.list.allocator();
+        let holds = Way {
+            exit: Exit::Truth(true),
+            next: one,
+        };
+        let fails = Way {
+            exit: Exit::Truth(false),
+            next: other,
+        };
+        let ways = vec![in alloc; holds, fails]?;
+        let kind = PointKind::Branch;
+        self.put(ControlPoint { kind, place, ways })
+    }
+
+    /// Puts a control point before the others, behind which nothing of the function is met.
+    pub(crate) fn put_last(&mut self, kind: PointKind, place: Place) -> Result<(), AllocError>
+        ensures { OnOk result (points_of self.new ≡ cfg.last_point kind place ∷ points_of self.old) }
+    {
+        let ways = Vec::new(*self.list.allocator());
+        self.put(ControlPoint { kind, place, ways })
+    }
+}

@@ -1,0 +1,122 @@
+//! The control points of statements (C11 6.8).
+ghost use Rattle.std.specs.Prelude.{◌≡◌, ◌++◌, ◌∷◌, IfOk, OnOk};
+ghost use Rattle.cs_ast.specs.TypedView.{typed, some_typed, statement, statement_list};
+ghost use Rattle.cs_runs.specs.declared.point.PointKind.TheVariants as kinds;
+ghost use Rattle.cs_cfg.specs.ControlPoints as cfg;
+ghost use Rattle.cs_flow.specs.PointView.{next_of, points_of};
+ghost use Rattle.cs_flow.specs.TargetView.{targets_of};
+
+use crate::point::{Next, meets};
+use crate::points::Points;
+use crate::targets::Targets;
+use cs_ast::Place;
+use cs_ast::typed::expression::Expr;
+use cs_ast::typed::statement::{Stmt, StmtKind};
+use cs_runs::PointKind;
+use std::alloc::AllocError;
+
+impl Points {
+    /// Puts the control points of a statement before the others, which are met behind it, and gives what is met first.
+    #[cycle(statement)]
+    pub(crate) fn statement(
+        &mut self,
+        s: &Stmt,
+        to: Targets<'_>,
+        behind: Next,
+    ) -> Result<Next, AllocError>
+        ensures points { OnOk result (points_of self.new ≡ cfg.flows (targets_of to.entry) (statement s.now) (next_of behind) ++ points_of self.old) }
+        ensures first { IfOk result (λ first. next_of first ≡ cfg.starts (targets_of to.entry) (statement s.now) (next_of behind)) }
+    {
+        let place = s.place;
+        match &s.kind {
+            StmtKind::Block(list) => self.statements(list, to, behind),
+            StmtKind::Declare(_, Some(initial)) => self.initial(initial, behind),
+            StmtKind::Declare(_, None) => Ok(behind),
+            StmtKind::Run(e) => self.expression(e, behind),
+            StmtKind::If(test, body) => {
+                let one = self.statement(body, to, behind)?;
+                self.decision(place, test, one, behind)
+            }
+            StmtKind::IfElse(test, body, other) => {
+                let other = self.statement(other, to, behind)?;
+                let one = self.statement(body, to, behind)?;
+                self.decision(place, test, one, other)
+            }
+            StmtKind::While(test, body) => self.while_loop(place, test, body, to, behind),
+            StmtKind::Do(body, test) => self.do_loop(place, body, test, to, behind),
+            StmtKind::For(first, test, last, body) => {
+                self.for_loop(place, first, test, last, body, to, behind)
+            }
+            StmtKind::Switch(value, cases, list) => {
+                self.switch(place, list, cases, value, to, behind)
+            }
+            StmtKind::Goto(label) => Ok(to.labels.next(*label).or(behind)),
+            StmtKind::Label(_, body) => self.label(place, body, to, behind),
+            StmtKind::Break => Ok(to.out),
+            StmtKind::Continue => Ok(to.again),
+            StmtKind::Return(value) => self.leave(place, value),
+        }
+    }
+
+    /// The same of a label and the statement behind it (C11 6.8.1).
+    #[cycle(statement)]
+    fn label(
+        &mut self,
+        place: Place,
+        body: &Stmt,
+        to: Targets<'_>,
+        behind: Next,
+    ) -> Result<Next, AllocError>
+        ensures points { OnOk result (points_of self.new ≡ cfg.passed kinds.Label place (cfg.starts (targets_of to.entry) (statement body.now) (next_of behind)) ∷ (cfg.flows (targets_of to.entry) (statement body.now) (next_of behind) ++ points_of self.old)) }
+        ensures first { IfOk result (λ first. next_of first ≡ cfg.met kinds.Label place) }
+    {
+        let first = self.statement(body, to, behind)?;
+        self.put_passed(PointKind::Label, place, first)?;
+        Ok(meets(PointKind::Label, place))
+    }
+
+    /// The same of statements one after another.
+    #[cycle(statement)]
+    pub(crate) fn statements(
+        &mut self,
+        list: &[Stmt],
+        to: Targets<'_>,
+        behind: Next,
+    ) -> Result<Next, AllocError>
+        ensures points { OnOk result (points_of self.new ≡ cfg.flows_in (targets_of to.entry) (statement_list list.now) (next_of behind) ++ points_of self.old) }
+        ensures first { IfOk result (λ first. next_of first ≡ cfg.starts_in (targets_of to.entry) (statement_list list.now) (next_of behind)) }
+    {
+        let mut next = behind;
+        for s in list.iter().rev() {
+            next = self.statement(s, to, next)?;
+        }
+        Ok(next)
+    }
+
+    /// The same of the test at the place of a statement: what is met where it holds, and where it doesn't. Its ways stand before the
+    /// control points in the test.
+    pub(crate) fn decision(
+        &mut self,
+        place: Place,
+        test: &Expr,
+        one: Next,
+        other: Next,
+    ) -> Result<Next, AllocError>
+        ensures points { OnOk result (points_of self.new ≡ cfg.tested place (next_of one) (next_of other) ∷ (cfg.points (typed test.now) (cfg.met kinds.Branch place) ++ points_of self.old)) }
+        ensures first { IfOk result (λ first. next_of first ≡ cfg.first (typed test.now) (cfg.met kinds.Branch place)) }
+    {
+        let first = self.expression(test, meets(PointKind::Branch, place))?;
+        self.put_tested(place, one, other)?;
+        Ok(first)
+    }
+
+    /// The same of a `return` (C11 6.8.6.4), behind which nothing of the function is met.
+    fn leave(&mut self, place: Place, value: &Option<Expr>) -> Result<Next, AllocError>
+        ensures points { OnOk result (points_of self.new ≡ cfg.last_point kinds.Return place ∷ (cfg.points_some (some_typed value.now) (cfg.met kinds.Return place) ++ points_of self.old)) }
+        ensures first { IfOk result (λ first. next_of first ≡ cfg.first_some (some_typed value.now) (cfg.met kinds.Return place)) }
+    {
+        let first = self.optional(value, meets(PointKind::Return, place))?;
+        self.put_last(PointKind::Return, place)?;
+        Ok(first)
+    }
+}
