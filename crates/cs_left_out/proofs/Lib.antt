@@ -7,3 +7,5 @@ pub mod InsideBodies
 pub mod Longer
 pub mod InsideDeclarations
 pub mod InsideFiles
+pub mod ListTraces
+pub mod ListFiles

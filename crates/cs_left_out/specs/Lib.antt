@@ -1,3 +1,4 @@
+pub mod Awaiting
 pub mod Spots
 pub mod Readings
 pub mod Sites

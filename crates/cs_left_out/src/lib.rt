@@ -2,7 +2,9 @@
 #![tactic(auto)]
 
 mod inside;
+mod lists;
 mod members;
 
 pub use inside::is_inside;
+pub use lists::awaits_list;
 pub use members::is_behind_member;
