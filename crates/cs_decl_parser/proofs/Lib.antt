@@ -29,4 +29,5 @@ pub mod AptReasons
 pub mod InBodies
 pub mod FileReasonsHere
 pub mod ToldReasons
+pub mod GoingOn
 pub mod WholeFiles

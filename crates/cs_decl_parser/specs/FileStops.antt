@@ -19,10 +19,12 @@ is_file_word (token.Keyword keyword.Static) = true
 is_file_word (token.Keyword keyword.Typedef) = true
 is_file_word other = false
 
--- whether the token is left out isn't told by the parts of the parser: the tokens before it tell it of a colon, of `static` and of
--- `typedef`
+-- whether the token is left out isn't told by the parts of the parser: the tokens before it tell it of a colon, of `static`, of
+-- `typedef`, of a dot and of an opening bracket
 abbrev pub is_left_out_behind : TokenKind → Bool
 is_left_out_behind (token.Mark mark.Colon) = true
+is_left_out_behind (token.Mark mark.Dot) = true
+is_left_out_behind (token.Mark mark.OpenBracket) = true
 is_left_out_behind (token.Mark other) = is_left_out_by_place (token.Mark other)
 is_left_out_behind other = is_file_word other
 

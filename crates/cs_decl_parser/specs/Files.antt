@@ -36,8 +36,6 @@ pub record IsTheFile (tokens : List Token) (file : List External) : Type 0 where
 abbrev pub is_left_out_by_place : TokenKind → Bool
 is_left_out_by_place (token.Mark mark.OpenBrace) = true
 is_left_out_by_place (token.Mark mark.OpenParenthesis) = true
-is_left_out_by_place (token.Mark mark.Dot) = true
-is_left_out_by_place (token.Mark mark.OpenBracket) = true
 is_left_out_by_place other = false
 
 -- a token, or the end of input, is refused: a file that is low enough begins with the tokens before it, and none with the token

@@ -3,7 +3,7 @@ use Rattle.std.proofs.Common.{◌≤◌, ◌-◌, length}
 use Rattle.cs_decl_parser.specs.Files.{parts_of}
 use Rattle.cs_decl_parser.proofs.FileSites.{PartsSoFar}
 use Rattle.cs_decl_parser.proofs.PlacingFiles.{PartsPlaced}
-use Rattle.cs_decl_parser.proofs.file.externals.Given as goal
+use Rattle.cs_decl_parser.proofs.externals.externals.Given as goal
 
 abbrev pub invariant-file : goal.invariant-file
 invariant-file l = record {

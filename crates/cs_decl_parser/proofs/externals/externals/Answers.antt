@@ -6,7 +6,7 @@ use Rattle.cs_decl_parser.specs.Files.{parts_of}
 use Rattle.cs_decl_parser.specs.FileStops.{FileAnswer}
 use Rattle.cs_decl_parser.proofs.FileSites.{PartsSoFar, parts_none, file_stops, parts_more, file_taken}
 use Rattle.cs_decl_parser.proofs.PlacingFiles.{parts_begun, parts_go_on}
-use Rattle.cs_decl_parser.proofs.file.externals.Goals as goal
+use Rattle.cs_decl_parser.proofs.externals.externals.Goals as goal
 
 pub file-init : goal.file-init
 file-init c = record {
