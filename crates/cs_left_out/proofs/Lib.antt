@@ -9,3 +9,4 @@ pub mod InsideDeclarations
 pub mod InsideFiles
 pub mod ListTraces
 pub mod ListFiles
+pub mod TypeTraces

@@ -1,3 +1,4 @@
+pub mod Parentheses
 pub mod Awaiting
 pub mod Spots
 pub mod Readings

@@ -4,7 +4,9 @@
 mod inside;
 mod lists;
 mod members;
+mod types;
 
 pub use inside::is_inside;
 pub use lists::awaits_list;
 pub use members::is_behind_member;
+pub use types::closes_type;
