@@ -1,6 +1,6 @@
 -- Whether a file goes on with a token, by what the parser answers of the tokens with that one behind them: for the contract of
 -- `file_goes_on`.
-use Rattle.std.proofs.Common.{◌≡◌, ℕ, suc, ◌+◌, ◌<◌, ◌≤◌, ◌↔◌, Bool, true, false, IsTrue, ◌||◌, inl, inr, List, [], ◌∷◌, ◌++◌, length, drop, refl, sym, ap, ◌∙◌, subst, arith, append_assoc, append-nil, length-drop}
+use Rattle.std.proofs.Common.{◌≡◌, ℕ, zero, suc, ◌+◌, ◌<◌, ◌≤◌, ◌↔◌, Bool, true, false, IsTrue, ◌||◌, inl, inr, List, [], ◌∷◌, ◌++◌, length, drop, refl, sym, ap, ◌∙◌, subst, arith, append_assoc, append-nil, length-drop}
 use Rattle.std.proofs.lemmas.Bool.{false≢true, cases_lt}
 use Rattle.std.proofs.lemmas.List.{append_cancel_right, map-append}
 use Rattle.std.proofs.Math.ListN.{drop_of_length-le}
@@ -29,7 +29,7 @@ goes_on_whole before next file f = record {
 }
 
 drop_behind : (at : ℕ) (before : List Token) (next : Token) → at ≤ length before → drop at (before ++ next ∷ []) ≡ drop at before ++ next ∷ []
-drop_behind 0 before next less = refl
+drop_behind zero before next less = refl
 drop_behind (suc at) [] next less = absurd (omega (arith, less))
 drop_behind (suc at) (t ∷ before) next less = drop_behind at before next (omega (arith, less))
 

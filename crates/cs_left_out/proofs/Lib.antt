@@ -10,3 +10,4 @@ pub mod InsideFiles
 pub mod ListTraces
 pub mod ListFiles
 pub mod TypeTraces
+pub mod TypeFiles

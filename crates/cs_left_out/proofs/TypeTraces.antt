@@ -209,11 +209,11 @@ type_opens names s (word.Typedef n ∷ ws) ps ts rs is t =
 type_opens names s (word.Struct n ∷ ws) ps ts rs is t = (refl, (refl, words_calm names true s ws ps ts rs t Name refl))
 type_opens names s (word.Enum n ∷ ws) ps ts rs is t = (refl, (refl, words_calm names true s ws ps ts rs t Name refl))
 
-abbrev left : TokenKind
-left = token.Mark mark.OpenParenthesis
+abbrev open_mark : TokenKind
+open_mark = token.Mark mark.OpenParenthesis
 
-abbrev right : TokenKind
-right = token.Mark mark.CloseParenthesis
+abbrev close_mark : TokenKind
+close_mark = token.Mark mark.CloseParenthesis
 
 abbrev bracket : TokenKind
 bracket = token.Mark mark.OpenBracket
@@ -228,13 +228,13 @@ mutual
   expression_trace names h s (Character v) ts rs is t b a = (refl, t Other refl)
   expression_trace names h s (Literal x) ts rs is t b a = (refl, t Other refl)
   expression_trace names h s (Enclosed i) ts rs is t b a =
-      (refl, expression_trace names false (h ∷ s) i (right ∷ ts) (in_expression ∷ rs) is (λ c o. (refl, t Other refl)) (opening b) (opened_apart b))
+      (refl, expression_trace names false (h ∷ s) i (close_mark ∷ ts) (in_expression ∷ rs) is (λ c o. (refl, t Other refl)) (opening b) (opened_apart b))
   expression_trace names h s (Index array n) ts rs is t b a =
       expression_trace names h s array (bracket ∷ text n (bracketed ∷ ts)) (in_expression ∷ roles n (in_expression ∷ rs)) is.1
       (λ c o. (refl, expression_trace names h s n (bracketed ∷ ts) (in_expression ∷ rs) is.2 (λ d p. (refl, t Other refl)) Other refl)) b a
   expression_trace names h s (Call f es) ts rs is t b a =
-      expression_trace names h s f (left ∷ listed es (right ∷ ts)) (in_expression ∷ roles_listed es (in_expression ∷ rs)) is.1
-      (λ c o. (refl, listed_trace names false (h ∷ s) es (right ∷ ts) (in_expression ∷ rs) is.2 (λ d. (refl, t Other refl)) (opening c) (opened_apart c))) b a
+      expression_trace names h s f (open_mark ∷ listed es (close_mark ∷ ts)) (in_expression ∷ roles_listed es (in_expression ∷ rs)) is.1
+      (λ c o. (refl, listed_trace names false (h ∷ s) es (close_mark ∷ ts) (in_expression ∷ rs) is.2 (λ d. (refl, t Other refl)) (opening c) (opened_apart c))) b a
   expression_trace names h s (Member o n) ts rs is t b a =
       expression_trace names h s o (token.Mark mark.Dot ∷ token.Name n ∷ ts) (in_expression ∷ in_expression ∷ rs) is.1 (λ c p. (refl, (refl, t Name refl))) b a
   expression_trace names h s (Arrow o n) ts rs is t b a =
@@ -249,17 +249,17 @@ mutual
       (refl, by_word names b Other false h s (text o ts) (roles o rs) refl (expression_trace names h s o ts rs is.1 t Other refl))
   expression_trace names h s (SizeOfType ws ps bs) ts rs is t b a = (
     refl,
-    by_word names b Other false h s (left ∷ words_text ws (pointers_text ps (bounds_text bs (right ∷ ts)))) (in_expression ∷ type_roles ws ps (roles_of_bounds bs (closes_type ∷ rs))) refl (
+    by_word names b Other false h s (open_mark ∷ words_text ws (pointers_text ps (bounds_text bs (close_mark ∷ ts)))) (in_expression ∷ type_roles ws ps (roles_of_bounds bs (closes_type ∷ rs))) refl (
       refl,
-      type_opens names (h ∷ s) ws ps (bounds_text bs (right ∷ ts)) (roles_of_bounds bs (closes_type ∷ rs)) is.0
-          (bounds_calm names true (h ∷ s) bs (right ∷ ts) (closes_type ∷ rs) is.2 (λ c o. (refl, t Other refl))),
+      type_opens names (h ∷ s) ws ps (bounds_text bs (close_mark ∷ ts)) (roles_of_bounds bs (closes_type ∷ rs)) is.0
+          (bounds_calm names true (h ∷ s) bs (close_mark ∷ ts) (closes_type ∷ rs) is.2 (λ c o. (refl, t Other refl))),
     ),
   )
   expression_trace names h s (Cast ws ps bs o) ts rs is t b a = (
     refl,
-    by_opening names b false (h ∷ s) (words_text ws (pointers_text ps (bounds_text bs (right ∷ text o ts)))) (type_roles ws ps (roles_of_bounds bs (closes_type ∷ roles o rs))) a
-        (type_opens names (h ∷ s) ws ps (bounds_text bs (right ∷ text o ts)) (roles_of_bounds bs (closes_type ∷ roles o rs)) is.0
-        (bounds_calm names true (h ∷ s) bs (right ∷ text o ts) (closes_type ∷ roles o rs) is.2 (λ c p. (refl, expression_trace names h s o ts rs is.4 t Other refl)))),
+    by_opening names b false (h ∷ s) (words_text ws (pointers_text ps (bounds_text bs (close_mark ∷ text o ts)))) (type_roles ws ps (roles_of_bounds bs (closes_type ∷ roles o rs))) a
+        (type_opens names (h ∷ s) ws ps (bounds_text bs (close_mark ∷ text o ts)) (roles_of_bounds bs (closes_type ∷ roles o rs)) is.0
+        (bounds_calm names true (h ∷ s) bs (close_mark ∷ text o ts) (closes_type ∷ roles o rs) is.2 (λ c p. (refl, expression_trace names h s o ts rs is.4 t Other refl)))),
   )
   expression_trace names h s (Infix op l r) ts rs is t b a =
       expression_trace names h s l (token.Mark (infix_mark op) ∷ text r ts) (in_expression ∷ roles r rs) is.1
