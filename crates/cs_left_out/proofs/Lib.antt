@@ -11,3 +11,4 @@ pub mod ListTraces
 pub mod ListFiles
 pub mod TypeTraces
 pub mod TypeFiles
+pub mod Tags

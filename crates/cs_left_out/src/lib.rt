@@ -6,7 +6,7 @@ mod lists;
 mod members;
 mod types;
 
-pub use inside::is_inside;
+pub use inside::{is_inside, is_tag_inside};
 pub use lists::awaits_list;
 pub use members::is_behind_member;
 pub use types::closes_type;
