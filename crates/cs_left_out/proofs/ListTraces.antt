@@ -19,7 +19,7 @@ use Rattle.cs_ast.specs.declared.raw.written_type.IntegerWord.TheVariants.{Char,
 use Rattle.cs_ast.specs.declared.raw.written_type.PointerWord.{PointerWord}
 use Rattle.cs_ast.specs.declared.raw.written_type.PointerWord.TheVariants as pointer
 use Rattle.cs_ast.specs.RawTree.{Written, WrittenList, Named, Numeral, Character, Literal, Enclosed, Index, Call, Member, Arrow, StepBehind, StepBefore, Prefix, SizeOf, SizeOfType, Cast, Infix, Choice, Assign, Comma, End, More}
-use Rattle.cs_ast.specs.RawDeclarations.{Declarator, Constant, Spec, Static, Plain, StructBody, EnumBody, Specs, NoSpec, MoreSpecs, Members, NoMember, MoreMembers, Initial, Single, Listed, Initials, NoItem as NoInitial, MoreItems as MoreInitials, Declared}
+use Rattle.cs_ast.specs.RawDeclarations.{Spec, Static, Plain, StructBody, EnumBody, Specs, NoSpec, MoreSpecs, Members, NoMember, MoreMembers, Initial, Single, Listed, Initials, NoItem as NoInitial, MoreItems as MoreInitials}
 use Rattle.cs_grammar.specs.Marks.{step_mark, prefix_mark, infix_mark, assign_mark}
 use Rattle.cs_grammar.specs.Text.{Kinds, text, listed, behind_commas, bounds_text, words_text, pointers_text, type_word_text, integer_word_text}
 use Rattle.cs_grammar.specs.FileText.{name_text, some_text, comma_text, each_behind_comma, with_commas, brackets_text, declarator_text, value_text, constant_text, spec_text, specs_text, members_text, initial_text, initials_text, further_initials_text, first_value_text, declared_text}

@@ -1,29 +1,26 @@
 -- The tokens of declarations, statements and parts of files beside their roles: where a parenthesis closes a type. For the contract
 -- of `closes_type`.
-use Rattle.std.proofs.Common.{◌≡◌, ℕ, zero, suc, ◌↔◌, Bool, true, false, IsTrue, List, [], ◌∷◌, ◌++◌, Option, Some, None, MatchOption, length, slice_get, refl, sym, ap, ◌∙◌, subst, arith}
+use Rattle.std.proofs.Common.{◌≡◌, ℕ, zero, suc, Bool, true, false, IsTrue, List, [], ◌∷◌, ◌++◌, Option, Some, None, MatchOption, length, slice_get, refl, sym, ap, ◌∙◌, subst, arith}
 use Rattle.std.proofs.lemmas.Bool.{false≢true}
-use Rattle.cs_ast.specs.declared.token.TokenKind.{TokenKind}
 use Rattle.cs_ast.specs.declared.token.TokenKind.TheVariants as token
 use Rattle.cs_ast.specs.declared.token.Keyword.{Keyword}
 use Rattle.cs_ast.specs.declared.token.Keyword.TheVariants as keyword
 use Rattle.cs_ast.specs.declared.token.Mark.{Mark}
 use Rattle.cs_ast.specs.declared.token.Mark.TheVariants as mark
-use Rattle.cs_ast.specs.declared.raw.written_type.TypeWord.{TypeWord}
 use Rattle.cs_ast.specs.RawTree.{Written}
-use Rattle.cs_ast.specs.RawDeclarations.{Declarator, Constant, Spec, Static, Plain, StructBody, EnumBody, Specs, NoSpec, MoreSpecs, Members, NoMember, MoreMembers, Initial, Single, Listed, Initials, NoItem as NoInitial, MoreItems as MoreInitials, Declared, Parameter, Parameters, NoParameter, VoidAlone, ParameterList, Head}
+use Rattle.cs_ast.specs.RawDeclarations.{Declarator, Spec, Static, Plain, StructBody, EnumBody, Specs, NoSpec, MoreSpecs, Members, NoMember, MoreMembers, Initial, Single, Listed, Initials, NoItem as NoInitial, MoreItems as MoreInitials, Declared, Parameters, NoParameter, VoidAlone, ParameterList, Head}
 use Rattle.cs_ast.specs.RawStatements.{First, NoFirst, FirstRuns, FirstDeclares, Sentence, Block, Nothing, Runs, If, IfElse, While, Do, For, Switch, Goto, Continue, Break, Return, Label, Item, Declares, Does, Items, NoItem, MoreItems, SwitchItem, Case, Default, Inside, SwitchItems, NoSwitchItem, MoreSwitchItems, External, TypeAlone, Typedef, Objects, Function, Definition}
 use Rattle.cs_grammar.specs.TypeWords.{Names, is_among, is_type}
 use Rattle.cs_grammar.specs.Levels.{CHOICE, COMMA}
-use Rattle.cs_grammar.specs.Text.{Kinds, text, pointers_text}
-use Rattle.cs_grammar.specs.FileText.{name_text, some_text, comma_text, each_behind_comma, with_commas, brackets_text, declarator_text, value_text, constant_text, spec_text, specs_text, members_text, initial_text, initials_text, further_initials_text, first_value_text, declared_text, declaration_text, parameter_text, parameters_text, head_text, first_text, test_text, sentence_text, item_text, items_text, switch_item_text, switch_text, external_text}
+use Rattle.cs_grammar.specs.Text.{Kinds, pointers_text}
+use Rattle.cs_grammar.specs.FileText.{name_text, some_text, comma_text, each_behind_comma, with_commas, brackets_text, declarator_text, value_text, constant_text, spec_text, specs_text, members_text, initial_text, further_initials_text, first_value_text, declared_text, declaration_text, parameter_text, parameters_text, head_text, first_text, test_text, sentence_text, item_text, items_text, switch_item_text, switch_text, external_text}
 use Rattle.cs_grammar.specs.Phrases.{IsWell, IsPhrase}
-use Rattle.cs_grammar.specs.FilePhrases.{AreAll, IsBound, IsFullBound, IsDeclaratorOf, IsFree, IsDeclarator, IsMember, IsConstant, HaveBodies, HasBody, AreMembers, AreBlockSpecs, IsInitial, AreInitials, IsDeclared, AreDeclared, IsParameter, AreParameters, IsHead, IsAny, IsFirst, IsSentence, IsItem, AreItems, IsSwitchItem, AreSwitchItems, IsExternal}
-use Rattle.cs_grammar.specs.Roles.{Role, closes_type, another, behind_member, declared_name, opens_list, Roles, each, roles, some_roles, comma_roles, each_behind, between, brackets_roles, declarator_roles, value_roles, constant_roles, spec_roles, specs_roles, members_roles, initial_roles, initials_roles, further_initials_roles, first_value_roles, declared_roles, declaration_roles, name_roles, parameter_roles, parameters_roles, head_roles, first_roles, test_roles, sentence_roles, item_roles, items_roles, switch_item_roles, switch_roles, external_roles}
-use Rattle.cs_left_out.specs.declared.types.Behind.{Behind}
+use Rattle.cs_grammar.specs.FilePhrases.{AreAll, IsBound, IsFullBound, IsDeclarator, IsMember, IsConstant, HaveBodies, HasBody, AreMembers, AreBlockSpecs, IsInitial, AreInitials, IsDeclared, AreDeclared, IsParameter, AreParameters, IsHead, IsAny, IsFirst, IsSentence, IsItem, AreItems, IsSwitchItem, AreSwitchItems, IsExternal}
+use Rattle.cs_grammar.specs.Roles.{Role, closes_type, another, behind_member, declared_name, Roles, each, some_roles, comma_roles, each_behind, between, brackets_roles, declarator_roles, value_roles, constant_roles, spec_roles, specs_roles, members_roles, initial_roles, further_initials_roles, first_value_roles, declared_roles, declaration_roles, name_roles, parameter_roles, parameters_roles, head_roles, first_roles, test_roles, sentence_roles, item_roles, items_roles, switch_item_roles, switch_roles, external_roles}
 use Rattle.cs_left_out.specs.declared.types.Behind.TheVariants as behind
 use Rattle.cs_left_out.specs.Parentheses.{Parens, the_outside, closes, step, run, IsLastRole, TellsType}
 use Rattle.cs_left_out.proofs.Statements.{ArePlain, plain_specs}
-use Rattle.cs_left_out.proofs.TypeTraces.{is_closing, Trace, parens, is_opening, Calm, Quiet, there_word, pointers_calm, word_calm, expression_trace}
+use Rattle.cs_left_out.proofs.TypeTraces.{is_closing, Trace, Calm, Quiet, there_word, pointers_calm, word_calm, expression_trace}
 
 abbrev word : Keyword → Kinds → Kinds
 word k x = token.Keyword k ∷ x

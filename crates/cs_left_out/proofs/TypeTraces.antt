@@ -1,10 +1,9 @@
 -- The tokens of expressions and declarations beside their roles: where a parenthesis closes a type. For the contract of
 -- `closes_type`.
-use Rattle.std.proofs.Common.{◌≡◌, ℕ, Bool, true, false, ◌&&◌, IsTrue, IsFalse, List, [], ◌∷◌, Option, Some, None, MatchOption, refl, sym, subst}
+use Rattle.std.proofs.Common.{◌≡◌, ℕ, Bool, true, false, IsTrue, List, [], ◌∷◌, refl, sym, subst}
 use Rattle.std.proofs.lemmas.Bool.{false≢true}
 use Rattle.cs_ast.specs.declared.token.TokenKind.{TokenKind}
 use Rattle.cs_ast.specs.declared.token.TokenKind.TheVariants as token
-use Rattle.cs_ast.specs.declared.token.Keyword.TheVariants as keyword
 use Rattle.cs_ast.specs.declared.token.Mark.{Mark}
 use Rattle.cs_ast.specs.declared.token.Mark.TheVariants as mark
 use Rattle.cs_ast.specs.declared.raw.operator.Step.{Step}
@@ -27,10 +26,10 @@ use Rattle.cs_grammar.specs.Marks.{step_mark, prefix_mark, infix_mark, assign_ma
 use Rattle.cs_grammar.specs.Levels.{ASSIGN, CHOICE}
 use Rattle.cs_grammar.specs.Text.{Kinds, text, listed, behind_commas, bounds_text, words_text, pointers_text, type_word_text, integer_word_text}
 use Rattle.cs_grammar.specs.Phrases.{IsWell, ArePhrases}
-use Rattle.cs_grammar.specs.Roles.{Role, closes_type, in_expression, another, Roles, each, type_roles, roles, roles_listed, roles_behind_commas, roles_of_bounds}
+use Rattle.cs_grammar.specs.Roles.{Role, closes_type, in_expression, Roles, each, type_roles, roles, roles_listed, roles_behind_commas, roles_of_bounds}
 use Rattle.cs_left_out.specs.declared.types.Behind.{Behind}
 use Rattle.cs_left_out.specs.declared.types.Behind.TheVariants.{Opening, Name, For, Other}
-use Rattle.cs_left_out.specs.Parentheses.{Parens, opening, begun, closes, mark_step, step}
+use Rattle.cs_left_out.specs.Parentheses.{Parens, opening, begun, closes, step}
 
 -- the role is that of the parenthesis behind a type
 abbrev pub is_closing : Role → Bool

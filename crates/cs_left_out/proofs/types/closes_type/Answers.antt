@@ -1,5 +1,5 @@
 -- What is known behind all tokens tells the role of the last one.
-use Rattle.std.proofs.Common.{◌≡◌, Bool, false, List, sym, ap, ◌∙◌, subst, drop}
+use Rattle.std.proofs.Common.{◌≡◌, false, List, sym, ap, ◌∙◌, subst}
 use Rattle.std.proofs.Math.ListN.{drop_of_length-le}
 use Rattle.cs_ast.specs.declared.token.Token.{Token}
 use Rattle.cs_left_out.specs.Parentheses.{the_outside, run, TellsType}
