@@ -12,3 +12,4 @@ pub mod ListFiles
 pub mod TypeTraces
 pub mod TypeFiles
 pub mod Tags
+pub mod LastParts

@@ -1,3 +1,4 @@
+pub mod LastParts
 pub mod Parentheses
 pub mod Awaiting
 pub mod Spots

@@ -1,18 +1,14 @@
 -- What the tokens of a part of a file have come to, as far as it matters for types between parentheses.
-use Rattle.std.specs.Prelude.{◌≡◌, ℕ, suc, ◌↔◌, IsTrue, Bool, true, false, List, [], ◌∷◌, ◌++◌, length, Some, slice_get}
+use Rattle.std.specs.Prelude.{Bool, true, false, List, [], ◌∷◌}
 use Rattle.cs_ast.specs.declared.token.TokenKind.{TokenKind}
 use Rattle.cs_ast.specs.declared.token.TokenKind.TheVariants as token
 use Rattle.cs_ast.specs.declared.token.Keyword.{Keyword}
 use Rattle.cs_ast.specs.declared.token.Keyword.TheVariants as keyword
 use Rattle.cs_ast.specs.declared.token.Mark.{Mark}
 use Rattle.cs_ast.specs.declared.token.Mark.TheVariants as mark
-use Rattle.cs_ast.specs.RawStatements.{External}
 use Rattle.cs_grammar.specs.TypeWords.{Names, is_among}
 use Rattle.cs_grammar.specs.FirstTokens.{keyword_begins_type}
 use Rattle.cs_grammar.specs.Text.{Kinds}
-use Rattle.cs_grammar.specs.FileText.{external_text}
-use Rattle.cs_grammar.specs.FilePhrases.{IsExternal}
-use Rattle.cs_grammar.specs.Roles.{Role, closes_type, Roles, external_roles}
 use Rattle.cs_left_out.specs.declared.types.Behind.{Behind}
 use Rattle.cs_left_out.specs.declared.types.Behind.TheVariants.{Opening, Name, For, Other}
 
@@ -66,16 +62,3 @@ closes other holds = false
 abbrev pub run : Names → Kinds → Parens → Bool → Bool
 run names [] s last = last
 run names (kind ∷ kinds) s last = run names kinds (step names kind s) (closes kind s.holds)
-
--- the last of so many tokens has this role
-pub record IsLastRole (roles : Roles) (count : ℕ) (role : Role) : Type 0 where
-  pub last : ℕ
-  pub number : count ≡ suc last
-  pub there : slice_get roles last ≡ Some role
-
--- it is told whether the last of these tokens closes a type between parentheses, in any part of a file that begins with them, where
--- these are the typedef names
-abbrev pub TellsType : Names → Kinds → Bool → Type 0
-TellsType names part told =
-    (whole : External) (more : Kinds) → IsExternal names whole → external_text whole [] ≡ part ++ more
-    → IsTrue told ↔ IsLastRole (external_roles whole []) (length part) closes_type

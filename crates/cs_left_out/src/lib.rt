@@ -9,4 +9,4 @@ mod types;
 pub use inside::{is_inside, is_tag_inside};
 pub use lists::awaits_list;
 pub use members::is_behind_member;
-pub use types::closes_type;
+pub use types::is_behind_type;

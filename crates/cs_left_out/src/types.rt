@@ -1,7 +1,10 @@
 //! Where types stand between parentheses among the tokens of a file (C11 6.5.3.4, 6.5.4).
-ghost use Rattle.std.specs.Prelude.{◌≡◌, IfOk, OnOk};
+ghost use Rattle.std.specs.Prelude.{◌≡◌, ◌≤◌, ◌↔◌, false, length, IsTrue, IfOk, OnOk};
+ghost use Rattle.cs_grammar.specs.FilePhrases.{BeginsFile};
+ghost use Rattle.cs_grammar.specs.FileRefusals.{IsBehindType};
 ghost use Rattle.cs_grammar.specs.FirstTokens.{keyword_begins_type};
-ghost use Rattle.cs_left_out.specs.Parentheses.{opening as behind_opening, begun, word_behind, closed as shut, closes as is_closing, mark_step, step as one_more, TellsType};
+ghost use Rattle.cs_left_out.specs.Parentheses.{opening as behind_opening, begun, word_behind, closed as shut, closes as is_closing, mark_step, step as one_more, the_outside, run};
+ghost use Rattle.cs_left_out.specs.LastParts.{EndInPart};
 ghost use Rattle.cs_left_out.specs.Readings.{kinds, parens_of};
 
 use cs_ast::{Keyword, Mark, Token, TokenKind};
@@ -129,10 +132,9 @@ fn begins_type(keyword: Keyword) -> bool
     }
 }
 
-/// Whether the last of these tokens closes a type between parentheses, where a part of a file begins with them behind these typedef
-/// names.
-pub fn closes_type(alloc: Global, names: &TypedefNames, part: &[Token]) -> Result<bool, AllocError>
-    ensures { IfOk result (TellsType names.now (kinds part.now)) }
+/// Whether the last of some tokens closes a type.
+fn closes_last(alloc: Global, names: &TypedefNames, part: &[Token]) -> Result<bool, AllocError>
+    ensures { IfOk result (λ closes. closes ≡ run names.now (kinds part.now) the_outside false) }
 {
     let mut reading = Reading {
         behind: Behind::Other,
@@ -144,4 +146,19 @@ pub fn closes_type(alloc: Global, names: &TypedefNames, part: &[Token]) -> Resul
         reading.step(names, &token.kind)?;
     }
     Ok(reading.closes)
+}
+
+/// Whether the last of these tokens closes a type between parentheses, where a file begins with them, and the part of it that they
+/// end in begins with the token of a number and has these typedef names.
+pub fn is_behind_type(
+    alloc: Global,
+    names: &TypedefNames,
+    before: &[Token],
+    from: usize,
+) -> Result<bool, AllocError>
+    requires within { from ≤ length before.now }
+    ensures { IfOk result (λ behind. BeginsFile (kinds before.now) → EndInPart names.now (kinds before.now) from → (IsTrue behind ↔ IsBehindType (kinds before.now))) }
+{
+    let closes = closes_last(alloc, names, &before[from..])?;
+    Ok(closes)
 }
