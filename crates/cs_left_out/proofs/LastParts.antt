@@ -1,5 +1,5 @@
 -- The last token of some tokens of a file, in the part that they end in: for the contract of `is_behind_type`.
-use Rattle.std.proofs.Common.{◌≡◌, ℕ, zero, suc, ◌+◌, ◌-◌, ◌≤◌, ◌<◌, ◌↔◌, Bool, false, IsTrue, inl, inr, List, [], ◌∷◌, ◌++◌, Some, None, length, drop, slice_get, refl, sym, ap, ◌∙◌, subst, arith, append-nil, length-append, length-drop, take}
+use Rattle.std.proofs.Common.{◌≡◌, ℕ, zero, suc, ◌+◌, ◌-◌, ◌≤◌, ◌↔◌, Bool, false, IsTrue, inl, inr, List, [], ◌∷◌, ◌++◌, Some, None, length, drop, slice_get, refl, sym, ap, ◌∙◌, subst, arith, append-nil, length-append, length-drop, take}
 use Rattle.std.proofs.lemmas.List.{length-map, drop-map, take_all}
 use Rattle.std.proofs.lemmas.Bool.{false≢true, cases_lt}
 use Rattle.cs_ast.specs.declared.token.Token.{Token}
@@ -11,14 +11,14 @@ use Rattle.cs_ast.specs.RawStatements.{External, TypeAlone, Typedef, Objects, Fu
 use Rattle.cs_grammar.specs.TypeWords.{Names}
 use Rattle.cs_grammar.specs.Text.{Kinds}
 use Rattle.cs_grammar.specs.FileText.{declarator_text, declared_text, with_commas, specs_text, head_text, items_text, external_text, externals_text, file_text}
-use Rattle.cs_grammar.specs.FilePhrases.{IsExternal, names_behind, IsFile, BeginsFile}
-use Rattle.cs_grammar.specs.Roles.{Role, closes_type, Roles, external_roles, file_roles}
-use Rattle.cs_grammar.specs.FileRefusals.{HasRole, IsBehindType}
+use Rattle.cs_grammar.specs.FilePhrases.{names_behind, IsFile, BeginsFile}
+use Rattle.cs_grammar.specs.Roles.{closes_type, Roles, external_roles, file_roles}
+use Rattle.cs_grammar.specs.FileRefusals.{IsBehindType}
 use Rattle.cs_grammar.proofs.FileTexts.{specs_append, with_commas_append, declarator_append, declared_append, head_append, items_append, external_append}
 use Rattle.cs_left_out.specs.LastParts.{EndsInPart, EndInPart}
 use Rattle.cs_left_out.specs.Parentheses.{Parens, the_outside, closes, step, run}
 use Rattle.cs_left_out.specs.Readings.{kinds}
-use Rattle.cs_left_out.proofs.TypeFiles.{IsLastRole, tells_type, roles_behind}
+use Rattle.cs_left_out.proofs.TypeFiles.{tells_type, roles_behind}
 
 abbrev none : Roles
 none = []
@@ -182,5 +182,5 @@ kinds_sliced from tokens =
 
 pub count_kinds : (from : ℕ) (tokens : List Token) → from ≤ length tokens → from ≤ length (kinds tokens)
 count_kinds from tokens less =
-    let l : length (kinds tokens) ≡ length tokens = length-map tokens in
+    let l : length (kinds tokens) ≡ length tokens = length-map tokens (λ (t : Token). t.kind) in
     omega (arith, l, less)
