@@ -120,5 +120,5 @@ told_list tokens at reason out flat d is r = told_behind tokens at reason out fl
 
 -- a list may open where a value is awaited, and a file goes on with a brace
 pub list_told : (front : Kinds) (awaits : Bool) → (MayHave front opens_list ↔ (IsTrue awaits × BeginsFile (front ++ token.Mark mark.OpenBrace ∷ []))) → (out : Bool) → (awaits ≡ false → out ≡ false) → (awaits ≡ true → IsTrue out ↔ BeginsFile (front ++ token.Mark mark.OpenBrace ∷ [])) → IsTrue out ↔ MayHave front opens_list
-list_told front true is out no yes = (λ o. is.1 (refl, (yes refl).0 o), λ m. (yes refl).1 (is.0 m).1)
-list_told front false is out no yes = (λ o. absurd (false≢true (sym (no refl) ∙ o)), λ m. absurd (false≢true (is.0 m).0))
+list_told front true is out never on = (λ o. is.1 (refl, (on refl).0 o), λ m. (on refl).1 (is.0 m).1)
+list_told front false is out never on = (λ o. absurd (false≢true (sym (never refl) ∙ o)), λ m. absurd (false≢true (is.0 m).0))
