@@ -1,6 +1,6 @@
 -- Whether a file goes on with a token, by what the parser answers of the tokens with that one behind them: for the contract of
 -- `file_goes_on`.
-use Rattle.std.proofs.Common.{◌≡◌, ℕ, zero, suc, ◌+◌, ◌<◌, ◌≤◌, ◌↔◌, Bool, true, false, IsTrue, ◌||◌, inl, inr, List, [], ◌∷◌, ◌++◌, length, drop, refl, sym, ap, ◌∙◌, subst, arith, append_assoc, append-nil, length-drop}
+use Rattle.std.proofs.Common.{◌≡◌, ℕ, zero, suc, ◌+◌, ◌<◌, ◌≤◌, ◌↔◌, Bool, true, false, IsTrue, ◌⊎◌, inl, inr, List, [], ◌∷◌, ◌++◌, length, drop, refl, sym, ap, ◌∙◌, subst, arith, append_assoc, append-nil, length-drop}
 use Rattle.std.proofs.lemmas.Bool.{false≢true, cases_lt}
 use Rattle.std.proofs.lemmas.List.{append_cancel_right, map-append}
 use Rattle.std.proofs.Math.ListN.{drop_of_length-le}
@@ -106,13 +106,14 @@ deep_or_end before next at reason r same =
     (λ d. subst BeginsFile e (r.deep within d), λ b. told_deep (is_deep reason) (λ f. r.flat within f (subst BeginsFile (sym e) b)))
 
 -- a token is refused: the last one as too deep, or the end of input
-pub goes_on_behind : (before : List Token) (next : Token) (at : ℕ) (reason : Reason) (past : Bool) → (IsTrue past ↔ length before < at) → IsFileRefusedAt is_left_out_behind (before ++ next ∷ []) at reason → BeginsLowFile 200 (kinds before) → IsTrue (past || is_deep reason) ↔ BeginsFile (kinds before ++ next.kind ∷ [])
-goes_on_behind before next at reason true is r b = (λ t. at_the_end before next at reason r (is.0 refl), λ f. refl)
-goes_on_behind before next at reason false is r b =
+pub goes_on_behind : (before : List Token) (next : Token) (at : ℕ) (reason : Reason) (on : Bool) → (IsTrue on ↔ ((length before < at) ⊎ (is_deep reason ≡ true))) → IsFileRefusedAt is_left_out_behind (before ++ next ∷ []) at reason → BeginsLowFile 200 (kinds before) → IsTrue on ↔ BeginsFile (kinds before ++ next.kind ∷ [])
+goes_on_behind before next at reason on is r b =
     elim (cases_lt at (length before)) [
       | inl less ↦ absurd (not_before before next at reason r b less)
       | inr all ↦ elim (cases_lt (length before) at) [
-        | inl past ↦ absurd (false≢true (is.1 past))
-        | inr most ↦ deep_or_end before next at reason r (omega (arith, all, most))
+        | inl past ↦ (λ t. at_the_end before next at reason r past, λ f. is.1 (inl past))
+        | inr most ↦
+            let d = deep_or_end before next at reason r (omega (arith, all, most)) in
+            (λ t. elim (is.0 t) [ inl past ↦ absurd (omega (arith, past, most)) | inr deep ↦ d.0 deep ], λ f. is.1 (inr (d.1 f)))
       ]
     ]

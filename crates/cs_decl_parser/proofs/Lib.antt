@@ -30,4 +30,5 @@ pub mod InBodies
 pub mod FileReasonsHere
 pub mod ToldReasons
 pub mod GoingOn
+pub mod Copies
 pub mod WholeFiles

@@ -1,5 +1,5 @@
 //! Why a token of a file is refused: the tokens before it tell of some whether they are left out.
-ghost use Rattle.std.specs.Prelude.{◌≡◌, ◌<◌, ◌+◌, ◌^◌, ◌∷◌, [], ◌++◌, ◌↔◌, length, take, IfOk, IsTrue, true};
+ghost use Rattle.std.specs.Prelude.{◌≡◌, ◌<◌, ◌+◌, ◌⊎◌, ◌^◌, ◌∷◌, [], ◌++◌, ◌↔◌, length, take, IfOk, IsTrue, true};
 ghost use Rattle.cs_grammar.specs.FilePhrases.{BeginsFile, BeginsLowFile};
 ghost use Rattle.cs_grammar.specs.FileRefusals.{MayHave};
 ghost use Rattle.cs_grammar.specs.Roles.{opens_list};
@@ -69,7 +69,8 @@ fn may_open_list(alloc: Global, tokens: &[Token], at: usize) -> Result<bool, All
         kind: TokenKind::Mark(Mark::OpenBrace),
         place: tokens[at].place,
     };
-    file_goes_on(alloc, before, brace)
+    let on = file_goes_on(alloc, before, brace)?;
+    Ok(on)
 }
 
 /// Whether some file, of any height, begins with these tokens and one more, where one that is low enough begins with these. They are
@@ -82,9 +83,16 @@ fn file_goes_on(alloc: Global, before: &[Token], next: Token) -> Result<bool, Al
     tokens.push(next)?;
     match externals(alloc, &tokens) {
         Ok(_) => Ok(true),
-        Err(Stop::Refused(at, reason)) => Ok(before.len() < at || is_too_deep(reason)),
+        Err(Stop::Refused(at, reason)) => Ok(is_deep_or_past(at, reason, before.len())),
         Err(Stop::Memory) => Err(AllocError),
     }
+}
+
+/// Whether the token with a number, which is refused, stands behind so many others, or is too deep.
+fn is_deep_or_past(at: usize, reason: Reason, count: usize) -> bool
+    ensures { IsTrue result ↔ ((count < at) ⊎ (is_deep reason ≡ true)) }
+{
+    count < at || is_too_deep(reason)
 }
 
 /// Whether `static` or `typedef` stands at a number.

@@ -131,40 +131,53 @@ last_in names front from file last less n is p there =
     let b = p.begins in
     let d = length-drop from front in
     elim (cases_lt last from) [
-      | inl past ↦ absurd (none_at_end [] p.done (p.whole ∷ p.others) last is' (omega (arith, b, past, less, n)) there')
+      | inl past ↦ absurd (none_at_end [] p.done p.others last is' (omega (arith, b, past, less, n)) there')
       | inr here ↦
+          let w = p.ends (omega (arith, here, n)) in
           let i : ℕ = last - from in
           let at : last ≡ length (externals_text p.done []) + i = omega (arith, b, here) in
-          let t = tells_type names (drop from front) p.whole (file_roles p.others) p.more p.is p.spelled in
+          let t = tells_type names (drop from front) w.whole (file_roles w.others) w.more w.is w.spelled in
           t.1 (record {
             last = i;
             number = omega (arith, d, n, here, less);
-            there = sym (ap (slice_get (file_roles (p.done ++ p.whole ∷ p.others))) at ∙ role_behind [] p.done (p.whole ∷ p.others) i is') ∙ there';
+            there =
+                sym (ap (λ (x : List External). slice_get (file_roles x) i) w.parts_are) ∙ sym (ap (slice_get (file_roles (p.done ++ p.others))) at ∙ role_behind [] p.done p.others i is')
+                ∙ there';
           })
     ]
+
+nothing_told : (names : Names) (part : Kinds) → length part ≡ 0 → IsTrue (run names part the_outside false) → ⊥
+nothing_told names [] n told = false≢true told
+nothing_told names (k ∷ part) n told = absurd (omega (arith, n))
 
 -- and where it closes a type
 role_in : (names : Names) (front more : Kinds) (from : ℕ) (file : List External) → from ≤ length front → IsFile [] file → file_text file ≡ front ++ more → (p : EndsInPart names front from file) → IsTrue (run names (drop from front) the_outside false) → IsBehindType front
 role_in names front more from file less is spelled p told =
-    let is' = subst (IsFile []) p.file_is is in
-    let t = (tells_type names (drop from front) p.whole (file_roles p.others) p.more p.is p.spelled).0 told in
-    let b = p.begins in
     let d = length-drop from front in
-    let k = t.number in
-    let n : length front ≡ suc (from + t.last) = omega (arith, d, k, less) in
-    record {
-      last = from + t.last;
-      number = n;
-      closes = record {
-        file = file;
-        more = more;
-        is_file = is;
-        spelled = spelled;
-        there =
-            subst (λ (x : List External). slice_get (file_roles x) (from + t.last) ≡ Some closes_type) (sym p.file_is)
-            (ap (λ (x : ℕ). slice_get (file_roles (p.done ++ p.whole ∷ p.others)) (x + t.last)) (sym b) ∙ role_behind [] p.done (p.whole ∷ p.others) t.last is' ∙ t.there);
-      };
-    }
+    elim (cases_lt from (length front)) [
+      | inr all ↦ absurd (nothing_told names (drop from front) (omega (arith, d, all)) told)
+      | inl some ↦
+          let is' = subst (IsFile []) p.file_is is in
+          let w = p.ends some in
+          let t = (tells_type names (drop from front) w.whole (file_roles w.others) w.more w.is w.spelled).0 told in
+          let b = p.begins in
+          let k = t.number in
+          let n : length front ≡ suc (from + t.last) = omega (arith, d, k, less) in
+          record {
+            last = from + t.last;
+            number = n;
+            closes = record {
+              file = file;
+              more = more;
+              is_file = is;
+              spelled = spelled;
+              there =
+                  subst (λ (x : List External). slice_get (file_roles x) (from + t.last) ≡ Some closes_type) (sym p.file_is)
+                  (ap (λ (x : ℕ). slice_get (file_roles (p.done ++ p.others)) (x + t.last)) (sym b) ∙ role_behind [] p.done p.others t.last is'
+                  ∙ ap (λ (x : List External). slice_get (file_roles x) t.last) w.parts_are ∙ t.there);
+            };
+          }
+    ]
 
 pub front_in : (names : Names) (front : Kinds) (from : ℕ) → from ≤ length front → BeginsFile front → EndInPart names front from → IsTrue (run names (drop from front) the_outside false) ↔ IsBehindType front
 front_in names front from less b split = (
