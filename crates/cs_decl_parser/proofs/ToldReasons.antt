@@ -19,20 +19,24 @@ use Rattle.cs_decl_parser.specs.DeclarationAnswers.{is_designator}
 use Rattle.cs_decl_parser.specs.Files.{is_left_out_by_place, IsFileRefusedAt}
 use Rattle.cs_decl_parser.specs.FileStops.{is_file_word, is_left_out_behind, left_out_if}
 
+abbrev brace : TokenKind
+brace = token.Mark mark.OpenBrace
+
 abbrev colon : TokenKind
 colon = token.Mark mark.Colon
 
-other_behind : (next : TokenKind) → (next ≡ colon → ⊥) → is_file_word next ≡ false → (is_designator next ≡ true → ⊥) → is_left_out_by_place next ≡ false → is_left_out_behind next ≡ false
-other_behind (token.Mark mark.Colon) other w d e = absurd (other refl)
-other_behind (token.Mark mark.Dot) other w d e = absurd (d refl)
-other_behind (token.Mark mark.OpenBracket) other w d e = absurd (d refl)
-other_behind (token.Mark _) other w d e = e
-other_behind (token.Keyword _) other w d e = w
-other_behind _ other w d e = w
+other_behind : (next : TokenKind) → (next ≡ colon → ⊥) → is_file_word next ≡ false → (is_designator next ≡ true → ⊥) → (next ≡ brace → ⊥) → is_left_out_by_place next ≡ false → is_left_out_behind next ≡ false
+other_behind (token.Mark mark.Colon) other w d o e = absurd (other refl)
+other_behind (token.Mark mark.Dot) other w d o e = absurd (d refl)
+other_behind (token.Mark mark.OpenBracket) other w d o e = absurd (d refl)
+other_behind (token.Mark mark.OpenBrace) other w d o e = absurd (o refl)
+other_behind (token.Mark _) other w d o e = e
+other_behind (token.Keyword _) other w d o e = w
+other_behind _ other w d o e = w
 
 -- another token is refused
-pub told_of_others : (tokens : List Token) (at : ℕ) (reason : Reason) → (kind_or_end tokens at ≡ colon → ⊥) → is_file_word (kind_or_end tokens at) ≡ false → (is_designator (kind_or_end tokens at) ≡ true → ⊥) → IsFileRefusedAt is_left_out_behind tokens at reason → IsFileRefusedAt is_left_out_by_place tokens at reason
-told_of_others tokens at reason other w d r = record {
+pub told_of_others : (tokens : List Token) (at : ℕ) (reason : Reason) → (kind_or_end tokens at ≡ colon → ⊥) → is_file_word (kind_or_end tokens at) ≡ false → (is_designator (kind_or_end tokens at) ≡ true → ⊥) → (kind_or_end tokens at ≡ brace → ⊥) → IsFileRefusedAt is_left_out_behind tokens at reason → IsFileRefusedAt is_left_out_by_place tokens at reason
+told_of_others tokens at reason other w d o r = record {
   front = r.front;
   spelled = r.spelled;
   begun = r.begun;
@@ -40,7 +44,7 @@ told_of_others tokens at reason other w d r = record {
   deep = r.deep;
   flat = r.flat;
   unfinished = r.unfinished;
-  why = λ within e. r.why within (other_behind (kind_or_end tokens at) other w d e);
+  why = λ within e. r.why within (other_behind (kind_or_end tokens at) other w d o e);
 }
 
 deep_why : (front : Kinds) (next : TokenKind) (reason : Reason) → is_deep reason ≡ true → BeginsFile (front ++ next ∷ []) → IsFileReason front (Some next) reason
@@ -122,3 +126,8 @@ told_list tokens at reason out flat d is r = told_behind tokens at reason out fl
 pub list_told : (front : Kinds) (awaits : Bool) → (MayHave front opens_list ↔ (IsTrue awaits × BeginsFile (front ++ token.Mark mark.OpenBrace ∷ []))) → (out : Bool) → (awaits ≡ false → out ≡ false) → (awaits ≡ true → IsTrue out ↔ BeginsFile (front ++ token.Mark mark.OpenBrace ∷ [])) → IsTrue out ↔ MayHave front opens_list
 list_told front true is out never on = (λ o. is.1 (refl, (on refl).0 o), λ m. (on refl).1 (is.0 m).1)
 list_told front false is out never on = (λ o. absurd (false≢true (sym (never refl) ∙ o)), λ m. absurd (false≢true (is.0 m).0))
+
+-- a brace is left out behind a tag inside a block or an expression, and behind a type
+pub told_brace : (tokens : List Token) (at : ℕ) (reason : Reason) (out : Bool) → is_deep reason ≡ false → kind_or_end tokens at ≡ brace → (BeginsFile (kinds (take at tokens)) → IsTrue out ↔ IsLeftOutOfFile (kinds (take at tokens)) brace) → IsFileRefusedAt is_left_out_behind tokens at reason → IsFileRefusedAt is_left_out_by_place tokens at (left_out_if out)
+told_brace tokens at reason out flat k is r =
+    told_behind tokens at reason out flat (λ b. subst (λ (x : TokenKind). IsTrue out ↔ IsLeftOutOfFile (kinds (take at tokens)) x) (sym k) (is (any_height (kinds (take at tokens)) b))) r

@@ -20,11 +20,12 @@ is_file_word (token.Keyword keyword.Typedef) = true
 is_file_word other = false
 
 -- whether the token is left out isn't told by the parts of the parser: the tokens before it tell it of a colon, of `static`, of
--- `typedef`, of a dot and of an opening bracket
+-- `typedef`, of a dot, of an opening bracket and of an opening brace
 abbrev pub is_left_out_behind : TokenKind → Bool
 is_left_out_behind (token.Mark mark.Colon) = true
 is_left_out_behind (token.Mark mark.Dot) = true
 is_left_out_behind (token.Mark mark.OpenBracket) = true
+is_left_out_behind (token.Mark mark.OpenBrace) = true
 is_left_out_behind (token.Mark other) = is_left_out_by_place (token.Mark other)
 is_left_out_behind other = is_file_word other
 
@@ -36,8 +37,3 @@ left_out_if out = if out then LeftOut else Syntax
 abbrev pub FileStops : List Token → Stop → Type 0
 FileStops tokens stop.Memory = Unit {0}
 FileStops tokens (stop.Refused at reason) = IsFileRefusedAt is_left_out_behind tokens at reason
-
--- the parts of the file that the tokens are, or a token is refused
-abbrev pub FileAnswer : List Token → Result (Vec RawExternal Global) Stop → Type 0
-FileAnswer tokens (Ok externals) = IsTheFile tokens (parts_of externals.items)
-FileAnswer tokens (Err stop) = FileStops tokens stop

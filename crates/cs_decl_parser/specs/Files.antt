@@ -34,7 +34,6 @@ pub record IsTheFile (tokens : List Token) (file : List External) : Type 0 where
 
 -- the token is left out at some places, and not at others, of which the parser doesn't tell in each case
 abbrev pub is_left_out_by_place : TokenKind → Bool
-is_left_out_by_place (token.Mark mark.OpenBrace) = true
 is_left_out_by_place (token.Mark mark.OpenParenthesis) = true
 is_left_out_by_place other = false
 

@@ -3,9 +3,10 @@ ghost use Rattle.std.specs.Prelude.{◌<◌, ◌^◌, length, IfOk};
 ghost use Rattle.std.specs.Result.{IfErr};
 ghost use Rattle.cs_decl_parser.specs.Files.{parts_of, IsTheFile, IsFileRefusal};
 ghost use Rattle.cs_decl_parser.specs.FileStops.{FileStops};
+ghost use Rattle.cs_decl_parser.specs.ReadParts.{StandsAmidst};
 ghost use Rattle.cs_decl_parser.specs.FilePlaces.{AreFilePlaced};
 
-use crate::externals::externals;
+use crate::externals::Parts;
 use crate::reason::reason_told;
 use crate::stop::Stop;
 use cs_ast::raw::external::Tree;
@@ -24,19 +25,23 @@ pub fn parse(alloc: Global, tokens: &[Token], end: Place) -> Result<Tree, Syntax
     ensures placed { IfOk result (λ tree. AreFilePlaced tree.externals.items tokens.now) }
     ensures refused { IfErr result (IsFileRefusal tokens.now end) }
 {
-    match externals(alloc, tokens) {
-        Ok(externals) => Ok(Tree { externals }),
-        Err(stop) => Err(refused(alloc, tokens, end, stop)),
+    let mut parts = Parts::new(alloc);
+    match parts.read(alloc, tokens) {
+        Ok(()) => Ok(Tree {
+            externals: parts.list,
+        }),
+        Err(stop) => Err(refused(alloc, tokens, end, stop, &parts)),
     }
 }
 
-/// The refusal for which the parser stopped.
-fn refused(alloc: Global, tokens: &[Token], end: Place, stop: Stop) -> SyntaxRefusal
+/// The refusal for which the parser stopped behind some parts of the file.
+fn refused(alloc: Global, tokens: &[Token], end: Place, stop: Stop, parts: &Parts) -> SyntaxRefusal
     requires few { length tokens.now < 2 ^ 32 }
+    requires amidst { StandsAmidst tokens.now parts.now stop }
     ensures { FileStops tokens.now stop → IsFileRefusal tokens.now end result }
 {
     match stop {
-        Stop::Refused(at, reason) => match reason_told(alloc, tokens, at, reason) {
+        Stop::Refused(at, reason) => match reason_told(alloc, tokens, at, reason, parts) {
             Ok(reason) => refusal(alloc, tokens, end, at, reason),
             Err(_) => SyntaxRefusal::Memory,
         },

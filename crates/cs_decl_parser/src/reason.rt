@@ -1,7 +1,12 @@
 //! Why a token of a file is refused: the tokens before it tell of some whether they are left out.
-ghost use Rattle.std.specs.Prelude.{◌≡◌, ◌<◌, ◌+◌, ◌⊎◌, ◌^◌, ◌∷◌, [], ◌++◌, ◌↔◌, length, take, IfOk, IsTrue, true};
+ghost use Rattle.std.specs.Prelude.{◌≡◌, ◌<◌, ◌≤◌, ◌+◌, ◌⊎◌, ◌^◌, ◌∷◌, [], ◌++◌, ◌↔◌, length, take, IfOk, IsTrue, true};
 ghost use Rattle.cs_grammar.specs.FilePhrases.{BeginsFile, BeginsLowFile};
-ghost use Rattle.cs_grammar.specs.FileRefusals.{MayHave};
+ghost use Rattle.cs_ast.specs.declared.token.TokenKind.TheVariants as token;
+ghost use Rattle.cs_ast.specs.declared.token.Mark.TheVariants as mark;
+ghost use Rattle.cs_grammar.specs.FileRefusals.{MayHave, IsLeftOutOfFile};
+ghost use Rattle.cs_expr_parser.specs.declared.stop.Stop.TheVariants as stop;
+ghost use Rattle.cs_left_out.specs.LastParts.{EndInPart};
+ghost use Rattle.cs_decl_parser.specs.ReadParts.{StandsAmidst};
 ghost use Rattle.cs_grammar.specs.Roles.{opens_list};
 ghost use Rattle.cs_expr_parser.specs.Parts.{is_deep};
 ghost use Rattle.cs_expr_parser.specs.Positions.{kinds, kind_or_end};
@@ -9,23 +14,25 @@ ghost use Rattle.cs_decl_parser.specs.DeclarationAnswers.{is_designator};
 ghost use Rattle.cs_decl_parser.specs.Files.{is_left_out_by_place, IsFileRefusedAt};
 ghost use Rattle.cs_decl_parser.specs.FileStops.{is_file_word as file_word, is_left_out_behind, left_out_if as out_if};
 
-use crate::externals::externals;
+use crate::externals::Parts;
 use crate::stop::Stop;
 use cs_ast::{Keyword, Mark, Token, TokenKind};
 use cs_expr_parser::{is_mark, keyword_at, mark_at};
 use cs_grammar::Reason;
-use cs_left_out::{awaits_list, is_behind_member, is_inside};
+use cs_left_out::{awaits_list, is_behind_member, is_behind_type, is_inside, is_tag_inside};
 use std::alloc::{AllocError, Global};
 
-/// Why the token at a number is refused: the tokens before it tell whether a colon, `static`, `typedef`, a dot or an opening
-/// bracket is left out.
+/// Why the token at a number is refused: the tokens before it tell whether a colon, `static`, `typedef`, a dot, an opening
+/// bracket or an opening brace is left out.
 pub fn reason_told(
     alloc: Global,
     tokens: &[Token],
     at: usize,
     reason: Reason,
+    parts: &Parts,
 ) -> Result<Reason, AllocError>
     requires few { length tokens.now < 2 ^ 32 }
+    requires amidst { StandsAmidst tokens.now parts.now (stop.Refused at reason) }
     ensures { IfOk result (λ told. IsFileRefusedAt is_left_out_behind tokens.now at reason → IsFileRefusedAt is_left_out_by_place tokens.now at told) }
 {
     if is_too_deep(reason) {
@@ -43,7 +50,30 @@ pub fn reason_told(
         let out = may_open_list(alloc, tokens, at)?;
         return Ok(left_out_if(out));
     }
+    if is_mark(tokens, at, Mark::OpenBrace) {
+        let out = is_brace_out(alloc, tokens, at, parts)?;
+        return Ok(left_out_if(out));
+    }
     Ok(reason)
+}
+
+/// Whether a brace with this number is left out, in the part of the file behind these, which the tokens before it end in.
+fn is_brace_out(
+    alloc: Global,
+    tokens: &[Token],
+    at: usize,
+    parts: &Parts,
+) -> Result<bool, AllocError>
+    requires within { at < length tokens.now }
+    requires onward { parts.now.next ≤ at }
+    ensures { IfOk result (λ out. BeginsFile (kinds (take at tokens.now)) → EndInPart parts.now.names (kinds (take at tokens.now)) parts.now.next → (IsTrue out ↔ IsLeftOutOfFile (kinds (take at tokens.now)) (token.Mark mark.OpenBrace))) }
+{
+    let before = &tokens[..at];
+    if is_tag_inside(alloc, before)? {
+        return Ok(true);
+    }
+    let behind = is_behind_type(alloc, &parts.names, before, parts.next)?;
+    Ok(behind)
 }
 
 /// Whether a dot or an opening bracket stands at a number.
@@ -81,7 +111,7 @@ fn file_goes_on(alloc: Global, before: &[Token], next: Token) -> Result<bool, Al
 {
     let mut tokens = Vec::from_clones(alloc, before)?;
     tokens.push(next)?;
-    match externals(alloc, &tokens) {
+    match Parts::new(alloc).read(alloc, &tokens) {
         Ok(_) => Ok(true),
         Err(Stop::Refused(at, reason)) => Ok(is_deep_or_past(at, reason, before.len())),
         Err(Stop::Memory) => Err(AllocError),

@@ -228,7 +228,7 @@ block_inside front b =
     ap (λ (s : Site). is_inside s.within) all ∙ in_body_inside (run b.inside in_the_body).within (body_stays e.0 b.body b.inside b.more d.3 b.within)
 
 -- two lists in front of others that are the same
-split : (a b f m : Kinds) → a ++ b ≡ f ++ m → ((d : Kinds) × (f ≡ a ++ d) × (b ≡ d ++ m)) ⊎ ((c : TokenKind) × (d : Kinds) × (a ≡ f ++ c ∷ d))
+pub split : (a b f m : Kinds) → a ++ b ≡ f ++ m → ((d : Kinds) × (f ≡ a ++ d) × (b ≡ d ++ m)) ⊎ ((c : TokenKind) × (d : Kinds) × (a ≡ f ++ c ∷ d))
 split [] b f m e = inl (f, refl, e)
 split (x ∷ a) b [] m e = inr (x, a, refl)
 split (x ∷ a) b (y ∷ f) m e =
