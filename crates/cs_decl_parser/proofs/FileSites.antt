@@ -36,7 +36,7 @@ use Rattle.cs_decl_parser.specs.Files.{parts_of, is_left_out_by_place, IsTheFile
 use Rattle.cs_decl_parser.specs.FileStops.{is_left_out_behind, FileStops}
 use Rattle.cs_decl_parser.specs.declared.externals.Parts.{Parts}
 use Rattle.cs_decl_parser.specs.ReadParts.{StandsAmidst}
-use Rattle.cs_left_out.specs.LastParts.{BeginsWith, EndsInPart, EndInPart}
+use Rattle.cs_left_out.specs.LastParts.{BeginsWith, EndInPart}
 use Rattle.cs_left_out.proofs.InsideFiles.{split}
 use Rattle.cs_decl_parser.specs.declared.source.Scope.TheVariants as scope
 use Rattle.cs_decl_parser.specs.Aptness.{IsApt, IsStopApt}

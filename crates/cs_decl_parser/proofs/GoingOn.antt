@@ -1,7 +1,7 @@
 -- Whether a file goes on with a token, by what the parser answers of the tokens with that one behind them: for the contract of
 -- `file_goes_on`.
 use Rattle.std.proofs.Common.{◌≡◌, ℕ, zero, suc, ◌+◌, ◌<◌, ◌≤◌, ◌↔◌, Bool, true, false, IsTrue, ◌⊎◌, inl, inr, List, [], ◌∷◌, ◌++◌, length, drop, refl, sym, ap, ◌∙◌, subst, arith, append_assoc, append-nil, length-drop}
-use Rattle.std.proofs.lemmas.Bool.{false≢true, cases_lt}
+use Rattle.std.proofs.lemmas.Bool.{cases_lt}
 use Rattle.std.proofs.lemmas.List.{append_cancel_right, map-append}
 use Rattle.std.proofs.Math.ListN.{drop_of_length-le}
 use Rattle.cs_ast.specs.declared.token.Token.{Token}
@@ -9,8 +9,7 @@ use Rattle.cs_ast.specs.declared.token.TokenKind.{TokenKind}
 use Rattle.cs_ast.specs.RawStatements.{External}
 use Rattle.cs_grammar.specs.declared.refusal.Reason.{Reason}
 use Rattle.cs_grammar.specs.Text.{Kinds}
-use Rattle.cs_grammar.specs.FileText.{file_text}
-use Rattle.cs_grammar.specs.FilePhrases.{IsFile, BeginsFile, BeginsLowFile}
+use Rattle.cs_grammar.specs.FilePhrases.{BeginsFile, BeginsLowFile}
 use Rattle.cs_expr_parser.specs.Positions.{kinds, first_kind, kind_or_end}
 use Rattle.cs_expr_parser.specs.Parts.{is_deep}
 use Rattle.cs_decl_parser.specs.Files.{IsTheFile, IsFileRefusedAt}

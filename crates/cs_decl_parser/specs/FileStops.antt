@@ -1,17 +1,15 @@
 -- What the parts of the parser of files answer to one another.
-use Rattle.std.specs.Prelude.{Bool, true, false, if◌then◌else◌, List, Result, Ok, Err, Vec}
-use Rattle.std.specs.declared.alloc.Global.{Global}
+use Rattle.std.specs.Prelude.{Bool, true, false, if◌then◌else◌, List}
 use Rattle.cs_ast.specs.declared.token.Token.{Token}
 use Rattle.cs_ast.specs.declared.token.TokenKind.{TokenKind}
 use Rattle.cs_ast.specs.declared.token.TokenKind.TheVariants as token
 use Rattle.cs_ast.specs.declared.token.Keyword.TheVariants as keyword
 use Rattle.cs_ast.specs.declared.token.Mark.TheVariants as mark
-use Rattle.cs_ast.specs.declared.raw.external.RawExternal.{RawExternal}
 use Rattle.cs_grammar.specs.declared.refusal.Reason.{Reason}
 use Rattle.cs_grammar.specs.declared.refusal.Reason.TheVariants.{Syntax, LeftOut}
 use Rattle.cs_expr_parser.specs.declared.stop.Stop.{Stop}
 use Rattle.cs_expr_parser.specs.declared.stop.Stop.TheVariants as stop
-use Rattle.cs_decl_parser.specs.Files.{is_left_out_by_place, parts_of, IsTheFile, IsFileRefusedAt}
+use Rattle.cs_decl_parser.specs.Files.{is_left_out_by_place, IsFileRefusedAt}
 
 -- `static` and `typedef`, which no block has and no expression
 abbrev pub is_file_word : TokenKind → Bool

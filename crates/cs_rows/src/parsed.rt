@@ -44,6 +44,11 @@ const FILES: [(&str, &str); 32] = [
     ("int f(void){typedef int T;}", "left out typedef 1:13"),
     ("int f(void){struct S{int a;}s;}", "left out { 1:21"),
     ("int x=(int){3};", "left out { 1:12"),
+    ("typedef int T;int x=(T){3};", "left out { 1:24"),
+    ("int T;int x=(T){3};", "syntax 1:16"),
+    ("int f(int x){return sizeof(int){", "left out { 1:32"),
+    ("int f(int x){if(x){}else(x){", "syntax 1:28"),
+    ("int x=sizeof(struct S{", "left out { 1:22"),
 ];
 
 /// What the front end says of a file, in words.
