@@ -1,10 +1,13 @@
 -- Each return of the parser of files, over tokens by their numbers.
 use Rattle.std.specs.Option.{option_map}
-use Rattle.std.proofs.Common.{◌≡◌, ℕ, suc, get_or, Option, ◌<◌, ◌≤◌, List, [], ◌∷◌, ◌++◌, map, length, drop, refl, sym, ap, ◌∙◌, subst, arith, append_assoc, Some, None, slice_get}
+use Rattle.std.proofs.Common.{◌≡◌, ℕ, suc, get_or, Option, ◌<◌, ◌≤◌, inl, inr, Bool, false, List, [], ◌∷◌, ◌++◌, map, length, drop, take, refl, sym, ap, ◌∙◌, subst, arith, append_assoc, append-nil, length-append, length-drop, drop_at, Some, None, slice_get}
+use Rattle.std.proofs.lemmas.Bool.{false≢true}
+use Rattle.std.proofs.lemmas.List.{append_cancel_right, take-append-drop, map-append, length-map}
 use Rattle.std.proofs.Math.Seq.{drop-cons}
 use Rattle.std.proofs.Math.ListN.{drop_of_length-le}
 use Rattle.cs_ast.specs.declared.place.Place.{Place}
 use Rattle.cs_ast.specs.declared.token.Token.{Token}
+use Rattle.cs_ast.specs.declared.token.TokenKind.{TokenKind}
 use Rattle.cs_ast.specs.declared.raw.declaration.RawDeclarator.{RawDeclarator}
 use Rattle.cs_ast.specs.declared.raw.external.RawExternal.{RawExternal}
 use Rattle.cs_ast.specs.RawDeclarationView.{declarator}
@@ -17,9 +20,10 @@ use Rattle.cs_grammar.specs.declared.refusal.SyntaxRefusal.TheVariants as refusa
 use Rattle.cs_grammar.specs.TypeWords.{Names}
 use Rattle.cs_grammar.specs.Text.{Kinds}
 use Rattle.cs_grammar.specs.FileText.{externals_text, external_text}
-use Rattle.cs_grammar.specs.FilePhrases.{with_name, with_names, names_behind}
+use Rattle.cs_grammar.specs.FilePhrases.{with_name, with_names, names_behind, IsFile}
+use Rattle.cs_grammar.specs.Parsing.{Refused}
 use Rattle.cs_grammar.specs.DeclarationClasses.{Externals}
-use Rattle.cs_grammar.proofs.FileTexts.{externals_append}
+use Rattle.cs_grammar.proofs.FileTexts.{external_append, externals_append}
 use Rattle.cs_grammar.proofs.FileRules.{FileSoFar, file_none, file_more, file_refused, file_unfinished, file_took}
 use Rattle.cs_expr_parser.specs.Positions.{kinds, kind_or_end}
 use Rattle.cs_expr_parser.specs.Parts.{Spells, IsRefused, is_deep}
@@ -30,6 +34,10 @@ use Rattle.cs_decl_parser.specs.declared.stop.Taken.{Taken}
 use Rattle.cs_decl_parser.specs.Answers.{Stops, IsExactly}
 use Rattle.cs_decl_parser.specs.Files.{parts_of, is_left_out_by_place, IsTheFile, IsFileRefusedAt, IsRefusalHere, IsFileRefusal}
 use Rattle.cs_decl_parser.specs.FileStops.{is_left_out_behind, FileStops}
+use Rattle.cs_decl_parser.specs.declared.externals.Parts.{Parts}
+use Rattle.cs_decl_parser.specs.ReadParts.{StandsAmidst}
+use Rattle.cs_left_out.specs.LastParts.{BeginsWith, EndInPart}
+use Rattle.cs_left_out.proofs.InsideFiles.{split}
 use Rattle.cs_decl_parser.specs.declared.source.Scope.TheVariants as scope
 use Rattle.cs_decl_parser.specs.Aptness.{IsApt, IsStopApt}
 use Rattle.cs_decl_parser.proofs.FileReasonsHere.{reason_of_kind}
@@ -83,6 +91,50 @@ part_refused names tokens done next at reason some s r apt =
           file_unfinished names 200 done s.so_far r.front (kind_or_end tokens at) (is_deep reason) (λ none. let n = refused_number tokens next at r.front r.spelled in let l : length r.front ≡ 0 = ap length none in omega (arith, n, l, ends, some)) r.refused file is same;
       why = λ within e. reason_of_kind (externals_text done [] ++ r.front) (kind_or_end tokens at) reason f.further f.nothing apt e;
     }
+
+-- the tokens of the part behind those that were taken
+ends_in : (names : Names) (front more : Kinds) (next : TokenKind) (rest : List External) → IsFile names rest → externals_text rest [] ≡ front ++ more → Refused (Externals names) 200 front next false → 0 < length front → BeginsWith names front rest
+ends_in names [] more next rest is e r some = absurd (omega (arith, some))
+ends_in names (k ∷ front) more next [] is e r some = absurd cc
+ends_in names (k ∷ front) more next (x ∷ xs) is e r some =
+    elim (split (external_text x []) (externals_text xs []) (k ∷ front) more (external_append x [] (externals_text xs []) ∙ e)) [
+      | inl s ↦ absurd (false≢true (r.never x s.0 [] is.0 tt (inl refl) (sym (external_append x [] s.0) ∙ sym s.1 ∙ sym (append-nil (k ∷ front)))).told)
+      | inr s ↦ record { whole = x; others = xs; more = s.0 ∷ s.1; parts_are = refl; is = is.0; spelled = s.2 }
+    ]
+
+-- in each file that begins with the tokens before the refused one
+amidst : (names : Names) (tokens : List Token) (done : List External) (next at : ℕ) (reason : Reason) → PartsSoFar names tokens done next → IsRefused (Externals names) 200 tokens next at reason → is_deep reason ≡ false → EndInPart names (kinds (take at tokens)) next
+amidst names tokens done next at reason s r flat file more is same =
+    let text : Kinds = externals_text done [] in
+    let sp : Spells tokens 0 at (λ rest. (text ++ r.front) ++ rest) =
+    spells_as tokens 0 at (λ rest. externals_text done (r.front ++ rest)) (λ rest. (text ++ r.front) ++ rest) (spells_more tokens 0 next at (externals_text done) (λ rest. r.front ++ rest) s.spelled r.spelled)
+    (λ rest. sym (externals_append done [] (r.front ++ rest)) ∙ sym (append_assoc text r.front rest)) in
+    let front : kinds (take at tokens) ≡ text ++ r.front =
+    append_cancel_right (kinds (take at tokens)) (text ++ r.front) (kinds (drop at tokens))
+    (sym (map-append (λ (t : Token). t.kind) (take at tokens) (drop at tokens)) ∙ ap kinds (take-append-drop at tokens) ∙ sp.spelled) in
+    let all : kinds tokens ≡ text ++ kinds (drop next tokens) = s.spelled.spelled ∙ sym (externals_append done [] (kinds (drop next tokens))) in
+    let count = ap length all ∙ length-append text (kinds (drop next tokens)) in
+    let l1 = length-map tokens (λ (t : Token). t.kind) in
+    let l2 = length-map (drop next tokens) (λ (t : Token). t.kind) in
+    let l3 = length-drop next tokens in
+    let within = s.spelled.within in
+    let begins : length text ≡ next = omega (arith, count, l1, l2, l3, within) in
+    let f = s.so_far.invert file [] (r.front ++ more) is refl tt (same ∙ ap (λ (x : Kinds). x ++ more) front ∙ append_assoc text r.front more) in
+    let part : drop next (kinds (take at tokens)) ≡ r.front = ap (drop next) front ∙ drop_at text r.front next begins in
+    record {
+      done = done;
+      others = f.0;
+      file_is = f.1;
+      begins = begins;
+      ends = λ some.
+          let n = ap length front ∙ length-append text r.front in
+          subst (λ (x : Kinds). BeginsWith names x f.0) (sym part)
+          (ends_in names r.front more (kind_or_end tokens at) f.0 f.2 (sym f.3) (subst (λ (deep : Bool). Refused (Externals names) 200 r.front (kind_or_end tokens at) deep) flat r.refused) (omega (arith, some, n, begins)));
+    }
+
+pub stands_amidst : (parts : Parts) (tokens : List Token) (done : List External) → PartsSoFar parts.names tokens done parts.next → (s : Stop) → Stops (Externals parts.names) 200 tokens parts.next s → StandsAmidst tokens parts s
+stands_amidst parts tokens done p stop.Memory r = tt
+stands_amidst parts tokens done p (stop.Refused at reason) r = (r.spelled.onward, λ flat. amidst parts.names tokens done parts.next at reason p r flat)
 
 pub file_stops : (names : Names) (tokens : List Token) (done : List External) (next : ℕ) → next < length tokens → PartsSoFar names tokens done next → (s : Stop) → Stops (Externals names) 200 tokens next s → IsStopApt scope.File tokens s → FileStops tokens s
 file_stops names tokens done next some s stop.Memory r apt = tt

@@ -29,4 +29,6 @@ pub mod AptReasons
 pub mod InBodies
 pub mod FileReasonsHere
 pub mod ToldReasons
+pub mod GoingOn
+pub mod Copies
 pub mod WholeFiles

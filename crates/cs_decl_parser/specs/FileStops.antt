@@ -1,17 +1,15 @@
 -- What the parts of the parser of files answer to one another.
-use Rattle.std.specs.Prelude.{Bool, true, false, if◌then◌else◌, List, Result, Ok, Err, Vec}
-use Rattle.std.specs.declared.alloc.Global.{Global}
+use Rattle.std.specs.Prelude.{Bool, true, false, if◌then◌else◌, List}
 use Rattle.cs_ast.specs.declared.token.Token.{Token}
 use Rattle.cs_ast.specs.declared.token.TokenKind.{TokenKind}
 use Rattle.cs_ast.specs.declared.token.TokenKind.TheVariants as token
 use Rattle.cs_ast.specs.declared.token.Keyword.TheVariants as keyword
 use Rattle.cs_ast.specs.declared.token.Mark.TheVariants as mark
-use Rattle.cs_ast.specs.declared.raw.external.RawExternal.{RawExternal}
 use Rattle.cs_grammar.specs.declared.refusal.Reason.{Reason}
 use Rattle.cs_grammar.specs.declared.refusal.Reason.TheVariants.{Syntax, LeftOut}
 use Rattle.cs_expr_parser.specs.declared.stop.Stop.{Stop}
 use Rattle.cs_expr_parser.specs.declared.stop.Stop.TheVariants as stop
-use Rattle.cs_decl_parser.specs.Files.{is_left_out_by_place, parts_of, IsTheFile, IsFileRefusedAt}
+use Rattle.cs_decl_parser.specs.Files.{is_left_out_by_place, IsFileRefusedAt}
 
 -- `static` and `typedef`, which no block has and no expression
 abbrev pub is_file_word : TokenKind → Bool
@@ -19,10 +17,13 @@ is_file_word (token.Keyword keyword.Static) = true
 is_file_word (token.Keyword keyword.Typedef) = true
 is_file_word other = false
 
--- whether the token is left out isn't told by the parts of the parser: the tokens before it tell it of a colon, of `static` and of
--- `typedef`
+-- whether the token is left out isn't told by the parts of the parser: the tokens before it tell it of a colon, of `static`, of
+-- `typedef`, of a dot, of an opening bracket and of an opening brace
 abbrev pub is_left_out_behind : TokenKind → Bool
 is_left_out_behind (token.Mark mark.Colon) = true
+is_left_out_behind (token.Mark mark.Dot) = true
+is_left_out_behind (token.Mark mark.OpenBracket) = true
+is_left_out_behind (token.Mark mark.OpenBrace) = true
 is_left_out_behind (token.Mark other) = is_left_out_by_place (token.Mark other)
 is_left_out_behind other = is_file_word other
 
@@ -34,8 +35,3 @@ left_out_if out = if out then LeftOut else Syntax
 abbrev pub FileStops : List Token → Stop → Type 0
 FileStops tokens stop.Memory = Unit {0}
 FileStops tokens (stop.Refused at reason) = IsFileRefusedAt is_left_out_behind tokens at reason
-
--- the parts of the file that the tokens are, or a token is refused
-abbrev pub FileAnswer : List Token → Result (Vec RawExternal Global) Stop → Type 0
-FileAnswer tokens (Ok externals) = IsTheFile tokens (parts_of externals.items)
-FileAnswer tokens (Err stop) = FileStops tokens stop

@@ -34,10 +34,7 @@ pub record IsTheFile (tokens : List Token) (file : List External) : Type 0 where
 
 -- the token is left out at some places, and not at others, of which the parser doesn't tell in each case
 abbrev pub is_left_out_by_place : TokenKind → Bool
-is_left_out_by_place (token.Mark mark.OpenBrace) = true
 is_left_out_by_place (token.Mark mark.OpenParenthesis) = true
-is_left_out_by_place (token.Mark mark.Dot) = true
-is_left_out_by_place (token.Mark mark.OpenBracket) = true
 is_left_out_by_place other = false
 
 -- a token, or the end of input, is refused: a file that is low enough begins with the tokens before it, and none with the token

@@ -11,6 +11,7 @@ pub mod Blocks
 pub mod FileAnswers
 pub mod Files
 pub mod FileStops
+pub mod ReadParts
 pub mod FilePlaces
 pub mod StatementPlaces
 pub mod SpecPlaces

@@ -1,27 +1,25 @@
 -- The tokens of parameters and files beside their roles. For the contract of `is_behind_member`.
-use Rattle.std.proofs.Common.{◌≡◌, ◌≢◌, ℕ, Bool, true, false, IsTrue, IsSome, List, [], ◌∷◌, ◌++◌, Option, Some, None, length, slice_get, refl, sym, ap, ◌∙◌, subst}
+use Rattle.std.proofs.Common.{◌≡◌, ◌≢◌, ℕ, true, IsTrue, IsSome, List, [], ◌∷◌, ◌++◌, Option, Some, None, length, slice_get, refl, sym, ap, ◌∙◌, subst}
 use Rattle.std.proofs.lemmas.Bool.{false≢true}
 use Rattle.cs_ast.specs.declared.token.TokenKind.{TokenKind}
 use Rattle.cs_ast.specs.declared.token.TokenKind.TheVariants as token
 use Rattle.cs_ast.specs.declared.token.Keyword.TheVariants as keyword
 use Rattle.cs_ast.specs.declared.token.Mark.TheVariants as mark
-use Rattle.cs_ast.specs.declared.raw.written_type.TypeWord.TheVariants as word
-use Rattle.cs_ast.specs.RawDeclarations.{Declarator, Plain, Specs, NoSpec, MoreSpecs, Parameter, Parameters, NoParameter, VoidAlone, ParameterList, Head}
-use Rattle.cs_ast.specs.RawStatements.{Items, External, TypeAlone, Typedef, Objects, Function, Definition}
+use Rattle.cs_ast.specs.RawDeclarations.{Specs, NoSpec, Parameter, Parameters, NoParameter, VoidAlone, ParameterList, Head}
+use Rattle.cs_ast.specs.RawStatements.{External, TypeAlone, Typedef, Objects, Function, Definition}
 use Rattle.cs_grammar.specs.TypeWords.{Names, is_type}
 use Rattle.cs_grammar.specs.Text.{Kinds, pointers_text}
-use Rattle.cs_grammar.specs.FileText.{name_text, each_behind_comma, with_commas, brackets_text, declarator_text, declared_text, specs_text, parameter_text, parameters_text, head_text, items_text, external_text, externals_text, file_text}
+use Rattle.cs_grammar.specs.FileText.{name_text, each_behind_comma, with_commas, brackets_text, declarator_text, declared_text, specs_text, parameter_text, parameters_text, head_text, items_text, external_text, file_text}
 use Rattle.cs_grammar.specs.FilePhrases.{AreAll, IsSomeList, words_of, HaveBodies, AreSpecs, IsParameter, lone_void, AreParameters, IsHead, AreNamed, IsExternal, names_behind, IsFile, BeginsFile}
-use Rattle.cs_grammar.specs.Roles.{Role, another, behind_member, declared_name, Roles, each, each_behind, between, brackets_roles, declarator_roles, declared_roles, specs_roles, name_roles, parameter_roles, parameters_roles, head_roles, items_roles, external_roles, file_roles}
-use Rattle.cs_grammar.specs.FileRefusals.{HasRole, MayHave}
+use Rattle.cs_grammar.specs.Roles.{Role, another, behind_member, declared_name, Roles, each, each_behind, between, brackets_roles, declarator_roles, declared_roles, name_roles, parameter_roles, parameters_roles, head_roles, items_roles, external_roles, file_roles}
+use Rattle.cs_grammar.specs.FileRefusals.{MayHave}
 use Rattle.cs_left_out.specs.declared.members.Phase.{Phase}
 use Rattle.cs_left_out.specs.declared.members.Phase.TheVariants.{Outside, Typing, Typed, Declared}
-use Rattle.cs_left_out.specs.declared.members.Last.{Last}
 use Rattle.cs_left_out.specs.declared.members.Last.TheVariants as last
 use Rattle.cs_left_out.specs.Spots.{Spot, the_start, name_behind, step, run, is_declared}
-use Rattle.cs_left_out.proofs.Traces.{Told, Trace, is_member, spot, Calm, pointers_calm, brackets_calm, declarator_calm, list_calm}
+use Rattle.cs_left_out.proofs.Traces.{Told, Trace, is_member, Calm, pointers_calm, brackets_calm, declarator_calm, list_calm}
 use Rattle.cs_left_out.proofs.Statements.{Quiet, objects_calm, items_quiet}
-use Rattle.cs_left_out.proofs.MemberTraces.{HasMembers, Exchanges, specs_calm}
+use Rattle.cs_left_out.proofs.MemberTraces.{HasMembers, specs_calm}
 
 name_calm : (W : Kinds → Type 0) (s : List Phase) (n : Option (List ℕ)) (ts : Kinds) (rs : Roles) → Calm (λ y. W (name_text n y)) s ts rs → Calm W s (name_text n ts) (name_roles n rs)
 name_calm W s None ts rs h = h

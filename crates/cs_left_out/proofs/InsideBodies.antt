@@ -1,5 +1,5 @@
 -- The tokens of a function's body beside their roles: each is inside the body. For the contract of `is_inside`.
-use Rattle.std.proofs.Common.{◌≡◌, ℕ, ◌⊎◌, inl, inr, Bool, true, false, List, [], ◌∷◌, Option, Some, None, MatchOption, IsTrue, refl}
+use Rattle.std.proofs.Common.{ℕ, inl, Bool, true, false, List, [], ◌∷◌, Option, Some, None, MatchOption, IsTrue, refl}
 use Rattle.std.specs.Option.{option_map}
 use Rattle.cs_ast.specs.declared.token.TokenKind.TheVariants as token
 use Rattle.cs_ast.specs.declared.token.Keyword.{Keyword}
@@ -13,16 +13,15 @@ use Rattle.cs_grammar.specs.TypeWords.{Names, is_type}
 use Rattle.cs_grammar.specs.Text.{Kinds, text, pointers_text, type_word_text}
 use Rattle.cs_grammar.specs.Phrases.{IsPhrase}
 use Rattle.cs_grammar.specs.Levels.{COMMA}
-use Rattle.cs_grammar.specs.FileText.{some_text, comma_text, each_behind_comma, with_commas, brackets_text, declarator_text, initial_text, initials_text, further_initials_text, first_value_text, declared_text, specs_text, declaration_text, first_text, test_text, sentence_text, item_text, items_text, switch_item_text, switch_text}
-use Rattle.cs_grammar.specs.FilePhrases.{AreAll, IsBound, IsFree, IsDeclarator, IsInitial, AreInitials, IsDeclared, AreDeclared, IsAny, plain_words, AreBlockSpecs, IsFirst, IsSentence, IsItem, AreItems, IsSwitchItem, AreSwitchItems}
-use Rattle.cs_grammar.specs.Roles.{another, declared_name, opens_list, Roles, each, some_roles, comma_roles, each_behind, between, brackets_roles, declarator_roles, initial_roles, initials_roles, further_initials_roles, first_value_roles, declared_roles, specs_roles, declaration_roles, first_roles, test_roles, sentence_roles, item_roles, items_roles, switch_item_roles, switch_roles, roles}
+use Rattle.cs_grammar.specs.FileText.{some_text, comma_text, each_behind_comma, with_commas, brackets_text, declarator_text, initial_text, further_initials_text, first_value_text, declared_text, specs_text, declaration_text, first_text, test_text, sentence_text, item_text, items_text, switch_item_text, switch_text}
+use Rattle.cs_grammar.specs.FilePhrases.{AreAll, IsBound, IsDeclarator, IsInitial, AreInitials, IsDeclared, AreDeclared, plain_words, AreBlockSpecs, IsFirst, IsSentence, IsItem, AreItems, IsSwitchItem, AreSwitchItems}
+use Rattle.cs_grammar.specs.Roles.{another, declared_name, Roles, some_roles, comma_roles, each_behind, between, brackets_roles, declarator_roles, initial_roles, further_initials_roles, first_value_roles, declared_roles, specs_roles, declaration_roles, first_roles, test_roles, sentence_roles, item_roles, items_roles, switch_item_roles, switch_roles, roles}
 use Rattle.cs_left_out.specs.declared.inside.Part.TheVariants as part
 use Rattle.cs_left_out.specs.declared.inside.Where.{Where}
 use Rattle.cs_left_out.specs.declared.inside.Where.TheVariants.{Inside}
-use Rattle.cs_left_out.specs.declared.inside.Tagging.{Tagging}
 use Rattle.cs_left_out.specs.declared.inside.Tagging.TheVariants as tagging
 use Rattle.cs_left_out.specs.Sites.{tag_behind}
-use Rattle.cs_left_out.proofs.InsideTraces.{Telling, Trace, site, Calm, pointers_calm, word_calm, expression_calm}
+use Rattle.cs_left_out.proofs.InsideTraces.{Telling, Calm, pointers_calm, word_calm, expression_calm}
 
 -- no word is `static` or has a body
 abbrev ArePlain : Specs → Type 0

@@ -1,5 +1,5 @@
 -- The tokens of declarations beside their roles, from one site to another. For the contract of `is_inside`.
-use Rattle.std.proofs.Common.{◌≡◌, ◌≢◌, ℕ, ◌≤◌, ◌⊎◌, inl, inr, Bool, true, false, IsTrue, List, [], ◌∷◌, Option, Some, None, MatchOption, refl, sym, ap, ◌∙◌, subst, arith}
+use Rattle.std.proofs.Common.{◌≡◌, ◌≢◌, ℕ, inl, inr, Bool, true, false, IsTrue, List, [], ◌∷◌, Option, Some, None, MatchOption, refl, sym, ap, subst, arith}
 use Rattle.cs_ast.specs.declared.token.TokenKind.{TokenKind}
 use Rattle.cs_ast.specs.declared.token.TokenKind.TheVariants as token
 use Rattle.cs_ast.specs.declared.token.Keyword.TheVariants as keyword
@@ -7,24 +7,22 @@ use Rattle.cs_ast.specs.declared.token.Mark.TheVariants as mark
 use Rattle.cs_ast.specs.declared.raw.written_type.TypeWord.TheVariants as word
 use Rattle.cs_ast.specs.RawTree.{Written}
 use Rattle.cs_ast.specs.RawDeclarations.{Declarator, Constant, Static, Plain, StructBody, EnumBody, Specs, NoSpec, MoreSpecs, Members, NoMember, MoreMembers, Initial, Single, Listed, Initials, NoItem as NoInitial, MoreItems as MoreInitials, Declared as DeclaredObject, Parameter, Parameters, NoParameter, VoidAlone, ParameterList, Head}
-use Rattle.cs_ast.specs.RawStatements.{NoItem, External, TypeAlone, Typedef, Objects, Function, Definition}
+use Rattle.cs_ast.specs.RawStatements.{External, TypeAlone, Typedef, Objects, Function, Definition}
 use Rattle.cs_grammar.specs.TypeWords.{Names, is_type}
 use Rattle.cs_grammar.specs.Levels.{ASSIGN, CHOICE}
 use Rattle.cs_grammar.specs.Text.{Kinds, text, pointers_text, type_word_text}
 use Rattle.cs_grammar.specs.Phrases.{IsPhrase}
-use Rattle.cs_grammar.specs.FileText.{name_text, some_text, comma_text, each_behind_comma, with_commas, brackets_text, declarator_text, value_text, constant_text, spec_text, specs_text, members_text, initial_text, further_initials_text, first_value_text, declared_text, parameter_text, parameters_text, head_text, items_text, external_text}
-use Rattle.cs_grammar.specs.FilePhrases.{AreAll, IsSomeList, words_of, IsFree, IsDeclaratorOf, IsDeclarator, IsMember, IsConstant, HaveBodies, AreMembers, AreSpecs, IsInitial, AreInitials, IsDeclared, AreDeclared, IsParameter, lone_void, AreParameters, IsHead, IsExternal}
-use Rattle.cs_grammar.specs.Roles.{Role, another, behind_member, declared_name, opens_list, Roles, each, some_roles, comma_roles, each_behind, between, brackets_roles, declarator_roles, value_roles, constant_roles, specs_roles, members_roles, initial_roles, further_initials_roles, first_value_roles, declared_roles, name_roles, parameter_roles, parameters_roles, head_roles, items_roles, external_roles, spec_roles}
+use Rattle.cs_grammar.specs.FileText.{name_text, comma_text, each_behind_comma, with_commas, brackets_text, declarator_text, value_text, constant_text, spec_text, specs_text, members_text, initial_text, further_initials_text, first_value_text, declared_text, parameter_text, parameters_text, head_text, external_text}
+use Rattle.cs_grammar.specs.FilePhrases.{AreAll, IsSomeList, words_of, IsFree, IsDeclaratorOf, IsConstant, HaveBodies, AreMembers, AreSpecs, IsInitial, AreInitials, IsDeclared, AreDeclared, IsParameter, lone_void, AreParameters, IsHead, IsExternal}
+use Rattle.cs_grammar.specs.Roles.{Role, another, behind_member, declared_name, opens_list, Roles, each, comma_roles, each_behind, between, brackets_roles, declarator_roles, value_roles, constant_roles, specs_roles, members_roles, initial_roles, further_initials_roles, first_value_roles, declared_roles, name_roles, parameter_roles, parameters_roles, head_roles, external_roles}
 use Rattle.cs_left_out.specs.declared.inside.Part.TheVariants as part
 use Rattle.cs_left_out.specs.declared.inside.Where.{Where}
 use Rattle.cs_left_out.specs.declared.inside.Where.TheVariants.{Declaration, ListedValue, Constants, ListedItem, Inside}
-use Rattle.cs_left_out.specs.declared.inside.Tagging.{Tagging}
 use Rattle.cs_left_out.specs.declared.inside.Tagging.TheVariants as tagging
 use Rattle.cs_left_out.specs.Sites.{tag_behind}
 use Rattle.cs_left_out.proofs.InsideTraces.{Telling, Trace, site, Calm, Goes, ToldIn, is_inner, plus, pointers_calm, word_calm, expression_calm}
-use Rattle.cs_left_out.proofs.InsideBodies.{items_still}
 use Rattle.cs_grammar.proofs.StatementParts.{nought}
-use Rattle.cs_left_out.proofs.Longer.{longer, longer_text, longer_phrase, behind, signed, signed_phrase}
+use Rattle.cs_left_out.proofs.Longer.{longer, longer_text, longer_phrase, signed, signed_phrase}
 
 abbrev bracket : TokenKind
 bracket = token.Mark mark.OpenBracket

@@ -1,5 +1,5 @@
 -- The tokens of files beside their roles, and which stand inside a block or an expression. For the contract of `is_inside`.
-use Rattle.std.proofs.Common.{◌≡◌, ℕ, ◌⊎◌, inl, inr, Bool, true, false, List, [], ◌∷◌, ◌++◌, Some, length, slice_get, arith, refl, sym, ap, ◌∙◌, subst, append_assoc, append-nil}
+use Rattle.std.proofs.Common.{◌≡◌, ◌⊎◌, inl, inr, Bool, true, false, List, [], ◌∷◌, ◌++◌, Some, length, slice_get, arith, refl, sym, ap, ◌∙◌, subst, append-nil}
 use Rattle.std.proofs.lemmas.Bool.{false≢true}
 use Rattle.std.proofs.lemmas.Option.{slice_get_within}
 use Rattle.cs_grammar.proofs.RoleLengths.{file_beside}
@@ -7,13 +7,13 @@ use Rattle.cs_ast.specs.declared.token.TokenKind.{TokenKind}
 use Rattle.cs_ast.specs.declared.token.TokenKind.TheVariants as token
 use Rattle.cs_ast.specs.declared.token.Mark.TheVariants as mark
 use Rattle.cs_ast.specs.RawDeclarations.{Specs, Head}
-use Rattle.cs_ast.specs.RawStatements.{Items, NoItem, External, TypeAlone, Typedef, Objects, Function, Definition}
+use Rattle.cs_ast.specs.RawStatements.{Items, External, TypeAlone, Typedef, Objects, Function, Definition}
 use Rattle.cs_grammar.specs.TypeWords.{Names}
 use Rattle.cs_grammar.specs.Text.{Kinds}
 use Rattle.cs_grammar.specs.FileText.{specs_text, head_text, items_text, external_text, externals_text, file_text}
 use Rattle.cs_grammar.specs.FilePhrases.{AreSpecs, IsHead, AreItems, IsExternal, names_behind, IsFile, BeginsFile}
 use Rattle.cs_grammar.specs.Roles.{Role, closes_type, in_expression, another, Roles, specs_roles, head_roles, items_roles, external_roles, file_roles}
-use Rattle.cs_grammar.specs.FileRefusals.{HasRole, MayHave, IsInBlock, IsInside}
+use Rattle.cs_grammar.specs.FileRefusals.{MayHave, IsInBlock, IsInside}
 use Rattle.cs_grammar.proofs.FileTexts.{specs_append, head_append, items_append, external_append, externals_append}
 use Rattle.cs_left_out.specs.declared.inside.Part.{Part}
 use Rattle.cs_left_out.specs.declared.inside.Part.TheVariants as part
@@ -228,7 +228,7 @@ block_inside front b =
     ap (λ (s : Site). is_inside s.within) all ∙ in_body_inside (run b.inside in_the_body).within (body_stays e.0 b.body b.inside b.more d.3 b.within)
 
 -- two lists in front of others that are the same
-split : (a b f m : Kinds) → a ++ b ≡ f ++ m → ((d : Kinds) × (f ≡ a ++ d) × (b ≡ d ++ m)) ⊎ ((c : TokenKind) × (d : Kinds) × (a ≡ f ++ c ∷ d))
+pub split : (a b f m : Kinds) → a ++ b ≡ f ++ m → ((d : Kinds) × (f ≡ a ++ d) × (b ≡ d ++ m)) ⊎ ((c : TokenKind) × (d : Kinds) × (a ≡ f ++ c ∷ d))
 split [] b f m e = inl (f, refl, e)
 split (x ∷ a) b [] m e = inr (x, a, refl)
 split (x ∷ a) b (y ∷ f) m e =

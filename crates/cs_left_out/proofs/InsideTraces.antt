@@ -1,5 +1,5 @@
 -- The tokens of expressions beside their roles, from one site to another. For the contract of `is_inside`.
-use Rattle.std.proofs.Common.{◌≡◌, ℕ, ◌≤◌, ◌⊎◌, inl, inr, Bool, true, false, List, [], ◌∷◌, Option, Some, None, refl, sym, ap, ◌∙◌, subst, arith}
+use Rattle.std.proofs.Common.{◌≡◌, ℕ, ◌≤◌, ◌⊎◌, inl, inr, Bool, true, false, List, [], ◌∷◌, refl, arith}
 use Rattle.std.proofs.lemmas.Bool.{false≢true}
 use Rattle.cs_ast.specs.declared.token.TokenKind.{TokenKind}
 use Rattle.cs_ast.specs.declared.token.TokenKind.TheVariants as token
@@ -21,19 +21,19 @@ use Rattle.cs_ast.specs.declared.raw.written_type.IntegerWord.TheVariants.{Char,
 use Rattle.cs_ast.specs.declared.raw.written_type.PointerWord.{PointerWord}
 use Rattle.cs_ast.specs.declared.raw.written_type.PointerWord.TheVariants as pointer
 use Rattle.cs_ast.specs.RawTree.{Written, WrittenList, Named, Numeral, Character, Literal, Enclosed, Index, Call, Member, Arrow, StepBehind, StepBefore, Prefix, SizeOf, SizeOfType, Cast, Infix, Choice, Assign, Comma, End, More}
-use Rattle.cs_grammar.specs.Levels.{level_of, infix_level, ASSIGN, CHOICE}
+use Rattle.cs_grammar.specs.Levels.{level_of, infix_level, CHOICE}
 use Rattle.cs_grammar.specs.TypeWords.{Names}
 use Rattle.cs_grammar.specs.Marks.{step_mark, prefix_mark, infix_mark, assign_mark}
 use Rattle.cs_grammar.specs.Text.{Kinds, text, listed, behind_commas, bounds_text, words_text, pointers_text, type_word_text, integer_word_text}
-use Rattle.cs_grammar.specs.Phrases.{IsWell, ArePhrases, IsPhrase}
+use Rattle.cs_grammar.specs.Phrases.{IsWell, ArePhrases}
 use Rattle.cs_grammar.specs.Roles.{Role, closes_type, in_expression, Roles, each, type_roles, roles, roles_listed, roles_behind_commas, roles_of_bounds}
 use Rattle.cs_left_out.specs.declared.inside.Part.{Part}
 use Rattle.cs_left_out.specs.declared.inside.Part.TheVariants as part
 use Rattle.cs_left_out.specs.declared.inside.Where.{Where}
-use Rattle.cs_left_out.specs.declared.inside.Where.TheVariants.{Declaration, ListedValue, Constants, ListedItem, Inside}
+use Rattle.cs_left_out.specs.declared.inside.Where.TheVariants.{Inside}
 use Rattle.cs_left_out.specs.declared.inside.Tagging.{Tagging}
 use Rattle.cs_left_out.specs.declared.inside.Tagging.TheVariants as tagging
-use Rattle.cs_left_out.specs.Sites.{Site, tag_behind, deeper, chosen, with_comma, mark_step, step}
+use Rattle.cs_left_out.specs.Sites.{Site, tag_behind, deeper, chosen, mark_step, step}
 
 -- the role of a token of an expression
 abbrev pub is_inner : Role → Bool

@@ -7,3 +7,9 @@ pub mod InsideBodies
 pub mod Longer
 pub mod InsideDeclarations
 pub mod InsideFiles
+pub mod ListTraces
+pub mod ListFiles
+pub mod TypeTraces
+pub mod TypeFiles
+pub mod Tags
+pub mod LastParts

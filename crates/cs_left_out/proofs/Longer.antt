@@ -1,12 +1,11 @@
 -- An expression may go on with an operator and one operand more. For the contract of `is_inside`.
-use Rattle.std.proofs.Common.{◌≡◌, ℕ, ◌≤◌, Bool, true, false, [], ◌∷◌, refl, ap, subst, arith}
+use Rattle.std.proofs.Common.{◌≡◌, ℕ, ◌≤◌, ◌∷◌, refl, ap, arith}
 use Rattle.cs_ast.specs.declared.token.TokenKind.TheVariants as token
 use Rattle.cs_ast.specs.declared.token.Mark.TheVariants as mark
-use Rattle.cs_ast.specs.declared.raw.operator.InfixOp.{InfixOp}
 use Rattle.cs_ast.specs.declared.raw.operator.InfixOp.TheVariants as operator
 use Rattle.cs_ast.specs.declared.raw.operator.PrefixOp.TheVariants as before
-use Rattle.cs_ast.specs.RawTree.{Written, Infix, Choice, Assign, Comma, Named, Numeral, Character, Literal, Enclosed, Index, Call, Member, Arrow, StepBehind, StepBefore, Prefix, SizeOf, SizeOfType, Cast}
-use Rattle.cs_grammar.specs.Levels.{level_of, infix_level}
+use Rattle.cs_ast.specs.RawTree.{Written, Infix, Choice, Assign, Comma, Prefix}
+use Rattle.cs_grammar.specs.Levels.{level_of}
 use Rattle.cs_grammar.specs.TypeWords.{Names}
 use Rattle.cs_grammar.specs.Marks.{infix_mark, assign_mark}
 use Rattle.cs_grammar.specs.Text.{Kinds, text}

@@ -1,6 +1,6 @@
 -- The tokens of structures' members beside their roles: where a declarator of one stands last, a semicolon may follow. For the
 -- contract of `is_behind_member`.
-use Rattle.std.proofs.Common.{◌≡◌, ℕ, Bool, true, false, ◌&&◌, IsTrue, List, [], ◌∷◌, Option, Some, None, refl, sym, ap, ◌∙◌, subst}
+use Rattle.std.proofs.Common.{◌≡◌, ℕ, Bool, true, false, ◌&&◌, IsTrue, List, [], ◌∷◌, Option, Some, None, refl, sym, ap, subst}
 use Rattle.std.specs.List.{list_all}
 use Rattle.std.proofs.lemmas.Bool.{false≢true}
 use Rattle.cs_ast.specs.declared.token.TokenKind.TheVariants as token
@@ -16,9 +16,9 @@ use Rattle.cs_ast.specs.RawTree.{Written}
 use Rattle.cs_ast.specs.RawDeclarations.{Declarator, Constant, Static, Plain, StructBody, EnumBody, Specs, NoSpec, MoreSpecs, Members, NoMember, MoreMembers}
 use Rattle.cs_grammar.specs.TypeWords.{Names, is_integer_word, fit_together, named_by, names_type, is_type}
 use Rattle.cs_grammar.specs.Text.{Kinds, type_word_text, integer_word_text, pointers_text}
-use Rattle.cs_grammar.specs.FileText.{name_text, some_text, comma_text, each_behind_comma, with_commas, brackets_text, declarator_text, constant_text, spec_text, specs_text, members_text}
+use Rattle.cs_grammar.specs.FileText.{some_text, comma_text, each_behind_comma, with_commas, brackets_text, declarator_text, constant_text, spec_text, specs_text, members_text}
 use Rattle.cs_grammar.specs.FilePhrases.{AreAll, IsSomeList, words_of, IsFullBound, IsMember, HaveBodies, AreMembers}
-use Rattle.cs_grammar.specs.Roles.{another, behind_member, declared_name, Roles, each, some_roles, comma_roles, each_behind, between, brackets_roles, declarator_roles, constant_roles, spec_roles, specs_roles, members_roles}
+use Rattle.cs_grammar.specs.Roles.{another, behind_member, declared_name, Roles, each, comma_roles, each_behind, between, brackets_roles, declarator_roles, constant_roles, specs_roles, members_roles}
 use Rattle.cs_left_out.specs.declared.members.Phase.{Phase}
 use Rattle.cs_left_out.specs.declared.members.Phase.TheVariants.{Outside, Typing, Typed, Declared}
 use Rattle.cs_left_out.specs.declared.members.Last.{Last}

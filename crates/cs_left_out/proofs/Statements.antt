@@ -1,5 +1,5 @@
 -- The tokens of statements beside their roles: none stands behind a member's declarator. For the contract of `is_behind_member`.
-use Rattle.std.proofs.Common.{◌≡◌, ℕ, List, [], ◌∷◌, Option, Some, None, MatchOption, IsTrue, refl}
+use Rattle.std.proofs.Common.{List, ◌∷◌, Option, Some, None, MatchOption, IsTrue, refl}
 use Rattle.std.specs.Option.{option_map}
 use Rattle.cs_ast.specs.declared.token.TokenKind.TheVariants as token
 use Rattle.cs_ast.specs.declared.token.Keyword.{Keyword}
@@ -10,18 +10,17 @@ use Rattle.cs_ast.specs.RawTree.{Written}
 use Rattle.cs_ast.specs.RawDeclarations.{Static, Plain, StructBody, EnumBody, Specs, NoSpec, MoreSpecs, Declared as DeclaredObject}
 use Rattle.cs_ast.specs.RawStatements.{First, NoFirst, FirstRuns, FirstDeclares, Sentence, Block, Nothing, Runs, If, IfElse, While, Do, For, Switch, Goto, Continue, Break, Return, Label, Item, Declares, Does, Items, NoItem, MoreItems, SwitchItem, Case, Default, Inside, SwitchItems, NoSwitchItem, MoreSwitchItems}
 use Rattle.cs_grammar.specs.TypeWords.{Names, is_type}
-use Rattle.cs_grammar.specs.Text.{Kinds, text, type_word_text}
+use Rattle.cs_grammar.specs.Text.{Kinds, type_word_text}
 use Rattle.cs_grammar.specs.FileText.{some_text, with_commas, declared_text, specs_text, declaration_text, first_text, test_text, sentence_text, item_text, items_text, switch_item_text, switch_text}
 use Rattle.cs_grammar.specs.FilePhrases.{plain_words, AreBlockSpecs, IsFirst, IsSentence, IsItem, AreItems, IsSwitchItem, AreSwitchItems}
-use Rattle.cs_grammar.specs.Roles.{another, Roles, some_roles, between, declared_roles, specs_roles, declaration_roles, first_roles, test_roles, sentence_roles, item_roles, items_roles, switch_item_roles, switch_roles, roles}
+use Rattle.cs_grammar.specs.Roles.{another, Roles, some_roles, between, declared_roles, specs_roles, declaration_roles, first_roles, test_roles, sentence_roles, item_roles, items_roles, switch_item_roles, switch_roles}
 use Rattle.cs_left_out.specs.declared.members.Phase.{Phase}
 use Rattle.cs_left_out.specs.declared.members.Phase.TheVariants.{Outside}
-use Rattle.cs_left_out.specs.declared.members.Last.{Last}
 use Rattle.cs_left_out.specs.declared.members.Last.TheVariants as last
 use Rattle.cs_left_out.proofs.Traces.{Trace, spot, Calm, word_calm, expression_calm, some_calm, list_calm, declared_calm}
 
 -- no word is `static` or has a body
-abbrev ArePlain : Specs → Type 0
+abbrev pub ArePlain : Specs → Type 0
 ArePlain NoSpec = Unit {0}
 ArePlain (MoreSpecs (Plain w) others) = ArePlain others
 ArePlain (MoreSpecs other others) = ⊥
@@ -30,7 +29,7 @@ once_more : {A B : Type 0} (f : A → B) (x : Option A) (P : B → Type 0) → M
 once_more f None P h = h
 once_more f (Some a) P h = h
 
-plain_specs : (specs : Specs) (P : List TypeWord → Type 0) → MatchOption (plain_words specs) ⊥ P → ArePlain specs
+pub plain_specs : (specs : Specs) (P : List TypeWord → Type 0) → MatchOption (plain_words specs) ⊥ P → ArePlain specs
 plain_specs NoSpec P h = tt
 plain_specs (MoreSpecs (Plain w) others) P h = plain_specs others (λ ws. P (w ∷ ws)) (once_more (λ ws. w ∷ ws) (plain_words others) P h)
 plain_specs (MoreSpecs Static others) P h = h

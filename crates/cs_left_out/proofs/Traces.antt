@@ -1,6 +1,6 @@
 -- The tokens of a file beside their roles, from one spot to another: what is outside of members. For the contract of
 -- `is_behind_member`.
-use Rattle.std.proofs.Common.{◌≡◌, ℕ, Bool, true, false, List, [], ◌∷◌, Option, Some, None, refl}
+use Rattle.std.proofs.Common.{◌≡◌, Bool, true, false, List, [], ◌∷◌, Option, Some, None, refl}
 use Rattle.std.proofs.lemmas.Bool.{false≢true}
 use Rattle.cs_ast.specs.declared.token.TokenKind.{TokenKind}
 use Rattle.cs_ast.specs.declared.token.TokenKind.TheVariants as token
@@ -22,13 +22,13 @@ use Rattle.cs_ast.specs.declared.raw.written_type.IntegerWord.TheVariants.{Char,
 use Rattle.cs_ast.specs.declared.raw.written_type.PointerWord.{PointerWord}
 use Rattle.cs_ast.specs.declared.raw.written_type.PointerWord.TheVariants as pointer
 use Rattle.cs_ast.specs.RawTree.{Written, WrittenList, Named, Numeral, Character, Literal, Enclosed, Index, Call, Member, Arrow, StepBehind, StepBefore, Prefix, SizeOf, SizeOfType, Cast, Infix, Choice, Assign, Comma, End, More}
-use Rattle.cs_ast.specs.RawDeclarations.{Declarator, Constant, Initial, Single, Listed, Initials, NoItem as NoInitial, MoreItems as MoreInitials, Declared as DeclaredObject}
+use Rattle.cs_ast.specs.RawDeclarations.{Initial, Single, Listed, Initials, NoItem as NoInitial, MoreItems as MoreInitials}
 use Rattle.cs_grammar.specs.Marks.{step_mark, prefix_mark, infix_mark, assign_mark}
-use Rattle.cs_grammar.specs.Text.{Kinds, text, listed, behind_commas, bounds_text, words_text, pointers_text, type_word_text, integer_word_text, pointer_word_text}
+use Rattle.cs_grammar.specs.Text.{Kinds, text, listed, behind_commas, bounds_text, words_text, pointers_text, type_word_text, integer_word_text}
 use Rattle.cs_grammar.specs.FileText.{some_text, comma_text, each_behind_comma, with_commas, brackets_text, declarator_text, value_text, constant_text, initial_text, initials_text, further_initials_text, first_value_text, declared_text}
-use Rattle.cs_grammar.specs.Roles.{Role, closes_type, in_expression, another, behind_member, declared_name, opens_list, Roles, each, type_roles, roles, roles_listed, roles_behind_commas, roles_of_bounds, some_roles, comma_roles, each_behind, between, brackets_roles, declarator_roles, value_roles, constant_roles, initial_roles, initials_roles, further_initials_roles, first_value_roles, declared_roles}
+use Rattle.cs_grammar.specs.Roles.{Role, closes_type, in_expression, another, behind_member, declared_name, Roles, each, type_roles, roles, roles_listed, roles_behind_commas, roles_of_bounds, some_roles, comma_roles, each_behind, between, brackets_roles, declarator_roles, value_roles, constant_roles, initial_roles, initials_roles, further_initials_roles, first_value_roles, declared_roles}
 use Rattle.cs_left_out.specs.declared.members.Phase.{Phase}
-use Rattle.cs_left_out.specs.declared.members.Phase.TheVariants.{Outside, Typing, Typed, Declared}
+use Rattle.cs_left_out.specs.declared.members.Phase.TheVariants.{Outside, Declared}
 use Rattle.cs_left_out.specs.declared.members.Last.{Last}
 use Rattle.cs_left_out.specs.declared.members.Last.TheVariants as last
 use Rattle.cs_left_out.specs.Spots.{Spot, name_behind, mark_step, step, is_declared}

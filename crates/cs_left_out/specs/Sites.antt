@@ -155,3 +155,8 @@ abbrev pub is_in_body : Where → Bool
 is_in_body (Inside part.Body) = true
 is_in_body (Inside part.BodyChoice) = true
 is_in_body within = false
+
+-- the last tokens are `struct` or `enum`, with or without a tag
+abbrev pub is_tagging : Tagging → Bool
+is_tagging tagging.Nothing = false
+is_tagging behind = true

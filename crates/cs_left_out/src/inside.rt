@@ -2,7 +2,8 @@
 ghost use Rattle.std.specs.Prelude.{◌≡◌, ◌∷◌, ◌↔◌, IsTrue, IfOk, OnOk};
 ghost use Rattle.cs_grammar.specs.FilePhrases.{BeginsFile};
 ghost use Rattle.cs_grammar.specs.FileRefusals.{IsInside};
-ghost use Rattle.cs_left_out.specs.Sites.{tag_behind, tagging_behind, deeper as deep, chosen as choice, in_parenthesis as parenthesised, in_bracket as bracketed, in_brace as braced, around_brace as outside, opened, closed as shut, settled, with_equal as equal, with_comma as comma, with_semicolon as semicolon, with_question as question, with_colon as colon, is_inside as inside, behind_mark, mark_step, step as one_more};
+ghost use Rattle.cs_grammar.specs.Refusals.{EndsWithTag};
+ghost use Rattle.cs_left_out.specs.Sites.{tag_behind, tagging_behind, deeper as deep, chosen as choice, in_parenthesis as parenthesised, in_bracket as bracketed, in_brace as braced, around_brace as outside, opened, closed as shut, settled, with_equal as equal, with_comma as comma, with_semicolon as semicolon, with_question as question, with_colon as colon, is_inside as inside, is_tagging, behind_mark, mark_step, step as one_more, the_first, run};
 ghost use Rattle.cs_left_out.specs.declared.inside.Where.TheVariants as wheres;
 ghost use Rattle.cs_left_out.specs.Readings.{kinds, site_of};
 
@@ -182,6 +183,13 @@ impl Tagging {
         }
     }
 
+    /// Whether the last tokens are `struct` or `enum`, with or without a tag.
+    fn is_tag(self) -> bool
+        ensures { result ≡ is_tagging self }
+    {
+        !matches!(self, Tagging::Nothing)
+    }
+
     /// Behind an opening brace in a declaration.
     fn body(self) -> Where
         ensures { result ≡ braced wheres.Declaration self }
@@ -299,9 +307,9 @@ fn behind_plain(mark: Mark, within: Where) -> Where
     }
 }
 
-/// Whether a token behind these would stand inside a block or an expression, where a file begins with them.
-pub fn is_inside(alloc: Global, before: &[Token]) -> Result<bool, AllocError>
-    ensures { IfOk result (λ here. BeginsFile (kinds before.now) → (IsTrue here ↔ IsInside (kinds before.now))) }
+/// What these tokens have come to.
+fn read(alloc: Global, before: &[Token]) -> Result<Reading, AllocError>
+    ensures { IfOk result (λ reading. site_of reading ≡ run (kinds before.now) the_first) }
 {
     let mut reading = Reading {
         within: Where::Declaration,
@@ -310,6 +318,25 @@ pub fn is_inside(alloc: Global, before: &[Token]) -> Result<bool, AllocError>
     };
     'tokens: for token in before {
         reading.step(&token.kind)?;
+    }
+    Ok(reading)
+}
+
+/// Whether a token behind these would stand inside a block or an expression, where a file begins with them.
+pub fn is_inside(alloc: Global, before: &[Token]) -> Result<bool, AllocError>
+    ensures { IfOk result (λ here. BeginsFile (kinds before.now) → (IsTrue here ↔ IsInside (kinds before.now))) }
+{
+    Ok(read(alloc, before)?.within.is_inside())
+}
+
+/// Whether a token behind these would stand behind `struct` or `enum` or its tag inside a block or an expression, where a file begins
+/// with them.
+pub fn is_tag_inside(alloc: Global, before: &[Token]) -> Result<bool, AllocError>
+    ensures { IfOk result (λ here. BeginsFile (kinds before.now) → (IsTrue here ↔ (EndsWithTag (kinds before.now) × IsInside (kinds before.now)))) }
+{
+    let reading = read(alloc, before)?;
+    if !reading.behind.is_tag() {
+        return Ok(false);
     }
     Ok(reading.within.is_inside())
 }

@@ -2,7 +2,11 @@
 #![tactic(auto)]
 
 mod inside;
+mod lists;
 mod members;
+mod types;
 
-pub use inside::is_inside;
+pub use inside::{is_inside, is_tag_inside};
+pub use lists::awaits_list;
 pub use members::is_behind_member;
+pub use types::is_behind_type;

@@ -36,10 +36,19 @@ const FILES: [(&str, &str); 32] = [
     ("struct S{int a:3;};", "left out : 1:15"),
     ("int a[2]={[0]=1};", "left out [ 1:11"),
     ("struct S{int a;}s={.a=1};", "left out . 1:20"),
+    ("int a[2]={1,[1]=1};", "left out [ 1:13"),
+    ("int a,[3];", "syntax 1:7"),
+    ("int f(int x){return f(1,.5);}", "syntax 1:25"),
+    ("int x={{.", "left out . 1:9"),
     ("int f(void){static int x;}", "left out static 1:13"),
     ("int f(void){typedef int T;}", "left out typedef 1:13"),
     ("int f(void){struct S{int a;}s;}", "left out { 1:21"),
     ("int x=(int){3};", "left out { 1:12"),
+    ("typedef int T;int x=(T){3};", "left out { 1:24"),
+    ("int T;int x=(T){3};", "syntax 1:16"),
+    ("int f(int x){return sizeof(int){", "left out { 1:32"),
+    ("int f(int x){if(x){}else(x){", "syntax 1:28"),
+    ("int x=sizeof(struct S{", "left out { 1:22"),
 ];
 
 /// What the front end says of a file, in words.

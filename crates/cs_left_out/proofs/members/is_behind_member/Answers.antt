@@ -1,5 +1,5 @@
 -- The spot behind all tokens tells the role.
-use Rattle.std.proofs.Common.{◌≡◌, List, sym, ap, ◌∙◌, drop}
+use Rattle.std.proofs.Common.{◌≡◌, List, sym, ap, ◌∙◌}
 use Rattle.std.proofs.Math.ListN.{drop_of_length-le}
 use Rattle.cs_ast.specs.declared.token.Token.{Token}
 use Rattle.cs_left_out.specs.Spots.{Spot, the_start, run, is_declared}

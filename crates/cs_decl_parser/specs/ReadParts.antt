@@ -1,0 +1,20 @@
+-- What the parts of a file that are read tell where a token is refused.
+use Rattle.std.specs.Prelude.{◌≡◌, ◌≤◌, false, List, [], take}
+use Rattle.cs_ast.specs.declared.token.Token.{Token}
+use Rattle.cs_expr_parser.specs.Positions.{kinds}
+use Rattle.cs_expr_parser.specs.Parts.{is_deep}
+use Rattle.cs_expr_parser.specs.declared.stop.Stop.{Stop}
+use Rattle.cs_expr_parser.specs.declared.stop.Stop.TheVariants as stop
+use Rattle.cs_left_out.specs.LastParts.{EndInPart}
+use Rattle.cs_decl_parser.specs.declared.externals.Parts.{Parts}
+
+-- none is read
+pub record IsFresh (parts : Parts) : Type 0 where
+  pub list : parts.list.items ≡ []
+  pub names : parts.names ≡ []
+  pub next : parts.next ≡ 0
+
+-- want of memory, or a token is refused behind the parts, unless it is only too deep in the one that begins behind them
+abbrev pub StandsAmidst : List Token → Parts → Stop → Type 0
+StandsAmidst tokens parts stop.Memory = Unit {0}
+StandsAmidst tokens parts (stop.Refused at reason) = (parts.next ≤ at) × (is_deep reason ≡ false → EndInPart parts.names (kinds (take at tokens)) parts.next)

@@ -1,0 +1,150 @@
+//! Why a token of a file is refused: the tokens before it tell of some whether they are left out.
+ghost use Rattle.std.specs.Prelude.{◌≡◌, ◌<◌, ◌≤◌, ◌+◌, ◌⊎◌, ◌^◌, ◌∷◌, [], ◌++◌, ◌↔◌, length, take, IfOk, IsTrue, true};
+ghost use Rattle.cs_grammar.specs.FilePhrases.{BeginsFile, BeginsLowFile};
+ghost use Rattle.cs_ast.specs.declared.token.TokenKind.TheVariants as token;
+ghost use Rattle.cs_ast.specs.declared.token.Mark.TheVariants as mark;
+ghost use Rattle.cs_grammar.specs.FileRefusals.{MayHave, IsLeftOutOfFile};
+ghost use Rattle.cs_expr_parser.specs.declared.stop.Stop.TheVariants as stop;
+ghost use Rattle.cs_left_out.specs.LastParts.{EndInPart};
+ghost use Rattle.cs_decl_parser.specs.ReadParts.{StandsAmidst};
+ghost use Rattle.cs_grammar.specs.Roles.{opens_list};
+ghost use Rattle.cs_expr_parser.specs.Parts.{is_deep};
+ghost use Rattle.cs_expr_parser.specs.Positions.{kinds, kind_or_end};
+ghost use Rattle.cs_decl_parser.specs.DeclarationAnswers.{is_designator};
+ghost use Rattle.cs_decl_parser.specs.Files.{is_left_out_by_place, IsFileRefusedAt};
+ghost use Rattle.cs_decl_parser.specs.FileStops.{is_file_word as file_word, is_left_out_behind, left_out_if as out_if};
+
+use crate::externals::Parts;
+use crate::stop::Stop;
+use cs_ast::{Keyword, Mark, Token, TokenKind};
+use cs_expr_parser::{is_mark, keyword_at, mark_at};
+use cs_grammar::Reason;
+use cs_left_out::{awaits_list, is_behind_member, is_behind_type, is_inside, is_tag_inside};
+use std::alloc::{AllocError, Global};
+
+/// Why the token at a number is refused: the tokens before it tell whether a colon, `static`, `typedef`, a dot, an opening
+/// bracket or an opening brace is left out.
+pub fn reason_told(
+    alloc: Global,
+    tokens: &[Token],
+    at: usize,
+    reason: Reason,
+    parts: &Parts,
+) -> Result<Reason, AllocError>
+    requires few { length tokens.now < 2 ^ 32 }
+    requires amidst { StandsAmidst tokens.now parts.now (stop.Refused at reason) }
+    ensures { IfOk result (λ told. IsFileRefusedAt is_left_out_behind tokens.now at reason → IsFileRefusedAt is_left_out_by_place tokens.now at told) }
+{
+    if is_too_deep(reason) {
+        return Ok(reason);
+    }
+    if is_mark(tokens, at, Mark::Colon) {
+        let out = is_behind_member(alloc, &tokens[..at])?;
+        return Ok(left_out_if(out));
+    }
+    if is_file_word(tokens, at) {
+        let out = is_inside(alloc, &tokens[..at])?;
+        return Ok(left_out_if(out));
+    }
+    if begins_designator(tokens, at) {
+        let out = may_open_list(alloc, tokens, at)?;
+        return Ok(left_out_if(out));
+    }
+    if is_mark(tokens, at, Mark::OpenBrace) {
+        let out = is_brace_out(alloc, tokens, at, parts)?;
+        return Ok(left_out_if(out));
+    }
+    Ok(reason)
+}
+
+/// Whether a brace with this number is left out, in the part of the file behind these, which the tokens before it end in.
+fn is_brace_out(
+    alloc: Global,
+    tokens: &[Token],
+    at: usize,
+    parts: &Parts,
+) -> Result<bool, AllocError>
+    requires within { at < length tokens.now }
+    requires onward { parts.now.next ≤ at }
+    ensures { IfOk result (λ out. BeginsFile (kinds (take at tokens.now)) → EndInPart parts.now.names (kinds (take at tokens.now)) parts.now.next → (IsTrue out ↔ IsLeftOutOfFile (kinds (take at tokens.now)) (token.Mark mark.OpenBrace))) }
+{
+    let before = &tokens[..at];
+    if is_tag_inside(alloc, before)? {
+        return Ok(true);
+    }
+    let behind = is_behind_type(alloc, &parts.names, before, parts.next)?;
+    Ok(behind)
+}
+
+/// Whether a dot or an opening bracket stands at a number.
+fn begins_designator(tokens: &[Token], at: usize) -> bool
+    ensures begins { IsTrue result ↔ (is_designator (kind_or_end tokens.now at) ≡ true) }
+    ensures within { IsTrue result → at < length tokens.now }
+{
+    matches!(mark_at(tokens, at), Some(Mark::Dot | Mark::OpenBracket))
+}
+
+/// Whether a list of initial values may open in place of the token with this number, where some file that is low enough begins with
+/// the tokens before it.
+fn may_open_list(alloc: Global, tokens: &[Token], at: usize) -> Result<bool, AllocError>
+    requires within { at < length tokens.now }
+    requires few { length tokens.now < 2 ^ 32 }
+    ensures { IfOk result (λ may. BeginsLowFile 200 (kinds (take at tokens.now)) → (IsTrue may ↔ MayHave (kinds (take at tokens.now)) opens_list)) }
+{
+    let before = &tokens[..at];
+    if !awaits_list(before) {
+        return Ok(false);
+    }
+    let brace = Token {
+        kind: TokenKind::Mark(Mark::OpenBrace),
+        place: tokens[at].place,
+    };
+    let on = file_goes_on(alloc, before, brace)?;
+    Ok(on)
+}
+
+/// Whether some file, of any height, begins with these tokens and one more, where one that is low enough begins with these. They are
+/// parsed with that one behind them.
+fn file_goes_on(alloc: Global, before: &[Token], next: Token) -> Result<bool, AllocError>
+    requires few { length before.now + 1 < 2 ^ 32 }
+    ensures { IfOk result (λ on. BeginsLowFile 200 (kinds before.now) → (IsTrue on ↔ BeginsFile (kinds before.now ++ next.kind ∷ []))) }
+{
+    let mut tokens = Vec::from_clones(alloc, before)?;
+    tokens.push(next)?;
+    match Parts::new(alloc).read(alloc, &tokens) {
+        Ok(_) => Ok(true),
+        Err(Stop::Refused(at, reason)) => Ok(is_deep_or_past(at, reason, before.len())),
+        Err(Stop::Memory) => Err(AllocError),
+    }
+}
+
+/// Whether the token with a number, which is refused, stands behind so many others, or is too deep.
+fn is_deep_or_past(at: usize, reason: Reason, count: usize) -> bool
+    ensures { IsTrue result ↔ ((count < at) ⊎ (is_deep reason ≡ true)) }
+{
+    count < at || is_too_deep(reason)
+}
+
+/// Whether `static` or `typedef` stands at a number.
+fn is_file_word(tokens: &[Token], at: usize) -> bool
+    ensures word { result ≡ file_word (kind_or_end tokens.now at) }
+    ensures within { IsTrue result → at < length tokens.now }
+{
+    matches!(
+        keyword_at(tokens, at),
+        Some(Keyword::Static | Keyword::Typedef)
+    )
+}
+
+/// The reason, where it is told whether a token is left out.
+fn left_out_if(out: bool) -> Reason
+    ensures { result ≡ out_if out }
+{
+    if out { Reason::LeftOut } else { Reason::Syntax }
+}
+
+fn is_too_deep(reason: Reason) -> bool
+    ensures { result ≡ is_deep reason }
+{
+    matches!(reason, Reason::TooDeep)
+}
