@@ -7,7 +7,7 @@ use std::str::from_utf8;
 use std::test::Fail;
 
 /// Files with what the front end says of them.
-const FILES: [(&str, &str); 32] = [
+const FILES: [(&str, &str); 41] = [
     ("", "0 parts"),
     ("int f(int x){return 1/x;}", "1 parts"),
     ("typedef int T;T x;", "2 parts"),
