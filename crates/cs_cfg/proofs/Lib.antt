@@ -20,6 +20,8 @@ mod Looped
 mod Left
 pub mod Simulating
 pub mod Runs
+mod Onward
+mod OnwardCalls
 mod Returning
 mod Staying
 pub mod Returned
@@ -36,3 +38,6 @@ pub mod Choosing
 pub mod Bringing
 pub mod Pieces
 mod Unreached
+mod Told
+mod Touched
+mod Spots

@@ -1,5 +1,6 @@
 -- Samples: the text of a flow, and small graphs by hand whose runs end as those of the plain machine.
-use Rattle.std.proofs.Common.{◌≡◌, ℕ, pos, true, false, [], ◌∷◌, Some, None, refl}
+use Rattle.std.proofs.Common.{◌≡◌, ℕ, pos, true, false, [], ◌∷◌, map, Some, None, refl}
+use Rattle.std.specs.List.{range_with_len}
 use Rattle.cs_types.specs.declared.int_type.IntType.TheVariants.{Int}
 use Rattle.cs_types.specs.Shape.{array}
 use Rattle.cs_ast.specs.declared.typed.operator.BinOp.TheVariants as op
@@ -17,6 +18,8 @@ use Rattle.cs_runs.specs.declared.point.PointKind.TheVariants as point
 use Rattle.cs_runs.specs.Runs as runs
 use Rattle.cs_plain.proofs.Building.{at, int, to_int, literal, local, loaded, value, sequence, named, defined, functions, given, USUAL, plain}
 use Rattle.cs_cfg.specs.Graph.{Code, Flow, Number, Local, Sum, Load, Compare, Store, FetchNumber, Update, Drop, Clear, Reach, Meet, Close, Jump, Branch, Return}
+use Rattle.cs_cfg.specs.declared.touch.Touch.TheVariants as touch
+use Rattle.cs_cfg.specs.Touching.{touch_at}
 use Rattle.cs_cfg.specs.ControlPoints.{met, Onward, TruthOf, way, control_points}
 use Rattle.cs_cfg.proofs.Building.{does, direct_local, pointed, machine_run, code_run, outcome_of}
 
@@ -63,6 +66,11 @@ fills_flow_graph = record {
 
 abbrev fills_code : Code
 fills_code = record { flows = Some fills_flow_graph ∷ [] }
+
+-- what the block at the head of its loop touches, spot by spot: the operations, the end, and a spot that isn't there
+fills_touches : map (λ number. touch_at fills_code (record { function = 0; block = 1; operation = number })) (range_with_len 0 8) ≡
+    Some (touch.Point point.Head (at 29)) ∷ (None ∷ (Some (touch.Load 2 (at 37)) ∷ (None ∷ (Some (touch.Load 0 (at 39)) ∷ (None ∷ (Some (touch.Point point.Branch (at 29)) ∷ (None ∷ [])))))))
+fills_touches = refl
 
 -- three elements are there
 fills_too_many : outcome_of (code_run fills_code fills 0 (plain (given 110 (pos 4) ∷ [])) USUAL 120) ≡ Some (Fault kind.Bounds (at 46))

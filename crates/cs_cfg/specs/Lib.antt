@@ -2,6 +2,7 @@ pub mod Graph
 pub mod GraphView
 pub mod Working
 pub mod CodeSteps
+pub mod Touching
 pub mod ControlPoints
 pub mod FlowText
 pub mod GraphPoints

@@ -6,6 +6,8 @@
 pub mod code;
 pub mod laws;
 pub mod operation;
+pub mod touch;
 
 pub use code::{Block, BlockEnd, Code, Flow, Mark, Spot, SwitchCase};
 pub use operation::{Access, Operation, Work};
+pub use touch::Touch;

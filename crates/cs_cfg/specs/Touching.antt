@@ -1,0 +1,85 @@
+-- What the code touches at a spot, whatever the run: a control point, or a load, a store or a clearing of a scalar local.
+use Rattle.std.specs.Prelude.{◌≡◌, ℕ, zero, suc, true, List, [], ◌∷◌, ◌++◌, ◌⊎◌, Option, Some, None, option_map, slice_get}
+use Rattle.std.specs.Option.{option_and_then, option_to_list}
+use Rattle.cs_ast.specs.declared.place.Place.{Place}
+use Rattle.cs_runs.specs.declared.point.PointKind.TheVariants as point
+use Rattle.cs_runs.specs.Touches as run
+use Rattle.cs_runs.specs.Runs.{Performed, Continues, Finishes}
+use Rattle.cs_plain.specs.Access.{Access}
+use Rattle.cs_cfg.specs.declared.code.Spot.{Spot}
+use Rattle.cs_cfg.specs.declared.touch.Touch.{Touch}
+use Rattle.cs_cfg.specs.declared.touch.Touch.TheVariants as touch
+use Rattle.cs_cfg.specs.Graph.{Work, Load, Store, FetchNumber, Update, FetchPointer, Move, Clear, StoreLocal, Reach, Meet, Close, Operation, BlockEnd, Branch, Switch, Point, Code, flow_of}
+
+-- a load of an object, which is a touch where the object is a scalar local. Its place is that of the expression that names the object
+abbrev pub touch_of_load : Access → Option Touch
+touch_of_load access = option_map (λ declaration. touch.Load declaration access.at) access.local
+
+-- a store in an object, at the place of what stores
+abbrev pub touch_of_store : Place → Access → Option Touch
+touch_of_store at access = option_map (λ declaration. touch.Store declaration at) access.local
+
+-- what an operation at a place touches
+abbrev pub touch_of_work : Place → Work → Option Touch
+touch_of_work at (Load access) = touch_of_load access
+touch_of_work at (FetchNumber access works_in) = touch_of_load access
+touch_of_work at (FetchPointer access) = touch_of_load access
+touch_of_work at (Store access) = touch_of_store at access
+touch_of_work at (Update operator access works_in gives) = touch_of_store at access
+touch_of_work at (Move access bytes direction gives) = touch_of_store at access
+touch_of_work at (Clear declaration true) = Some (touch.Clear declaration at)
+touch_of_work at (StoreLocal declaration offset ty true) = Some (touch.Store declaration at)
+touch_of_work at (Reach kind mark) = Some (touch.Point kind at)
+touch_of_work at (Meet kind) = Some (touch.Point kind at)
+touch_of_work at (Close nothing) = Some (touch.Point point.End at)
+touch_of_work at other = None
+
+abbrev pub touch_of : Operation → Option Touch
+touch_of operation = touch_of_work operation.at operation.work
+
+-- what the end of a block touches
+abbrev pub touch_of_end : BlockEnd → Option Touch
+touch_of_end (Branch at temporary one other) = Some (touch.Point point.Branch at)
+touch_of_end (Switch at temporary cases otherwise) = Some (touch.Point point.Switch at)
+touch_of_end other = None
+
+-- what is left of a list from the element with a number on; behind the last one that is nothing
+abbrev pub rest_from : ℕ → List Operation → Option (List Operation)
+rest_from zero operations = Some operations
+rest_from (suc number) [] = None
+rest_from (suc number) (operation ∷ operations) = rest_from number operations
+
+-- what is left of a block from a spot on
+abbrev pub point_in : Point → ℕ → Option Point
+point_in block number = option_map (λ operations. record { operations = operations; end = block.end }) (rest_from number block.operations)
+
+-- the point of the code that a spot is
+abbrev pub point_at : Code → Spot → Option Point
+point_at code spot = option_and_then (λ flow. option_and_then (λ block. point_in block spot.operation) (slice_get flow.blocks spot.block)) (flow_of code spot.function)
+
+-- what stands first at a point touches
+abbrev pub touch_first : List Operation → BlockEnd → Option Touch
+touch_first [] end = touch_of_end end
+touch_first (operation ∷ operations) end = touch_of operation
+
+-- what the code touches at a point, at what has a number in a block, and at a spot
+abbrev pub touch_from : Point → Option Touch
+touch_from p = touch_first p.operations p.end
+
+abbrev pub touch_in : Point → ℕ → Option Touch
+touch_in block number = option_and_then touch_from (point_in block number)
+
+abbrev pub touch_at : Code → Spot → Option Touch
+touch_at code spot = option_and_then touch_from (point_at code spot)
+
+-- the touch of a run that this is in a frame
+abbrev pub in_frame : ℕ → Touch → run.Touch
+in_frame frame (touch.Point kind at) = run.Meets kind at
+in_frame frame (touch.Load declaration at) = run.Loads frame declaration at
+in_frame frame (touch.Store declaration at) = run.Stores frame declaration at
+in_frame frame (touch.Clear declaration at) = run.Clears frame declaration at
+
+-- what a step touched beside what was touched before: just this where it goes on, and at most this where it ends the run
+abbrev pub HasTouched : {S : Type 0} → List run.Touch → Option run.Touch → Performed S → Type 0
+HasTouched before told (Continues next log) = log.touches ≡ before ++ option_to_list told
+HasTouched before told (Finishes outcome log) = (log.touches ≡ before) ⊎ (log.touches ≡ before ++ option_to_list told)

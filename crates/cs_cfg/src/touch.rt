@@ -1,0 +1,108 @@
+//! What the code touches at a spot: the control point that the run meets there, or the scalar local that it loads, stores or clears.
+ghost use Rattle.std.specs.Prelude.{◌≡◌, Some, map};
+ghost use Rattle.cs_cfg.specs.GraphView.{access, block, block_end, code, operation};
+ghost use Rattle.cs_cfg.specs.Touching.{touch_at, touch_in, touch_of, touch_of_end, touch_of_load, touch_of_store};
+
+use crate::code::{Block, BlockEnd, Code, Spot};
+use crate::operation::{Access, Operation, Work};
+use cs_ast::Place;
+use cs_runs::PointKind;
+
+/// A control point of some kind, or what happens to the scalar local with a declaration's number, each at its place.
+#[derive(Clone, Copy, Debug, PartialEq, Eq)]
+pub enum Touch {
+    Point(PointKind, Place),
+    Load(u32, Place),
+    Store(u32, Place),
+    Clear(u32, Place),
+}
+
+impl Code {
+    /// What the step of any run from a spot touches. Where nothing is touched, or there is no such spot, it is `None`.
+    pub fn touch(&self, spot: Spot) -> Option<Touch>
+        ensures told { result ≡ touch_at (code self.now) spot }
+    {
+        let flow = self.flows.get(spot.function as usize)?.as_ref()?;
+        let block = flow.blocks.get(spot.block as usize)?;
+        block.touch(spot.operation as usize)
+    }
+}
+
+impl Block {
+    // What stands at a number in the block touches: its mark, an operation or its end.
+    fn touch(&self, number: usize) -> Option<Touch>
+        ensures told { result ≡ touch_in (block self.now) number }
+    {
+        match self.mark {
+            Some(mark) if number == 0 => Some(Touch::Point(mark.kind, mark.place)),
+            Some(_) => unmarked_touch(&self.operations, &self.end, number - 1),
+            None => unmarked_touch(&self.operations, &self.end, number),
+        }
+    }
+}
+
+// The same in a block without a mark.
+fn unmarked_touch(operations: &[Operation], end: &BlockEnd, number: usize) -> Option<Touch>
+    ensures told { result ≡ touch_in (record { operations = map operation operations.now; end = block_end end.now }) number }
+{
+    match operations.get(number) {
+        Some(operation) => operation.touch(),
+        None if number == operations.len() => end.touch(),
+        None => None,
+    }
+}
+
+impl Operation {
+    // What the operation touches.
+    fn touch(&self) -> Option<Touch>
+        ensures told { result ≡ touch_of (operation self.now) }
+    {
+        match &self.work {
+            Work::Load(access) => access.load(),
+            Work::FetchNumber(access, _) => access.load(),
+            Work::FetchPointer(access) => access.load(),
+            Work::Store(access) => access.store(self.place),
+            Work::Update(_, access, _, _) => access.store(self.place),
+            Work::Move(access, _, _, _) => access.store(self.place),
+            Work::Clear(declaration, true) => Some(Touch::Clear(*declaration, self.place)),
+            Work::StoreLocal(declaration, _, _, true) => Some(Touch::Store(
+                *declaration,
+                self.place,
+            )),
+            Work::Meet(kind) => Some(Touch::Point(*kind, self.place)),
+            Work::Close(_) => Some(Touch::Point(PointKind::End, self.place)),
+            _ => None,
+        }
+    }
+}
+
+impl Access {
+    // A load, at the place of the object, is a touch where the object is a scalar local.
+    fn load(&self) -> Option<Touch>
+        ensures told { result ≡ touch_of_load (access self.now) }
+    {
+        let declaration = self.local?;
+        Some(Touch::Load(declaration, self.place))
+    }
+
+    // A store, at the place of what stores.
+    fn store(&self, place: Place) -> Option<Touch>
+        ensures told { result ≡ touch_of_store place (access self.now) }
+    {
+        let declaration = self.local?;
+        Some(Touch::Store(declaration, place))
+    }
+}
+
+impl BlockEnd {
+    // What the end of a block touches.
+    fn touch(&self) -> Option<Touch>
+        ensures told { result ≡ touch_of_end (block_end self.now) }
+    {
+        match self {
+            BlockEnd::Branch(place, _, _, _) => Some(Touch::Point(PointKind::Branch, *place)),
+            BlockEnd::Switch(place, _, _, _) => Some(Touch::Point(PointKind::Switch, *place)),
+            _ => None,
+        }
+    }
+}
