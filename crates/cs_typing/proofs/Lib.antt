@@ -3,8 +3,12 @@ pub mod CasesInTurn
 pub mod ChangedParts
 pub mod ConstantNumbers
 pub mod ConstantsSoFar
+pub mod DeclarationsBehind
 pub mod FunctionAgain
+pub mod HeldConstants
+pub mod LabelCounts
 pub mod LabelPlaces
+pub mod LiteralsBehind
 pub mod LocalsInTurn
 pub mod ParameterTypes
 pub mod ProgramsLaidOut
@@ -14,3 +18,4 @@ pub mod StatementKinds
 pub mod StatementRows
 pub mod StatementsInARow
 pub mod StatementsInTurn
+pub mod WellStatements
