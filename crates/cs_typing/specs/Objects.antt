@@ -16,10 +16,11 @@ use Rattle.cs_declarations.specs.Known.{Known, with_literals, declaring, is_decl
 use Rattle.cs_declarations.specs.Initializers.{InFile, InFunction, Reading, initial_typed}
 use Rattle.cs_declarations.specs.Objects.{object_type, is_constant_object}
 
--- a file so far
+-- a file so far; its functions stand in the order of the whole file, and those that aren't declared yet are blank
 pub record Filed : Type 0 where
   pub known : Known
   pub globals : List FileObject
+  pub order : List (List ℕ)
   pub routines : List Routine
 
 -- the object has what it holds at first
@@ -38,10 +39,10 @@ pub record Object : Type 0 where
   pub filed : Filed
 
 abbrev pub with_known : Known → Filed → Filed
-with_known k f = record { known = k; globals = f.globals; routines = f.routines }
+with_known k f = record { known = k; globals = f.globals; order = f.order; routines = f.routines }
 
 abbrev pub with_globals : List FileObject → Filed → Filed
-with_globals globals f = record { known = f.known; globals = globals; routines = f.routines }
+with_globals globals f = record { known = f.known; globals = globals; order = f.order; routines = f.routines }
 
 abbrev pub new_object : Filed → RawDeclarator → Shape → Object
 new_object f d ty = record {
@@ -49,6 +50,7 @@ new_object f d ty = record {
   filed = record {
     known = declaring d.name (Global (length f.globals) ty) f.known;
     globals = f.globals ++ record { name = d.name; at = d.place; ty = ty; constant = false; initial = None } ∷ [];
+    order = f.order;
     routines = f.routines;
   };
 }
@@ -71,7 +73,7 @@ abbrev pub holding : Initial → FileObject → FileObject
 holding first g = record { name = g.name; at = g.at; ty = g.ty; constant = g.constant; initial = Some first }
 
 abbrev pub with_initial : ℕ → Filed → Reading → Verdict Filed
-with_initial number f r = Fine (record { known = with_literals r.1 f.known; globals = changed number (holding r.0) f.globals; routines = f.routines })
+with_initial number f r = Fine (record { known = with_literals r.1 f.known; globals = changed number (holding r.0) f.globals; order = f.order; routines = f.routines })
 
 -- what stands behind its declarator
 abbrev pub object_initialized : Shape → Option RawFirstValue → Object → Verdict Filed
