@@ -4,9 +4,11 @@ pub mod ChangedParts
 pub mod ConstantNumbers
 pub mod ConstantsSoFar
 pub mod FunctionAgain
+pub mod FunctionNumbers
 pub mod LabelPlaces
 pub mod LocalsInTurn
 pub mod ParameterTypes
+pub mod PlacedFunctions
 pub mod ProgramsLaidOut
 pub mod SoundFiles
 pub mod SoundStatements

@@ -139,6 +139,7 @@ impl Filed {
     }
 
     // The number of a function of the file.
+    #[tactic(auto, using(crate::proofs::FunctionNumbers::place_or_length))]
     fn number_of(&self, name: &Name) -> Result<u32, AllocError>
         ensures { IfOk result (λ number. number ≡ number_in (filed_of self.now).order name.now) }
     {
