@@ -12,6 +12,8 @@ use Rattle.cs_ast.specs.TypedProgram.{Variable, FileObject, Routine}
 use Rattle.cs_consts.specs.declared.refusal.TypeCode.TheVariants.{DeclaredTwice}
 use Rattle.cs_consts.specs.Verdicts.{Verdict, Fine, Fault, lift}
 use Rattle.cs_consts.specs.Meanings.{Meaning, Global, Local}
+use Rattle.cs_consts.specs.Objects.{is_complete}
+use Rattle.cs_consts.specs.TypeNames.{starred}
 use Rattle.cs_declarations.specs.Known.{Known, with_literals, declaring, is_declared_here, meaning_here}
 use Rattle.cs_declarations.specs.Initializers.{InFile, InFunction, Reading, initial_typed}
 use Rattle.cs_declarations.specs.Objects.{object_type, is_constant_object}
@@ -27,11 +29,16 @@ pub record Filed : Type 0 where
 abbrev pub is_initialized : ℕ → List FileObject → Bool
 is_initialized number globals = is_some (option_and_then (λ (g : FileObject). g.initial) (slice_get globals number))
 
--- a name that stands for no object yet may become one's; one that stands for an object may do so again, and is initialized once
-abbrev pub may_be_object : List FileObject → Bool → Option Meaning → Bool
-may_be_object globals initializes None = true
-may_be_object globals initializes (Some (Global number ty)) = not (initializes && is_initialized number globals)
-may_be_object globals initializes (Some other) = false
+-- what stands before a declarator's name is a complete type, so that the object may have one (C11 6.7, paragraph 7)
+abbrev pub is_completed : Filed → Shape → RawDeclarator → Bool
+is_completed f base d = is_complete f.known.context.table.list (starred d.pointers.items base)
+
+-- a name that stands for nothing yet may become an object's; one that stands for an object may do so again, and is initialized once: not
+-- with an incomplete type, which is another than the object has
+abbrev pub may_be_object : List FileObject → Bool → Bool → Option Meaning → Bool
+may_be_object globals completed initializes None = true
+may_be_object globals completed initializes (Some (Global number ty)) = completed && not (initializes && is_initialized number globals)
+may_be_object globals completed initializes (Some other) = false
 
 -- the object of a name: a new one, or the one that was declared before with the same type
 pub record Object : Type 0 where
@@ -87,7 +94,7 @@ marked s d o = Fine (record { number = o.number; filed = with_globals (changed o
 -- a declared object of a file
 abbrev pub object_added : RawSpecs → Shape → RawInit → Filed → Verdict Filed
 object_added s base d f =
-    if may_be_object f.globals (is_some d.initial) (meaning_here d.declarator.name f.known)
+    if may_be_object f.globals (is_completed f base d.declarator) (is_some d.initial) (meaning_here d.declarator.name f.known)
     then lift (λ ty. lift (object_initialized ty d.initial) (lift (marked s d.declarator) (object_of f d.declarator (meaning_here d.declarator.name f.known) ty)))
     (object_type f.known.context base d)
     else Fault DeclaredTwice d.declarator.place
