@@ -15,17 +15,19 @@ abbrev pub defines : List ℕ → RawExternalKind → Bool
 defines name (external.Definition s d body) = pointwise nat_eq d.name name
 defines name other = false
 
+-- a function with this name is defined in a file
 abbrev pub is_defined : List ℕ → List RawExternal → Bool
 is_defined name [] = false
 is_defined name (e ∷ es) = defines name e.kind || is_defined name es
 
--- the function that may have its place in a part of a file, where so much is defined in the file: one that stands there with its body, or
--- one that has a body nowhere
+-- the function that may have its place in a part of a file, of whose functions these are defined: one that is defined there, or one that is
+-- declared there and defined nowhere
 abbrev pub placed : (List ℕ → Bool) → RawExternalKind → Option (List ℕ)
 placed defined (external.Definition s d body) = Some d.name
 placed defined (external.Function s d) = if is_of_library d.name || defined d.name then None else Some d.name
 placed defined other = None
 
+-- the same of all parts of a file
 abbrev pub all_placed : (List ℕ → Bool) → List RawExternal → List (List ℕ)
 all_placed defined [] = []
 all_placed defined (e ∷ es) = option_to_list (placed defined e.kind) ++ all_placed defined es
