@@ -8,6 +8,8 @@ mod edited;
 #[cfg(test)]
 mod front;
 #[cfg(test)]
+mod ordered;
+#[cfg(test)]
 mod parsed;
 #[cfg(test)]
 mod refused;

@@ -59,6 +59,7 @@ pub fn typed(
         known,
         globals,
         functions,
+        ..
     } = typed_file(alloc, model, file)?;
     let Known {
         context,
