@@ -1,7 +1,9 @@
 -- Declarations are added behind those in force, and each parameter has its mark: for scopes that end, and for the heads of functions.
-use Rattle.std.proofs.Common.{◌≡◌, ◌∙◌, ℕ, ◌+◌, suc, List, [], ◌∷◌, ◌++◌, append_assoc, length, refl, sym, ap, arith}
-use Rattle.std.specs.Prelude.{◌||◌, Option, Some, None, is_some, pos, ℤ}
-use Rattle.std.proofs.lemmas.List.{append-nil, length_push}
+use Rattle.std.proofs.Common.{◌≡◌, ◌∙◌, ℕ, List, [], ◌∷◌, ◌++◌, append_assoc, length, take, refl, sym, ap, arith}
+use Rattle.std.specs.Prelude.{◌||◌, Option, Some, None, is_some, pos}
+use Rattle.std.specs.List.{All}
+use Rattle.std.proofs.lemmas.List.{append-nil, length_push, take_at}
+use Rattle.std.proofs.lemmas.List.Elements.{All-nil, All-cons, All-append}
 use Rattle.cs_types.specs.Layout.{members_of}
 use Rattle.cs_types.specs.Shape.{Shape, integer}
 use Rattle.cs_types.specs.declared.int_type.IntType.TheVariants.{Int}
@@ -17,10 +19,9 @@ use Rattle.cs_ast.specs.declared.raw.declaration.RawParameters.{RawParameters}
 use Rattle.cs_ast.specs.declared.raw.declaration.RawParameters.TheVariants as parameter_lists
 use Rattle.cs_ast.specs.declared.raw.written_type.TypeWord.{TypeWord}
 use Rattle.cs_ast.specs.declared.raw.written_type.TypeWord.TheVariants as word
-use Rattle.cs_ast.specs.TypedProgram.{Variable}
 use Rattle.cs_consts.specs.declared.scope.TagMeaning.{TagMeaning}
 use Rattle.cs_consts.specs.declared.scope.TagMeaning.TheVariants as tag
-use Rattle.cs_consts.specs.Meanings.{Meaning, Typedef, Constant, Local}
+use Rattle.cs_consts.specs.Meanings.{Meaning, Typedef, Constant, Global, Local, Function, Declaration}
 use Rattle.cs_consts.specs.Verdicts.{Verdict, Fine, lift}
 use Rattle.cs_consts.specs.Scopes.{newest}
 use Rattle.cs_consts.specs.TypeNames.{whole_word, typedef_at, enum_at, tag_place, starred}
@@ -39,26 +40,56 @@ starts-self a = ([], sym (append-nil a))
 pub starts-trans : {A : Type 0} (a b c : List A) → Starts a b → Starts b c → Starts a c
 starts-trans a b c h k = (h.0 ++ k.0, k.1 ∙ ap (λ xs. xs ++ k.0) h.1 ∙ append_assoc a h.0 k.0)
 
--- what is known behind a part: declarations of the same scope stand behind those before it
+pub start-take : {A : Type 0} (first all : List A) → Starts first all → take (length first) all ≡ first
+start-take first all h = ap (take (length first)) h.1 ∙ take_at first h.0 (length first) refl
+
+-- the declaration of something that is no function
+abbrev pub IsPlain : Meaning → Type 0
+IsPlain (Typedef ty) = Unit {0}
+IsPlain (Constant value) = Unit {0}
+IsPlain (Global number ty) = Unit {0}
+IsPlain (Local number ty) = Unit {0}
+IsPlain (Function f) = ⊥
+
+-- what is known behind a part: declarations of the same scope stand behind those before it, and none is a function
 pub record DeclaresOn (k m : Known) : Type 0 where
-  pub declarations : Starts (declarations_of k) (declarations_of m)
+  pub more : List Declaration
+  pub declarations : declarations_of m ≡ declarations_of k ++ more
+  pub plain : All (λ (d : Declaration). IsPlain d.meaning) more
   pub outer : m.outer ≡ k.outer
 
-pub on-self : (k : Known) → DeclaresOn k k
-on-self k = record { declarations = starts-self (declarations_of k); outer = refl }
+pub on-starts : (k m : Known) → DeclaresOn k m → Starts (declarations_of k) (declarations_of m)
+on-starts k m h = (h.more, h.declarations)
 
-pub on-trans : (k m n : Known) → DeclaresOn k m → DeclaresOn m n → DeclaresOn k n
-on-trans k m n h g = record {
-  declarations = starts-trans (declarations_of k) (declarations_of m) (declarations_of n) h.declarations g.declarations;
-  outer = g.outer ∙ h.outer;
+-- where all that was changed are structs, tags, bodies or literals
+pub same-on : (k m : Known) → declarations_of m ≡ declarations_of k → m.outer ≡ k.outer → DeclaresOn k m
+same-on k m is outer = record {
+  more = [];
+  declarations = is ∙ sym (append-nil (declarations_of k));
+  plain = All-nil (λ (d : Declaration). IsPlain d.meaning);
+  outer = outer;
 }
 
-pub declaring-on : (name : List ℕ) (meaning : Meaning) (k : Known) → DeclaresOn k (declaring name meaning k)
-declaring-on name meaning k = record { declarations = (record { name = name; meaning = meaning } ∷ [], refl); outer = refl }
+pub on-self : (k : Known) → DeclaresOn k k
+on-self k = same-on k k refl refl
 
--- where all that was changed are structs, tags or bodies
-same-on : (k m : Known) → declarations_of m ≡ declarations_of k → m.outer ≡ k.outer → DeclaresOn k m
-same-on k m is outer = record { declarations = ([], is ∙ sym (append-nil (declarations_of k))); outer = outer }
+pub on-trans : (k m n : Known) → DeclaresOn k m → DeclaresOn m n → DeclaresOn k n
+on-trans k m n h g =
+    let all = starts-trans (declarations_of k) (declarations_of m) (declarations_of n) (on-starts k m h) (on-starts m n g) in
+    record {
+      more = h.more ++ g.more;
+      declarations = all.1;
+      plain = All-append (λ (d : Declaration). IsPlain d.meaning) h.more g.more h.plain g.plain;
+      outer = g.outer ∙ h.outer;
+    }
+
+pub declaring-on : (name : List ℕ) (meaning : Meaning) (k : Known) → IsPlain meaning → DeclaresOn k (declaring name meaning k)
+declaring-on name meaning k plain = record {
+  more = record { name = name; meaning = meaning } ∷ [];
+  declarations = refl;
+  plain = All-cons (λ (d : Declaration). IsPlain d.meaning) (record { name = name; meaning = meaning }) [] plain (All-nil (λ (d : Declaration). IsPlain d.meaning));
+  outer = refl;
+}
 
 -- ---- the words before declarators
 
@@ -95,7 +126,7 @@ constant_declared-on : (e : RawEnumerator) (so_far : Counting) → IfFine (const
 constant_declared-on e so_far =
     cond-then (CountDeclaresOn so_far.known) (is_declared_here e.name so_far.known) _ _ (λ _. tt)
     (λ _. lift-then (λ _. Unit {0}) (CountDeclaresOn so_far.known) (constant_added e.place e.name so_far.known) _ (if_fine-any (number_said so_far.known.context so_far.next e.value))
-    (λ n _. cond-then (CountDeclaresOn so_far.known) (is_int so_far.known n) _ _ (λ _. declaring-on e.name (Constant n) so_far.known) (λ _. tt)))
+    (λ n _. cond-then (CountDeclaresOn so_far.known) (is_int so_far.known n) _ _ (λ _. declaring-on e.name (Constant n) so_far.known tt) (λ _. tt)))
 
 constants_declared-on : (es : List RawEnumerator) (so_far : Counting) → IfFine (constants_declared es so_far) (CountDeclaresOn so_far.known)
 constants_declared-on [] so_far = on-self so_far.known
@@ -129,7 +160,7 @@ opening-on at None k = same-on k (opened (length (table_of k)) (with_struct [] k
 struct_read-on : (k : Known) (o : Opening) (before : List ℕ) (name : Option (List ℕ)) (v : Verdict Body) → DeclaresOn k o.known → IfFine v (BodyDeclaresOn o.known) → IfFine (lift (struct_read o before name) v) (TypeDeclaresOn k)
 struct_read-on k o before name v h read =
     lift-then (BodyDeclaresOn o.known) (TypeDeclaresOn k) (struct_read o before name) v read
-    (λ body inside. let all = on-trans k o.known body.known h inside in record { declarations = all.declarations; outer = all.outer })
+    (λ body inside. let all = on-trans k o.known body.known h inside in record { more = all.more; declarations = all.declarations; plain = all.plain; outer = all.outer })
 
 group_declared-on : (k : Known) (declarators : List RawDeclarator) (before : Laying) (ty : Typing) → DeclaresOn k ty.1 → IfFine (group_declared declarators before ty) (BodyDeclaresOn k)
 group_declared-on k declarators before ty h =
@@ -173,7 +204,7 @@ typedefs_added-on base [] k = on-self k
 typedefs_added-on base (d ∷ ds) k =
     lift-then (DeclaresOn k) (DeclaresOn k) (typedefs_added base ds) _
     (cond-then (DeclaresOn k) (is_declared_here d.name k) _ _ (λ _. tt)
-    (λ _. lift-then (λ _. Unit {0}) (DeclaresOn k) (λ ty. Fine (declaring d.name (Typedef ty) k)) _ (if_fine-any (declarator_type k.context base None d)) (λ ty _. declaring-on d.name (Typedef ty) k)))
+    (λ _. lift-then (λ _. Unit {0}) (DeclaresOn k) (λ ty. Fine (declaring d.name (Typedef ty) k)) _ (if_fine-any (declarator_type k.context base None d)) (λ ty _. declaring-on d.name (Typedef ty) k tt)))
     (λ m first. if_fine-weaker (DeclaresOn m) (DeclaresOn k) (typedefs_added base ds m) (typedefs_added-on base ds m) (λ n others. on-trans k m n first others))
 
 -- ---- parameters
@@ -184,7 +215,7 @@ record HeadGrows (before after : Head) : Type 0 where
 
 naming-on : (name : Option RawName) (number : ℕ) (ty : Shape) (k : Known) → DeclaresOn k (naming name number ty k)
 naming-on None number ty k = on-self k
-naming-on (Some name) number ty k = declaring-on name.name (Local number ty) k
+naming-on (Some name) number ty k = declaring-on name.name (Local number ty) k tt
 
 one-more : {A B : Type 0} (as : List A) (bs : List B) (a : A) (b : B) → length as ≡ length bs → length (as ++ a ∷ []) ≡ length (bs ++ b ∷ [])
 one-more as bs a b is = let one = length_push as a in let other = length_push bs b in omega (arith, is, one, other)

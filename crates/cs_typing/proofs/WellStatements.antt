@@ -334,7 +334,7 @@ module _ (s : Setting) (laid_out : IsLaidOut s.program.model s.program.table) wh
   knowing-gives : (i : Inside) (k : Known) → Leads s i.known k → DeclaresOn i.known k → Gives i (knowing k i) (Unit {0})
   knowing-gives i k leads on = record {
     model = leads.model;
-    scope = on.declarations;
+    scope = (on.more, on.declarations);
     variables = starts-self i.variables;
     before = λ has. record {
       table = λ number members is. has.table number members (leads.table number members is);
