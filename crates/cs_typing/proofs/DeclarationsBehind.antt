@@ -74,14 +74,12 @@ pub on-self : (k : Known) → DeclaresOn k k
 on-self k = same-on k k refl refl
 
 pub on-trans : (k m n : Known) → DeclaresOn k m → DeclaresOn m n → DeclaresOn k n
-on-trans k m n h g =
-    let all = starts-trans (declarations_of k) (declarations_of m) (declarations_of n) (on-starts k m h) (on-starts m n g) in
-    record {
-      more = h.more ++ g.more;
-      declarations = all.1;
-      plain = All-append (λ (d : Declaration). IsPlain d.meaning) h.more g.more h.plain g.plain;
-      outer = g.outer ∙ h.outer;
-    }
+on-trans k m n h g = record {
+  more = h.more ++ g.more;
+  declarations = g.declarations ∙ ap (λ ds. ds ++ g.more) h.declarations ∙ append_assoc (declarations_of k) h.more g.more;
+  plain = All-append (λ (d : Declaration). IsPlain d.meaning) h.more g.more h.plain g.plain;
+  outer = g.outer ∙ h.outer;
+}
 
 pub declaring-on : (name : List ℕ) (meaning : Meaning) (k : Known) → IsPlain meaning → DeclaresOn k (declaring name meaning k)
 declaring-on name meaning k plain = record {
@@ -217,8 +215,8 @@ naming-on : (name : Option RawName) (number : ℕ) (ty : Shape) (k : Known) → 
 naming-on None number ty k = on-self k
 naming-on (Some name) number ty k = declaring-on name.name (Local number ty) k tt
 
-one-more : {A B : Type 0} (as : List A) (bs : List B) (a : A) (b : B) → length as ≡ length bs → length (as ++ a ∷ []) ≡ length (bs ++ b ∷ [])
-one-more as bs a b is = let one = length_push as a in let other = length_push bs b in omega (arith, is, one, other)
+one-more : {A B : Type 0} (marks : List A) (variables : List B) (mark : A) (v : B) → length marks ≡ length variables → length (marks ++ mark ∷ []) ≡ length (variables ++ v ∷ [])
+one-more marks variables mark v is = let one = length_push marks mark in let other = length_push variables v in omega (arith, is, one, other)
 
 parameter_typed-grows : (p : RawParameter) (before : Head) → IfFine (parameter_typed p before) (HeadGrows before)
 parameter_typed-grows p before =

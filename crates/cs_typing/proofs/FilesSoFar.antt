@@ -115,8 +115,8 @@ newest-none name ds none = All-from_recursion (IsOther name) ds (by_recursion ds
     by_recursion (d ∷ es) is = later (newest name es) refl is (by_recursion es)
       where
         later : (o : Option Meaning) → newest name es ≡ o → option_or o (cond (pointwise nat_eq d.name name) (Some d.meaning) None) ≡ None → (newest name es ≡ None → AllByRecursion (IsOther name) es) → AllByRecursion (IsOther name) (d ∷ es)
-        later (Some m) found no rest = absurd (none-some m (sym no))
-        later None found no rest = (here d.meaning (pointwise nat_eq d.name name) no, rest found)
+        later (Some m) found gone others = absurd (none-some m (sym gone))
+        later None found gone others = (here d.meaning (pointwise nat_eq d.name name) gone, others found)
 
 -- a name that stands for something does so behind further declarations
 pub newest-start : (name : List ℕ) (first rest : List Declaration) → is_some (newest name first) ≡ true → is_some (newest name (first ++ rest)) ≡ true

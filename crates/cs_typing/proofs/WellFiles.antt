@@ -1,5 +1,6 @@
 -- A typed program is well formed, if no constant of its file is too wide: for the contract of `typed`.
 use Rattle.std.proofs.Common.{◌≡◌, ◌∙◌, ℕ, List, [], ◌∷◌, length, map, refl, sym, ap, subst, arith}
+use Rattle.std.specs.Prelude.{Some, None}
 use Rattle.std.specs.List.{All}
 use Rattle.std.proofs.lemmas.List.{append-nil, length-map}
 use Rattle.std.proofs.lemmas.List.Elements.{All-nil, All-cons, All-map, All-weaker, All-from_recursion}
@@ -47,8 +48,8 @@ module _ (p : TypedProgram) (laid : IsLaidOut p.model p.table) where
       (both-fine (Leads (outside (with_parts p f)) f.known) (DeclaresOn f.known) v (typedefs_added-leads (outside (with_parts p f)) base names.items f.known) (typedefs_added-on base names.items f.known))
       (λ k h. known-adds p f k kept (leads-behind p f k h.0 h.1))
   external_declared-adds (external_kind.Objects s objects) f base kept placed fit = objects_added-adds p laid s base objects.items f kept fit
-  external_declared-adds (external_kind.Function s d) f base kept placed fit = function_added-adds p laid d _ f base kept placed tt
-  external_declared-adds (external_kind.Definition s d body) f base kept placed fit = function_added-adds p laid d _ f base kept placed fit
+  external_declared-adds (external_kind.Function s d) f base kept placed fit = function_added-adds p laid d None f base kept placed tt
+  external_declared-adds (external_kind.Definition s d body) f base kept placed fit = function_added-adds p laid d (Some body) f base kept placed fit
 
   external_typed-adds : (at : Place) (k : RawExternalKind) (f : Filed) → Kept p f → ExternalIsPlaced f.order k → ExternalHasConstants k → IfFine (external_typed at k f) (Adds p f)
   external_typed-adds at k f kept placed fit =

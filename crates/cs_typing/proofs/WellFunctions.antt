@@ -1,6 +1,6 @@
 -- The functions of files are well formed: for the contract of `typed`.
-use Rattle.std.proofs.Common.{◌≡◌, ◌≢◌, ◌∙◌, ℕ, zero, suc, ◌≤◌, ◌<◌, Bool, true, false, List, [], ◌∷◌, ◌++◌, length, drop, take, map, get_or, refl, sym, ap, subst, arith, zero-add}
-use Rattle.std.specs.Prelude.{nat_eq, ◌⊎◌, inl, inr, ◌&&◌, ◌||◌, not, codes, Option, Some, None, IfSome, is_some, slice_get}
+use Rattle.std.proofs.Common.{◌≡◌, ◌≢◌, ◌∙◌, ℕ, zero, suc, ◌+◌, ◌≤◌, ◌<◌, Bool, true, false, List, [], ◌∷◌, ◌++◌, length, drop, take, map, get_or, inl, inr, refl, sym, ap, subst, arith, zero-add}
+use Rattle.std.specs.Prelude.{nat_eq, ◌⊎◌, ◌&&◌, ◌||◌, not, codes, Option, Some, None, IfSome, is_some, slice_get}
 use Rattle.std.specs.List.{All}
 use Rattle.std.specs.Cmp.Lexicographic.{pointwise}
 use Rattle.std.proofs.lemmas.Bool.{or_cases}
@@ -65,18 +65,18 @@ same_types-true (ty ∷ types) (other ∷ others) h =
 
 -- the functions of the library are declared before a file
 library-declared : (model : DataModel) (name : List ℕ) → is_of_library name ≡ true → is_some (newest name (allocators model)) ≡ true
-library-declared model name h = by_way (or_cases (pointwise nat_eq name (codes "malloc")) _ h)
+library-declared model name h = by_way (or_cases (pointwise nat_eq name (codes "malloc") || pointwise nat_eq name (codes "calloc")) (pointwise nat_eq name (codes "free")) h)
   where
-    as : (other : List ℕ) → pointwise nat_eq name other ≡ true → is_some (newest other (allocators model)) ≡ true → is_some (newest name (allocators model)) ≡ true
-    as other is found = subst (λ n. is_some (newest n (allocators model)) ≡ true) (sym (same_bytes name other is)) found
+    named : (other : List ℕ) → pointwise nat_eq name other ≡ true → is_some (newest other (allocators model)) ≡ true → is_some (newest name (allocators model)) ≡ true
+    named other is found = subst (λ n. is_some (newest n (allocators model)) ≡ true) (sym (same_bytes name other is)) found
 
-    by_last : (pointwise nat_eq name (codes "calloc") ≡ true) ⊎ (pointwise nat_eq name (codes "free") ≡ true) → is_some (newest name (allocators model)) ≡ true
-    by_last (inl is) = as (codes "calloc") is refl
-    by_last (inr is) = as (codes "free") is refl
+    by_first : (pointwise nat_eq name (codes "malloc") ≡ true) ⊎ (pointwise nat_eq name (codes "calloc") ≡ true) → is_some (newest name (allocators model)) ≡ true
+    by_first (inl is) = named (codes "malloc") is refl
+    by_first (inr is) = named (codes "calloc") is refl
 
-    by_way : (pointwise nat_eq name (codes "malloc") ≡ true) ⊎ ((pointwise nat_eq name (codes "calloc") || pointwise nat_eq name (codes "free")) ≡ true) → is_some (newest name (allocators model)) ≡ true
-    by_way (inl is) = as (codes "malloc") is refl
-    by_way (inr h') = by_last (or_cases (pointwise nat_eq name (codes "calloc")) _ h')
+    by_way : ((pointwise nat_eq name (codes "malloc") || pointwise nat_eq name (codes "calloc")) ≡ true) ⊎ (pointwise nat_eq name (codes "free") ≡ true) → is_some (newest name (allocators model)) ≡ true
+    by_way (inl is) = by_first (or_cases (pointwise nat_eq name (codes "malloc")) (pointwise nat_eq name (codes "calloc")) is)
+    by_way (inr is) = named (codes "free") is refl
 
 -- the types of as many variables as there are
 types-first : (parameters : List Variable) (variables : List Variable) → Starts parameters variables → types_of (take (length parameters) variables) ≡ types_of parameters

@@ -24,17 +24,17 @@ use Rattle.cs_ast.specs.RawView.{written}
 use Rattle.cs_ast.specs.RawDeclarationView.{initial}
 use Rattle.cs_ast.specs.TypedTree.{Typed, Statement, Goto}
 use Rattle.cs_ast.specs.TypedProgram.{Variable}
-use Rattle.cs_consts.specs.declared.refusal.TypeCode.TheVariants.{DeclaredTwice, Jump, Return}
+use Rattle.cs_consts.specs.declared.refusal.TypeCode.TheVariants.{CaseTwice, DeclaredTwice, Jump, Return}
 use Rattle.cs_consts.specs.Integers.{type_of}
 use Rattle.cs_consts.specs.Verdicts.{Verdict, Fine, Fault, lift}
 use Rattle.cs_consts.specs.Doors.{value_of, assigned_value, test_of, selector_of, discarded_value}
 use Rattle.cs_consts.specs.Meanings.{Declaration, Local}
 use Rattle.cs_declarations.specs.Bodies.{Typing, specs_type}
 use Rattle.cs_declarations.specs.Initializers.{InFunction, Reading, initial_typed}
-use Rattle.cs_declarations.specs.Known.{Known, model_of, table_of, declarations_of, is_declared_here, entered}
+use Rattle.cs_declarations.specs.Known.{Known, model_of, table_of, declarations_of, with_literals, is_declared_here}
 use Rattle.cs_declarations.specs.Objects.{object_type}
 use Rattle.cs_typing.specs.Objects.{Inside, knowing, LocalDeclared, Told, with_local, local_held, local_initialized, local_added, after_local, locals_added}
-use Rattle.cs_typing.specs.Statements.{Where, Part, Switching, in_loop, in_switch, in_a_row, part, past, tested_in, dropped_in, some_found, tested_if, dropped_if, is_void, value_returned, returned, label_number, goto_typed, is_first, meeting, in_block, behind_block, declared_in, declaration_typed, first_place, nothing_told, telling, ran_first, first_typed, case_put, case_added, with_told, constant_case, block_made, run_made, if_made, if_else_made, while_made, do_made, for_made, switch_made, return_made, label_made, selected, statement_typed, item_typed, items_typed, switch_item_typed, switch_typed, body_typed}
+use Rattle.cs_typing.specs.Statements.{Where, Part, Switching, in_loop, in_switch, in_a_row, part, past, tested_in, dropped_in, some_found, tested_if, dropped_if, is_void, value_returned, returned, label_number, goto_typed, is_first, meeting, in_block, behind_block, declared_in, declaration_typed, first_place, nothing_told, telling, ran_first, first_typed, is_case, case_put, case_added, with_told, constant_case, block_made, run_made, if_made, if_else_made, while_made, do_made, for_made, switch_made, return_made, label_made, selected, statement_typed, item_typed, items_typed, switch_item_typed, switch_typed, body_typed}
 use Rattle.cs_well_formed.specs.Expressions.{Setting, IsWell, IsValue, IsValueOf, IsScalarValue, IsIntegerValue, IsWhole}
 use Rattle.cs_well_formed.specs.Initials.{IsWellInitial}
 use Rattle.cs_well_formed.specs.Constants.{HasConstants, InitialHasConstants}
@@ -300,7 +300,7 @@ module _ (s : Setting) (laid_out : IsLaidOut s.program.model s.program.table) wh
             (is.0.0, is.0.1, subst (λ x. IsWellInitial s x r.0) (sym is.0.2) (well (known, is.1) has.texts));
       }
         where
-          at_equal : Has _ → Has j
+          at_equal : Has (knowing (with_literals r.1 j.known) j) → Has j
           at_equal has = record { table = has.table; texts = first-part s.program j.known.literals r.1 begins has.texts; variables = has.variables }
 
   local_added-well : (base : Shape) (d : RawInit) (i : Inside) → HasModel i → FirstValueHasConstants d.initial → IfFine (local_added base d i) (GivesLocal i)
@@ -380,9 +380,12 @@ module _ (s : Setting) (laid_out : IsLaidOut s.program.model s.program.table) wh
   case_added-well at so_far value =
       lift-then (λ cases. All (IsCase (length so_far.told.statements)) so_far.cases → All (IsCase (length so_far.told.statements)) cases) (Switches so_far) _
       (case_put at value (length so_far.told.statements) so_far.cases)
-      (cond-then (λ cases. All (IsCase (length so_far.told.statements)) so_far.cases → All (IsCase (length so_far.told.statements)) cases) _ _ _ (λ _. tt)
-      (λ _ all. All-push (IsCase (length so_far.told.statements)) so_far.cases _ all (omega arith)))
+      (cond-then (λ cases. All (IsCase (length so_far.told.statements)) so_far.cases → All (IsCase (length so_far.told.statements)) cases) (is_case value so_far.cases) (Fault CaseTwice at) _ (λ _. tt)
+      (λ _. put))
       (λ cases h. record { told = tells-nothing so_far.told; cases = h })
+    where
+      put : All (IsCase (length so_far.told.statements)) so_far.cases → All (IsCase (length so_far.told.statements)) (so_far.cases ++ record { value = value; item = length so_far.told.statements } ∷ [])
+      put all = All-push (IsCase (length so_far.told.statements)) so_far.cases (record { value = value; item = length so_far.told.statements }) all (omega arith)
 
   with_told-well : (so_far : Switching) (told : Told) → Tells so_far.told told → IfFine (with_told so_far told) (Switches so_far)
   with_told-well so_far told h = record {
@@ -470,7 +473,7 @@ module _ (s : Setting) (laid_out : IsLaidOut s.program.model s.program.table) wh
         (λ b m. leaving i b.inside (entering i b.inside (so (in_block i) b.inside (both (in_block i) l.inside b.inside front m) (λ r. (r.0.0.0, r.0.0.1, r.0.1, r.1))))))))
     statement_typed-well w i at (kind.Switch' value shape row) fits model fit =
         lift-then (GivesPart i (λ v. IsWell s v × IsIntegerValue v)) (GivesStatement i) _ (selected at i value) (selected-well at i value model fit.0)
-        (λ v g. let begun = record { cases = []; told = nothing_told (in_block v.inside) } in
+        (λ v g. let begun : Switching = record { cases = []; told = nothing_told (in_block v.inside) } in
         lift-then (Switches begun) (GivesStatement i) (switch_made at i v.found) _ (switch_typed-well (in_switch w) (type_of v.found) row begun fits (g.model ∙ model) fit.1)
         (λ all h.
         let cases = subst (λ n. All (IsCase n) all.cases) (sym (count-length all.told.statements)) (h.cases (All-nil (IsCase 0))) in
