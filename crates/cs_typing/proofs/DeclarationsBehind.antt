@@ -26,8 +26,8 @@ use Rattle.cs_consts.specs.Verdicts.{Verdict, Fine, lift}
 use Rattle.cs_consts.specs.Scopes.{newest}
 use Rattle.cs_consts.specs.TypeNames.{whole_word, typedef_at, enum_at, tag_place, starred}
 use Rattle.cs_declarations.specs.Known.{Known, table_of, declarations_of, with_tag, declaring, is_declared_here}
-use Rattle.cs_declarations.specs.Bodies.{Typing, with_struct, with_tagged_struct, tag_in, struct_named, word_type, Laying, nothing_laid, declarator_type, members_declared, is_int, Counting, constant_added, number_said, constant_declared, constants_declared, with_enum_tag, is_new_enum, enum_body, Opening, is_among, opened, opening_tagged, opening, Body, struct_read, group_declared, first_name, plain_row, row_type, members_read, plain_words, words_type, specs_type, typedef_added, typedefs_added}
-use Rattle.cs_declarations.specs.Parameters.{Head, Passed, naming, is_free_name, with_parameter, parameter_passed, parameter_typed, parameters_behind, parameters_typed}
+use Rattle.cs_declarations.specs.Bodies.{Typing, with_struct, with_tagged_struct, tag_in, struct_named, word_type, Laying, nothing_laid, declarator_type, members_declared, is_int, Counting, constant_added, number_said, constant_declared, constants_declared, with_enum_tag, is_new_enum, enum_body, Opening, is_among, opened, opening_tagged, opening, Body, struct_read, group_declared, first_name, plain_row, row_type, members_read, plain_words, words_type, specs_type, typedefs_added}
+use Rattle.cs_declarations.specs.Parameters.{Head, naming, is_free_name, with_parameter, parameter_passed, parameter_typed, parameters_behind, parameters_typed}
 use Rattle.cs_well_formed.proofs.Verdicts.{IfFine, if_fine-any, if_fine-weaker, lift-then, cond-then}
 
 -- one list is the beginning of another

@@ -1,13 +1,12 @@
 -- Files so far: what their names stand for is there, and their objects and functions are well formed: for the contract of `typed`.
-use Rattle.std.proofs.Common.{◌≡◌, ◌≢◌, ◌∙◌, ℕ, zero, suc, ◌≤◌, ◌<◌, Bool, true, false, cond, List, [], ◌∷◌, ◌++◌, length, drop, take, get_or, refl, sym, ap, subst, arith}
-use Rattle.std.specs.Prelude.{nat_eq, ◌||◌, Option, Some, None, IfSome, is_some, slice_get}
+use Rattle.std.proofs.Common.{◌≡◌, ◌≢◌, ◌∙◌, ℕ, zero, suc, ◌≤◌, Bool, true, false, cond, List, [], ◌∷◌, ◌++◌, length, take, refl, sym, ap, subst, arith}
+use Rattle.std.specs.Prelude.{nat_eq, Option, Some, None, IfSome, is_some, slice_get}
 use Rattle.std.specs.Option.{option_or}
 use Rattle.std.specs.List.{All, AllByRecursion}
 use Rattle.std.specs.Cmp.Lexicographic.{pointwise}
-use Rattle.std.proofs.lemmas.List.{append-nil, take_at}
 use Rattle.std.proofs.lemmas.List.Elements.{All-same, All-take, All-append, All-weaker, All-from_recursion, recursion_from_All}
 use Rattle.std.proofs.lemmas.Option.{same_Some, none-some, slice_get_within, get_or_from_slice_get}
-use Rattle.cs_types.specs.Shape.{Shape, void}
+use Rattle.cs_types.specs.Shape.{Shape}
 use Rattle.cs_ast.specs.TypedProgram.{TypedProgram, FileObject, Routine}
 use Rattle.cs_consts.specs.declared.scope.Callee.{Callee}
 use Rattle.cs_consts.specs.declared.scope.Callee.TheVariants.{Malloc, Calloc, Free, Numbered}
@@ -24,7 +23,7 @@ use Rattle.cs_well_formed.specs.Growth.{Grows}
 use Rattle.cs_well_formed.specs.Leading.{Leads}
 use Rattle.cs_well_formed.proofs.Growth.{IsThere-grown}
 use Rattle.cs_well_formed.proofs.Leading.{Keeps}
-use Rattle.cs_typing.proofs.DeclarationsBehind.{Starts, starts-self, starts-trans, start-take, IsPlain, DeclaresOn, on-starts}
+use Rattle.cs_typing.proofs.DeclarationsBehind.{Starts, starts-trans, start-take, IsPlain, DeclaresOn, on-starts}
 
 -- ---- lists
 
@@ -265,8 +264,8 @@ module _ (p : TypedProgram) where
       order = kept.order;
       declared = h.declared kept.declared;
       numbered = All-same numbered (declarations_of k) (declarations_of f.known ++ h.on.more) h.on.declarations
-      (All-append numbered (declarations_of f.known) h.on.more kept.numbered
-      (All-weaker (λ (d : Declaration). IsPlain d.meaning) numbered (λ d plain. plain-number f.order d.name d.meaning plain) h.on.more h.on.plain));
+          (All-append numbered (declarations_of f.known) h.on.more kept.numbered
+          (All-weaker (λ (d : Declaration). IsPlain d.meaning) numbered (λ d plain. plain-number f.order d.name d.meaning plain) h.on.more h.on.plain));
       counted = kept.counted;
     };
     before = λ has. record {

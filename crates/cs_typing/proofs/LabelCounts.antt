@@ -16,9 +16,8 @@ use Rattle.cs_ast.specs.declared.raw.statement.RawStmtKind.TheVariants as kind
 use Rattle.cs_ast.specs.declared.raw.statement.RawItem.{RawItem}
 use Rattle.cs_ast.specs.declared.raw.statement.RawItem as items
 use Rattle.cs_ast.specs.declared.raw.statement.RawSwitchItem as switches
-use Rattle.cs_ast.specs.declared.raw.statement.RawFirst.{RawFirst}
 use Rattle.cs_ast.specs.TypedTree.{Statement}
-use Rattle.cs_consts.specs.declared.refusal.TypeCode.TheVariants.{DeclaredTwice, Jump, Return}
+use Rattle.cs_consts.specs.declared.refusal.TypeCode.TheVariants.{Jump}
 use Rattle.cs_consts.specs.Integers.{type_of}
 use Rattle.cs_consts.specs.Verdicts.{Verdict, Fault, lift}
 use Rattle.cs_consts.specs.Doors.{value_of}
@@ -27,7 +26,7 @@ use Rattle.cs_declarations.specs.Initializers.{InFunction, initial_typed}
 use Rattle.cs_declarations.specs.Objects.{object_type}
 use Rattle.cs_declarations.specs.Known.{is_declared_here}
 use Rattle.cs_typing.specs.Objects.{Inside, LocalDeclared, Told, with_local, local_held, local_initialized, local_added, after_local, locals_added}
-use Rattle.cs_typing.specs.Statements.{Where, Part, Switching, in_loop, in_switch, in_a_row, tested_in, dropped_in, tested_if, dropped_if, returned, label_number, goto_typed, is_first, meeting, in_block, declared_in, declaration_typed, first_place, nothing_told, telling, first_typed, case_put, case_added, with_told, constant_case, labels_of, labels_of_item, labels_in, labels_of_switch_item, labels_in_switch, labels_of_items, block_made, run_made, if_made, if_else_made, while_made, do_made, for_made, switch_made, return_made, label_made, selected, statement_typed, item_typed, items_typed, switch_item_typed, switch_typed, body_typed}
+use Rattle.cs_typing.specs.Statements.{Where, Part, Switching, in_loop, in_switch, in_a_row, tested_in, dropped_in, tested_if, dropped_if, returned, label_number, goto_typed, is_first, meeting, in_block, declared_in, declaration_typed, first_place, nothing_told, telling, first_typed, case_put, case_added, with_told, labels_of, labels_of_item, labels_in, labels_of_switch_item, labels_in_switch, labels_of_items, block_made, run_made, if_made, if_else_made, while_made, do_made, for_made, switch_made, return_made, label_made, selected, statement_typed, item_typed, items_typed, switch_item_typed, switch_typed, body_typed}
 use Rattle.cs_well_formed.specs.Statements.{label_count, label_counts}
 use Rattle.cs_well_formed.proofs.Verdicts.{IfFine, if_fine-any, if_fine-weaker, lift-then, cond-then}
 

@@ -1,5 +1,5 @@
 -- The literals behind an initializer begin with those before it: for statements and objects with initializers.
-use Rattle.std.proofs.Common.{List, [], ◌∷◌, ◌∙◌}
+use Rattle.std.proofs.Common.{List, [], ◌∷◌}
 use Rattle.std.specs.Prelude.{Some}
 use Rattle.cs_types.specs.Shape.{Shape, void, integer, pointer, array, struct}
 use Rattle.cs_ast.specs.declared.place.Place.{Place}
@@ -12,7 +12,7 @@ use Rattle.cs_consts.specs.Typing.{Literals}
 use Rattle.cs_consts.specs.Verdicts.{lift}
 use Rattle.cs_declarations.specs.Initializers.{Storage, has_form, part_types, types_or_none, Reading, Readings, value_read, expression_read, parts_read, one_more, initial_read, items_read, limited, initial_judged, kept_with, initial_typed}
 use Rattle.cs_well_formed.proofs.Names.{Begins, begins-self, begins-trans, literals-begin}
-use Rattle.cs_well_formed.proofs.Verdicts.{IfFine, if_fine-any, if_fine-weaker, lift-then, cond-then}
+use Rattle.cs_well_formed.proofs.Verdicts.{IfFine, if_fine-any, lift-then, cond-then}
 
 -- what is read begins with these literals
 abbrev pub GoesOnFrom : Literals → Reading → Type 0

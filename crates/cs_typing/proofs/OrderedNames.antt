@@ -1,7 +1,7 @@
 -- Each function that a file declares has its place in the order of functions: for the functions of well-formed programs.
-use Rattle.std.proofs.Common.{◌≡◌, ◌∙◌, ℕ, ◌+◌, ◌<◌, suc, Bool, true, false, cond, List, [], ◌∷◌, ◌++◌, length, get_or, inl, inr, refl, sym, ap, subst, arith}
-use Rattle.std.specs.Prelude.{nat_eq, not, ◌||◌, fold, option_to_list, Some, None, ◌⊎◌}
-use Rattle.std.specs.List.{list_any, position_or_len}
+use Rattle.std.proofs.Common.{◌≡◌, ◌∙◌, ℕ, ◌+◌, ◌<◌, suc, Bool, true, false, cond, List, [], ◌∷◌, ◌++◌, length, get_or, inl, inr, refl, sym, subst, arith}
+use Rattle.std.specs.Prelude.{nat_eq, not, ◌||◌, option_to_list, Some, None, ◌⊎◌}
+use Rattle.std.specs.List.{list_any}
 use Rattle.std.specs.Cmp.Lexicographic.{pointwise}
 use Rattle.std.proofs.lemmas.List.Folds.{list_any-append}
 use Rattle.std.proofs.lemmas.List.Sums.{passes_at_first}

@@ -1,9 +1,9 @@
 -- A typed program is well formed, if no constant of its file is too wide: for the contract of `typed`.
-use Rattle.std.proofs.Common.{◌≡◌, ◌∙◌, ℕ, List, [], ◌∷◌, length, map, refl, sym, ap, subst, arith}
+use Rattle.std.proofs.Common.{◌≡◌, ℕ, List, [], ◌∷◌, map, refl, sym, subst, arith}
 use Rattle.std.specs.Prelude.{Some, None}
 use Rattle.std.specs.List.{All}
 use Rattle.std.proofs.lemmas.List.{append-nil, length-map}
-use Rattle.std.proofs.lemmas.List.Elements.{All-nil, All-cons, All-map, All-weaker, All-from_recursion}
+use Rattle.std.proofs.lemmas.List.Elements.{All-nil, All-map, All-from_recursion}
 use Rattle.cs_types.specs.declared.data_model.DataModel.{DataModel}
 use Rattle.cs_types.specs.Layout.{IsLaidOut}
 use Rattle.cs_types.specs.Shape.{Shape}
@@ -13,10 +13,10 @@ use Rattle.cs_ast.specs.declared.raw.external.RawExternal.{RawExternal}
 use Rattle.cs_ast.specs.declared.raw.external.RawExternalKind.{RawExternalKind}
 use Rattle.cs_ast.specs.declared.raw.external.RawExternalKind.TheVariants as external_kind
 use Rattle.cs_ast.specs.RawStatementView.{external}
-use Rattle.cs_ast.specs.TypedProgram.{TypedProgram, Routine}
+use Rattle.cs_ast.specs.TypedProgram.{TypedProgram}
 use Rattle.cs_grammar.specs.FileText.{file_text}
 use Rattle.cs_consts.specs.Meanings.{Declaration}
-use Rattle.cs_consts.specs.Verdicts.{Verdict, Fine, lift}
+use Rattle.cs_consts.specs.Verdicts.{Fine}
 use Rattle.cs_declarations.specs.Bodies.{Typing, specs_type, typedefs_added}
 use Rattle.cs_declarations.specs.Known.{Known, table_of}
 use Rattle.cs_declarations.proofs.FineVerdicts.{IfFine-at}

@@ -1,12 +1,12 @@
 -- The functions of files are well formed: for the contract of `typed`.
-use Rattle.std.proofs.Common.{◌≡◌, ◌≢◌, ◌∙◌, ℕ, zero, suc, ◌+◌, ◌≤◌, ◌<◌, Bool, true, false, List, [], ◌∷◌, ◌++◌, length, drop, take, map, get_or, inl, inr, refl, sym, ap, subst, arith, zero-add}
+use Rattle.std.proofs.Common.{◌≡◌, ◌≢◌, ◌∙◌, ℕ, ◌+◌, ◌≤◌, ◌<◌, Bool, true, false, List, [], ◌∷◌, ◌++◌, length, drop, take, get_or, inl, inr, refl, sym, ap, subst, arith}
 use Rattle.std.specs.Prelude.{nat_eq, ◌⊎◌, ◌&&◌, ◌||◌, not, codes, Option, Some, None, IfSome, is_some, slice_get}
 use Rattle.std.specs.List.{All}
 use Rattle.std.specs.Cmp.Lexicographic.{pointwise}
 use Rattle.std.proofs.lemmas.Bool.{or_cases}
-use Rattle.std.proofs.lemmas.List.{append-nil, length-append, length-map, length-take-le, take_all, take_at}
+use Rattle.std.proofs.lemmas.List.{append-nil, length-append, length-map, length-take-le, take_all}
 use Rattle.std.proofs.lemmas.List.Elements.{All-nil, All-push, All-drop, All-append, All-same, All-weaker}
-use Rattle.std.proofs.lemmas.Option.{same_Some, none-some, slice_get-get_or}
+use Rattle.std.proofs.lemmas.Option.{same_Some, slice_get-get_or}
 use Rattle.cs_names.proofs.Comparisons.{same_bytes, equal_to_same}
 use Rattle.cs_types.specs.declared.data_model.DataModel.{DataModel}
 use Rattle.cs_types.specs.Layout.{IsLaidOut}
@@ -24,22 +24,22 @@ use Rattle.cs_consts.specs.Meanings.{Meaning, Typedef, Constant, Global, Local, 
 use Rattle.cs_consts.specs.Scopes.{newest}
 use Rattle.cs_consts.specs.TypeNames.{starred}
 use Rattle.cs_consts.specs.Verdicts.{Verdict, Fine, Fault, lift}
-use Rattle.cs_declarations.specs.Known.{Known, declarations_of, meaning_here, entered, left}
+use Rattle.cs_declarations.specs.Known.{declarations_of, meaning_here, entered, left}
 use Rattle.cs_declarations.specs.Parameters.{Head, parameters_typed}
 use Rattle.cs_typing.specs.Objects.{Filed, Told, Inside, changed}
-use Rattle.cs_typing.specs.Statements.{Where, in_a_row, nothing_told, body_typed, labels_of_items}
+use Rattle.cs_typing.specs.Statements.{in_a_row, nothing_told, body_typed, labels_of_items}
 use Rattle.cs_typing.specs.Order.{is_of_library}
 use Rattle.cs_typing.specs.Functions.{is_result, same_types, types_of, has_body, may_be_function, bodiless, numbered, number_in, Routed, new_function, function_of, declared_inside, bodied, with_body, at_beginning, where_in, body_added, completed, outside_of, headed, resulted, function_added}
 use Rattle.cs_typing.specs.Files.{allocators}
 use Rattle.cs_well_formed.specs.Expressions.{Setting, parameter_types}
 use Rattle.cs_well_formed.specs.Statements.{label_counts}
 use Rattle.cs_well_formed.specs.Programs.{setting_of, outside, IsWellRoutine}
-use Rattle.cs_well_formed.specs.Agreement.{IsRoutine, IsFunction, IsThere}
+use Rattle.cs_well_formed.specs.Agreement.{IsFunction, IsThere}
 use Rattle.cs_well_formed.specs.Leading.{Leads, AreVariables}
 use Rattle.cs_well_formed.proofs.Verdicts.{IfFine, if_fine-at, if_fine-weaker, lift-then, cond-then, both_true}
 use Rattle.cs_well_formed.proofs.Leading.{parameters_typed-leads}
 use Rattle.cs_typing.proofs.DeclarationsBehind.{Starts, starts-trans, start-take, IsPlain, DeclaresOn, parameters_typed-on}
-use Rattle.cs_typing.proofs.FilesSoFar.{start-All, found-start, both-All, changed-length, changed-at, changed-other, changed-found, changed-All, All-found, newest-All, IsOther, newest-none, newest-start, HasNumber, there-inside, IsCounted, with_parts, Kept, Has, IsWellSoFar, Adds, adds-self, adds-trans, HasGlobal, HasRoutine, all-there-kept, KnownBehind, known-adds}
+use Rattle.cs_typing.proofs.FilesSoFar.{start-All, found-start, both-All, changed-length, changed-at, changed-other, changed-found, changed-All, All-found, newest-All, IsOther, newest-none, newest-start, HasNumber, there-inside, IsCounted, with_parts, Kept, Has, Adds, adds-self, adds-trans, HasGlobal, HasRoutine, all-there-kept, known-adds}
 use Rattle.cs_typing.proofs.HeldConstants.{ItemsHaveConstants}
 use Rattle.cs_typing.proofs.LabelCounts.{body_typed-counts}
 use Rattle.cs_typing.proofs.OrderedNames.{IsOrdered, IsPlaced, number-names}
@@ -297,7 +297,7 @@ module _ (p : TypedProgram) (laid_out : IsLaidOut p.model p.table) where
       library = subst (Starts (allocators p.model)) (sym same) kept.library;
       order = changed-length change number g.routines ∙ kept.order;
       declared = subst (All (λ (x : Declaration). IsThere (outside (with_parts p after)) x.meaning)) (sym same)
-      (all-there-kept p g after (λ n x at. (x, at, refl)) routines-kept (declarations_of g.known) kept.declared);
+          (all-there-kept p g after (λ n x at. (x, at, refl)) routines-kept (declarations_of g.known) kept.declared);
       numbered = subst (All (λ (x : Declaration). HasNumber g.order x.name x.meaning)) (sym same) kept.numbered;
       counted = changed-All change IsCounted number g.routines (λ x at counted. counted-still x at) kept.counted;
     };

@@ -1,5 +1,5 @@
 -- The objects of files are well formed: for the contract of `typed`.
-use Rattle.std.proofs.Common.{◌≡◌, ◌∙◌, ℕ, ◌+◌, Bool, true, false, List, [], ◌∷◌, ◌++◌, length, drop, refl, sym, ap, subst, arith}
+use Rattle.std.proofs.Common.{◌≡◌, ◌∙◌, ℕ, false, List, [], ◌∷◌, ◌++◌, length, drop, refl, sym, ap, subst}
 use Rattle.std.specs.Prelude.{Option, Some, None, IfSome, is_some, slice_get}
 use Rattle.std.specs.List.{All}
 use Rattle.std.proofs.lemmas.List.Elements.{All-push, All-drop}
@@ -11,11 +11,10 @@ use Rattle.cs_ast.specs.declared.raw.declaration.RawSpecs.{RawSpecs}
 use Rattle.cs_ast.specs.declared.raw.declaration.RawDeclarator.{RawDeclarator}
 use Rattle.cs_ast.specs.declared.raw.declaration.RawFirstValue.{RawFirstValue}
 use Rattle.cs_ast.specs.declared.raw.declaration.RawInit.{RawInit}
-use Rattle.cs_ast.specs.RawDeclarationView.{initial}
 use Rattle.cs_ast.specs.TypedProgram.{TypedProgram, FileObject, Routine}
 use Rattle.cs_consts.specs.declared.refusal.TypeCode.TheVariants.{DeclaredTwice}
 use Rattle.cs_consts.specs.Meanings.{Meaning, Typedef, Constant, Global, Local, Function, Declaration}
-use Rattle.cs_consts.specs.Verdicts.{Verdict, Fine, Fault, lift}
+use Rattle.cs_consts.specs.Verdicts.{Fault}
 use Rattle.cs_declarations.specs.Initializers.{InFile, Reading, initial_typed}
 use Rattle.cs_declarations.specs.Known.{declarations_of, with_literals, meaning_here}
 use Rattle.cs_declarations.specs.Objects.{is_constant_object, object_type}
@@ -25,12 +24,12 @@ use Rattle.cs_well_formed.specs.Expressions.{IsWhole}
 use Rattle.cs_well_formed.specs.Initials.{IsWellInitial, HasConstantValues}
 use Rattle.cs_well_formed.specs.Programs.{outside, IsWellGlobal}
 use Rattle.cs_well_formed.specs.Agreement.{IsThere, Agrees, AreFirst}
-use Rattle.cs_well_formed.proofs.Verdicts.{IfFine, if_fine-any, if_fine-weaker, lift-then, cond-then}
+use Rattle.cs_well_formed.proofs.Verdicts.{IfFine, if_fine-weaker, lift-then, cond-then}
 use Rattle.cs_well_formed.proofs.Names.{first-part}
 use Rattle.cs_well_formed.proofs.Initials.{initial-well, initial-constant}
 use Rattle.cs_well_formed.proofs.Leading.{object_type-whole}
 use Rattle.cs_typing.proofs.DeclarationsBehind.{starts-trans}
-use Rattle.cs_typing.proofs.FilesSoFar.{start-All, found-start, changed-found, changed-All, newest-All, HasNumber, with_parts, Kept, Has, IsWellSoFar, Adds, adds-self, adds-trans, file-agrees, HasGlobal, HasRoutine, all-there-kept}
+use Rattle.cs_typing.proofs.FilesSoFar.{start-All, found-start, changed-found, changed-All, newest-All, HasNumber, with_parts, Kept, Has, Adds, adds-self, adds-trans, file-agrees, HasGlobal, HasRoutine, all-there-kept}
 use Rattle.cs_typing.proofs.HeldConstants.{FirstValueHasConstants, ObjectsHaveConstants}
 use Rattle.cs_typing.proofs.LiteralsBehind.{GoesOnFrom, initial_typed-begins}
 use Rattle.cs_typing.proofs.WellStatements.{under, both-fine}
@@ -99,8 +98,8 @@ module _ (p : TypedProgram) (laid_out : IsLaidOut p.model p.table) where
           library = starts-trans (allocators p.model) (declarations_of f.known) (declarations_of after.known) kept.library (declaration ∷ [], refl);
           order = kept.order;
           declared = All-push (λ (x : Declaration). IsThere (outside (with_parts p after)) x.meaning) (declarations_of f.known) declaration
-          (all-there-kept p f after (λ number x is. (x, found-start f.globals after.globals number x (object ∷ [], refl) is, refl)) (same-routines f) (declarations_of f.known) kept.declared)
-          new;
+              (all-there-kept p f after (λ number x is. (x, found-start f.globals after.globals number x (object ∷ [], refl) is, refl)) (same-routines f) (declarations_of f.known) kept.declared)
+              new;
           numbered = All-push (λ (x : Declaration). HasNumber f.order x.name x.meaning) (declarations_of f.known) declaration kept.numbered tt;
           counted = kept.counted;
         };
@@ -129,8 +128,7 @@ module _ (p : TypedProgram) (laid_out : IsLaidOut p.model p.table) where
   marked-adds s d ty o kept has =
       let change = made_constant (is_constant_object s d.pointers.items) in
       let same = changed-globals o.filed change o.number (λ x. refl) in
-      let there = same o.number has.0 has.1 in
-      (
+      let there = same o.number has.0 has.1 in (
         globals-adds o.filed (changed o.number change o.filed.globals) kept same (λ _ all. changed-All change (IsWellGlobal p) o.number o.filed.globals (λ x _ w. w) all),
         (there.0, there.1, there.2 ∙ has.2),
       )
@@ -181,8 +179,7 @@ module _ (p : TypedProgram) (laid_out : IsLaidOut p.model p.table) where
       held has x is well =
           let same : x ≡ object.0 = same_Some x object.0 (sym is ∙ object.1) in
           let type_is : x.ty ≡ ty = ap (λ (g : FileObject). g.ty) same ∙ object.2 in
-          let first = h.well (file-agrees p f kept (before has), subst (IsWhole p) type_is well.0) has.texts in
-          (
+          let first = h.well (file-agrees p f kept (before has), subst (IsWhole p) type_is well.0) has.texts in (
             well.0,
             (subst (λ t. IsWellInitial (outside p) t r.0) (sym type_is) first, subst (λ m. HasConstantValues m r.0) kept.model h.constant),
           )

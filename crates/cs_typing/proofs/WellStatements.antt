@@ -1,5 +1,5 @@
 -- What the typing of statements gives is well formed in the function and the program around it: for the contract of `typed`.
-use Rattle.std.proofs.Common.{◌≡◌, ◌∙◌, ℕ, ℤ, suc, ◌≤◌, ◌<◌, Bool, true, false, List, [], ◌∷◌, ◌++◌, length, take, refl, sym, ap, subst, arith}
+use Rattle.std.proofs.Common.{◌≡◌, ◌∙◌, ℕ, ℤ, suc, ◌≤◌, ◌<◌, true, List, [], ◌∷◌, ◌++◌, length, take, refl, sym, ap, subst, arith}
 use Rattle.std.specs.Prelude.{nat_eq, Option, Some, None, IfSome, slice_get}
 use Rattle.std.specs.List.{All}
 use Rattle.std.proofs.lemmas.List.{append-nil, length_push, take_at}
@@ -19,12 +19,10 @@ use Rattle.cs_ast.specs.declared.raw.statement.RawItem as items
 use Rattle.cs_ast.specs.declared.raw.statement.RawSwitchItem as switches
 use Rattle.cs_ast.specs.declared.raw.statement.RawFirst.{RawFirst}
 use Rattle.cs_ast.specs.declared.raw.statement.RawFirst.TheVariants as first_part
-use Rattle.cs_ast.specs.declared.typed.statement.Case.{Case}
 use Rattle.cs_ast.specs.RawView.{written}
-use Rattle.cs_ast.specs.RawDeclarationView.{initial}
-use Rattle.cs_ast.specs.TypedTree.{Typed, Statement, Goto}
+use Rattle.cs_ast.specs.TypedTree.{Typed, Statement}
 use Rattle.cs_ast.specs.TypedProgram.{Variable}
-use Rattle.cs_consts.specs.declared.refusal.TypeCode.TheVariants.{CaseTwice, DeclaredTwice, Jump, Return}
+use Rattle.cs_consts.specs.declared.refusal.TypeCode.TheVariants.{CaseTwice, Jump, Return}
 use Rattle.cs_consts.specs.Integers.{type_of}
 use Rattle.cs_consts.specs.Verdicts.{Verdict, Fine, Fault, lift}
 use Rattle.cs_consts.specs.Doors.{value_of, assigned_value, test_of, selector_of, discarded_value}
@@ -34,16 +32,16 @@ use Rattle.cs_declarations.specs.Initializers.{InFunction, Reading, initial_type
 use Rattle.cs_declarations.specs.Known.{Known, model_of, table_of, declarations_of, with_literals, is_declared_here}
 use Rattle.cs_declarations.specs.Objects.{object_type}
 use Rattle.cs_typing.specs.Objects.{Inside, knowing, LocalDeclared, Told, with_local, local_held, local_initialized, local_added, after_local, locals_added}
-use Rattle.cs_typing.specs.Statements.{Where, Part, Switching, in_loop, in_switch, in_a_row, part, past, tested_in, dropped_in, some_found, tested_if, dropped_if, is_void, value_returned, returned, label_number, goto_typed, is_first, meeting, in_block, behind_block, declared_in, declaration_typed, first_place, nothing_told, telling, ran_first, first_typed, is_case, case_put, case_added, with_told, constant_case, block_made, run_made, if_made, if_else_made, while_made, do_made, for_made, switch_made, return_made, label_made, selected, statement_typed, item_typed, items_typed, switch_item_typed, switch_typed, body_typed}
+use Rattle.cs_typing.specs.Statements.{Where, Part, Switching, in_loop, in_switch, in_a_row, part, past, tested_in, dropped_in, some_found, tested_if, dropped_if, is_void, value_returned, returned, label_number, goto_typed, is_first, meeting, in_block, behind_block, declared_in, declaration_typed, first_place, nothing_told, telling, ran_first, first_typed, is_case, case_put, case_added, with_told, block_made, run_made, if_made, if_else_made, while_made, do_made, for_made, switch_made, return_made, label_made, selected, statement_typed, item_typed, items_typed, switch_item_typed, switch_typed, body_typed}
 use Rattle.cs_well_formed.specs.Expressions.{Setting, IsWell, IsValue, IsValueOf, IsScalarValue, IsIntegerValue, IsWhole}
 use Rattle.cs_well_formed.specs.Initials.{IsWellInitial}
-use Rattle.cs_well_formed.specs.Constants.{HasConstants, InitialHasConstants}
+use Rattle.cs_well_formed.specs.Constants.{HasConstants}
 use Rattle.cs_well_formed.specs.Statements.{IsWellStatement, AreWellStatements, IsDroppedIfAny, IsTestIfAny, IsReturned, IsCase, count_of}
 use Rattle.cs_well_formed.specs.Agreement.{IsThere, Agrees, AreFirst}
 use Rattle.cs_well_formed.specs.Laws.{IsTyped}
 use Rattle.cs_well_formed.specs.Leading.{Leads, AreVariables}
 use Rattle.cs_well_formed.proofs.Verdicts.{IfFine, if_fine-any, if_fine-weaker, lift-then, cond-then}
-use Rattle.cs_well_formed.proofs.Names.{Begins, first-part, literals-begin}
+use Rattle.cs_well_formed.proofs.Names.{first-part, literals-begin}
 use Rattle.cs_well_formed.proofs.Doors.{assigned_value-well, test_of-well, selector_of-well, discarded_value-well}
 use Rattle.cs_well_formed.proofs.Initials.{initial-well}
 use Rattle.cs_well_formed.proofs.Leading.{Keeps, specs_type-leads, object_type-whole}
@@ -157,8 +155,8 @@ module _ (s : Setting) (laid_out : IsLaidOut s.program.model s.program.table) wh
     scope = (
       [],
       ap (take (length (declarations_of i.known))) g.scope.1
-      ∙ take_at (declarations_of i.known) g.scope.0 (length (declarations_of i.known)) refl
-      ∙ sym (append-nil (declarations_of i.known)),
+          ∙ take_at (declarations_of i.known) g.scope.0 (length (declarations_of i.known)) refl
+          ∙ sym (append-nil (declarations_of i.known)),
     );
     variables = g.variables;
     before = λ has. g.before (inside has);
