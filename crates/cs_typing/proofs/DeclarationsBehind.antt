@@ -1,11 +1,11 @@
 -- Declarations are added behind those in force, and each parameter has its mark: for scopes that end, and for the heads of functions.
-use Rattle.std.proofs.Common.{◌≡◌, ◌∙◌, ℕ, List, [], ◌∷◌, ◌++◌, append_assoc, length, take, refl, sym, ap, arith}
-use Rattle.std.specs.Prelude.{◌||◌, Option, Some, None, is_some, pos}
+use Rattle.std.proofs.Common.{◌≡◌, ◌∙◌, ℕ, List, [], ◌∷◌, ◌++◌, append_assoc, length, take, inl, inr, refl, sym, ap, arith}
+use Rattle.std.specs.Prelude.{◌||◌, Option, Some, None, is_some, pos, ℤ}
 use Rattle.std.specs.List.{All}
 use Rattle.std.proofs.lemmas.List.{append-nil, length_push, take_at}
-use Rattle.std.proofs.lemmas.List.Elements.{All-nil, All-cons, All-append}
+use Rattle.std.proofs.lemmas.List.Elements.{All-nil, All-cons, All-append, All-push}
 use Rattle.cs_types.specs.Layout.{members_of}
-use Rattle.cs_types.specs.Shape.{Shape, integer}
+use Rattle.cs_types.specs.Shape.{Shape, void, integer, pointer, array, struct}
 use Rattle.cs_types.specs.declared.int_type.IntType.TheVariants.{Int}
 use Rattle.cs_ast.specs.declared.place.Place.{Place}
 use Rattle.cs_ast.specs.declared.raw.name.RawName.{RawName}
@@ -19,15 +19,19 @@ use Rattle.cs_ast.specs.declared.raw.declaration.RawParameters.{RawParameters}
 use Rattle.cs_ast.specs.declared.raw.declaration.RawParameters.TheVariants as parameter_lists
 use Rattle.cs_ast.specs.declared.raw.written_type.TypeWord.{TypeWord}
 use Rattle.cs_ast.specs.declared.raw.written_type.TypeWord.TheVariants as word
+use Rattle.cs_ast.specs.TypedProgram.{Variable}
+use Rattle.cs_consts.specs.declared.context.Context.{Context}
 use Rattle.cs_consts.specs.declared.scope.TagMeaning.{TagMeaning}
 use Rattle.cs_consts.specs.declared.scope.TagMeaning.TheVariants as tag
 use Rattle.cs_consts.specs.Meanings.{Meaning, Typedef, Constant, Global, Local, Function, Declaration}
 use Rattle.cs_consts.specs.Verdicts.{Verdict, Fine, lift}
 use Rattle.cs_consts.specs.Scopes.{newest}
-use Rattle.cs_consts.specs.TypeNames.{whole_word, typedef_at, enum_at, tag_place, starred}
+use Rattle.cs_consts.specs.TypeNames.{whole_word, typedef_at, enum_at, tag_place, starred, array_of}
 use Rattle.cs_declarations.specs.Known.{Known, table_of, declarations_of, with_tag, declaring, is_declared_here}
 use Rattle.cs_declarations.specs.Bodies.{Typing, with_struct, with_tagged_struct, tag_in, struct_named, word_type, Laying, nothing_laid, declarator_type, members_declared, is_int, Counting, constant_added, number_said, constant_declared, constants_declared, with_enum_tag, is_new_enum, enum_body, Opening, is_among, opened, opening_tagged, opening, Body, struct_read, group_declared, first_name, plain_row, row_type, members_read, plain_words, words_type, specs_type, typedefs_added}
-use Rattle.cs_declarations.specs.Parameters.{Head, naming, is_free_name, with_parameter, parameter_passed, parameter_typed, parameters_behind, parameters_typed}
+use Rattle.cs_declarations.specs.Sizes.{sizes_said, bounded, element_of}
+use Rattle.cs_declarations.specs.Parameters.{Head, Passed, place_of, name_in, plainly_passed, array_passed, passed, naming, is_free_name, with_parameter, parameter_passed, parameter_typed, parameters_behind, parameters_typed}
+use Rattle.cs_well_formed.specs.Expressions.{IsScalar}
 use Rattle.cs_well_formed.proofs.Verdicts.{IfFine, if_fine-any, if_fine-weaker, lift-then, cond-then}
 
 -- one list is the beginning of another
@@ -207,9 +211,38 @@ typedefs_added-on base (d ∷ ds) k =
 
 -- ---- parameters
 
+-- each variable is a scalar
+abbrev pub AreScalars : List Variable → Type 0
+AreScalars variables = All (λ (v : Variable). IsScalar v.ty) variables
+
+abbrev IsPassed : Passed → Type 0
+IsPassed found = IsScalar found.ty
+
+plainly-passed : (at : Place) (ty : Shape) → IfFine (plainly_passed at ty) IsPassed
+plainly-passed at void = tt
+plainly-passed at (struct number) = tt
+plainly-passed at (array element count) = inr (element, refl)
+plainly-passed at (integer kind) = inl (kind, refl)
+plainly-passed at (pointer target) = inr (target, refl)
+
+array-passed : (c : Context) (at : Place) (size : Option ℤ) (element : Shape) → IfFine (array_passed c at size element) IsPassed
+array-passed c at (Some n) element = lift-then (λ _. Unit {0}) IsPassed _ _ (if_fine-any (array_of c.model c.table.list at n element)) (λ whole _. inr (element, refl))
+array-passed c at None element = inr (element, refl)
+
+bounds-passed : (c : Context) (at : Place) (base : Shape) (sizes : List (Option ℤ)) → IfFine (passed c at base sizes) IsPassed
+bounds-passed c at base [] = plainly-passed at base
+bounds-passed c at base (first ∷ others) = lift-then (λ _. Unit {0}) IsPassed (array_passed c at first) _ (if_fine-any (element_of c at base others)) (λ element _. array-passed c at first element)
+
+-- a parameter is passed as a scalar (C11 6.7.6.3, paragraph 7)
+parameter-passed : (c : Context) (p : RawParameter) (base : Shape) → IfFine (parameter_passed c p base) IsPassed
+parameter-passed c p base =
+    lift-then (λ _. Unit {0}) IsPassed _ _ (if_fine-any (bounded c (place_of p.place p.name) base p.bounds.items))
+    (λ whole _. lift-then (λ _. Unit {0}) IsPassed (passed c (place_of p.place p.name) whole) _ (if_fine-any (sizes_said c p.bounds.items)) (λ sizes _. bounds-passed c (place_of p.place p.name) whole sizes))
+
 record HeadGrows (before after : Head) : Type 0 where
   known : DeclaresOn before.known after.known
   written : length before.written ≡ length before.variables → length after.written ≡ length after.variables
+  scalars : AreScalars before.variables → AreScalars after.variables
 
 naming-on : (name : Option RawName) (number : ℕ) (ty : Shape) (k : Known) → DeclaresOn k (naming name number ty k)
 naming-on None number ty k = on-self k
@@ -222,27 +255,37 @@ parameter_typed-grows : (p : RawParameter) (before : Head) → IfFine (parameter
 parameter_typed-grows p before =
     lift-then (TypeDeclaresOn before.known) (HeadGrows before) _ _ (specs_type-on before.known p.place p.specs)
     (λ found h. cond-then (HeadGrows before) (is_free_name p.name found.1) _ _
-    (λ _. lift-then (λ _. Unit {0}) (HeadGrows before) (with_parameter p before found.1) _ (if_fine-any (parameter_passed found.1.context p (starred p.pointers.items found.0)))
-    (λ passed _. record {
-      known = on-trans before.known found.1 _ h (naming-on p.name (length before.variables) passed.ty found.1);
+    (λ _. lift-then IsPassed (HeadGrows before) (with_parameter p before found.1) _ (parameter-passed found.1.context p (starred p.pointers.items found.0))
+    (λ way scalar. record {
+      known = on-trans before.known found.1 _ h (naming-on p.name (length before.variables) way.ty found.1);
       written = λ is. one-more before.written before.variables _ _ is;
+      scalars = λ all. All-push (λ (v : Variable). IsScalar v.ty) before.variables (record { name = name_in p.name; ty = way.ty; block = way.block }) all scalar;
     }))
     (λ _. tt))
 
 parameters_behind-grow : (ps : List RawParameter) (before : Head) → IfFine (parameters_behind ps before) (HeadGrows before)
-parameters_behind-grow [] before = record { known = on-self before.known; written = λ is. is }
+parameters_behind-grow [] before = record { known = on-self before.known; written = λ is. is; scalars = λ all. all }
 parameters_behind-grow (p ∷ ps) before =
     lift-then (HeadGrows before) (HeadGrows before) (parameters_behind ps) _ (parameter_typed-grows p before)
     (λ head first. if_fine-weaker (HeadGrows head) (HeadGrows before) (parameters_behind ps head) (parameters_behind-grow ps head)
-    (λ after others. record { known = on-trans before.known head.known after.known first.known others.known; written = λ is. others.written (first.written is) }))
+    (λ after others. record {
+      known = on-trans before.known head.known after.known first.known others.known;
+      written = λ is. others.written (first.written is);
+      scalars = λ all. others.scalars (first.scalars all);
+    }))
 
--- behind the parameters of a function, each of which has its mark
-abbrev pub HeadDeclaresOn : Known → Head → Type 0
-HeadDeclaresOn k head = DeclaresOn k head.known × (length head.written ≡ length head.variables)
+-- behind the parameters of a function, which are scalars, each with its mark
+pub record HeadDeclaresOn (k : Known) (head : Head) : Type 0 where
+  pub known : DeclaresOn k head.known
+  pub written : length head.written ≡ length head.variables
+  pub scalars : AreScalars head.variables
+
+no-parameter : (k : Known) → HeadDeclaresOn k (record { variables = []; written = []; known = k })
+no-parameter k = record { known = on-self k; written = refl; scalars = All-nil (λ (v : Variable). IsScalar v.ty) }
 
 pub parameters_typed-on : (k : Known) (raw : RawParameters) → IfFine (parameters_typed k raw) (HeadDeclaresOn k)
-parameters_typed-on k parameter_lists.Empty = (on-self k, refl)
-parameters_typed-on k parameter_lists.Void = (on-self k, refl)
+parameters_typed-on k parameter_lists.Empty = no-parameter k
+parameters_typed-on k parameter_lists.Void = no-parameter k
 parameters_typed-on k (parameter_lists.List list) =
     if_fine-weaker (HeadGrows (record { variables = []; written = []; known = k })) (HeadDeclaresOn k) _ (parameters_behind-grow list.items (record { variables = []; written = []; known = k }))
-    (λ head h. (h.known, h.written refl))
+    (λ head h. record { known = h.known; written = h.written refl; scalars = h.scalars (All-nil (λ (v : Variable). IsScalar v.ty)) })

@@ -8,7 +8,7 @@ pub mod FilesSoFar
 pub mod FunctionAgain
 pub mod FunctionNumbers
 pub mod HeldConstants
-pub mod LabelCounts
+pub mod LedJumps
 pub mod LabelPlaces
 pub mod LiteralsBehind
 pub mod LocalsInTurn

@@ -1,5 +1,5 @@
 -- A typed program is well formed, if no constant of its file is too wide: for the contract of `typed`.
-use Rattle.std.proofs.Common.{◌≡◌, ℕ, List, [], ◌∷◌, map, refl, sym, subst, arith}
+use Rattle.std.proofs.Common.{◌≡◌, ℕ, List, [], ◌∷◌, inl, map, refl, sym, subst, arith}
 use Rattle.std.specs.Prelude.{Some, None}
 use Rattle.std.specs.List.{All}
 use Rattle.std.proofs.lemmas.List.{append-nil, length-map}
@@ -13,7 +13,7 @@ use Rattle.cs_ast.specs.declared.raw.external.RawExternal.{RawExternal}
 use Rattle.cs_ast.specs.declared.raw.external.RawExternalKind.{RawExternalKind}
 use Rattle.cs_ast.specs.declared.raw.external.RawExternalKind.TheVariants as external_kind
 use Rattle.cs_ast.specs.RawStatementView.{external}
-use Rattle.cs_ast.specs.TypedProgram.{TypedProgram}
+use Rattle.cs_ast.specs.TypedProgram.{TypedProgram, Variable}
 use Rattle.cs_grammar.specs.FileText.{file_text}
 use Rattle.cs_consts.specs.Meanings.{Declaration}
 use Rattle.cs_consts.specs.Verdicts.{Fine}
@@ -24,6 +24,7 @@ use Rattle.cs_typing.specs.Objects.{Filed, with_known}
 use Rattle.cs_typing.specs.Order.{order_of}
 use Rattle.cs_typing.specs.Files.{allocators, blank, beginning, specs_of, external_declared, external_read, external_typed, file_typed, typed_file}
 use Rattle.cs_typing.specs.Programs.{program_of, typed}
+use Rattle.cs_well_formed.specs.Expressions.{IsScalar, IsWhole}
 use Rattle.cs_well_formed.specs.Programs.{outside, IsWellGlobal, IsWellRoutine, IsWellFormed}
 use Rattle.cs_well_formed.specs.Agreement.{IsThere}
 use Rattle.cs_well_formed.specs.Leading.{Leads}
@@ -82,10 +83,20 @@ module _ (p : TypedProgram) (laid : IsLaidOut p.model p.table) where
     counted = All-map IsCounted blank order (λ i name within. omega arith);
   }
 
+  blank-well : (name : List ℕ) → IsWellRoutine p (blank name)
+  blank-well name = record {
+    returns = inl refl;
+    parameters = omega arith;
+    passed = All-nil IsScalar;
+    variables = All-nil (λ (v : Variable). IsWhole p v.ty);
+    written = refl;
+    body = tt;
+  }
+
   beginning-well : (order : List (List ℕ)) → IsWellSoFar p (beginning p.model order)
   beginning-well order = record {
     globals = All-nil (IsWellGlobal p);
-    routines = All-map (IsWellRoutine p) blank order (λ i name within. record { parameters = omega arith; written = refl; body = tt });
+    routines = All-map (IsWellRoutine p) blank order (λ i name within. blank-well _);
   }
 
 -- the program that a file is

@@ -5,12 +5,12 @@ use Rattle.std.specs.List.{All}
 use Rattle.std.specs.Cmp.Lexicographic.{pointwise}
 use Rattle.std.proofs.lemmas.Bool.{or_cases}
 use Rattle.std.proofs.lemmas.List.{append-nil, length-append, length-map, length-take-le, take_all}
-use Rattle.std.proofs.lemmas.List.Elements.{All-nil, All-push, All-drop, All-append, All-same, All-weaker}
+use Rattle.std.proofs.lemmas.List.Elements.{All-nil, All-push, All-drop, All-append, All-same, All-weaker, All-map}
 use Rattle.std.proofs.lemmas.Option.{same_Some, slice_get-get_or}
 use Rattle.cs_names.proofs.Comparisons.{same_bytes, equal_to_same}
 use Rattle.cs_types.specs.declared.data_model.DataModel.{DataModel}
 use Rattle.cs_types.specs.Layout.{IsLaidOut}
-use Rattle.cs_types.specs.Shape.{Shape, void, same_shape}
+use Rattle.cs_types.specs.Shape.{Shape, void, integer, pointer, array, struct, same_shape}
 use Rattle.cs_types.specs.ShapeEquality.{same_shape-true}
 use Rattle.cs_ast.specs.declared.raw.declaration.RawFunction.{RawFunction}
 use Rattle.cs_ast.specs.declared.raw.declaration.RawParameters.{RawParameters}
@@ -31,19 +31,19 @@ use Rattle.cs_typing.specs.Statements.{in_a_row, nothing_told, body_typed, label
 use Rattle.cs_typing.specs.Order.{is_of_library}
 use Rattle.cs_typing.specs.Functions.{is_result, same_types, types_of, has_body, may_be_function, bodiless, numbered, number_in, Routed, new_function, function_of, declared_inside, bodied, with_body, at_beginning, where_in, body_added, completed, outside_of, headed, resulted, function_added}
 use Rattle.cs_typing.specs.Files.{allocators}
-use Rattle.cs_well_formed.specs.Expressions.{Setting, parameter_types}
+use Rattle.cs_well_formed.specs.Expressions.{Setting, IsScalar, IsWhole, parameter_types}
 use Rattle.cs_well_formed.specs.Statements.{label_counts}
-use Rattle.cs_well_formed.specs.Programs.{setting_of, outside, IsWellRoutine}
+use Rattle.cs_well_formed.specs.Programs.{setting_of, outside, IsResult, IsWellRoutine}
 use Rattle.cs_well_formed.specs.Agreement.{IsFunction, IsThere}
 use Rattle.cs_well_formed.specs.Leading.{Leads, AreVariables}
 use Rattle.cs_well_formed.proofs.Verdicts.{IfFine, if_fine-at, if_fine-weaker, lift-then, cond-then, both_true}
 use Rattle.cs_well_formed.proofs.Leading.{parameters_typed-leads}
-use Rattle.cs_typing.proofs.DeclarationsBehind.{Starts, starts-trans, start-take, IsPlain, DeclaresOn, parameters_typed-on}
+use Rattle.cs_typing.proofs.DeclarationsBehind.{Starts, starts-trans, start-take, IsPlain, DeclaresOn, parameters_typed-on, AreScalars, HeadDeclaresOn}
 use Rattle.cs_typing.proofs.FilesSoFar.{start-All, found-start, both-All, changed-length, changed-at, changed-other, changed-found, changed-All, All-found, newest-All, IsOther, newest-none, newest-start, HasNumber, there-inside, IsCounted, with_parts, Kept, Has, Adds, adds-self, adds-trans, HasGlobal, HasRoutine, all-there-kept, known-adds}
 use Rattle.cs_typing.proofs.HeldConstants.{ItemsHaveConstants}
-use Rattle.cs_typing.proofs.LabelCounts.{body_typed-counts}
+use Rattle.cs_typing.proofs.LedJumps.{ToldIsLed, body_typed-led}
 use Rattle.cs_typing.proofs.OrderedNames.{IsOrdered, IsPlaced, number-names}
-use Rattle.cs_typing.proofs.WellStatements.{both-fine, Has as HasInside, Tells, body_typed-well}
+use Rattle.cs_typing.proofs.WellStatements.{both-fine, Has as HasInside, Tells, body_typed-well, AreThere}
 
 -- what holds of a value for each of some
 for-each : {A : Type 0} (Q : Type 0) (P : Q → A → Type 0) (v : Verdict A) → ((q : Q) → IfFine v (P q)) → IfFine v (λ a. (q : Q) → P q a)
@@ -62,6 +62,14 @@ same_types-true (ty ∷ types) [] h = absurd cc
 same_types-true (ty ∷ types) (other ∷ others) h =
     let both = both_true (same_shape ty other) (same_types types others) h in
     ap (λ t. t ∷ types) (same_shape-true ty other both.0) ∙ ap (λ ts. other ∷ ts) (same_types-true types others both.1)
+
+-- a result that a function may have is a scalar or none
+result-is : (ty : Shape) → is_result ty ≡ true → IsResult ty
+result-is void h = inl refl
+result-is (integer kind) h = inr (inl (kind, refl))
+result-is (pointer target) h = inr (inr (target, refl))
+result-is (array element count) h = absurd cc
+result-is (struct number) h = absurd cc
 
 -- the functions of the library are declared before a file
 library-declared : (model : DataModel) (name : List ℕ) → is_of_library name ≡ true → is_some (newest name (allocators model)) ≡ true
@@ -100,6 +108,7 @@ module _ (p : TypedProgram) (laid_out : IsLaidOut p.model p.table) where
   record IsHead (f : Filed) (head : Head) : Type 0 where
     on : DeclaresOn (entered f.known) head.known
     written : length head.written ≡ length head.variables
+    scalars : AreScalars head.variables
     leads : (s : Setting) → s.program.model ≡ p.model → AreVariables s head.variables → Leads s (entered f.known) head.known
 
   abbrev Around : Type 0
@@ -108,13 +117,13 @@ module _ (p : TypedProgram) (laid_out : IsLaidOut p.model p.table) where
   head-is : (f : Filed) (raw : RawParameters) → Kept p f → IfFine (parameters_typed (entered f.known) raw) (IsHead f)
   head-is f raw kept =
       let v = parameters_typed (entered f.known) raw in
-      let IsOn : Head → Type 0 = λ head. DeclaresOn (entered f.known) head.known × (length head.written ≡ length head.variables) in
+      let IsOn : Head → Type 0 = HeadDeclaresOn (entered f.known) in
       let IsLed : Around → Head → Type 0 = λ s head. AreVariables s.0 head.variables → Leads s.0 (entered f.known) head.known in
       if_fine-weaker (λ head. IsOn head × ((s : Around) → IsLed s head)) (IsHead f) v
       (both-fine IsOn (λ head. (s : Around) → IsLed s head) v
       (parameters_typed-on (entered f.known) raw)
       (for-each Around IsLed v (λ s. parameters_typed-leads s.0 (entered f.known) raw (kept.model ∙ sym s.1))))
-      (λ head h. record { on = h.0.0; written = h.0.1; leads = λ s same are. h.1 (s, same) are })
+      (λ head h. record { on = h.0.known; written = h.0.written; scalars = h.0.scalars; leads = λ s same are. h.1 (s, same) are })
 
   -- the declarations outside of the parameters are those before them
   same-outside : (f : Filed) (head : Head) → IsHead f head → declarations_of (outside_of f head).known ≡ declarations_of f.known
@@ -174,6 +183,14 @@ module _ (p : TypedProgram) (laid_out : IsLaidOut p.model p.table) where
 
   -- ---- declared functions
 
+  -- scalars are whole
+  scalar-whole : (ty : Shape) → IsScalar ty → IsWhole p ty
+  scalar-whole ty (inl kind) = subst (IsWhole p) (sym kind.1) refl
+  scalar-whole ty (inr target) = subst (IsWhole p) (sym target.1) refl
+
+  whole-scalars : (variables : List Variable) → AreScalars variables → All (λ (v : Variable). IsWhole p v.ty) variables
+  whole-scalars variables h = All-weaker (λ (v : Variable). IsScalar v.ty) (λ (v : Variable). IsWhole p v.ty) (λ v scalar. scalar-whole v.ty scalar) variables h
+
   -- the function is there, with its types
   abbrev IsRouted : Filed → Shape → List Variable → Callee → Type 0
   IsRouted f result parameters (Numbered number) = (r : Routine) × (slice_get f.routines number ≡ Some r) × (r.returns ≡ result) × (parameter_types r ≡ types_of parameters)
@@ -188,8 +205,8 @@ module _ (p : TypedProgram) (laid_out : IsLaidOut p.model p.table) where
   same-globals f number x is = (x, is, refl)
 
   -- a new function, at its place in the order
-  new_function-adds : (f : Filed) (d : RawFunction) (result : Shape) (parameters : List Variable) (written : List Bool) → Kept p f → All (IsOther d.name) (declarations_of f.known) → IsOrdered f.order d.name → length written ≡ length parameters → AddsFunction f result parameters (new_function f d result parameters written)
-  new_function-adds f d result parameters written kept other ordered long = (added, new)
+  new_function-adds : (f : Filed) (d : RawFunction) (result : Shape) (parameters : List Variable) (written : List Bool) → Kept p f → All (IsOther d.name) (declarations_of f.known) → IsOrdered f.order d.name → IsResult result → length written ≡ length parameters → AreScalars parameters → AddsFunction f result parameters (new_function f d result parameters written)
+  new_function-adds f d result parameters written kept other ordered fits long scalars = (added, new)
     where
       slot : ℕ
       slot = number_in f.order d.name
@@ -249,6 +266,16 @@ module _ (p : TypedProgram) (laid_out : IsLaidOut p.model p.table) where
         there = start-All (λ (x : Declaration). IsThere (outside p) x.meaning) (declarations_of f.known) (declarations_of after.known) (declaration ∷ [], refl) has.there;
       }
 
+      well-made : IsWellRoutine p made
+      well-made = record {
+        returns = fits;
+        parameters = omega arith;
+        passed = subst (All IsScalar) (sym types) (All-map IsScalar (λ (v : Variable). v.ty) parameters scalars);
+        variables = whole-scalars parameters scalars;
+        written = long;
+        body = tt;
+      }
+
       added : Adds p f after
       added = record {
         order = refl;
@@ -264,7 +291,7 @@ module _ (p : TypedProgram) (laid_out : IsLaidOut p.model p.table) where
         before = before;
         well = λ has w. record {
           globals = w.globals;
-          routines = changed-All (λ blank. made) (IsWellRoutine p) slot f.routines (λ r _ _. record { parameters = omega arith; written = long; body = tt }) w.routines;
+          routines = changed-All (λ blank. made) (IsWellRoutine p) slot f.routines (λ r _ _. well-made) w.routines;
         };
       }
 
@@ -275,15 +302,15 @@ module _ (p : TypedProgram) (laid_out : IsLaidOut p.model p.table) where
   again-routed f result parameters Calloc before same types h = tt
   again-routed f result parameters Free before same types h = tt
 
-  function_of-adds : (f : Filed) (d : RawFunction) (result : Shape) (parameters : List Variable) (written : List Bool) (m : Option Meaning) → Kept p f → MayStand f d result m → length written ≡ length parameters → IfFine (function_of f d result parameters written m) (AddsFunction f result parameters)
-  function_of-adds f d result parameters written None kept may long = new_function-adds f d result parameters written kept may.0 may.1 long
-  function_of-adds f d result parameters written (Some (Function before)) kept may long =
+  function_of-adds : (f : Filed) (d : RawFunction) (result : Shape) (parameters : List Variable) (written : List Bool) (m : Option Meaning) → Kept p f → MayStand f d result m → IsResult result → length written ≡ length parameters → AreScalars parameters → IfFine (function_of f d result parameters written m) (AddsFunction f result parameters)
+  function_of-adds f d result parameters written None kept may fits long scalars = new_function-adds f d result parameters written kept may.0 may.1 fits long scalars
+  function_of-adds f d result parameters written (Some (Function before)) kept may fits long scalars =
       cond-then (AddsFunction f result parameters) (same_types before.parameters (types_of parameters)) _ (Fault DeclaredTwice d.place)
       (λ same. (adds-self p f kept, again-routed f result parameters before.callee before may.0 (same_types-true before.parameters (types_of parameters) same) may.1)) (λ _. tt)
-  function_of-adds f d result parameters written (Some (Typedef ty)) kept may long = absurd may
-  function_of-adds f d result parameters written (Some (Constant value)) kept may long = absurd may
-  function_of-adds f d result parameters written (Some (Global number ty)) kept may long = absurd may
-  function_of-adds f d result parameters written (Some (Local number ty)) kept may long = absurd may
+  function_of-adds f d result parameters written (Some (Typedef ty)) kept may fits long scalars = absurd may
+  function_of-adds f d result parameters written (Some (Constant value)) kept may fits long scalars = absurd may
+  function_of-adds f d result parameters written (Some (Global number ty)) kept may fits long scalars = absurd may
+  function_of-adds f d result parameters written (Some (Local number ty)) kept may fits long scalars = absurd may
 
   -- ---- bodies
 
@@ -327,10 +354,11 @@ module _ (p : TypedProgram) (laid_out : IsLaidOut p.model p.table) where
       after = record { known = left g.known told.inside.known; globals = g.globals; order = g.order; routines = changed number change g.routines }
 
       -- the body has all labels of the function
+      led : ToldIsLed (where_in result body) (nothing_told begun) (length (labels_of_items body.items.items)) told
+      led = if_fine-at (ToldIsLed (where_in result body) (nothing_told begun) (length (labels_of_items body.items.items))) _ told (body_typed-led (where_in result body) body.items.items (nothing_told begun)) is
+
       labels : length (labels_of_items body.items.items) ≤ label_counts (in_a_row told.statements)
-      labels =
-          let all = if_fine-at (λ (t : Told). label_counts (in_a_row t.statements) ≡ 0 + length (labels_of_items body.items.items)) _ told (body_typed-counts (where_in result body) body.items.items (nothing_told begun)) is in
-          omega (arith, all)
+      labels = let all : label_counts (in_a_row told.statements) ≡ 0 + length (labels_of_items body.items.items) = led.count in omega (arith, all)
 
       tells : Tells s laid_out (nothing_told begun) told
       tells = if_fine-at (Tells s laid_out (nothing_told begun)) _ told (body_typed-well s laid_out (where_in result body) body.items.items (nothing_told begun) (sym returns, labels) kept.model fit) is
@@ -382,7 +410,7 @@ module _ (p : TypedProgram) (laid_out : IsLaidOut p.model p.table) where
           (y.0, y.1, y.2.0, y.2.1)
 
       -- what is declared at the beginning of the body is there
-      there-begun : Has p after → All (λ (x : Declaration). IsThere s x.meaning) (declarations_of begun.known)
+      there-begun : Has p after → AreThere s laid_out begun
       there-begun has =
           let There : Declaration → Type 0 = λ x. IsThere s x.meaning in
           let Outside : Declaration → Type 0 = λ x. IsThere (outside p) x.meaning in
@@ -391,11 +419,25 @@ module _ (p : TypedProgram) (laid_out : IsLaidOut p.model p.table) where
           let earlier = All-weaker Outside There (λ x there. there-inside s x.meaning there) (declarations_of f.known) (adds.before around).there in
           let are : AreVariables s head.variables = λ n v at. (v, found-start head.variables told.inside.variables n v tells.gives.variables at, refl) in
           let leads = h.leads s refl are in
-          All-append There (declarations_of g.known) inner here
-          (All-drop There (length (declarations_of f.known)) (declarations_of head.known) (leads.declarations earlier))
+          record {
+            declared = All-append There (declarations_of g.known) inner here
+            (All-drop There (length (declarations_of f.known)) (declarations_of head.known) (leads.declarations earlier));
+            whole = whole-scalars head.variables h.scalars;
+          }
 
       well-at : Has p after → IsWellRoutine p r → IsWellRoutine p (change r)
-      well-at has well = record { parameters = enough; written = well.written; body = tells.gives.well (has-inside has) (there-begun has) tt }
+      well-at has well = record {
+        returns = well.returns;
+        parameters = enough;
+        passed = subst (All IsScalar) (sym same-types) well.passed;
+        variables = (tells.gives.there (has-inside has) (there-begun has)).whole;
+        written = well.written;
+        body = record {
+          statement = tells.gives.well (has-inside has) (there-begun has) tt;
+          labels = led.numbered 0 refl tt;
+          jumps = led.jumps tt;
+        };
+      }
 
       well-still : Has p after → (x : Routine) → slice_get g.routines number ≡ Some x → IsWellRoutine p x → IsWellRoutine p (change x)
       well-still has x at well =
@@ -419,10 +461,10 @@ module _ (p : TypedProgram) (laid_out : IsLaidOut p.model p.table) where
 
   -- ---- functions
 
-  headed-adds : (f : Filed) (d : RawFunction) (body : Option RawBody) (result : Shape) (head : Head) → Kept p f → IsHead f head → IsPlaced f.order d.name → may_be_function f (is_some body) result (meaning_here d.name f.known) ≡ true → BodyHasConstants body → IfFine (headed d body f result head) (Adds p f)
-  headed-adds f d body result head kept h placed may fit =
+  headed-adds : (f : Filed) (d : RawFunction) (body : Option RawBody) (result : Shape) (head : Head) → Kept p f → IsHead f head → IsPlaced f.order d.name → may_be_function f (is_some body) result (meaning_here d.name f.known) ≡ true → IsResult result → BodyHasConstants body → IfFine (headed d body f result head) (Adds p f)
+  headed-adds f d body result head kept h placed may fits fit =
       lift-then (AddsFunction (outside_of f head) result head.variables) (Adds p f) (completed d body result head.variables (declared_inside f.known head.known)) _
-      (function_of-adds (outside_of f head) d result head.variables head.written (meaning_here d.name (outside_of f head).known) adds.kept stands h.written)
+      (function_of-adds (outside_of f head) d result head.variables head.written (meaning_here d.name (outside_of f head).known) adds.kept stands fits h.written h.scalars)
       (λ r k. completed-adds f d body result head r (adds-trans p f (outside_of f head) r.1 adds k.0) h k.1 fit)
     where
       adds : Adds p f (outside_of f head)
@@ -452,6 +494,6 @@ module _ (p : TypedProgram) (laid_out : IsLaidOut p.model p.table) where
       let result = starred d.pointers.items ty in
       cond-then (Adds p f) (may_be_function f (is_some body) result (meaning_here d.name f.known)) (resulted d body f result) (Fault DeclaredTwice d.place)
       (λ may. cond-then (Adds p f) (is_result result) (lift (headed d body f result) (parameters_typed (entered f.known) d.parameters)) (Fault IncompleteType d.place)
-      (λ _. lift-then (IsHead f) (Adds p f) (headed d body f result) _ (head-is f d.parameters kept) (λ head h. headed-adds f d body result head kept h placed may fit))
+      (λ fits. lift-then (IsHead f) (Adds p f) (headed d body f result) _ (head-is f d.parameters kept) (λ head h. headed-adds f d body result head kept h placed may (result-is result fits) fit))
       (λ _. tt))
       (λ _. tt)

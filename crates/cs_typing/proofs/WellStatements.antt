@@ -47,7 +47,7 @@ use Rattle.cs_well_formed.proofs.Initials.{initial-well}
 use Rattle.cs_well_formed.proofs.Leading.{Keeps, specs_type-leads, object_type-whole}
 use Rattle.cs_typing.proofs.DeclarationsBehind.{Starts, starts-self, starts-trans, DeclaresOn, TypeDeclaresOn, specs_type-on}
 use Rattle.cs_typing.proofs.HeldConstants.{FirstValueHasConstants, ObjectsHaveConstants, AnyHasConstants, FirstHasConstants, StatementHasConstants, ItemHasConstants, RowHasConstants, SwitchItemHasConstants, SwitchHasConstants, ItemsHaveConstants}
-use Rattle.cs_typing.proofs.LabelCounts.{label_number-below}
+use Rattle.cs_typing.proofs.LedJumps.{label_number-below}
 use Rattle.cs_typing.proofs.LiteralsBehind.{GoesOnFrom, initial_typed-begins}
 
 -- ---- rules under a premise
@@ -94,8 +94,10 @@ module _ (s : Setting) (laid_out : IsLaidOut s.program.model s.program.table) wh
     pub texts : AreFirst s.program i.known.literals
     pub variables : AreVariables s i.variables
 
-  abbrev pub AreThere : Inside → Type 0
-  AreThere i = All (λ (d : Declaration). IsThere s d.meaning) (declarations_of i.known)
+  -- what is declared here is there, and the variables so far have whole types
+  pub record AreThere (i : Inside) : Type 0 where
+    pub declared : All (λ (d : Declaration). IsThere s d.meaning) (declarations_of i.known)
+    pub whole : All (λ (v : Variable). IsWhole s.program v.ty) i.variables
 
   abbrev pub HasModel : Inside → Type 0
   HasModel i = model_of i.known ≡ s.program.model
@@ -110,7 +112,7 @@ module _ (s : Setting) (laid_out : IsLaidOut s.program.model s.program.table) wh
     pub well : Has j → AreThere i → Well
 
   agrees : (i : Inside) → HasModel i → Has i → AreThere i → Agrees s i.known.context
-  agrees i model has there = record { model = model; table = has.table; declarations = there }
+  agrees i model has there = record { model = model; table = has.table; declarations = there.declared }
 
   nothing : (i : Inside) → Gives i i (Unit {0})
   nothing i = record {
@@ -144,8 +146,8 @@ module _ (s : Setting) (laid_out : IsLaidOut s.program.model s.program.table) wh
     scope = g.scope;
     variables = g.variables;
     before = λ has. let inner = g.before has in record { table = inner.table; texts = inner.texts; variables = inner.variables };
-    there = g.there;
-    well = g.well;
+    there = λ has t. g.there has (record { declared = t.declared; whole = t.whole });
+    well = λ has t. g.well has (record { declared = t.declared; whole = t.whole });
   }
 
   -- to the point behind a scope that began here
@@ -160,7 +162,10 @@ module _ (s : Setting) (laid_out : IsLaidOut s.program.model s.program.table) wh
     );
     variables = g.variables;
     before = λ has. g.before (inside has);
-    there = λ has t. All-take (λ (d : Declaration). IsThere s d.meaning) (length (declarations_of i.known)) (declarations_of j.known) (g.there (inside has) t);
+    there = λ has t. let behind = g.there (inside has) t in record {
+      declared = All-take (λ (d : Declaration). IsThere s d.meaning) (length (declarations_of i.known)) (declarations_of j.known) behind.declared;
+      whole = behind.whole;
+    };
     well = λ has t. g.well (inside has) t;
   }
     where
@@ -174,8 +179,8 @@ module _ (s : Setting) (laid_out : IsLaidOut s.program.model s.program.table) wh
     scope = g.scope;
     variables = g.variables;
     before = λ has. let inner = g.before has in record { table = inner.table; texts = inner.texts; variables = inner.variables };
-    there = g.there;
-    well = g.well;
+    there = λ has t. g.there has (record { declared = t.declared; whole = t.whole });
+    well = λ has t. g.well has (record { declared = t.declared; whole = t.whole });
   }
 
   -- ---- expressions
@@ -191,7 +196,7 @@ module _ (s : Setting) (laid_out : IsLaidOut s.program.model s.program.table) wh
         scope = starts-self (declarations_of i.known);
         variables = starts-self i.variables;
         before = before;
-        there = λ has t. t;
+        there = λ has t. record { declared = t.declared; whole = t.whole };
         well = λ has t. well (record { agrees = agrees i model (before has) t; constants = fit; texts = has.texts });
       })
     where
@@ -260,19 +265,28 @@ module _ (s : Setting) (laid_out : IsLaidOut s.program.model s.program.table) wh
   abbrev IsVariable : ℕ → Shape → Type 0
   IsVariable number ty = (v : Variable) × (slice_get s.variables number ≡ Some v) × (v.ty ≡ ty)
 
-  -- behind the name of a local
-  with_local-gives : (name : List ℕ) (ty : Shape) (i : Inside) → Gives i (with_local name ty i) (IsVariable (length i.variables) ty)
-  with_local-gives name ty i = record {
+  -- behind the name of a local of a whole type
+  with_local-gives : (name : List ℕ) (ty : Shape) (i : Inside) → HasModel i → (Agrees s i.known.context → IsWhole s.program ty) → Gives i (with_local name ty i) (IsVariable (length i.variables) ty × IsWhole s.program ty)
+  with_local-gives name ty i model whole = record {
     model = refl;
     scope = (record { name = name; meaning = Local (length i.variables) ty } ∷ [], refl);
-    variables = (record { name = name; ty = ty; block = None } ∷ [], refl);
-    before = λ has. record { table = has.table; texts = has.texts; variables = λ number v is. has.variables number v (found-before i.variables _ v number is) };
-    there = λ has t. All-push (λ (d : Declaration). IsThere s d.meaning) (declarations_of i.known) _ t (last has);
-    well = λ has t. last has;
+    variables = (variable ∷ [], refl);
+    before = before;
+    there = λ has t. record {
+      declared = All-push (λ (d : Declaration). IsThere s d.meaning) (declarations_of i.known) (record { name = name; meaning = Local (length i.variables) ty }) t.declared (last has);
+      whole = All-push (λ (v : Variable). IsWhole s.program v.ty) i.variables variable t.whole (whole (agrees i model (before has) t));
+    };
+    well = λ has t. (last has, whole (agrees i model (before has) t));
   }
     where
+      variable : Variable
+      variable = record { name = name; ty = ty; block = None }
+
+      before : Has (with_local name ty i) → Has i
+      before has = record { table = has.table; texts = has.texts; variables = λ number v is. has.variables number v (found-before i.variables variable v number is) }
+
       last : Has (with_local name ty i) → IsVariable (length i.variables) ty
-      last has = has.variables (length i.variables) _ (found-last i.variables _)
+      last has = has.variables (length i.variables) variable (found-last i.variables variable)
 
   local_initialized-well : (number : ℕ) (ty : Shape) (at : Place) (first : Option RawFirstValue) (i j : Inside) → Gives i j (IsVariable number ty × IsWhole s.program ty) → HasModel i → FirstValueHasConstants first → IfFine (local_initialized number ty at first j) (GivesLocal i)
   local_initialized-well number ty at None i j g model fit = so i j g (λ r. (r.0.0, r.0.1, tt))
@@ -291,7 +305,7 @@ module _ (s : Setting) (laid_out : IsLaidOut s.program.model s.program.table) wh
         scope = g.scope;
         variables = g.variables;
         before = λ has. g.before (at_equal has);
-        there = λ has t. g.there (at_equal has) t;
+        there = λ has t. let behind = g.there (at_equal has) t in record { declared = behind.declared; whole = behind.whole };
         well = λ has t.
             let is = g.well (at_equal has) t in
             let known = agrees j (g.model ∙ model) (at_equal has) (g.there (at_equal has) t) in
@@ -306,19 +320,7 @@ module _ (s : Setting) (laid_out : IsLaidOut s.program.model s.program.table) wh
       cond-then (GivesLocal i) (is_declared_here d.declarator.name i.known) _ _ (λ _. tt)
       (λ _. lift-then (λ ty. Agrees s i.known.context → IsWhole s.program ty) (GivesLocal i) _ (object_type i.known.context base d)
       (under (Agrees s i.known.context) (IsWhole s.program) (object_type i.known.context base d) (λ h. object_type-whole s i.known.context h base d))
-      (λ ty whole. local_initialized-well (length i.variables) ty d.declarator.place d.initial i (with_local d.declarator.name ty i) (named ty whole) model fit))
-    where
-      named : (ty : Shape) → (Agrees s i.known.context → IsWhole s.program ty) → Gives i (with_local d.declarator.name ty i) (IsVariable (length i.variables) ty × IsWhole s.program ty)
-      named ty whole =
-          let g = with_local-gives d.declarator.name ty i in
-          record {
-            model = g.model;
-            scope = g.scope;
-            variables = g.variables;
-            before = g.before;
-            there = g.there;
-            well = λ has t. (g.well has t, whole (agrees i model (g.before has) t));
-          }
+      (λ ty whole. local_initialized-well (length i.variables) ty d.declarator.place d.initial i (with_local d.declarator.name ty i) (with_local-gives d.declarator.name ty i model whole) model fit))
 
   locals_added-well : (base : Shape) (ds : List RawInit) (so_far : Told) → HasModel so_far.inside → ObjectsHaveConstants ds → IfFine (locals_added base ds so_far) (Tells so_far)
   locals_added-well base [] so_far model fit = tells-nothing so_far
@@ -339,7 +341,7 @@ module _ (s : Setting) (laid_out : IsLaidOut s.program.model s.program.table) wh
       texts = subst (AreFirst s.program) leads.literals has.texts;
       variables = has.variables;
     };
-    there = λ has t. leads.declarations t;
+    there = λ has t. record { declared = leads.declarations t.declared; whole = t.whole };
     well = λ has t. tt;
   }
 

@@ -11,7 +11,7 @@ use Rattle.cs_types.specs.Members.{Member}
 use Rattle.cs_types.specs.Shape.{Shape, void, integer, pointer, array, struct}
 use Rattle.cs_ast.specs.declared.typed.operator.Allocator.TheVariants as allocator
 use Rattle.cs_ast.specs.TypedTree.{Typed, Of, Form, Number, Null, Text, Local, Global, Through, Index, Member as MemberOf, Arrow, Load, Address, Decay, Convert, Unary, Not, Binary, Compare, Sum, Difference, And, Or, Choice, Comma, Assign, Update, Move, Call, Allocate, Free, TypedList, NoMore, Further, Initial, Value, Parts, Bytes, Initials, NoPart, Part, Statement, Block, Declare, Run, If, IfElse, While, Do, For, Switch, Goto, Label, Break, Continue, Return, Statements, Empty, Then}
-use Rattle.cs_ast.specs.TypedProgram.{TypedProgram, FileObject, Routine}
+use Rattle.cs_ast.specs.TypedProgram.{TypedProgram, Variable, FileObject, Routine}
 use Rattle.cs_consts.specs.declared.context.Context.{Context}
 use Rattle.cs_consts.specs.declared.scope.Callee.{Callee}
 use Rattle.cs_consts.specs.declared.scope.Callee.TheVariants.{Malloc, Calloc, Free as FreeOf, Numbered}
@@ -20,7 +20,7 @@ use Rattle.cs_consts.specs.Integers.{type_of}
 use Rattle.cs_well_formed.specs.Expressions.{Setting, IsWell, IsWellForm, AreWell, IsWhole, IsHeld, IsElementPointer, HasMember, AreValuesOf, sizes_of}
 use Rattle.cs_well_formed.specs.Initials.{HasParts, IsWellInitial, AreWellParts, HasConstantValues}
 use Rattle.cs_well_formed.specs.Statements.{IsWellStatement, AreWellStatements, IsDroppedIfAny, IsTestIfAny, IsReturned}
-use Rattle.cs_well_formed.specs.Programs.{setting_of, IsWellRoutine, outside, IsWellGlobal}
+use Rattle.cs_well_formed.specs.Programs.{setting_of, IsWellBody, IsWellRoutine, outside, IsWellGlobal}
 use Rattle.cs_well_formed.specs.Agreement.{IsFunction, IsThere, Agrees}
 use Rattle.cs_well_formed.specs.Growth.{Extends, Grows}
 
@@ -231,8 +231,19 @@ IsWellGlobal-grown p q g h well =
 
 -- a well-formed function
 pub IsWellRoutine-grown : (p q : TypedProgram) (r : Routine) → Extends p q → IsWellRoutine p r → IsWellRoutine q r
-IsWellRoutine-grown p q r h well = record { parameters = well.parameters; written = well.written; body = inside r.body well.body }
+IsWellRoutine-grown p q r h well = record {
+  returns = well.returns;
+  parameters = well.parameters;
+  passed = well.passed;
+  variables = All-weaker (λ (v : Variable). IsWhole p v.ty) (λ (v : Variable). IsWhole q v.ty) (λ v whole. IsWhole-grown (outside p) (outside q) (Grows-inside (outside p) q h) v.ty whole) r.variables well.variables;
+  written = well.written;
+  body = inside r.body well.body;
+}
   where
-    inside : (body : Option Statement) → IfSome body (λ b. IsWellStatement (setting_of p r b) b) → IfSome body (λ b. IsWellStatement (setting_of q r b) b)
+    inside : (body : Option Statement) → IfSome body (IsWellBody p r) → IfSome body (IsWellBody q r)
     inside None held = tt
-    inside (Some b) held = IsWellStatement-grown (setting_of p r b) (setting_of q r b) (Grows-inside (setting_of p r b) q h) b held
+    inside (Some b) held = record {
+      statement = IsWellStatement-grown (setting_of p r b) (setting_of q r b) (Grows-inside (setting_of p r b) q h) b held.statement;
+      labels = held.labels;
+      jumps = held.jumps;
+    }

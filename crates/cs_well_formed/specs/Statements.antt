@@ -1,5 +1,5 @@
 -- Well-formed statements (C11 6.8).
-use Rattle.std.specs.Prelude.{◌≡◌, ℕ, suc, ◌+◌, ◌<◌, ◌≤◌, Option, Some, None, IfSome, slice_get}
+use Rattle.std.specs.Prelude.{◌≡◌, ℕ, suc, ◌+◌, ◌<◌, ◌≤◌, Bool, true, false, Option, Some, None, IfSome, slice_get}
 use Rattle.std.specs.List.{All}
 use Rattle.cs_types.specs.Shape.{void}
 use Rattle.cs_ast.specs.declared.typed.statement.Case.{Case}
@@ -74,3 +74,48 @@ abbrev mutual
   pub label_counts : Statements → ℕ
   label_counts Empty = 0
   label_counts (Then first others) = label_count first + label_counts others
+
+abbrev mutual
+  -- the labels of a statement have the numbers from this one on, as they stand
+  pub AreNumbered : ℕ → Statement → Type 0
+  AreNumbered n (Block at statements) = AllAreNumbered n statements
+  AreNumbered n (If at test body) = AreNumbered n body
+  AreNumbered n (IfElse at test body other) = AreNumbered n body × AreNumbered (n + label_count body) other
+  AreNumbered n (While at test body) = AreNumbered n body
+  AreNumbered n (Do at body test) = AreNumbered n body
+  AreNumbered n (For at first test last body) = (label_counts first ≡ 0) × AreNumbered n body
+  AreNumbered n (Switch at value cases statements) = AllAreNumbered n statements
+  AreNumbered n (Label at label body) = (label ≡ n) × AreNumbered (suc n) body
+  AreNumbered n (Declare at number first) = Unit {0}
+  AreNumbered n (Run at e) = Unit {0}
+  AreNumbered n (Goto at label) = Unit {0}
+  AreNumbered n (Break at) = Unit {0}
+  AreNumbered n (Continue at) = Unit {0}
+  AreNumbered n (Return at value) = Unit {0}
+
+  pub AllAreNumbered : ℕ → Statements → Type 0
+  AllAreNumbered n Empty = Unit {0}
+  AllAreNumbered n (Then first others) = AreNumbered n first × AllAreNumbered (n + label_count first) others
+
+abbrev mutual
+  -- each `break` stands in a loop or a `switch`, and each `continue` in a loop (C11 6.8.6.2, 6.8.6.3), where it is said whether the
+  -- statement itself stands in one
+  pub JumpsLead : Bool → Bool → Statement → Type 0
+  JumpsLead breaks continues (Block at statements) = AllJumpsLead breaks continues statements
+  JumpsLead breaks continues (If at test body) = JumpsLead breaks continues body
+  JumpsLead breaks continues (IfElse at test body other) = JumpsLead breaks continues body × JumpsLead breaks continues other
+  JumpsLead breaks continues (While at test body) = JumpsLead true true body
+  JumpsLead breaks continues (Do at body test) = JumpsLead true true body
+  JumpsLead breaks continues (For at first test last body) = AllJumpsLead false false first × JumpsLead true true body
+  JumpsLead breaks continues (Switch at value cases statements) = AllJumpsLead true continues statements
+  JumpsLead breaks continues (Label at label body) = JumpsLead breaks continues body
+  JumpsLead breaks continues (Break at) = breaks ≡ true
+  JumpsLead breaks continues (Continue at) = continues ≡ true
+  JumpsLead breaks continues (Declare at number first) = Unit {0}
+  JumpsLead breaks continues (Run at e) = Unit {0}
+  JumpsLead breaks continues (Goto at label) = Unit {0}
+  JumpsLead breaks continues (Return at value) = Unit {0}
+
+  pub AllJumpsLead : Bool → Bool → Statements → Type 0
+  AllJumpsLead breaks continues Empty = Unit {0}
+  AllJumpsLead breaks continues (Then first others) = JumpsLead breaks continues first × AllJumpsLead breaks continues others
