@@ -20,7 +20,7 @@ use Rattle.cs_ast.specs.declared.raw.statement.RawSwitchItem as switches
 use Rattle.cs_ast.specs.declared.raw.statement.RawFirst.{RawFirst}
 use Rattle.cs_ast.specs.declared.raw.statement.RawFirst.TheVariants as first_part
 use Rattle.cs_ast.specs.TypedTree.{Typed, Statement}
-use Rattle.cs_consts.specs.declared.refusal.TypeCode.TheVariants.{DeclaredTwice, Jump, Return}
+use Rattle.cs_consts.specs.declared.refusal.TypeCode.TheVariants.{Jump, Return}
 use Rattle.cs_consts.specs.Doors.{value_of, assigned_value, test_of, selector_of, discarded_value}
 use Rattle.cs_consts.specs.Integers.{type_of}
 use Rattle.cs_consts.specs.Verdicts.{Verdict, Fault, lift}

@@ -421,7 +421,7 @@ module _ (p : TypedProgram) (laid_out : IsLaidOut p.model p.table) where
           let leads = h.leads s refl are in
           record {
             declared = All-append There (declarations_of g.known) inner here
-            (All-drop There (length (declarations_of f.known)) (declarations_of head.known) (leads.declarations earlier));
+                (All-drop There (length (declarations_of f.known)) (declarations_of head.known) (leads.declarations earlier));
             whole = whole-scalars head.variables h.scalars;
           }
 

@@ -1,10 +1,16 @@
 -- What the typing of statements gives is well formed in the function and the program around it: for the contract of `typed`.
-use Rattle.std.proofs.Common.{◌≡◌, ◌∙◌, ℕ, ℤ, suc, ◌≤◌, ◌<◌, true, List, [], ◌∷◌, ◌++◌, length, take, refl, sym, ap, subst, arith}
+use Rattle.std.proofs.Common.{Bool, ◌≡◌, ◌∙◌, ℕ, ℤ, suc, ◌≤◌, ◌<◌, true, List, [], ◌∷◌, ◌++◌, length, take, refl, sym, ap, subst, arith, ◌≢◌, get_or, false}
 use Rattle.std.specs.Prelude.{nat_eq, Option, Some, None, IfSome, slice_get}
 use Rattle.std.specs.List.{All}
 use Rattle.std.proofs.lemmas.List.{append-nil, length_push, take_at}
 use Rattle.std.proofs.lemmas.List.Elements.{All-push, All-take, All-weaker, All-nil}
+use Rattle.std.proofs.lemmas.List.Folds.{list_any_at}
+use Rattle.std.proofs.lemmas.List.Quantifiers.{all_pairs_push}
+use Rattle.std.proofs.lemmas.Cmp.{int_eq_equiv}
+use Rattle.cs_types.specs.declared.data_model.DataModel.{DataModel}
+use Rattle.cs_types.specs.IntType.{InRange}
 use Rattle.cs_types.specs.Layout.{IsLaidOut}
+use Rattle.cs_types.proofs.Wrapping.{wrapped-InRange}
 use Rattle.cs_types.specs.Shape.{Shape, void, integer, pointer, array, struct}
 use Rattle.cs_ast.specs.declared.place.Place.{Place}
 use Rattle.cs_ast.specs.declared.raw.declaration.RawSpecs.{RawSpecs}
@@ -19,6 +25,7 @@ use Rattle.cs_ast.specs.declared.raw.statement.RawItem as items
 use Rattle.cs_ast.specs.declared.raw.statement.RawSwitchItem as switches
 use Rattle.cs_ast.specs.declared.raw.statement.RawFirst.{RawFirst}
 use Rattle.cs_ast.specs.declared.raw.statement.RawFirst.TheVariants as first_part
+use Rattle.cs_ast.specs.declared.typed.statement.Case.{Case}
 use Rattle.cs_ast.specs.RawView.{written}
 use Rattle.cs_ast.specs.TypedTree.{Typed, Statement}
 use Rattle.cs_ast.specs.TypedProgram.{Variable}
@@ -32,11 +39,11 @@ use Rattle.cs_declarations.specs.Initializers.{InFunction, Reading, initial_type
 use Rattle.cs_declarations.specs.Known.{Known, model_of, table_of, declarations_of, with_literals, is_declared_here}
 use Rattle.cs_declarations.specs.Objects.{object_type}
 use Rattle.cs_typing.specs.Objects.{Inside, knowing, LocalDeclared, Told, with_local, local_held, local_initialized, local_added, after_local, locals_added}
-use Rattle.cs_typing.specs.Statements.{Where, Part, Switching, in_loop, in_switch, in_a_row, part, past, tested_in, dropped_in, some_found, tested_if, dropped_if, is_void, value_returned, returned, label_number, goto_typed, is_first, meeting, in_block, behind_block, declared_in, declaration_typed, first_place, nothing_told, telling, ran_first, first_typed, is_case, case_put, case_added, with_told, block_made, run_made, if_made, if_else_made, while_made, do_made, for_made, switch_made, return_made, label_made, selected, statement_typed, item_typed, items_typed, switch_item_typed, switch_typed, body_typed}
+use Rattle.cs_typing.specs.Statements.{Where, Part, Switching, in_loop, in_switch, in_a_row, part, past, tested_in, dropped_in, some_found, tested_if, dropped_if, is_void, value_returned, returned, label_number, goto_typed, is_first, meeting, in_block, behind_block, declared_in, declaration_typed, first_place, nothing_told, telling, ran_first, first_typed, is_case, case_put, case_added, with_told, block_made, run_made, if_made, if_else_made, while_made, do_made, for_made, switch_made, return_made, label_made, selected, statement_typed, item_typed, items_typed, switch_item_typed, switch_typed, body_typed, same_value, wrapped_in, constant_case}
 use Rattle.cs_well_formed.specs.Expressions.{Setting, IsWell, IsValue, IsValueOf, IsScalarValue, IsIntegerValue, IsWhole}
 use Rattle.cs_well_formed.specs.Initials.{IsWellInitial}
 use Rattle.cs_well_formed.specs.Constants.{HasConstants}
-use Rattle.cs_well_formed.specs.Statements.{IsWellStatement, AreWellStatements, IsDroppedIfAny, IsTestIfAny, IsReturned, IsCase, count_of}
+use Rattle.cs_well_formed.specs.Statements.{IsWellStatement, AreWellStatements, IsDroppedIfAny, IsTestIfAny, IsReturned, IsCase, count_of, IsNumberOf, AreCases}
 use Rattle.cs_well_formed.specs.Agreement.{IsThere, Agrees, AreFirst}
 use Rattle.cs_well_formed.specs.Laws.{IsTyped}
 use Rattle.cs_well_formed.specs.Leading.{Leads, AreVariables}
@@ -78,6 +85,21 @@ found-last (x ∷ vs) v = found-last vs v
 count-length : (statements : List Statement) → count_of (in_a_row statements) ≡ length statements
 count-length [] = refl
 count-length (s ∷ ss) = ap suc (count-length ss)
+
+-- a case that isn't there yet has another number than each that is
+same_value-itself : (value : Option ℤ) → same_value value value ≡ true
+same_value-itself (Some n) = int_eq_equiv.refl n
+same_value-itself None = refl
+
+new-case : (value : Option ℤ) (cases : List Case) → is_case value cases ≡ false → (k : ℕ) (d : Case) → k < length cases → (get_or cases k d).value ≢ value
+new-case value cases new k d within is =
+    let named : Case → Bool = λ c. same_value c.value value in
+    let same : named (get_or cases k d) ≡ true = ap (λ v. same_value v value) is ∙ same_value-itself value in
+    let there : is_case value cases ≡ true = list_any_at named cases k d within same in
+    absurd cc
+
+wrapped_in-number : (model : DataModel) (ty : Shape) (n : ℤ) → IsNumberOf model ty (wrapped_in model ty n)
+wrapped_in-number model ty n kind is = subst (λ t. InRange model kind (wrapped_in model t n)) (sym is) (wrapped-InRange model kind n)
 
 void-is : (ty : Shape) → is_void ty ≡ true → ty ≡ void
 void-is void h = refl
@@ -368,30 +390,55 @@ module _ (s : Setting) (laid_out : IsLaidOut s.program.model s.program.table) wh
 
   -- ---- cases
 
+  -- the cases of a `switch` by a value of a type
+  abbrev HasCases : Shape → Switching → Type 0
+  HasCases ty so_far = AreCases s.program.model ty (length so_far.told.statements) so_far.cases
+
   -- what a `switch` has, behind what it had before
-  pub record Switches (so_far after : Switching) : Type 0 where
+  pub record Switches (ty : Shape) (so_far after : Switching) : Type 0 where
     pub told : Tells so_far.told after.told
-    pub cases : All (IsCase (length so_far.told.statements)) so_far.cases → All (IsCase (length after.told.statements)) after.cases
+    pub cases : HasCases ty so_far → HasCases ty after
 
-  switches-on : (a b c : Switching) → Switches a b → Switches b c → Switches a c
-  switches-on a b c h k = record { told = tells-on a.told b.told c.told h.told k.told; cases = λ all. k.cases (h.cases all) }
+  no-cases : (ty : Shape) → AreCases s.program.model ty 0 []
+  no-cases ty = record { each = All-nil (IsCase s.program.model ty 0); apart = λ i j d below within. absurd (omega (arith, within)) }
 
-  case_added-well : (at : Place) (so_far : Switching) (value : Option ℤ) → IfFine (case_added at so_far value) (Switches so_far)
-  case_added-well at so_far value =
-      lift-then (λ cases. All (IsCase (length so_far.told.statements)) so_far.cases → All (IsCase (length so_far.told.statements)) cases) (Switches so_far) _
-      (case_put at value (length so_far.told.statements) so_far.cases)
-      (cond-then (λ cases. All (IsCase (length so_far.told.statements)) so_far.cases → All (IsCase (length so_far.told.statements)) cases) (is_case value so_far.cases) (Fault CaseTwice at) _ (λ _. tt)
-      (λ _. put))
+  switches-on : (ty : Shape) (a b c : Switching) → Switches ty a b → Switches ty b c → Switches ty a c
+  switches-on ty a b c h k = record { told = tells-on a.told b.told c.told h.told k.told; cases = λ all. k.cases (h.cases all) }
+
+  case_added-well : (ty : Shape) (at : Place) (so_far : Switching) (value : Option ℤ) → IfSome value (IsNumberOf s.program.model ty) → IfFine (case_added at so_far value) (Switches ty so_far)
+  case_added-well ty at so_far value number =
+      lift-then Put (Switches ty so_far) _ (case_put at value count so_far.cases)
+      (cond-then Put (is_case value so_far.cases) (Fault CaseTwice at) _ (λ _. tt) (λ new. put new))
       (λ cases h. record { told = tells-nothing so_far.told; cases = h })
     where
-      put : All (IsCase (length so_far.told.statements)) so_far.cases → All (IsCase (length so_far.told.statements)) (so_far.cases ++ record { value = value; item = length so_far.told.statements } ∷ [])
-      put all = All-push (IsCase (length so_far.told.statements)) so_far.cases (record { value = value; item = length so_far.told.statements }) all (omega arith)
+      count : ℕ
+      count = length so_far.told.statements
 
-  with_told-well : (so_far : Switching) (told : Told) → Tells so_far.told told → IfFine (with_told so_far told) (Switches so_far)
-  with_told-well so_far told h = record {
-    told = h;
-    cases = λ all. All-weaker (IsCase (length so_far.told.statements)) (IsCase (length told.statements)) (λ c fits. omega (arith, fits, h.longer)) so_far.cases all;
-  }
+      Put : List Case → Type 0
+      Put cases = HasCases ty so_far → AreCases s.program.model ty count cases
+
+      put : is_case value so_far.cases ≡ false → Put (so_far.cases ++ record { value = value; item = count } ∷ [])
+      put new h = record {
+        each = All-push (IsCase s.program.model ty count) so_far.cases (record { value = value; item = count }) h.each (record { item = omega arith; number = number });
+        apart = all_pairs_push (λ (c : Case) (d : Case). c.value ≢ d.value) so_far.cases (record { value = value; item = count }) h.apart (new-case value so_far.cases new);
+      }
+
+  -- a written case has the number that it says, modulo where the type doesn't hold it
+  constant_case-well : (ty : Shape) (at : Place) (so_far : Switching) (n : ℤ) → HasModel so_far.told.inside → IfFine (constant_case at so_far ty n) (Switches ty so_far)
+  constant_case-well ty at so_far n model =
+      case_added-well ty at so_far (Some (wrapped_in (model_of so_far.told.inside.known) ty n)) (subst (λ m. IsNumberOf m ty (wrapped_in (model_of so_far.told.inside.known) ty n)) model (wrapped_in-number (model_of so_far.told.inside.known) ty n))
+
+  with_told-well : (ty : Shape) (so_far : Switching) (told : Told) → Tells so_far.told told → IfFine (with_told so_far told) (Switches ty so_far)
+  with_told-well ty so_far told h = record { told = h; cases = λ all. record { each = All-weaker Before Behind further so_far.cases all.each; apart = all.apart } }
+    where
+      Before : Case → Type 0
+      Before c = IsCase s.program.model ty (length so_far.told.statements) c
+
+      Behind : Case → Type 0
+      Behind c = IsCase s.program.model ty (length told.statements) c
+
+      further : (c : Case) → Before c → Behind c
+      further c fits = record { item = omega (arith, fits.item, h.longer); number = fits.number }
 
   -- ---- statements
 
@@ -474,9 +521,9 @@ module _ (s : Setting) (laid_out : IsLaidOut s.program.model s.program.table) wh
     statement_typed-well w i at (kind.Switch' value shape row) fits model fit =
         lift-then (GivesPart i (λ v. IsWell s v × IsIntegerValue v)) (GivesStatement i) _ (selected at i value) (selected-well at i value model fit.0)
         (λ v g. let begun : Switching = record { cases = []; told = nothing_told (in_block v.inside) } in
-        lift-then (Switches begun) (GivesStatement i) (switch_made at i v.found) _ (switch_typed-well (in_switch w) (type_of v.found) row begun fits (g.model ∙ model) fit.1)
+        lift-then (Switches (type_of v.found) begun) (GivesStatement i) (switch_made at i v.found) _ (switch_typed-well (in_switch w) (type_of v.found) row begun fits (g.model ∙ model) fit.1)
         (λ all h.
-        let cases = subst (λ n. All (IsCase n) all.cases) (sym (count-length all.told.statements)) (h.cases (All-nil (IsCase 0))) in
+        let cases = subst (λ n. AreCases s.program.model (type_of v.found) n all.cases) (sym (count-length all.told.statements)) (h.cases (no-cases (type_of v.found))) in
         leaving i all.told.inside
         (so i all.told.inside
         (both i v.inside all.told.inside g (entering v.inside all.told.inside (so (in_block v.inside) all.told.inside h.told.gives (λ row. row tt))))
@@ -506,18 +553,18 @@ module _ (s : Setting) (laid_out : IsLaidOut s.program.model s.program.table) wh
         lift-then (Tells so_far) (Tells so_far) (items_typed w others) _ (item_typed-well w first so_far fits model fit.0)
         (λ told h. if_fine-weaker (Tells told) (Tells so_far) (items_typed w others told) (items_typed-well w others told fits (h.gives.model ∙ model) fit.1) (λ after k. tells-on so_far told after h k))
 
-    switch_item_typed-well : (w : Where) (ty : Shape) (item : switches.RawSwitchItem) (so_far : Switching) → Fits w → HasModel so_far.told.inside → SwitchItemHasConstants item → IfFine (switch_item_typed w ty item so_far) (Switches so_far)
+    switch_item_typed-well : (w : Where) (ty : Shape) (item : switches.RawSwitchItem) (so_far : Switching) → Fits w → HasModel so_far.told.inside → SwitchItemHasConstants item → IfFine (switch_item_typed w ty item so_far) (Switches ty so_far)
     switch_item_typed-well w ty (switches.TheVariants.Case at value) so_far fits model fit =
-        lift-then (λ _. Unit {0}) (Switches so_far) _ _ (if_fine-any (value_of so_far.told.inside.known.context value)) (λ n _. case_added-well at so_far _)
-    switch_item_typed-well w ty (switches.TheVariants.Default at) so_far fits model fit = case_added-well at so_far None
+        lift-then (λ _. Unit {0}) (Switches ty so_far) _ _ (if_fine-any (value_of so_far.told.inside.known.context value)) (λ n _. constant_case-well ty at so_far n.1 model)
+    switch_item_typed-well w ty (switches.TheVariants.Default at) so_far fits model fit = case_added-well ty at so_far None tt
     switch_item_typed-well w ty (switches.TheVariants.Item i) so_far fits model fit =
-        lift-then (Tells so_far.told) (Switches so_far) (with_told so_far) _ (item_typed-well w i so_far.told fits model fit) (λ told h. with_told-well so_far told h)
+        lift-then (Tells so_far.told) (Switches ty so_far) (with_told so_far) _ (item_typed-well w i so_far.told fits model fit) (λ told h. with_told-well ty so_far told h)
 
-    switch_typed-well : {n : _} → (w : Where) (ty : Shape) (row : kinds.Row_of-RawSwitchItem n) (so_far : Switching) → Fits w → HasModel so_far.told.inside → SwitchHasConstants row → IfFine (switch_typed w ty row so_far) (Switches so_far)
+    switch_typed-well : {n : _} → (w : Where) (ty : Shape) (row : kinds.Row_of-RawSwitchItem n) (so_far : Switching) → Fits w → HasModel so_far.told.inside → SwitchHasConstants row → IfFine (switch_typed w ty row so_far) (Switches ty so_far)
     switch_typed-well w ty kinds.end_of-RawSwitchItem so_far fits model fit = record { told = tells-nothing so_far.told; cases = λ all. all }
     switch_typed-well w ty (kinds.more_of-RawSwitchItem first others) so_far fits model fit =
-        lift-then (Switches so_far) (Switches so_far) (switch_typed w ty others) _ (switch_item_typed-well w ty first so_far fits model fit.0)
-        (λ next h. if_fine-weaker (Switches next) (Switches so_far) (switch_typed w ty others next) (switch_typed-well w ty others next fits (h.told.gives.model ∙ model) fit.1) (λ after k. switches-on so_far next after h k))
+        lift-then (Switches ty so_far) (Switches ty so_far) (switch_typed w ty others) _ (switch_item_typed-well w ty first so_far fits model fit.0)
+        (λ next h. if_fine-weaker (Switches ty next) (Switches ty so_far) (switch_typed w ty others next) (switch_typed-well w ty others next fits (h.told.gives.model ∙ model) fit.1) (λ after k. switches-on ty so_far next after h k))
 
   -- the body of a function
   pub body_typed-well : (w : Where) (list : List RawItem) (so_far : Told) → Fits w → HasModel so_far.inside → ItemsHaveConstants list → IfFine (body_typed w list so_far) (Tells so_far)

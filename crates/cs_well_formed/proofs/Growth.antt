@@ -19,7 +19,7 @@ use Rattle.cs_consts.specs.Meanings.{Signature, Meaning, Typedef, Constant, Glob
 use Rattle.cs_consts.specs.Integers.{type_of}
 use Rattle.cs_well_formed.specs.Expressions.{Setting, IsWell, IsWellForm, AreWell, IsWhole, IsHeld, IsElementPointer, HasMember, AreValuesOf, sizes_of}
 use Rattle.cs_well_formed.specs.Initials.{HasParts, IsWellInitial, AreWellParts, HasConstantValues}
-use Rattle.cs_well_formed.specs.Statements.{IsWellStatement, AreWellStatements, IsDroppedIfAny, IsTestIfAny, IsReturned}
+use Rattle.cs_well_formed.specs.Statements.{IsWellStatement, AreWellStatements, AreCases, count_of, IsDroppedIfAny, IsTestIfAny, IsReturned}
 use Rattle.cs_well_formed.specs.Programs.{setting_of, IsWellBody, IsWellRoutine, outside, IsWellGlobal}
 use Rattle.cs_well_formed.specs.Agreement.{IsFunction, IsThere, Agrees}
 use Rattle.cs_well_formed.specs.Growth.{Extends, Grows}
@@ -151,7 +151,8 @@ module _ (s t : Setting) (grows : Grows s t) where
     IsWellStatement-grown (Do at body test) h = (IsWell-grown test h.0, h.1, IsWellStatement-grown body h.2)
     IsWellStatement-grown (For at first test last body) h =
         (AreWellStatements-grown first h.0, IsTestIfAny-grown test h.1, IsDroppedIfAny-grown last h.2, IsWellStatement-grown body h.3)
-    IsWellStatement-grown (Switch at value cases statements) h = (IsWell-grown value h.0, h.1, h.2, AreWellStatements-grown statements h.3)
+    IsWellStatement-grown (Switch at value cases statements) h =
+        (IsWell-grown value h.0, h.1, subst (λ m. AreCases m (type_of value) (count_of statements) cases) grows.program.model h.2, AreWellStatements-grown statements h.3)
     IsWellStatement-grown (Goto at label) h = label-grown label h
     IsWellStatement-grown (Label at label body) h = (label-grown label h.0, IsWellStatement-grown body h.1)
     IsWellStatement-grown (Break at) h = tt

@@ -1,10 +1,14 @@
 -- Well-formed statements (C11 6.8).
-use Rattle.std.specs.Prelude.{◌≡◌, ℕ, suc, ◌+◌, ◌<◌, ◌≤◌, Bool, true, false, Option, Some, None, IfSome, slice_get}
-use Rattle.std.specs.List.{All}
-use Rattle.cs_types.specs.Shape.{void}
+use Rattle.std.specs.Prelude.{◌≡◌, ◌≢◌, ℕ, ℤ, suc, ◌+◌, ◌<◌, ◌≤◌, Bool, true, false, List, Option, Some, None, IfSome, slice_get}
+use Rattle.std.specs.List.{All, AllPairs}
+use Rattle.cs_types.specs.declared.data_model.DataModel.{DataModel}
+use Rattle.cs_types.specs.declared.int_type.IntType.{IntType}
+use Rattle.cs_types.specs.IntType.{InRange}
+use Rattle.cs_types.specs.Shape.{Shape, void, integer}
 use Rattle.cs_ast.specs.declared.typed.statement.Case.{Case}
 use Rattle.cs_ast.specs.TypedTree.{Typed, Statement, Block, Declare, Run, If, IfElse, While, Do, For, Switch, Goto, Label, Break, Continue, Return, Statements, Empty, Then}
 use Rattle.cs_ast.specs.TypedProgram.{Variable}
+use Rattle.cs_consts.specs.Integers.{type_of}
 use Rattle.cs_well_formed.specs.Expressions.{Setting, IsWell, IsValue, IsScalarValue, IsIntegerValue, IsValueOf}
 use Rattle.cs_well_formed.specs.Initials.{IsWellInitial}
 
@@ -22,9 +26,19 @@ abbrev pub count_of : Statements → ℕ
 count_of Empty = 0
 count_of (Then first others) = suc (count_of others)
 
--- a case stands before one of so many statements, or behind the last
-abbrev pub IsCase : ℕ → Case → Type 0
-IsCase count c = c.item ≤ count
+-- a number of an integer type
+abbrev pub IsNumberOf : DataModel → Shape → ℤ → Type 0
+IsNumberOf model ty n = (kind : IntType) → ty ≡ integer kind → InRange model kind n
+
+-- a case stands before one of so many statements, or behind the last; its number is one of the type that the `switch` goes by
+pub record IsCase (model : DataModel) (ty : Shape) (count : ℕ) (c : Case) : Type 0 where
+  pub item : c.item ≤ count
+  pub number : IfSome c.value (IsNumberOf model ty)
+
+-- the cases of a `switch`: no two have one number, and one at most is `default` (C11 6.8.4.2, paragraph 3)
+pub record AreCases (model : DataModel) (ty : Shape) (count : ℕ) (cases : List Case) : Type 0 where
+  pub each : All (IsCase model ty count) cases
+  pub apart : AllPairs (λ (c : Case) (d : Case). c.value ≢ d.value) cases
 
 -- a value is returned just where the function has a result
 abbrev pub IsReturned : Setting → Option Typed → Type 0
@@ -42,7 +56,7 @@ abbrev mutual
   IsWellStatement s (Do at body test) = IsWell s test × IsScalarValue test × IsWellStatement s body
   IsWellStatement s (For at first test last body) = AreWellStatements s first × IsTestIfAny s test × IsDroppedIfAny s last × IsWellStatement s body
   IsWellStatement s (Switch at value cases statements) =
-      IsWell s value × IsIntegerValue value × All (IsCase (count_of statements)) cases × AreWellStatements s statements
+      IsWell s value × IsIntegerValue value × AreCases s.program.model (type_of value) (count_of statements) cases × AreWellStatements s statements
   IsWellStatement s (Goto at label) = label < s.labels
   IsWellStatement s (Label at label body) = (label < s.labels) × IsWellStatement s body
   IsWellStatement s (Break at) = Unit {0}
