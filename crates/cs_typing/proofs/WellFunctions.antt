@@ -252,12 +252,12 @@ module _ (p : TypedProgram) (laid_out : IsLaidOut p.model p.table) where
 
       old : All (λ (x : Declaration). IsThere (outside (with_parts p after)) x.meaning) (declarations_of f.known)
       old =
-          let Is : Declaration → Type 0 = λ x. IsThere (outside (with_parts p f)) x.meaning in
-          let Has_number : Declaration → Type 0 = λ x. HasNumber f.order x.name x.meaning in
-          All-weaker (λ (x : Declaration). IsOther d.name x × (Has_number x × Is x)) (λ (x : Declaration). IsThere (outside (with_parts p after)) x.meaning)
+          let IsDeclared : Declaration → Type 0 = λ x. IsThere (outside (with_parts p f)) x.meaning in
+          let IsNumbered : Declaration → Type 0 = λ x. HasNumber f.order x.name x.meaning in
+          All-weaker (λ (x : Declaration). IsOther d.name x × (IsNumbered x × IsDeclared x)) (λ (x : Declaration). IsThere (outside (with_parts p after)) x.meaning)
           (λ x h. there-still x.name x.meaning h.0 h.1.0 h.1.1) (declarations_of f.known)
-          (both-All (IsOther d.name) (λ (x : Declaration). Has_number x × Is x) (declarations_of f.known) other
-          (both-All Has_number Is (declarations_of f.known) kept.numbered kept.declared))
+          (both-All (IsOther d.name) (λ (x : Declaration). IsNumbered x × IsDeclared x) (declarations_of f.known) other
+          (both-All IsNumbered IsDeclared (declarations_of f.known) kept.numbered kept.declared))
 
       before : Has p after → Has p f
       before has = record {
