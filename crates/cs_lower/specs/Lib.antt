@@ -1,0 +1,4 @@
+pub mod Allocations
+pub mod Building
+pub mod Expressions
+pub mod Sealing
