@@ -1,6 +1,6 @@
 -- What has been built of a graph, seen as plain data.
-use Rattle.std.specs.Prelude.{◌≡◌, ℕ, suc, ◌+◌, List, map, reverse, length, Some, slice_get}
-use Rattle.cs_cfg.specs.Graph.{Point, Flow, block_of}
+use Rattle.std.specs.Prelude.{◌≡◌, ℕ, suc, ◌+◌, List, [], map, reverse, length, Some, slice_get}
+use Rattle.cs_cfg.specs.Graph.{Point, Jump, Flow, block_of}
 use Rattle.cs_cfg.specs.GraphView as view
 use Rattle.cs_lower.specs.declared.strips.Strip.{Strip}
 use Rattle.cs_lower.specs.declared.building.GraphBuilder.{GraphBuilder}
@@ -8,6 +8,10 @@ use Rattle.cs_lower.specs.declared.building.GraphBuilder.{GraphBuilder}
 -- a strip is the point at its beginning
 abbrev pub point_of : Strip → Point
 point_of strip = record { operations = reverse (map view.operation strip.operations.items); end = view.block_end strip.end }
+
+-- a jump to a block, and nothing before it
+abbrev pub jump_to : ℕ → Point
+jump_to block = record { operations = []; end = Jump block }
 
 -- what was built: the blocks of the last marks, the last mark first, and the other blocks
 pub record Built : Type 0 where

@@ -1,4 +1,7 @@
 //! What the lowering of a function needs to know.
+ghost use Rattle.std.specs.Prelude.{◌≡◌};
+ghost use Rattle.cs_cfg.specs.Placing.{split};
+ghost use Rattle.cs_lower.specs.Building.{point_of, jump_to};
 
 use crate::strips::Strip;
 use cs_ast::Place;
@@ -19,12 +22,14 @@ pub struct Lowering<'a> {
 impl Lowering<'_> {
     /// A jump to a block.
     pub fn jump(&self, block: u32) -> Strip
+        ensures { point_of result ≡ jump_to block }
     {
         Strip::ending(self.alloc, BlockEnd::Jump(block))
     }
 
     /// A test of a temporary: to the first block where it holds, else to the second.
     pub fn branch(&self, place: Place, temporary: u32, one: u32, other: u32) -> Strip
+        ensures { point_of result ≡ split place temporary one other }
     {
         Strip::ending(self.alloc, BlockEnd::Branch(place, temporary, one, other))
     }

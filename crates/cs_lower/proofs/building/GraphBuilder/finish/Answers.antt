@@ -13,6 +13,6 @@ returns-clause-whole c = λ all.
     let flow : List Point → Flow = λ l. record { blocks = l; entry = c.args.entry; marks = c.args.self.marks } in
     let items : c.append.new.self.items ≡ reverse heads ++ others = c.in_ok-append.ensures.items ∙ ap (λ l. l ++ others) c.reverse.ensures.items in
     let blocks : map view.block c.append.new.self.items ≡ reverse (map view.block heads) ++ map view.block others =
-        ap (map view.block) items ∙ (map-append view.block (reverse heads) others ∙ ap (λ l. l ++ map view.block others) (map_reverse view.block heads)) in
+    ap (map view.block) items ∙ (map-append view.block (reverse heads) others ∙ ap (λ l. l ++ map view.block others) (map_reverse view.block heads)) in
     subst (λ l. Has (flow l) (built_of c.args.self)) (sym blocks)
     (whole (map view.block heads) (map view.block others) c.args.entry c.args.self.marks (length-map heads view.block ∙ all))
