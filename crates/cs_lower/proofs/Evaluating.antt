@@ -64,14 +64,16 @@ module _ {program : TypedProgram} where
       let next : left ≡ suc (left - 1) = omega arith in
       let above : left + number ≡ suc (left - 1 + number) = omega arith in
       let cut : drop (left - 1) row ≡ e ∷ drop left row =
-          drop-cons row (left - 1) e (omega arith) ∙ (ap (λ x. x ∷ drop (suc (left - 1)) row) (sym is) ∙ ap (λ (n : ℕ). e ∷ drop n row) (sym next)) in
+      drop-cons row (left - 1) e (omega arith) ∙ (ap (λ x. x ∷ drop (suc (left - 1)) row) (sym is) ∙ ap (λ (n : ℕ). e ∷ drop n row) (sym next)) in
       record {
         grows = grows_on last.grows one.grows;
         does = λ flow has args.
             let both = subst (λ l. AllHaveArguments (typed_list l)) cut args in
-            subst (λ l. used_all program flow (typed_list l) (left - 1 + number) p q) (sym cut)
-            (r, subst (λ (n : ℕ). used program flow (typed e) n p r) at (one.does flow has both.0),
-            subst (λ (n : ℕ). used_all program flow (typed_list (drop left row)) n r q) above (last.does flow (one.grows.keeps flow has) both.1));
+            subst (λ l. used_all program flow (typed_list l) (left - 1 + number) p q) (sym cut) (
+              r,
+              subst (λ (n : ℕ). used program flow (typed e) n p r) at (one.does flow has both.0),
+              subst (λ (n : ℕ). used_all program flow (typed_list (drop left row)) n r q) above (last.does flow (one.grows.keeps flow has) both.1),
+            );
       }
 
   -- the comma
@@ -88,11 +90,13 @@ module _ {program : TypedProgram} where
     does = λ flow has first second ty.
         let in_z = test.grows.keeps flow has in
         let in_y = way.grows.keeps flow in_z in
-        let on = jump_joins program flow end q (ends.is flow (knows.grows.keeps flow in_y)) in
-        (one, other,
-        subst (λ r. used program flow a number p r) tests (test.does flow has first),
-        judged_is program flow at b number (block_of flow one) (jump_to end) q (subst (λ r. used program flow b number (block_of flow one) r) judges (way.does flow in_z second)) on,
-        (jump_to end, knows.is flow in_y, on));
+        let on = jump_joins program flow end q (ends.is flow (knows.grows.keeps flow in_y)) in (
+          one,
+          other,
+          subst (λ r. used program flow a number p r) tests (test.does flow has first),
+          judged_is program flow at b number (block_of flow one) (jump_to end) q (subst (λ r. used program flow b number (block_of flow one) r) judges (way.does flow in_z second)) on,
+          (jump_to end, knows.is flow in_y, on),
+        );
   }
 
   pub ors : {at : Place} {a b : Typed} {number end one other : ℕ} {old x y z new : Built} {p q s t : Point} → Seals old x end q → Seals x y one (does at number (graph.Number (pos 1)) (jump_to end)) → s ≡ does at number graph.Judge (jump_to end) → UsesIn program b number y z other s → t ≡ split at number one other → Uses program a number z new p t → Ors program at a b number old new p q
@@ -101,11 +105,13 @@ module _ {program : TypedProgram} where
     does = λ flow has first second ty.
         let in_z = test.grows.keeps flow has in
         let in_y = way.grows.keeps flow in_z in
-        let on = jump_joins program flow end q (ends.is flow (knows.grows.keeps flow in_y)) in
-        (one, other,
-        subst (λ r. used program flow a number p r) tests (test.does flow has first),
-        (jump_to end, knows.is flow in_y, on),
-        judged_is program flow at b number (block_of flow other) (jump_to end) q (subst (λ r. used program flow b number (block_of flow other) r) judges (way.does flow in_z second)) on);
+        let on = jump_joins program flow end q (ends.is flow (knows.grows.keeps flow in_y)) in (
+          one,
+          other,
+          subst (λ r. used program flow a number p r) tests (test.does flow has first),
+          (jump_to end, knows.is flow in_y, on),
+          judged_is program flow at b number (block_of flow other) (jump_to end) q (subst (λ r. used program flow b number (block_of flow other) r) judges (way.does flow in_z second)) on,
+        );
   }
 
   pub chooses : {at : Place} {a b c : Typed} {number end one other : ℕ} {old x y z new : Built} {p q t u v : Point} → Seals old x end q → u ≡ jump_to end → UsesIn program b number x y one u → v ≡ jump_to end → UsesIn program c number y z other v → t ≡ split at number one other → Uses program a number z new p t → Chooses program at a b c number old new p q
@@ -114,9 +120,11 @@ module _ {program : TypedProgram} where
     does = λ flow has first second third ty.
         let in_z = test.grows.keeps flow has in
         let in_y = way_other.grows.keeps flow in_z in
-        let on = jump_joins program flow end q (ends.is flow (way_one.grows.keeps flow in_y)) in
-        (one, other,
-        subst (λ r. used program flow a number p r) tests (test.does flow has first),
-        joined_is program flow b number (block_of flow one) (jump_to end) q (subst (λ r. used program flow b number (block_of flow one) r) jump_one (way_one.does flow in_y second)) on,
-        joined_is program flow c number (block_of flow other) (jump_to end) q (subst (λ r. used program flow c number (block_of flow other) r) jump_other (way_other.does flow in_z third)) on);
+        let on = jump_joins program flow end q (ends.is flow (way_one.grows.keeps flow in_y)) in (
+          one,
+          other,
+          subst (λ r. used program flow a number p r) tests (test.does flow has first),
+          joined_is program flow b number (block_of flow one) (jump_to end) q (subst (λ r. used program flow b number (block_of flow one) r) jump_one (way_one.does flow in_y second)) on,
+          joined_is program flow c number (block_of flow other) (jump_to end) q (subst (λ r. used program flow c number (block_of flow other) r) jump_other (way_other.does flow in_z third)) on,
+        );
   }

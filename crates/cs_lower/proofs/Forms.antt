@@ -55,8 +55,11 @@ module _ {program : TypedProgram} {at : Place} {ty : Shape} {number next : ℕ} 
       subst (λ f. s ≡ acted program (Of at ty f) number q → t ≡ fetched (Of at ty f) number r → Evaluates program (Of at ty f) number old new p q) (sym is)
       (λ at_once loads. record {
         grows = grows_on last.grows one.grows;
-        does = λ flow has args. (r, subst (λ u. used program flow a number p u) loads (one.does flow has args.0),
-            subst (λ u. used program flow b (3 + number) r u) at_once (subst (λ (n : ℕ). used program flow b n r s) above (last.does flow (one.grows.keeps flow has) args.1)));
+        does = λ flow has args. (
+          r,
+          subst (λ u. used program flow a number p u) loads (one.does flow has args.0),
+          subst (λ u. used program flow b (3 + number) r u) at_once (subst (λ (n : ℕ). used program flow b n r s) above (last.does flow (one.grows.keeps flow has) args.1)),
+        );
       }) acts fetch
 
   pub move : {form : Form} {a b : Typed} {direction : Direction} {gives : Gives} → form ≡ Move a b direction gives → s ≡ acted program (Of at ty form) number q → next ≡ 2 + number → Uses program b next old mid r s → t ≡ fetched (Of at ty form) number r → Uses program a number mid new p t → Evaluates program (Of at ty form) number old new p q
@@ -64,6 +67,9 @@ module _ {program : TypedProgram} {at : Place} {ty : Shape} {number next : ℕ} 
       subst (λ f. s ≡ acted program (Of at ty f) number q → t ≡ fetched (Of at ty f) number r → Evaluates program (Of at ty f) number old new p q) (sym is)
       (λ at_once loads. record {
         grows = grows_on last.grows one.grows;
-        does = λ flow has args. (r, subst (λ u. used program flow a number p u) loads (one.does flow has args.0),
-            subst (λ u. used program flow b (2 + number) r u) at_once (subst (λ (n : ℕ). used program flow b n r s) above (last.does flow (one.grows.keeps flow has) args.1)));
+        does = λ flow has args. (
+          r,
+          subst (λ u. used program flow a number p u) loads (one.does flow has args.0),
+          subst (λ u. used program flow b (2 + number) r u) at_once (subst (λ (n : ℕ). used program flow b n r s) above (last.does flow (one.grows.keeps flow has) args.1)),
+        );
       }) acts fetch

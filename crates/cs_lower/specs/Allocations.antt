@@ -1,8 +1,9 @@
 -- Each allocation has the arguments that its function takes (C11 7.22.3.2, 7.22.3.4): a recursion over the syntax. The typing of a
 -- program sees to it.
-use Rattle.std.specs.Prelude.{◌≡◌, ℕ, Option, Some, None}
+use Rattle.std.specs.Prelude.{◌≡◌, ℕ, List, [], ◌∷◌, Option, Some, None}
 use Rattle.cs_ast.specs.TypedTree.{Typed, Of, Form, Number, Null, Text, Local, Global, Through, Index, Member, Arrow, Load, Address, Decay, Convert, Unary, Not, Binary, Compare, Sum, Difference, And, Or, Choice, Comma, Assign, Update, Move, Call, Allocate, Free, TypedList, NoMore, Further, Initial, Value, Parts, Bytes, Initials, NoPart, Part, Statement, Block, Declare, Run, If, IfElse, While, Do, For, Switch, Goto, Label, Break, Continue, Return, Statements, Empty, Then}
 use Rattle.cs_ast.specs.TypedProgram.{TypedProgram}
+use Rattle.cs_plain.specs.Initials.{Piece, Evaluated, Spelled}
 use Rattle.cs_plain.specs.Expressions.{count_all}
 use Rattle.cs_plain.specs.Machine.{routine_of}
 use Rattle.cs_cfg.specs.Working.{allocator_takes}
@@ -59,6 +60,12 @@ abbrev mutual
   pub InitialsHaveArguments : Initials → Type 0
   InitialsHaveArguments NoPart = Unit {0}
   InitialsHaveArguments (Part first others) = InitialHasArguments first × InitialsHaveArguments others
+
+-- in the pieces of an initializer
+abbrev pub PiecesHaveArguments : List Piece → Type 0
+PiecesHaveArguments [] = Unit {0}
+PiecesHaveArguments (Evaluated offset e ∷ others) = HasArguments e × PiecesHaveArguments others
+PiecesHaveArguments (Spelled offset bytes ∷ others) = PiecesHaveArguments others
 
 -- in an initializer that may be left out
 abbrev pub OptionInitialHasArguments : Option Initial → Type 0

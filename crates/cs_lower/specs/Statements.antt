@@ -1,27 +1,25 @@
 -- What the lowering of statements ensures: in every graph that has what was built, the point executes the statement, and behind it
 -- stands the other one.
-use Rattle.std.specs.Prelude.{◌≡◌, ℕ, ◌+◌, ℤ, List, [], ◌∷◌, length, Option, Some, None, option_map, unwrap_or}
+use Rattle.std.specs.Prelude.{◌≡◌, ℕ, ◌+◌, List, length, Option, unwrap_or, slice_get}
 use Rattle.cs_ast.specs.declared.place.Place.{Place}
-use Rattle.cs_ast.specs.declared.typed.statement.Case.{Case}
 use Rattle.cs_ast.specs.TypedTree.{Typed, Initial, Statement, Statements}
 use Rattle.cs_ast.specs.TypedProgram.{TypedProgram, Routine}
 use Rattle.cs_plain.specs.Initials.{Piece}
-use Rattle.cs_plain.specs.Machine.{body_of}
 use Rattle.cs_plain.specs.Marks.{marks, marks_in}
-use Rattle.cs_plain.specs.Jumps.{Landing, landing}
-use Rattle.cs_cfg.specs.Graph.{Point, Flow, SwitchCase, block_of}
-use Rattle.cs_cfg.specs.Placing.{split, used}
+use Rattle.cs_plain.specs.Statements.{count_of}
+use Rattle.cs_cfg.specs.Graph.{Point, Flow, block_of}
 use Rattle.cs_cfg.specs.Executing.{executes_at, all_at, from_at, for_test_at, last_at, returns_at, declares_at, stores_at}
-use Rattle.cs_lower.specs.Allocations.{HasArguments, OptionHasArguments, OptionInitialHasArguments, StatementHasArguments, StatementsHaveArguments}
+use Rattle.cs_lower.specs.Allocations.{OptionHasArguments, OptionInitialHasArguments, PiecesHaveArguments, StatementHasArguments, StatementsHaveArguments}
+use Rattle.cs_lower.specs.Labels.{marked_label}
 use Rattle.cs_lower.specs.Building.{jump_to, Built, Has, Grows}
-
--- the mark of the first label with a number in a function, if it is there
-abbrev pub marked_label : Routine → ℕ → Option ℕ
-marked_label routine label = option_map (λ (l : Landing). l.mark) (landing label (body_of routine) 0 [])
 
 -- where the `goto`s of a function lead: to the block of that mark
 abbrev pub labels_in : Routine → Flow → ℕ → Point
 labels_in routine flow label = block_of flow (unwrap_or (marked_label routine label) 0)
+
+-- the block of the statement with a number, or the one behind all of them
+abbrev pub block_at : List ℕ → ℕ → ℕ → ℕ
+block_at blocks end item = unwrap_or (slice_get blocks item) end
 
 module _ (program : TypedProgram) (routine : Routine) where
   -- a point executes a statement; `break` and `continue` lead to two blocks
@@ -41,6 +39,18 @@ module _ (program : TypedProgram) (routine : Routine) where
     pub grows : Grows (marks s) old new
     pub does : (flow : Flow) → Has flow new → StatementHasArguments s → (mark : ℕ) → mark + length new.heads ≡ new.marks →
         executes_at program flow routine (labels_in routine flow) s mark (block_of flow out) (block_of flow again) (block_of flow block) (jump_to end)
+
+  -- statements one after another, each with which a block begins, and behind them a block
+  pub record EntersAll (statements : Statements) (out again : ℕ) (old new : Built) (blocks : List ℕ) (end : ℕ) : Type 0 where
+    pub grows : Grows (marks_in statements) old new
+    pub counts : length blocks ≡ count_of statements
+    pub does : (flow : Flow) → Has flow new → StatementsHaveArguments statements → (mark : ℕ) → mark + length new.heads ≡ new.marks → (item : ℕ) →
+        from_at program flow routine (labels_in routine flow) item statements mark (block_of flow out) (block_of flow again) (block_of flow (block_at blocks end item)) (block_of flow end)
+
+  -- pieces of an initializer are stored, one after another
+  pub record StoresPieces (at : Place) (declaration : ℕ) (pieces : List Piece) (old new : Built) (p q : Point) : Type 0 where
+    pub grows : Grows 0 old new
+    pub does : (flow : Flow) → Has flow new → PiecesHaveArguments pieces → stores_at program flow routine (labels_in routine flow) at declaration pieces p q
 
   -- a declaration
   pub record Declares (at : Place) (declaration : ℕ) (initial : Option Initial) (old new : Built) (p q : Point) : Type 0 where

@@ -4,5 +4,14 @@
 mod building;
 mod context;
 mod expressions;
+mod functions;
+mod initializers;
+mod labels;
+mod loops;
+mod marks;
+mod statements;
 mod strips;
+mod switches;
 mod works;
+
+pub use functions::lower;

@@ -55,7 +55,7 @@ pub lower_expression-returns-in-Call : goal.lower_expression-returns-in-Call
 lower_expression-returns-in-Call t c =
     let f = c.in-Call.field-0 in
     let is : form c.args.e.now.kind ≡ Call f (typed_list c.deref-in-Call.result.now) =
-        ap form c.in-Call.is ∙ (form-Call f c.in-Call.arguments ∙ ap (λ l. Call f (typed_list l)) (sym c.deref-in-Call.ensures.value)) in
+    ap form c.in-Call.is ∙ (form-Call f c.in-Call.arguments ∙ ap (λ l. Call f (typed_list l)) (sym c.deref-in-Call.ensures.value)) in
     if_made c.lower_row.result (λ made h. forms.call is c.in_ok-behind.ensures h) c.lower_row.ensures
 
 pub lower_expression-returns-in-Allocate : goal.lower_expression-returns-in-Allocate
@@ -63,7 +63,7 @@ lower_expression-returns-in-Allocate t c =
     let a = c.in-Allocate.field-0 in
     let ty = c.in-Allocate.field-2 in
     let is : form c.args.e.now.kind ≡ Allocate a (typed_list c.deref-in-Allocate.result.now) (shape_of ty) =
-        ap form c.in-Allocate.is ∙ (form-Allocate a c.in-Allocate.arguments ty ∙ ap (λ l. Allocate a (typed_list l) (shape_of ty)) (sym c.deref-in-Allocate.ensures.value)) in
+    ap form c.in-Allocate.is ∙ (form-Allocate a c.in-Allocate.arguments ty ∙ ap (λ l. Allocate a (typed_list l) (shape_of ty)) (sym c.deref-in-Allocate.ensures.value)) in
     if_made c.lower_row-in-Allocate.result (λ made h. forms.allocate is c.in_ok-behind.ensures h) c.lower_row-in-Allocate.ensures
 
 pub lower_row-loop-left-preserved : goal.lower_row-loop-left-preserved
