@@ -76,7 +76,7 @@ module _ {program : TypedProgram} {routine : Routine} where
   stored_further {at = at} {declaration = declaration} {old = old} {new = new} {p = p} {q = q} row left one some within is rest first =
       let next : left ≡ suc (left - 1) = omega arith in
       let cut : drop (left - 1) row ≡ one ∷ drop left row =
-          drop-cons row (left - 1) one (omega arith) ∙ (ap (λ x. x ∷ drop (suc (left - 1)) row) (sym is) ∙ ap (λ (n : ℕ). one ∷ drop n row) (sym next)) in
+      drop-cons row (left - 1) one (omega arith) ∙ (ap (λ x. x ∷ drop (suc (left - 1)) row) (sym is) ∙ ap (λ (n : ℕ). one ∷ drop n row) (sym next)) in
       subst (λ l. StoresPieces program routine at declaration (map piece_of l) old new p q) (sym cut) (stored_then rest first)
 
   -- a declaration without an initializer, with a value, and with parts or a text

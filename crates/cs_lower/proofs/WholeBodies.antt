@@ -25,14 +25,14 @@ use Rattle.cs_lower.proofs.Built.{more_and_more}
 
 module _ {program : TypedProgram} {routine : Routine} where
   -- a body between its beginning and its end
-  pub body_made : {body : Statement} {finish entry : ℕ} {nothing : Bool} {old x y new : Built} {inside behind s : Point} → Seals old x finish finishing → closed_with nothing ≡ falls_off routine.returns
+  pub body_made : {body : Statement} {finish entry : ℕ} {nothing : Bool} {old x y new : Built} {f inside behind s : Point} → Seals old x finish f → f ≡ finishing → closed_with nothing ≡ falls_off routine.returns
       → behind ≡ does routine.closes 0 (graph.Close nothing) leaving → Executes program routine body finish finish x y inside behind → s ≡ does routine.at 0 (graph.Meet point.Enter) inside → Seals y new entry s
       → BeginsBody program routine body old new entry
-  body_made {body = body} {finish = finish} {entry = entry} {nothing = nothing} {y = y} {inside = inside} {behind = behind} finishes gives closes executes enters begins = record {
+  body_made {body = body} {finish = finish} {entry = entry} {nothing = nothing} {y = y} {inside = inside} {behind = behind} finishes finish_is gives closes executes enters begins = record {
     grows = more_and_more 0 (marks body) (marks body) finishes.grows (more_and_more (marks body) 0 (marks body) executes.grows begins.grows (omega arith)) (omega arith);
     does = λ flow has args all starts counts.
         let in_y = begins.grows.keeps flow has in
-        let is = finishes.is flow (executes.grows.keeps flow in_y) in
+        let is = finishes.is flow (executes.grows.keeps flow in_y) ∙ finish_is in
         let c = begins.grows.counts in
         let d = begins.grows.same in
         let first : 0 + length y.heads ≡ y.marks = omega arith in
@@ -49,6 +49,17 @@ module _ {program : TypedProgram} {routine : Routine} where
           counts = counts;
         };
   }
+
+  -- all of a body's graph
+  pub whole_body : {body : Statement} {entry count : ℕ} {old new : Built} {flow : Flow} → BeginsBody program routine body old new entry → old ≡ record { marks = count; heads = []; others = [] } → count ≡ marks body
+      → (length new.heads ≡ new.marks → Has flow new) → StatementHasArguments body → flow.entry ≡ entry → flow.marks ≡ new.marks → LowersBody program routine body flow
+  whole_body {old = old} {new = new} {flow = flow} begins starts counted has args first marked =
+      let none : length old.heads ≡ 0 = ap (λ (b : Built). length b.heads) starts in
+      let count = ap (λ (b : Built). b.marks) starts in
+      let c = begins.grows.counts in
+      let d = begins.grows.same in
+      let all : length new.heads ≡ new.marks = omega arith in
+      begins.does flow (has all) args all first (omega arith)
 
   -- a function with a body
   pub has_graph : {body : Statement} {flow : Flow} → routine.body ≡ Some body → LowersBody program routine body flow → HasGraph program routine (Some flow)

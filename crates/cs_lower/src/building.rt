@@ -82,7 +82,7 @@ impl GraphBuilder {
     pub fn finish(mut self, entry: u32) -> Result<Flow, AllocError>
         ensures entry { IfOk result (λ flow. flow.entry ≡ entry) }
         ensures marks { IfOk result (λ flow. flow.marks ≡ self.marks) }
-        ensures whole { IfOk result (λ flow. length self.heads.items ≡ self.marks → Has (view.flow flow) (built_of self)) }
+        ensures whole { IfOk result (λ flow. length (built_of self).heads ≡ self.marks → Has (view.flow flow) (built_of self)) }
     {
         self.heads.reverse();
         self.heads.append(&mut self.others)?;

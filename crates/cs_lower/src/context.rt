@@ -11,6 +11,7 @@ use std::alloc::Global;
 use std::collections::BTreeMap;
 
 /// A function of a program that is lowered.
+#[derive(Drop)]
 pub struct Lowering<'a> {
     pub alloc: Global,
     pub program: &'a Program,

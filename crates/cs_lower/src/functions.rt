@@ -93,7 +93,8 @@ impl Lowering<'_> {
         ensures { IfOk result (λ entry. BeginsBody (typed_program self.now.program.now) (routine self.now.function.now) (statement body.now) (built_of graph.old) (built_of graph.new) entry) }
     {
         let function = self.function;
-        let finishing = graph.seal(Strip::ending(self.alloc, BlockEnd::Finish))?;
+        let finish = Strip::ending(self.alloc, BlockEnd::Finish);
+        let finishing = graph.seal(finish)?;
         let exits = Exits {
             out: finishing,
             again: finishing,

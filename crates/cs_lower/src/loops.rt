@@ -36,7 +36,8 @@ impl Lowering<'_> {
         requires { IsReady self.now }
         ensures { IfOk result (λ made. (out again : ℕ) → Executes (typed_program self.now.program.now) (routine self.now.function.now) (While place (typed test.now) (statement body.now)) out again (built_of graph.old) (built_of graph.new) (point_of made) (point_of behind)) }
     {
-        let head = graph.mark_before(marks(body)?)?;
+        let inner = marks(body)?;
+        let head = graph.mark_before(inner)?;
         let end = graph.seal(behind)?;
         let exits = Exits {
             out: end,
@@ -61,7 +62,8 @@ impl Lowering<'_> {
         requires { IsReady self.now }
         ensures { IfOk result (λ made. (out again : ℕ) → Executes (typed_program self.now.program.now) (routine self.now.function.now) (Do place (statement body.now) (typed test.now)) out again (built_of graph.old) (built_of graph.new) (point_of made) (point_of behind)) }
     {
-        let head = graph.mark_before(marks(body)?)?;
+        let inner = marks(body)?;
+        let head = graph.mark_before(inner)?;
         let end = graph.seal(behind)?;
         let tested = self.lower_test(graph, place, test, head, end)?;
         let again = graph.seal(tested)?;

@@ -63,16 +63,19 @@ impl Lowering<'_> {
             StmtKind::While(test, body) => self.lower_while(graph, body, s.place, test, behind),
             StmtKind::Do(body, test) => self.lower_do(graph, body, s.place, test, behind),
             StmtKind::For(first, test, last, body) => {
-                let head = graph.mark_before(together(marks_in(first)?, marks(body)?)?)?;
+                let before = marks_in(first)?;
+                let inside = marks(body)?;
+                let inner = together(before, inside)?;
+                let head = graph.mark_before(inner)?;
                 let end = graph.seal(behind)?;
                 let again = self.lower_last(graph, s.place, last.as_ref(), head)?;
                 let exits = Exits {
                     out: end,
                     again: exits.again,
                 };
-                let inner = Exits { out: end, again };
-                let made = self.lower_statement(graph, body, inner, self.jump(again))?;
-                let turned = self.lower_for_test(graph, s.place, test.as_ref(), made, end)?;
+                let within = Exits { out: end, again };
+                let body = self.lower_statement(graph, body, within, self.jump(again))?;
+                let turned = self.lower_for_test(graph, s.place, test.as_ref(), body, end)?;
                 let made = self.lower_all(graph, first, exits, self.jump(head))?;
                 graph.seal_mark(PointKind::Head, s.place, turned)?;
                 Ok(made)
@@ -88,7 +91,8 @@ impl Lowering<'_> {
             }
             StmtKind::Goto(label) => Ok(self.lower_goto(*label, behind)),
             StmtKind::Label(_, body) => {
-                let mark = graph.mark_before(marks(body)?)?;
+                let inner = marks(body)?;
+                let mark = graph.mark_before(inner)?;
                 let made = self.lower_statement(graph, body, exits, behind)?;
                 graph.seal_mark(PointKind::Label, s.place, made)?;
                 Ok(self.jump(mark))

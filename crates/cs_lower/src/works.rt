@@ -3,8 +3,9 @@ ghost use Rattle.std.specs.Prelude.{◌≡◌, IfOk, option_map};
 ghost use Rattle.cs_types.specs.Shape.{shape_of};
 ghost use Rattle.cs_types.specs.Layout.{IsLaidOut};
 ghost use Rattle.cs_ast.specs.TypedProgram.{typed_program};
-ghost use Rattle.cs_ast.specs.TypedView.{typed, form};
+ghost use Rattle.cs_ast.specs.TypedView.{typed, typed_list, form};
 ghost use Rattle.cs_plain.specs.Access as plain;
+ghost use Rattle.cs_plain.specs.Expressions.{count_all};
 ghost use Rattle.cs_cfg.specs.GraphView as view;
 ghost use Rattle.cs_cfg.specs.Standing as standing;
 ghost use Rattle.cs_lower.specs.Building.{point_of};
@@ -96,7 +97,7 @@ impl Lowering<'_> {
                 Ok(Some(Work::Move(access, bytes, *direction, *gives)))
             }
             ExprKind::Call(function, arguments) => {
-                let count = u32::try_from(arguments.len()).map_err(|_| AllocError)?;
+                let count = count_of(arguments)?;
                 Ok(Some(Work::Call(*function, count)))
             }
             ExprKind::Allocate(allocator, _, element) => {
@@ -149,4 +150,12 @@ impl Lowering<'_> {
             local: access.local,
         })
     }
+}
+
+// How many arguments there are.
+#[tactic(auto, using(crate::proofs::StatementForms::counted))]
+fn count_of(arguments: &[Expr]) -> Result<u32, AllocError>
+    ensures { IfOk result (λ count. count ≡ count_all (typed_list arguments.now)) }
+{
+    u32::try_from(arguments.len()).map_err(|_| AllocError)
 }

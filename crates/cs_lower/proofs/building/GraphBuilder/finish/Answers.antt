@@ -1,5 +1,5 @@
 use Rattle.std.proofs.Common.{◌≡◌, List, ◌++◌, map, length, reverse, sym, ap, subst, ◌∙◌}
-use Rattle.std.proofs.lemmas.List.{length-map, map-append}
+use Rattle.std.proofs.lemmas.List.{map-append}
 use Rattle.cs_cfg.specs.Graph.{Point, Flow}
 use Rattle.cs_cfg.specs.GraphView as view
 use Rattle.cs_lower.specs.Building.{Has, built_of}
@@ -15,4 +15,4 @@ returns-clause-whole c = λ all.
     let blocks : map view.block c.append.new.self.items ≡ reverse (map view.block heads) ++ map view.block others =
     ap (map view.block) items ∙ (map-append view.block (reverse heads) others ∙ ap (λ l. l ++ map view.block others) (map_reverse view.block heads)) in
     subst (λ l. Has (flow l) (built_of c.args.self)) (sym blocks)
-    (whole (map view.block heads) (map view.block others) c.args.entry c.args.self.marks (length-map heads view.block ∙ all))
+    (whole (map view.block heads) (map view.block others) c.args.entry c.args.self.marks all)
