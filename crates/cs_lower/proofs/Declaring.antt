@@ -36,6 +36,18 @@ mutual
       all_have (pieces program (part_type program shape number) (from + part_offset program shape number) first) (pieces_from program shape from (number + 1) others)
       (pieces_have program (part_type program shape number) (from + part_offset program shape number) first has.0) (parts_have program shape from (number + 1) others has.1)
 
+-- a piece before others
+stored_before : (program : TypedProgram) (routine : Routine) (at : Place) (declaration : ℕ) (flow : Flow) (one : Piece) (others : List Piece) (p r q : Point) → stores_at program flow routine (labels_in routine flow) at declaration (one ∷ []) p r
+    → stores_at program flow routine (labels_in routine flow) at declaration others r q → stores_at program flow routine (labels_in routine flow) at declaration (one ∷ others) p q
+stored_before program routine at declaration flow (Evaluated offset e) others p r q first rest =
+    (r, subst (λ s. used program flow e 0 p (does at 0 (graph.StoreLocal declaration offset (type_of e) (is_scalar (type_in routine declaration))) s)) first.2 first.1, rest)
+stored_before program routine at declaration flow (Spelled offset bytes) others p r q first rest =
+    (r, first.1 ∙ ap (does at 0 (graph.Spell declaration offset bytes)) first.2, rest)
+
+first_has : (one : Piece) (others : List Piece) → PiecesHaveArguments (one ∷ others) → PiecesHaveArguments (one ∷ []) × PiecesHaveArguments others
+first_has (Evaluated offset e) others has = ((has.0, tt), has.1)
+first_has (Spelled offset bytes) others has = (tt, has)
+
 module _ {program : TypedProgram} {routine : Routine} where
   -- a value is stored
   pub value_stored : {at : Place} {declaration offset : ℕ} {e : Typed} {old new : Built} {p s q : Point} → s ≡ does at 0 (graph.StoreLocal declaration offset (type_of e) (is_scalar (type_in routine declaration))) q → Uses program e 0 old new p s
@@ -50,24 +62,13 @@ module _ {program : TypedProgram} {routine : Routine} where
   pub none_stored : (at : Place) (declaration : ℕ) (built : Built) (p : Point) → StoresPieces program routine at declaration [] built built p p
   none_stored at declaration built p = record { grows = nothing_more built; does = λ flow has args. refl }
 
-  stored_before : {at : Place} {declaration : ℕ} (flow : Flow) (one : Piece) (others : List Piece) (p r q : Point) → stores_at program flow routine (labels_in routine flow) at declaration (one ∷ []) p r
-      → stores_at program flow routine (labels_in routine flow) at declaration others r q → stores_at program flow routine (labels_in routine flow) at declaration (one ∷ others) p q
-  stored_before {at = at} {declaration = declaration} flow (Evaluated offset e) others p r q first rest =
-      (r, subst (λ s. used program flow e 0 p (does at 0 (graph.StoreLocal declaration offset (type_of e) (is_scalar (type_in routine declaration))) s)) first.2 first.1, rest)
-  stored_before {at = at} {declaration = declaration} flow (Spelled offset bytes) others p r q first rest =
-      (r, first.1 ∙ ap (does at 0 (graph.Spell declaration offset bytes)) first.2, rest)
-
-  first_has : (one : Piece) (others : List Piece) → PiecesHaveArguments (one ∷ others) → PiecesHaveArguments (one ∷ []) × PiecesHaveArguments others
-  first_has (Evaluated offset e) others has = ((has.0, tt), has.1)
-  first_has (Spelled offset bytes) others has = (tt, has)
-
   pub stored_then : {at : Place} {declaration : ℕ} {one : Piece} {others : List Piece} {old mid new : Built} {p r q : Point} → StoresPieces program routine at declaration others old mid r q → StoresPieces program routine at declaration (one ∷ []) mid new p r
       → StoresPieces program routine at declaration (one ∷ others) old new p q
-  stored_then {one = one} {others = others} {p = p} {r = r} {q = q} rest first = record {
+  stored_then {at = at} {declaration = declaration} {one = one} {others = others} {p = p} {r = r} {q = q} rest first = record {
     grows = grows_on rest.grows first.grows;
     does = λ flow has args.
         let both = first_has one others args in
-        stored_before flow one others p r q (first.does flow has both.0) (rest.does flow (first.grows.keeps flow has) both.1);
+        stored_before program routine at declaration flow one others p r q (first.does flow has both.0) (rest.does flow (first.grows.keeps flow has) both.1);
   }
 
   -- one more of a row that is lowered from its end

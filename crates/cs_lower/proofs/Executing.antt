@@ -67,11 +67,11 @@ module _ {program : TypedProgram} {routine : Routine} where
 
   -- a statement at the beginning of a block
   pub executes_in : {s : Statement} {out again block end : ℕ} {old mid new : Built} {p q : Point} → q ≡ jump_to end → Executes program routine s out again old mid p q → Seals mid new block p → ExecutesIn program routine s out again old new block end
-  executes_in {s = s} {out = out} {again = again} {q = q} is h seals = record {
+  executes_in {s = s} {out = out} {again = again} {end = end} {p = p} {q = q} is h seals = record {
     grows = more_and_more (marks s) 0 (marks s) h.grows seals.grows (omega arith);
     does = λ flow has args mark e.
-        subst (λ r. executes_at program flow routine (labels_in routine flow) s mark (block_of flow out) (block_of flow again) r (jump_to _)) (sym (seals.is flow has))
-        (subst (λ r. executes_at program flow routine (labels_in routine flow) s mark (block_of flow out) (block_of flow again) _ r) is
+        subst (λ r. executes_at program flow routine (labels_in routine flow) s mark (block_of flow out) (block_of flow again) r (jump_to end)) (sym (seals.is flow has))
+        (subst (λ r. executes_at program flow routine (labels_in routine flow) s mark (block_of flow out) (block_of flow again) p r) is
         (h.does flow (seals.grows.keeps flow has) args mark (mark_stays seals.grows mark e)));
   }
 
@@ -174,7 +174,7 @@ module _ {program : TypedProgram} {routine : Routine} where
       drop-cons row (left - 1) s (omega arith) ∙ (ap (λ x. x ∷ drop (suc (left - 1)) row) (sym is) ∙ ap (λ (n : ℕ). s ∷ drop n row) (sym next)) in
       subst (λ l. ExecutesAll program routine (statement_list l) out again old new p q) (sym cut) (executes_then last one)
 
-  -- the last point of statements in a row may lead on by jumps
-  pub all_on : (flow : Flow) (statements : Statements) (mark : ℕ) (out again p q r : Point) → all_at program flow routine (labels_in routine flow) statements mark out again p q → Joins program flow q r → all_at program flow routine (labels_in routine flow) statements mark out again p r
-  all_on flow Empty mark out again p q r h on = joins_on h on
-  all_on flow (Then first others) mark out again p q r h on = (h.0, h.1, all_on flow others (mark + marks first) out again h.0 q r h.2 on)
+-- the last point of statements in a row may lead on by jumps
+pub all_on : (program : TypedProgram) (routine : Routine) (flow : Flow) (statements : Statements) (mark : ℕ) (out again p q r : Point) → all_at program flow routine (labels_in routine flow) statements mark out again p q → Joins program flow q r → all_at program flow routine (labels_in routine flow) statements mark out again p r
+all_on program routine flow Empty mark out again p q r h on = joins_on h on
+all_on program routine flow (Then first others) mark out again p q r h on = (h.0, h.1, all_on program routine flow others (mark + marks first) out again h.0 q r h.2 on)

@@ -23,12 +23,25 @@ use Rattle.cs_lower.specs.Switching.{with_case, cases_to, leads_to}
 use Rattle.cs_lower.proofs.Built.{nothing_more, more_and_more}
 use Rattle.cs_lower.proofs.Executing.{mark_before, mark_stays}
 
-module _ {program : TypedProgram} {routine : Routine} where
+module _ (program : TypedProgram) (routine : Routine) where
   -- from the first statement on are all
   all_from : (flow : Flow) (statements : Statements) (mark : ℕ) (out again p q : Point) → from_at program flow routine (labels_in routine flow) 0 statements mark out again p q → all_at program flow routine (labels_in routine flow) statements mark out again p q
   all_from flow Empty mark out again p q h = h
   all_from flow (Then first others) mark out again p q h = h
 
+  -- the cases of a `switch` lead to its statements
+  case_led : (flow : Flow) (value : Option ℤ) (item : ℕ) (blocks : List ℕ) (end : ℕ) (others : List SwitchCase) (Others : List SwitchCase → Type 0) → Others others
+      → case_leads program flow routine (labels_in routine flow) (λ n. block_of flow (block_at blocks end n)) value item (with_case value (block_at blocks end item) others) Others
+  case_led flow None item blocks end others Others h = h
+  case_led flow (Some value) item blocks end others Others h = (refl, refl, h)
+
+  cases_led : (flow : Flow) (cases : List Case) (blocks : List ℕ) (end : ℕ) → cases_lead program flow routine (labels_in routine flow) (λ n. block_of flow (block_at blocks end n)) cases (cases_to blocks end cases)
+  cases_led flow [] blocks end = refl
+  cases_led flow (one ∷ others) blocks end =
+      case_led flow one.value one.item blocks end (cases_to blocks end others) (cases_lead program flow routine (labels_in routine flow) (λ n. block_of flow (block_at blocks end n)) others) (cases_led flow others blocks end)
+
+module _ {program : TypedProgram} {routine : Routine} where
+  -- statements that begin blocks
   pub enters_none : (out again : ℕ) (built : Built) (end : ℕ) → EntersAll program routine Empty out again built built [] end
   enters_none out again built end = record { grows = nothing_more built; counts = refl; does = λ flow has args mark e item. there }
 
@@ -50,30 +63,19 @@ module _ {program : TypedProgram} {routine : Routine} where
         block_of flow next,
         (jump_to next, here, jumps there),
         subst (λ (b : ℕ). all_at program flow routine (labels_in routine flow) others (mark + marks first) (block_of flow out) (block_of flow again) (block_of flow b) (block_of flow end)) (sym is)
-            (all_from flow others (mark + marks first) (block_of flow out) (block_of flow again) (block_of flow (block_at blocks end 0)) (block_of flow end) (behind 0)),
+            (all_from program routine flow others (mark + marks first) (block_of flow out) (block_of flow again) (block_of flow (block_at blocks end 0)) (block_of flow end) (behind 0)),
       )
       enters flow mark here behind (suc item) = behind item
 
   -- one more of a row that is lowered from its end
   pub enters_further : {out again : ℕ} {old mid new : Built} {block next end : ℕ} {blocks more : List ℕ} (row : List Stmt) (left : ℕ) (s : Stmt) → 1 ≤ left → left ≤ length row → s ≡ get_or row (left - 1) s → next ≡ block_at blocks end 0 → more ≡ block ∷ blocks
       → EntersAll program routine (statement_list (drop left row)) out again old mid blocks end → ExecutesIn program routine (statement s) out again mid new block next → EntersAll program routine (statement_list (drop (left - 1) row)) out again old new more end
-  enters_further {out = out} {again = again} {old = old} {new = new} {end = end} row left s some within is first others last one =
+  enters_further {out = out} {again = again} {old = old} {new = new} {block = block} {end = end} {blocks = blocks} row left s some within is first others last one =
       let next : left ≡ suc (left - 1) = omega arith in
       let cut : drop (left - 1) row ≡ s ∷ drop left row =
       drop-cons row (left - 1) s (omega arith) ∙ (ap (λ x. x ∷ drop (suc (left - 1)) row) (sym is) ∙ ap (λ (n : ℕ). s ∷ drop n row) (sym next)) in
       subst (λ b. EntersAll program routine (statement_list (drop (left - 1) row)) out again old new b end) (sym others)
-      (subst (λ l. EntersAll program routine (statement_list l) out again old new (_ ∷ _) end) (sym cut) (enters_then first last one))
-
-  -- the cases of a `switch` lead to its statements
-  case_led : (flow : Flow) (value : Option ℤ) (item : ℕ) (blocks : List ℕ) (end : ℕ) (others : List SwitchCase) (Others : List SwitchCase → Type 0) → Others others
-      → case_leads program flow routine (labels_in routine flow) (λ n. block_of flow (block_at blocks end n)) value item (with_case value (block_at blocks end item) others) Others
-  case_led flow None item blocks end others Others h = h
-  case_led flow (Some value) item blocks end others Others h = (refl, refl, h)
-
-  cases_led : (flow : Flow) (cases : List Case) (blocks : List ℕ) (end : ℕ) → cases_lead program flow routine (labels_in routine flow) (λ n. block_of flow (block_at blocks end n)) cases (cases_to blocks end cases)
-  cases_led flow [] blocks end = refl
-  cases_led flow (one ∷ others) blocks end =
-      case_led flow one.value one.item blocks end (cases_to blocks end others) (cases_lead program flow routine (labels_in routine flow) (λ n. block_of flow (block_at blocks end n)) others) (cases_led flow others blocks end)
+      (subst (λ l. EntersAll program routine (statement_list l) out again old new (block ∷ blocks) end) (sym cut) (enters_then first last one))
 
   -- a `switch`
   pub switch_made : {at : Place} {value : Typed} {cases : List Case} {statements : Statements} {out again end : ℕ} {old x y new : Built} {p q : Point} {blocks : List ℕ} → Seals old x end q
@@ -89,7 +91,7 @@ module _ {program : TypedProgram} {routine : Routine} where
           (λ item. block_of flow (block_at blocks end item)),
           goes.does flow has args.0,
           (λ item. subst (λ o. From item o) on (enters.does flow in_y args.1 mark (mark_stays goes.grows mark e) item)),
-          cases_led flow cases blocks end,
+          cases_led program routine flow cases blocks end,
           ap (λ (n : ℕ). block_of flow (block_at blocks end (default_item cases n))) enters.counts,
         );
   }
@@ -106,7 +108,8 @@ cases_to-on blocks end cases i one within is =
     split None = refl
     split (Some value) = refl
 
-dropped : {X : Type 0} (xs : List X) (i : ℕ) → length xs ≤ i → drop i xs ≡ []
+-- nothing is left behind all of a list
+pub dropped : {X : Type 0} (xs : List X) (i : ℕ) → length xs ≤ i → drop i xs ≡ []
 dropped [] zero h = refl
 dropped [] (suc i) h = refl
 dropped (x ∷ xs) zero h = absurd (omega arith)

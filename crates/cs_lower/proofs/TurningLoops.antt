@@ -12,7 +12,7 @@ use Rattle.cs_cfg.specs.Executing.{executes_at, all_at, last_at}
 use Rattle.cs_lower.specs.Building.{jump_to, Built, Has, Grows}
 use Rattle.cs_lower.specs.Sealing.{Seals, SealsMark}
 use Rattle.cs_lower.specs.Expressions.{Uses}
-use Rattle.cs_lower.specs.Statements.{labels_in, Executes, ExecutesAll, ExecutesIn, TestsFor, EndsFor}
+use Rattle.cs_lower.specs.Statements.{labels_in, Executes, ExecutesAll, ExecutesIn, TestsFor, EndsFor, TurnsFor}
 use Rattle.cs_lower.proofs.Built.{nothing_more, grows_on, more_and_more}
 use Rattle.cs_lower.proofs.Evaluating.{jump_joins}
 use Rattle.cs_lower.proofs.Executing.{mark_before, mark_stays, all_on}
@@ -27,27 +27,27 @@ is_head inside seals before counts e =
     omega arith
 
 -- and is the last mark that had no block
-pub is_last : {old y : Built} {count head inner : ℕ} → Grows count old y → head + suc (inner + length old.heads) ≡ old.marks → inner ≡ count → head + suc (length y.heads) ≡ y.marks
-is_last inside before counts =
+pub is_last : {old y : Built} {count inner : ℕ} (head : ℕ) → Grows count old y → head + suc (inner + length old.heads) ≡ old.marks → inner ≡ count → head + suc (length y.heads) ≡ y.marks
+is_last head inside before counts =
     let a = inside.counts in
     let c = inside.same in
     omega arith
 
 -- the mark behind the head
-pub behind_head : {built : Built} {head : ℕ} → head + suc (length built.heads) ≡ built.marks → head + 1 + length built.heads ≡ built.marks
-behind_head e = omega arith
+pub behind_head : (built : Built) (head : ℕ) → head + suc (length built.heads) ≡ built.marks → head + 1 + length built.heads ≡ built.marks
+behind_head built head e = omega arith
 
-module _ {program : TypedProgram} {flow : Flow} where
+module _ (program : TypedProgram) (flow : Flow) where
   -- a block leads to what it is
-  pub block_joins : {block : ℕ} {q : Point} → block_of flow block ≡ q → Joins program flow (block_of flow block) q
-  block_joins {block = block} {q = q} is = subst (λ r. Joins program flow r q) (sym is) there
+  pub block_joins : (block : ℕ) (q : Point) → block_of flow block ≡ q → Joins program flow (block_of flow block) q
+  block_joins block q is = subst (λ r. Joins program flow r q) (sym is) there
 
 module _ {program : TypedProgram} {routine : Routine} where
   -- a `while`
   pub while_made : {at : Place} {test : Typed} {body : Statement} {out again inner head end one : ℕ} {old x y z new : Built} {p r q : Point} → head + suc (inner + length old.heads) ≡ old.marks → inner ≡ marks body
       → Seals old x end q → ExecutesIn program routine body end head x y one head → Uses program test 0 y z r (split at 0 one end) → SealsMark z new point.Head at r → p ≡ jump_to head
       → Executes program routine (While at test body) out again old new p q
-  while_made {at = at} {test = test} {body = body} {out = out} {again = again} {head = head} {end = end} {one = one} {p = p} {r = r} {q = q} before counts ends way tests seals jump =
+  while_made {at = at} {test = test} {body = body} {out = out} {again = again} {head = head} {end = end} {one = one} {z = z} {p = p} {r = r} {q = q} before counts ends way tests seals jump =
       let inside = more_and_more 0 (marks body) (marks body) ends.grows (more_and_more (marks body) 0 (marks body) way.grows tests.grows (omega arith)) (omega arith) in
       record {
         grows = more_and_more (marks body) 1 (1 + marks body) inside seals.grows (omega arith);
@@ -55,8 +55,8 @@ module _ {program : TypedProgram} {routine : Routine} where
             let in_z = seals.grows.keeps flow has in
             let in_y = tests.grows.keeps flow in_z in
             let in_x = way.grows.keeps flow in_y in
-            let last = is_last inside before counts in
-            let here = behind_head last in
+            let last = is_last head inside before counts in
+            let here = behind_head z head last in
             let executed = way.does flow in_y args.1 (head + 1) (mark_stays tests.grows (head + 1) here) in
             subst (λ (m : ℕ). executes_at program flow routine (labels_in routine flow) (While at test body) m (block_of flow out) (block_of flow again) p q) (is_head inside seals.grows before counts e) (
               block_of flow head,
@@ -70,7 +70,7 @@ module _ {program : TypedProgram} {routine : Routine} where
                   tests.does flow in_z args.0,
                   (
                     (jump_to head, subst (λ s. executes_at program flow routine (labels_in routine flow) body (head + 1) s (block_of flow head) (block_of flow one) (jump_to head)) (ends.is flow in_x) executed, jumps there),
-                    block_joins (ends.is flow in_x),
+                    block_joins program flow end q (ends.is flow in_x),
                   ),
                 ),
               ),
@@ -81,7 +81,7 @@ module _ {program : TypedProgram} {routine : Routine} where
   pub do_made : {at : Place} {test : Typed} {body : Statement} {out again inner head end behind : ℕ} {old x y z w new : Built} {p v r q s : Point} → head + suc (inner + length old.heads) ≡ old.marks → inner ≡ marks body
       → Seals old x end q → Uses program test 0 x y r (split at 0 head end) → Seals y z behind r → s ≡ jump_to behind → Executes program routine body end behind z w v s → SealsMark w new point.Head at v → p ≡ jump_to head
       → Executes program routine (Do at body test) out again old new p q
-  do_made {at = at} {test = test} {body = body} {out = out} {again = again} {head = head} {end = end} {behind = behind} {p = p} {v = v} {r = r} {q = q} {s = s} before counts ends tests tested leads way seals jump =
+  do_made {at = at} {test = test} {body = body} {out = out} {again = again} {head = head} {end = end} {behind = behind} {w = w} {p = p} {v = v} {r = r} {q = q} {s = s} before counts ends tests tested leads way seals jump =
       let inside = more_and_more 0 (marks body) (marks body) ends.grows (more_and_more 0 (marks body) (marks body) tests.grows (more_and_more 0 (marks body) (marks body) tested.grows way.grows (omega arith)) (omega arith)) (omega arith) in
       record {
         grows = more_and_more (marks body) 1 (1 + marks body) inside seals.grows (omega arith);
@@ -90,8 +90,8 @@ module _ {program : TypedProgram} {routine : Routine} where
             let in_z = way.grows.keeps flow in_w in
             let in_y = tested.grows.keeps flow in_z in
             let in_x = tests.grows.keeps flow in_y in
-            let last = is_last inside before counts in
-            let executed = way.does flow in_w args.0 (head + 1) (behind_head last) in
+            let last = is_last head inside before counts in
+            let executed = way.does flow in_w args.0 (head + 1) (behind_head w head last) in
             let At : Point → Point → Point → Type 0 = λ o a t. executes_at program flow routine (labels_in routine flow) body (head + 1) o a v t in
             let in_loop = subst (λ o. At o r (jump_to behind)) (ends.is flow in_x) (subst (λ a. At (block_of flow end) a (jump_to behind)) (tested.is flow in_z) (subst (λ t. At (block_of flow end) (block_of flow behind) t) leads executed)) in
             subst (λ (m : ℕ). executes_at program flow routine (labels_in routine flow) (Do at body test) m (block_of flow out) (block_of flow again) p q) (is_head inside seals.grows before counts e) (
@@ -102,41 +102,59 @@ module _ {program : TypedProgram} {routine : Routine} where
                 v,
                 seals.is flow has head last,
                 (jump_to behind, in_loop, jump_joins program flow behind r (tested.is flow in_z)),
-                (head, end, tests.does flow in_y args.1, (there, block_joins (ends.is flow in_x))),
+                (head, end, tests.does flow in_y args.1, (there, block_joins program flow end q (ends.is flow in_x))),
               ),
             );
       }
 
+  -- a `for` without its first part
+  pub for_turned : {at : Place} {test last : Option Typed} {body : Statement} {before inside inner head end behind : ℕ} {old x y z new : Built} {v r q s : Point} → head + suc (inner + length old.heads) ≡ old.marks → inner ≡ before + inside → inside ≡ marks body
+      → Seals old x end q → EndsFor program last x y behind head → s ≡ jump_to behind → Executes program routine body end behind y z v s → TestsFor program at test z new r v end
+      → TurnsFor program routine at test last body before old new head end r q
+  for_turned {body = body} {before = before} {inside = inside} {inner = inner} {head = head} {end = end} {behind = behind} {old = old} {z = z} {new = new} {v = v} {r = r} {q = q} start inner_is inside_is ends ended leads way tests =
+      let grown = more_and_more 0 (marks body) (marks body) ends.grows (more_and_more 0 (marks body) (marks body) ended.grows (more_and_more (marks body) 0 (marks body) way.grows tests.grows (omega arith)) (omega arith)) (omega arith) in
+      let a = grown.counts in
+      let b = grown.same in
+      let counted : head + suc (before + length new.heads) ≡ new.marks = omega arith in
+      let here : head + 1 + before + length new.heads ≡ new.marks = omega arith in
+      record {
+        grows = grown;
+        counts = counted;
+        is = λ flow has. ends.is flow (ended.grows.keeps flow (way.grows.keeps flow (tests.grows.keeps flow has)));
+        does = λ flow has has_test has_last has_body head_is.
+            let in_z = tests.grows.keeps flow has in
+            let in_y = way.grows.keeps flow in_z in
+            let on = ends.is flow (ended.grows.keeps flow in_y) in
+            let inner_mark = mark_stays tests.grows (head + 1 + before) here in
+            let At : Point → Point → Type 0 = λ o b. executes_at program flow routine (labels_in routine flow) body (head + 1 + before) o (block_of flow behind) v b in
+            let in_loop = subst (λ o. At o (jump_to behind)) on (subst (λ b. At (block_of flow end) b) leads (way.does flow in_z has_body (head + 1 + before) inner_mark)) in
+            (block_of flow behind, (r, v, head_is, tests.does flow q has has_test on, (jump_to behind, in_loop, jumps there), ended.does flow in_y has_last));
+      }
+
   -- a `for`
-  pub for_made : {at : Place} {first : Statements} {test last : Option Typed} {body : Statement} {out again inner head end behind : ℕ} {old x y z w u new : Built} {p v r q s t : Point} → head + suc (inner + length old.heads) ≡ old.marks → inner ≡ marks_in first + marks body
-      → Seals old x end q → EndsFor program last x y behind head → s ≡ jump_to behind → Executes program routine body end behind y z v s → TestsFor program at test z w r v end
-      → t ≡ jump_to head → ExecutesAll program routine first end again w u p t → SealsMark u new point.Head at r
+  pub for_made : {at : Place} {first : Statements} {test last : Option Typed} {body : Statement} {out again head end : ℕ} {old z u new : Built} {p r q t : Point} → TurnsFor program routine at test last body (marks_in first) old z head end r q
+      → t ≡ jump_to head → ExecutesAll program routine first end again z u p t → SealsMark u new point.Head at r
       → Executes program routine (For at first test last body) out again old new p q
-  for_made {at = at} {first = first} {test = test} {last = last} {body = body} {out = out} {again = again} {head = head} {end = end} {behind = behind} {z = z} {w = w} {u = u} {p = p} {v = v} {r = r} {q = q} {s = s} {t = t} before counts ends ended leads way tests starts before_it seals =
+  for_made {at = at} {first = first} {test = test} {last = last} {body = body} {out = out} {again = again} {head = head} {end = end} {z = z} {u = u} {new = new} {p = p} {q = q} turns starts before_it seals =
       let all = marks_in first + marks body in
-      let inside = more_and_more 0 all all ends.grows (more_and_more 0 all all ended.grows (more_and_more (marks body) (marks_in first) all way.grows (more_and_more 0 (marks_in first) (marks_in first) tests.grows before_it.grows (omega arith)) (omega arith)) (omega arith)) (omega arith) in
+      let inside = more_and_more (marks body) (marks_in first) all turns.grows before_it.grows (omega arith) in
+      let counted = turns.counts in
+      let a = before_it.grows.counts in
+      let b = before_it.grows.same in
+      let c = seals.grows.counts in
+      let d = seals.grows.same in
+      let final : head + suc (length u.heads) ≡ u.marks = omega arith in
       record {
         grows = more_and_more all 1 (1 + marks_in first + marks body) inside seals.grows (omega arith);
         does = λ flow has args mark e.
             let in_u = seals.grows.keeps flow has in
-            let in_w = before_it.grows.keeps flow in_u in
-            let in_z = tests.grows.keeps flow in_w in
-            let in_y = way.grows.keeps flow in_z in
-            let in_x = ended.grows.keeps flow in_y in
-            let final = is_last inside before counts in
-            let here = behind_head final in
-            let on = ends.is flow in_x in
-            let inner_mark = mark_stays tests.grows (head + 1 + marks_in first) (mark_before before_it.grows (head + 1) here) in
-            let At : Point → Point → Type 0 = λ o b. executes_at program flow routine (labels_in routine flow) body (head + 1 + marks_in first) o (block_of flow behind) v b in
-            let in_loop = subst (λ o. At o (jump_to behind)) on (subst (λ b. At (block_of flow end) b) leads (way.does flow in_z args.3 (head + 1 + marks_in first) inner_mark)) in
+            let in_z = before_it.grows.keeps flow in_u in
+            let same : head ≡ mark = omega arith in
             let First : Point → Point → Type 0 = λ o b. all_at program flow routine (labels_in routine flow) first (head + 1) o (block_of flow again) p b in
-            let begins = subst (λ o. First o (jump_to head)) on (subst (λ b. First (block_of flow end) b) starts (before_it.does flow in_u args.0 (head + 1) here)) in
-            subst (λ (m : ℕ). executes_at program flow routine (labels_in routine flow) (For at first test last body) m (block_of flow out) (block_of flow again) p q) (is_head inside seals.grows before counts e) (
-              block_of flow head,
-              block_of flow behind,
-              all_on flow first (head + 1) q (block_of flow again) p (jump_to head) (block_of flow head) begins (jumps there),
-              (r, v, seals.is flow has head final, tests.does flow q in_w args.1 on, (jump_to behind, in_loop, jumps there), ended.does flow in_y args.2),
-            );
+            let begins = subst (λ o. First o (jump_to head)) (turns.is flow in_z) (subst (λ b. First (block_of flow end) b) starts (before_it.does flow in_u args.0 (head + 1) (behind_head u head final))) in
+            let loop = turns.does flow in_z args.1 args.2 args.3 (seals.is flow has head final) in
+            subst (λ (m : ℕ). executes_at program flow routine (labels_in routine flow) (For at first test last body) m (block_of flow out) (block_of flow again) p q) same
+            (block_of flow head, loop.0, all_on program routine flow first (head + 1) q (block_of flow again) p (jump_to head) (block_of flow head) begins (jumps there), loop.1);
       }
 
 -- the test of a `for`, if there is one, and its last part
@@ -147,7 +165,7 @@ module _ {program : TypedProgram} where
   pub tests_for : {at : Place} {test : Typed} {one end : ℕ} {old x new : Built} {p body : Point} → Seals old x one body → Uses program test 0 x new p (split at 0 one end) → TestsFor program at (Some test) old new p body end
   tests_for {one = one} {end = end} seals tests = record {
     grows = grows_on seals.grows tests.grows;
-    does = λ flow q has args is. (one, end, tests.does flow has args, (seals.is flow (tests.grows.keeps flow has), block_joins is));
+    does = λ flow q has args is. (one, end, tests.does flow has args, (seals.is flow (tests.grows.keeps flow has), block_joins program flow end q is));
   }
 
   pub no_last : {built : Built} {head : ℕ} → EndsFor program None built built head head

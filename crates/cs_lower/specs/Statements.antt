@@ -1,14 +1,16 @@
 -- What the lowering of statements ensures: in every graph that has what was built, the point executes the statement, and behind it
 -- stands the other one.
-use Rattle.std.specs.Prelude.{◌≡◌, ℕ, ◌+◌, List, length, Option, unwrap_or, slice_get}
+use Rattle.std.specs.Prelude.{◌≡◌, ℕ, suc, ◌+◌, List, length, Option, unwrap_or, slice_get}
 use Rattle.cs_ast.specs.declared.place.Place.{Place}
 use Rattle.cs_ast.specs.TypedTree.{Typed, Initial, Statement, Statements}
 use Rattle.cs_ast.specs.TypedProgram.{TypedProgram, Routine}
+use Rattle.cs_runs.specs.declared.point.PointKind.TheVariants as point
 use Rattle.cs_plain.specs.Initials.{Piece}
 use Rattle.cs_plain.specs.Marks.{marks, marks_in}
 use Rattle.cs_plain.specs.Statements.{count_of}
-use Rattle.cs_cfg.specs.Graph.{Point, Flow, block_of}
-use Rattle.cs_cfg.specs.Executing.{executes_at, all_at, from_at, for_test_at, last_at, returns_at, declares_at, stores_at}
+use Rattle.cs_cfg.specs.Graph.{Point, Flow, Reach, block_of}
+use Rattle.cs_cfg.specs.Placing.{does}
+use Rattle.cs_cfg.specs.Executing.{for_loop, executes_at, all_at, from_at, for_test_at, last_at, returns_at, declares_at, stores_at}
 use Rattle.cs_lower.specs.Allocations.{OptionHasArguments, OptionInitialHasArguments, PiecesHaveArguments, StatementHasArguments, StatementsHaveArguments}
 use Rattle.cs_lower.specs.Labels.{marked_label}
 use Rattle.cs_lower.specs.Building.{jump_to, Built, Has, Grows}
@@ -71,3 +73,12 @@ pub record TestsFor (program : TypedProgram) (at : Place) (test : Option Typed) 
 pub record EndsFor (program : TypedProgram) (last : Option Typed) (old new : Built) (block head : ℕ) : Type 0 where
   pub grows : Grows 0 old new
   pub does : (flow : Flow) → Has flow new → OptionHasArguments last → last_at program flow last (block_of flow block) (block_of flow head)
+
+-- a `for` without its first part, which has so many marks: once its head is reached comes a point, and behind the loop stands the other
+-- one, which is a block
+pub record TurnsFor (program : TypedProgram) (routine : Routine) (at : Place) (test last : Option Typed) (body : Statement) (before : ℕ) (old new : Built) (head end : ℕ) (r q : Point) : Type 0 where
+  pub grows : Grows (marks body) old new
+  pub counts : head + suc (before + length new.heads) ≡ new.marks
+  pub is : (flow : Flow) → Has flow new → block_of flow end ≡ q
+  pub does : (flow : Flow) → Has flow new → OptionHasArguments test → OptionHasArguments last → StatementHasArguments body → block_of flow head ≡ does at 0 (Reach point.Head head) r →
+      (again : Point) × for_loop program flow at test last head (λ o a x y. executes_at program flow routine (labels_in routine flow) body (head + 1 + before) o a x y) (block_of flow head) again q

@@ -8,11 +8,11 @@ ghost use Rattle.cs_cfg.specs.Placing.{split};
 ghost use Rattle.cs_lower.specs.Building.{point_of, built_of};
 ghost use Rattle.cs_lower.specs.Expressions.{Uses};
 ghost use Rattle.cs_lower.specs.Ready.{IsReady};
-ghost use Rattle.cs_lower.specs.Statements.{Executes, TestsFor, EndsFor};
+ghost use Rattle.cs_lower.specs.Statements.{Executes, TestsFor, EndsFor, TurnsFor};
 
 use crate::building::GraphBuilder;
 use crate::context::Lowering;
-use crate::marks::marks;
+use crate::marks::{marks, together};
 use crate::statements::Exits;
 use crate::strips::Strip;
 use cs_ast::Place;
@@ -21,6 +21,14 @@ use cs_ast::typed::statement::Stmt;
 use cs_cfg::Work;
 use cs_runs::PointKind;
 use std::alloc::AllocError;
+
+/// A `for` without its first part: the block of its head, the block behind it, and what comes once the head is reached.
+#[derive(Drop)]
+pub struct Turned {
+    pub head: u32,
+    pub end: u32,
+    pub strip: Strip,
+}
 
 impl Lowering<'_> {
     /// A `while` (C11 6.8.5.1).
@@ -71,6 +79,32 @@ impl Lowering<'_> {
         let turned = self.lower_statement(graph, body, exits, self.jump(again))?;
         graph.seal_mark(PointKind::Head, place, turned)?;
         Ok(self.jump(head))
+    }
+
+    /// A `for` without its first part, which has so many marks (C11 6.8.5.3).
+    #[cycle(statements)]
+    pub fn lower_for(
+        &self,
+        graph: &mut GraphBuilder,
+        body: &Stmt,
+        place: Place,
+        test: Option<&Expr>,
+        last: Option<&Expr>,
+        before: u32,
+        behind: Strip,
+    ) -> Result<Turned, AllocError>
+        requires { IsReady self.now }
+        ensures { IfOk result (λ made. TurnsFor (typed_program self.now.program.now) (routine self.now.function.now) place (option_map typed (option_copied test.entry)) (option_map typed (option_copied last.entry)) (statement body.now) before (built_of graph.old) (built_of graph.new) made.head made.end (point_of made.strip) (point_of behind)) }
+    {
+        let inside = marks(body)?;
+        let inner = together(before, inside)?;
+        let head = graph.mark_before(inner)?;
+        let end = graph.seal(behind)?;
+        let again = self.lower_last(graph, place, last, head)?;
+        let exits = Exits { out: end, again };
+        let made = self.lower_statement(graph, body, exits, self.jump(again))?;
+        let strip = self.lower_for_test(graph, place, test, made, end)?;
+        Ok(Turned { head, end, strip })
     }
 
     /// A test of no other temporary, and then one of two blocks.

@@ -11,7 +11,7 @@ ghost use Rattle.cs_lower.specs.Statements.{Executes, ExecutesAll, ExecutesIn, E
 
 use crate::building::GraphBuilder;
 use crate::context::Lowering;
-use crate::marks::{marks, marks_in, together};
+use crate::marks::{marks, marks_in};
 use crate::strips::Strip;
 use cs_ast::Place;
 use cs_ast::typed::expression::Expr;
@@ -64,20 +64,15 @@ impl Lowering<'_> {
             StmtKind::Do(body, test) => self.lower_do(graph, body, s.place, test, behind),
             StmtKind::For(first, test, last, body) => {
                 let before = marks_in(first)?;
-                let inside = marks(body)?;
-                let inner = together(before, inside)?;
-                let head = graph.mark_before(inner)?;
-                let end = graph.seal(behind)?;
-                let again = self.lower_last(graph, s.place, last.as_ref(), head)?;
+                let test = test.as_ref();
+                let last = last.as_ref();
+                let turned = self.lower_for(graph, body, s.place, test, last, before, behind)?;
                 let exits = Exits {
-                    out: end,
+                    out: turned.end,
                     again: exits.again,
                 };
-                let within = Exits { out: end, again };
-                let body = self.lower_statement(graph, body, within, self.jump(again))?;
-                let turned = self.lower_for_test(graph, s.place, test.as_ref(), body, end)?;
-                let made = self.lower_all(graph, first, exits, self.jump(head))?;
-                graph.seal_mark(PointKind::Head, s.place, turned)?;
+                let made = self.lower_all(graph, first, exits, self.jump(turned.head))?;
+                graph.seal_mark(PointKind::Head, s.place, turned.strip)?;
                 Ok(made)
             }
             StmtKind::Switch(value, cases, statements) => {

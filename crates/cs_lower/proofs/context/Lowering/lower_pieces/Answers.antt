@@ -7,7 +7,10 @@ use Rattle.cs_lower.proofs.Declaring.{stored_further}
 use Rattle.cs_lower.proofs.context.Lowering.lower_pieces.Goals as goal
 
 pub loop-left-preserved : goal.loop-left-preserved
-loop-left-preserved c = ?
+loop-left-preserved c = record {
+  within = omega arith;
+  made = stored_further c.args.pieces.now c.loop-left.left c.index-pieces-left.result (omega arith) c.loop-left.invariant.within c.index-pieces-left.is c.loop-left.invariant.made c.in_ok-made.ensures;
+}
 
 pub returns : goal.returns
 returns c =
