@@ -16,7 +16,7 @@ use Rattle.cs_cfg.specs.Placing.{does, Joins, there}
 use Rattle.cs_cfg.specs.Executing.{leaving, finishing, executes_at}
 use Rattle.cs_cfg.specs.Lowered.{is_there}
 use Rattle.cs_cfg.specs.Placed.{LowersBody, IsPlaced}
-use Rattle.cs_lower.specs.Allocations.{StatementHasArguments}
+use Rattle.cs_lower.specs.Allocations.{StatementHasArguments, AllocationsHaveArguments}
 use Rattle.cs_lower.specs.Building.{Built, Has, Grows}
 use Rattle.cs_lower.specs.Sealing.{Seals}
 use Rattle.cs_lower.specs.Statements.{labels_in, Executes}
@@ -52,8 +52,8 @@ module _ {program : TypedProgram} {routine : Routine} where
 
   -- all of a body's graph
   pub whole_body : {body : Statement} {entry count : ℕ} {old new : Built} {flow : Flow} → BeginsBody program routine body old new entry → old ≡ record { marks = count; heads = []; others = [] } → count ≡ marks body
-      → (length new.heads ≡ new.marks → Has flow new) → StatementHasArguments body → flow.entry ≡ entry → flow.marks ≡ new.marks → LowersBody program routine body flow
-  whole_body {old = old} {new = new} {flow = flow} begins starts counted has args first marked =
+      → (length new.heads ≡ new.marks → Has flow new) → flow.entry ≡ entry → flow.marks ≡ new.marks → StatementHasArguments body → LowersBody program routine body flow
+  whole_body {old = old} {new = new} {flow = flow} begins starts counted has first marked args =
       let none : length old.heads ≡ 0 = ap (λ (b : Built). length b.heads) starts in
       let count = ap (λ (b : Built). b.marks) starts in
       let c = begins.grows.counts in
@@ -62,18 +62,18 @@ module _ {program : TypedProgram} {routine : Routine} where
       begins.does flow (has all) args all first (omega arith)
 
   -- a function with a body
-  pub has_graph : {body : Statement} {flow : Flow} → routine.body ≡ Some body → LowersBody program routine body flow → HasGraph program routine (Some flow)
+  pub has_graph : {body : Statement} {flow : Flow} → routine.body ≡ Some body → (StatementHasArguments body → LowersBody program routine body flow) → HasGraph program routine (Some flow)
   has_graph {body = body} {flow = flow} is lowers = record {
     there = ap is_there (sym is);
-    lowers = λ other graph other_is graph_is.
+    lowers = λ other graph other_is graph_is args.
         let same : body ≡ other = cc in
         let alike : flow ≡ graph = cc in
-        subst (λ b. LowersBody program routine b graph) same (subst (λ f. LowersBody program routine body f) alike lowers);
+        subst (λ b. LowersBody program routine b graph) same (subst (λ f. LowersBody program routine body f) alike (lowers (subst StatementHasArguments (sym same) args)));
   }
 
   -- a function without one
   pub has_none : routine.body ≡ None → HasGraph program routine None
-  has_none is = record { there = ap is_there (sym is); lowers = λ body flow none some. cc }
+  has_none is = record { there = ap is_there (sym is); lowers = λ body flow none some args. cc }
 
 -- the graphs of the first functions
 pub record HasGraphsBelow (program : TypedProgram) (count : ℕ) (graphs : List (Option Flow)) : Type 0 where
@@ -120,10 +120,10 @@ one_more_graph {program = program} {count = count} {graphs = graphs} {more = mor
         (subst (λ (k : ℕ). HasGraph program (routine_of program k) graph) last new)
 
 -- all graphs
-pub all_graphs : {program : TypedProgram} {count : ℕ} {graphs : List (Option Flow)} → count ≡ length program.routines → HasGraphsBelow program count graphs → IsPlaced (record { flows = graphs }) program
-all_graphs {program = program} {count = count} {graphs = graphs} all below = record {
+pub all_graphs : {program : TypedProgram} {count : ℕ} {graphs : List (Option Flow)} → count ≡ length program.routines → HasGraphsBelow program count graphs → AllocationsHaveArguments program → IsPlaced (record { flows = graphs }) program
+all_graphs {program = program} {count = count} {graphs = graphs} all below args = record {
   graphs = λ n. (graph_of n).there;
-  bodies = λ n body flow has_body has_flow. (graph_of n).lowers body flow has_body has_flow;
+  bodies = λ n body flow has_body has_flow. (graph_of n).lowers body flow has_body has_flow (args n body has_body);
 }
   where
     none_past : (n : ℕ) → count ≤ n → HasGraph program (routine_of program n) (unwrap_or (slice_get graphs n) None)

@@ -14,7 +14,7 @@ pub record BeginsBody (program : TypedProgram) (routine : Routine) (body : State
   pub grows : Grows (marks body) old new
   pub does : (flow : Flow) → Has flow new → StatementHasArguments body → length new.heads ≡ new.marks → flow.entry ≡ entry → flow.marks ≡ marks body → LowersBody program routine body flow
 
--- a function with a body has a graph that executes it, and one without a body has none
+-- a function with a body has a graph that executes it, if its allocations have their arguments, and one without a body has none
 pub record HasGraph (program : TypedProgram) (routine : Routine) (graph : Option Flow) : Type 0 where
   pub there : is_there graph ≡ is_there routine.body
-  pub lowers : (body : Statement) (flow : Flow) → routine.body ≡ Some body → graph ≡ Some flow → LowersBody program routine body flow
+  pub lowers : (body : Statement) (flow : Flow) → routine.body ≡ Some body → graph ≡ Some flow → StatementHasArguments body → LowersBody program routine body flow

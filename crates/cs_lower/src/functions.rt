@@ -2,7 +2,6 @@
 ghost use Rattle.std.specs.Prelude.{◌≡◌, IfOk, Some, option_map};
 ghost use Rattle.cs_types.specs.Layout.{IsLaidOut};
 ghost use Rattle.cs_types.specs.Shape.{shape_of};
-ghost use Rattle.cs_ast.specs.TypedTree.{Statement};
 ghost use Rattle.cs_ast.specs.TypedProgram.{typed_program, routine};
 ghost use Rattle.cs_ast.specs.TypedView.{statement};
 ghost use Rattle.cs_plain.specs.Calls.{falls_off};
@@ -27,11 +26,11 @@ use cs_types::CType;
 use std::alloc::{AllocError, Global};
 use std::collections::BTreeMap;
 
-/// The code of a program: each function with a body has a flow graph that executes it. Its only error is want of memory.
+/// The code of a program: each function with a body has a flow graph that executes it, where each allocation has the arguments that
+/// its function takes (C11 7.22.3). Its only error is want of memory.
 pub fn lower(alloc: Global, program: &Program) -> Result<Code, AllocError>
-    requires laid_out { IsLaidOut program.now.model program.now.table.list }
-    requires arguments { AllocationsHaveArguments (typed_program program.now) }
-    ensures placed { IfOk result (λ code. IsPlaced (view.code code) (typed_program program.now)) }
+    requires { IsLaidOut program.now.model program.now.table.list }
+    ensures { IfOk result (λ code. AllocationsHaveArguments (typed_program program.now) → IsPlaced (view.code code) (typed_program program.now)) }
 {
     let mut flows = Vec::new(alloc);
     for function in &program.functions {
@@ -47,8 +46,7 @@ fn lower_function(
     program: &Program,
     function: &Function,
 ) -> Result<Option<Flow>, AllocError>
-    requires laid_out { IsLaidOut program.now.model program.now.table.list }
-    requires arguments { (body : Statement) → (routine function.now).body ≡ Some body → StatementHasArguments body }
+    requires { IsLaidOut program.now.model program.now.table.list }
     ensures { IfOk result (λ made. HasGraph (typed_program program.now) (routine function.now) (option_map view.flow made)) }
 {
     match &function.body {
@@ -69,8 +67,7 @@ fn lower_body(
 ) -> Result<Flow, AllocError>
     requires laid_out { IsLaidOut program.now.model program.now.table.list }
     requires own { (routine function.now).body ≡ Some (statement body.now) }
-    requires arguments { StatementHasArguments (statement body.now) }
-    ensures { IfOk result (λ flow. LowersBody (typed_program program.now) (routine function.now) (statement body.now) (view.flow flow)) }
+    ensures { IfOk result (λ flow. StatementHasArguments (statement body.now) → LowersBody (typed_program program.now) (routine function.now) (statement body.now) (view.flow flow)) }
 {
     let mut labels = BTreeMap::new(alloc);
     let marks = add_labels(&mut labels, body, 0)?;

@@ -7,7 +7,7 @@ use Rattle.cs_ast.specs.TypedProgram.{typed_program, routine}
 use Rattle.cs_ast.specs.TypedView.{typed, some_typed, initial, statement, statement_at, statement_list}
 use Rattle.cs_plain.specs.Marks.{marks, marks_in}
 use Rattle.cs_lower.specs.Building.{built_of, point_of}
-use Rattle.cs_lower.specs.Statements.{block_at, ExecutesAll, EntersAll}
+use Rattle.cs_lower.specs.Statements.{block_at, ExecutesAll, EntersAll, TurnsFor}
 use Rattle.cs_lower.proofs.Executing as made
 use Rattle.cs_lower.proofs.Executing.{as_statement, executes_none, executes_further, executes_in}
 use Rattle.cs_lower.proofs.Forms.{if_made}
@@ -54,7 +54,23 @@ lower_statement-returns-in-Do t c =
     if_made c.lower_do.result (λ strip h. as_statement is (h c.args.exits.out c.args.exits.again)) c.lower_do.ensures
 
 pub lower_statement-returns-in_ok-seal_mark-in-For : goal.lower_statement-returns-in_ok-seal_mark-in-For
-lower_statement-returns-in_ok-seal_mark-in-For t c = ?
+lower_statement-returns-in_ok-seal_mark-in-For t c =
+    let s = c.args.s.now in
+    let first = statement_list c.deref-in-For-3.result.now in
+    let body = statement c.deref-in-For-2.result.now in
+    let test = option_map typed (option_copied c.as_ref-test.result) in
+    let last = option_map typed (option_copied c.as_ref-last.result) in
+    let is : statement s ≡ For s.place first test last body =
+        for_is s c.in-For.first c.in-For.test c.in-For.last c.in-For.body c.in-For.is
+        ∙ (ap (λ l. For s.place (statement_list l) (some_typed c.in-For.test) (some_typed c.in-For.last) (statement c.in-For.body.value)) (sym c.deref-in-For-3.ensures.value)
+        ∙ (ap (λ o. For s.place first (option_map typed o) (some_typed c.in-For.last) (statement c.in-For.body.value)) (sym c.as_ref-test.ensures.value)
+        ∙ (ap (λ o. For s.place first test (option_map typed o) (statement c.in-For.body.value)) (sym c.as_ref-last.ensures.value)
+        ∙ ap (λ (b : Stmt). For s.place first test last (statement b)) (sym c.deref-in-For-2.ensures)))) in
+    let counted : c.in_ok-before-in-For.before ≡ marks_in first =
+        c.in_ok-before-in-For.ensures ∙ ap (λ l. marks_in (statement_list l)) (c.deref-in-For.ensures.value ∙ sym c.deref-in-For-3.ensures.value) in
+    let turned = c.in_ok-turned-in-For.turned in
+    let turns = subst (λ (n : ℕ). TurnsFor (typed_program c.args.self.now.program.now) (routine c.args.self.now.function.now) s.place test last body n (built_of c.args.graph.now) (built_of c.lower_for.new.graph) turned.head turned.end (point_of turned.strip) (point_of c.args.behind)) counted c.in_ok-turned-in-For.ensures in
+    as_statement is (for_made turns c.jump.ensures c.in_ok-made-in-For.ensures c.in_ok-seal_mark-in-For.ensures)
 
 pub lower_statement-returns-in_ok-entries-in-Switch : goal.lower_statement-returns-in_ok-entries-in-Switch
 lower_statement-returns-in_ok-entries-in-Switch t c =
@@ -118,7 +134,7 @@ lower_entries-loop-left-preserved t c =
 pub lower_entries-returns : goal.lower_entries-returns
 lower_entries-returns t c =
     let none : c.loop-left.left ≡ 0 = omega arith in
-    let Enters = λ (k : ℕ) l. EntersAll (typed_program c.args.self.now.program.now) (routine c.args.self.now.function.now) (statement_list (drop k c.args.statements.now)) c.args.exits.out c.args.exits.again (built_of c.args.graph.now) (built_of c.loop-left.graph) l c.args.end in
+    let Enters : ℕ → List ℕ → Type 0 = λ k l. EntersAll (typed_program c.args.self.now.program.now) (routine c.args.self.now.function.now) (statement_list (drop k c.args.statements.now)) c.args.exits.out c.args.exits.again (built_of c.args.graph.now) (built_of c.loop-left.graph) l c.args.end in
     subst (λ l. Enters 0 l) (sym c.reverse.ensures.items) (subst (λ (k : ℕ). Enters k (reverse c.loop-left.entries.items)) none c.loop-left.invariant.made)
 
 pub lower_way_out-returns : goal.lower_way_out-returns
@@ -146,7 +162,7 @@ lower_all-loop-left-init t c = record {
 pub lower_entries-loop-left-init : goal.lower_entries-loop-left-init
 lower_entries-loop-left-init t c =
     let none = ap reverse c.new-entries.ensures.items in
-    let Enters = λ l (blocks : List ℕ). EntersAll (typed_program c.args.self.now.program.now) (routine c.args.self.now.function.now) (statement_list l) c.args.exits.out c.args.exits.again (built_of c.args.graph.now) (built_of c.args.graph.now) blocks c.args.end in
+    let Enters : List Stmt → List ℕ → Type 0 = λ l blocks. EntersAll (typed_program c.args.self.now.program.now) (routine c.args.self.now.function.now) (statement_list l) c.args.exits.out c.args.exits.again (built_of c.args.graph.now) (built_of c.args.graph.now) blocks c.args.end in
     record {
       within = omega arith;
       next = sym (ap (λ l. block_at l c.args.end 0) none);
