@@ -108,10 +108,10 @@ module _ {program : TypedProgram} {routine : Routine} where
       }
 
   -- a `for` without its first part
-  pub for_turned : {at : Place} {test last : Option Typed} {body : Statement} {before inside inner head end behind : ℕ} {old x y z new : Built} {v r q s : Point} → head + suc (inner + length old.heads) ≡ old.marks → inner ≡ before + inside → inside ≡ marks body
+  pub for_turned : {at : Place} {test last : Option Typed} {body : Statement} {before counted inside inner head end behind : ℕ} {old x y z new : Built} {v r q s : Point} → head + suc (inner + length old.heads) ≡ old.marks → inner ≡ counted + inside → counted ≡ before → inside ≡ marks body
       → Seals old x end q → EndsFor program last x y behind head → s ≡ jump_to behind → Executes program routine body end behind y z v s → TestsFor program at test z new r v end
       → TurnsFor program routine at test last body before old new head end r q
-  for_turned {body = body} {before = before} {inside = inside} {inner = inner} {head = head} {end = end} {behind = behind} {old = old} {z = z} {new = new} {v = v} {r = r} {q = q} start inner_is inside_is ends ended leads way tests =
+  for_turned {body = body} {before = before} {counted = count} {inside = inside} {inner = inner} {head = head} {end = end} {behind = behind} {old = old} {z = z} {new = new} {v = v} {r = r} {q = q} start inner_is count_is inside_is ends ended leads way tests =
       let grown = more_and_more 0 (marks body) (marks body) ends.grows (more_and_more 0 (marks body) (marks body) ended.grows (more_and_more (marks body) 0 (marks body) way.grows tests.grows (omega arith)) (omega arith)) (omega arith) in
       let a = grown.counts in
       let b = grown.same in

@@ -3,7 +3,8 @@ ghost use Rattle.std.specs.Prelude.{ℕ, IfOk, option_map, option_copied};
 ghost use Rattle.cs_types.specs.Layout.{IsLaidOut};
 ghost use Rattle.cs_ast.specs.TypedTree.{While, Do};
 ghost use Rattle.cs_ast.specs.TypedProgram.{typed_program, routine};
-ghost use Rattle.cs_ast.specs.TypedView.{typed, statement};
+ghost use Rattle.cs_ast.specs.TypedView.{typed, statement, statement_list};
+ghost use Rattle.cs_plain.specs.Marks as plain;
 ghost use Rattle.cs_cfg.specs.Placing.{split};
 ghost use Rattle.cs_lower.specs.Building.{point_of, built_of};
 ghost use Rattle.cs_lower.specs.Expressions.{Uses};
@@ -12,7 +13,7 @@ ghost use Rattle.cs_lower.specs.Statements.{Executes, TestsFor, EndsFor, TurnsFo
 
 use crate::building::GraphBuilder;
 use crate::context::Lowering;
-use crate::marks::{marks, together};
+use crate::marks::{marks, marks_in, together};
 use crate::statements::Exits;
 use crate::strips::Strip;
 use cs_ast::Place;
@@ -81,21 +82,22 @@ impl Lowering<'_> {
         Ok(self.jump(head))
     }
 
-    /// A `for` without its first part, which has so many marks (C11 6.8.5.3).
+    /// A `for` without its first part, whose marks are counted alone (C11 6.8.5.3).
     #[cycle(statements)]
     pub fn lower_for(
         &self,
         graph: &mut GraphBuilder,
         body: &Stmt,
+        first: &[Stmt],
         place: Place,
         test: Option<&Expr>,
         last: Option<&Expr>,
-        before: u32,
         behind: Strip,
     ) -> Result<Turned, AllocError>
         requires { IsReady self.now }
-        ensures { IfOk result (λ made. TurnsFor (typed_program self.now.program.now) (routine self.now.function.now) place (option_map typed (option_copied test.entry)) (option_map typed (option_copied last.entry)) (statement body.now) before (built_of graph.old) (built_of graph.new) made.head made.end (point_of made.strip) (point_of behind)) }
+        ensures { IfOk result (λ made. TurnsFor (typed_program self.now.program.now) (routine self.now.function.now) place (option_map typed (option_copied test.entry)) (option_map typed (option_copied last.entry)) (statement body.now) (plain.marks_in (statement_list first.now)) (built_of graph.old) (built_of graph.new) made.head made.end (point_of made.strip) (point_of behind)) }
     {
+        let before = marks_in(first)?;
         let inside = marks(body)?;
         let inner = together(before, inside)?;
         let head = graph.mark_before(inner)?;

@@ -11,7 +11,7 @@ ghost use Rattle.cs_lower.specs.Statements.{Executes, ExecutesAll, ExecutesIn, E
 
 use crate::building::GraphBuilder;
 use crate::context::Lowering;
-use crate::marks::{marks, marks_in};
+use crate::marks::marks;
 use crate::strips::Strip;
 use cs_ast::Place;
 use cs_ast::typed::expression::Expr;
@@ -63,10 +63,9 @@ impl Lowering<'_> {
             StmtKind::While(test, body) => self.lower_while(graph, body, s.place, test, behind),
             StmtKind::Do(body, test) => self.lower_do(graph, body, s.place, test, behind),
             StmtKind::For(first, test, last, body) => {
-                let before = marks_in(first)?;
                 let test = test.as_ref();
                 let last = last.as_ref();
-                let turned = self.lower_for(graph, body, s.place, test, last, before, behind)?;
+                let turned = self.lower_for(graph, body, first, s.place, test, last, behind)?;
                 let exits = Exits {
                     out: turned.end,
                     again: exits.again,

@@ -11,8 +11,8 @@ use Rattle.cs_lower.specs.Labels.{label_in}
 use Rattle.cs_lower.proofs.WholeBodies.{whole_body}
 use Rattle.cs_lower.proofs.functions.lower_body.Goals as goal
 
-pub lower_whole-entry-requires : goal.lower_whole-entry-requires
-lower_whole-entry-requires c = record {
+pub lower_whole-requires : goal.lower_whole-requires
+lower_whole-requires c = record {
   laid_out = c.requires.laid_out;
   labels = λ label.
       let body = statement c.args.body.now in
