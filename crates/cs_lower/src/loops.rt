@@ -1,15 +1,14 @@
 //! The lowering of loops (C11 6.8.5).
 ghost use Rattle.std.specs.Prelude.{ℕ, IfOk, option_map, option_copied};
 ghost use Rattle.cs_types.specs.Layout.{IsLaidOut};
-ghost use Rattle.cs_ast.specs.TypedTree.{While, Do};
+ghost use Rattle.cs_ast.specs.TypedTree.{While, Do, For};
 ghost use Rattle.cs_ast.specs.TypedProgram.{typed_program, routine};
 ghost use Rattle.cs_ast.specs.TypedView.{typed, statement, statement_list};
-ghost use Rattle.cs_plain.specs.Marks as plain;
 ghost use Rattle.cs_cfg.specs.Placing.{split};
 ghost use Rattle.cs_lower.specs.Building.{point_of, built_of};
 ghost use Rattle.cs_lower.specs.Expressions.{Uses};
 ghost use Rattle.cs_lower.specs.Ready.{IsReady};
-ghost use Rattle.cs_lower.specs.Statements.{Executes, TestsFor, EndsFor, TurnsFor};
+ghost use Rattle.cs_lower.specs.Statements.{Executes, TestsFor, EndsFor};
 
 use crate::building::GraphBuilder;
 use crate::context::Lowering;
@@ -22,14 +21,6 @@ use cs_ast::typed::statement::Stmt;
 use cs_cfg::Work;
 use cs_runs::PointKind;
 use std::alloc::AllocError;
-
-/// A `for` without its first part: the block of its head, the block behind it, and what comes once the head is reached.
-#[derive(Drop)]
-pub struct Turned {
-    pub head: u32,
-    pub end: u32,
-    pub strip: Strip,
-}
 
 impl Lowering<'_> {
     /// A `while` (C11 6.8.5.1).
@@ -82,7 +73,7 @@ impl Lowering<'_> {
         Ok(self.jump(head))
     }
 
-    /// A `for` without its first part, whose marks are counted alone (C11 6.8.5.3).
+    /// A `for` (C11 6.8.5.3). In its first part `continue` leads out of it, to a block.
     #[cycle(statements)]
     pub fn lower_for(
         &self,
@@ -92,10 +83,11 @@ impl Lowering<'_> {
         place: Place,
         test: Option<&Expr>,
         last: Option<&Expr>,
+        around: u32,
         behind: Strip,
-    ) -> Result<Turned, AllocError>
+    ) -> Result<Strip, AllocError>
         requires { IsReady self.now }
-        ensures { IfOk result (λ made. TurnsFor (typed_program self.now.program.now) (routine self.now.function.now) place (option_map typed (option_copied test.entry)) (option_map typed (option_copied last.entry)) (statement body.now) (plain.marks_in (statement_list first.now)) (built_of graph.old) (built_of graph.new) made.head made.end (point_of made.strip) (point_of behind)) }
+        ensures { IfOk result (λ made. (out : ℕ) → Executes (typed_program self.now.program.now) (routine self.now.function.now) (For place (statement_list first.now) (option_map typed (option_copied test.entry)) (option_map typed (option_copied last.entry)) (statement body.now)) out around (built_of graph.old) (built_of graph.new) (point_of made) (point_of behind)) }
     {
         let before = marks_in(first)?;
         let inside = marks(body)?;
@@ -106,7 +98,13 @@ impl Lowering<'_> {
         let exits = Exits { out: end, again };
         let made = self.lower_statement(graph, body, exits, self.jump(again))?;
         let strip = self.lower_for_test(graph, place, test, made, end)?;
-        Ok(Turned { head, end, strip })
+        let outer = Exits {
+            out: end,
+            again: around,
+        };
+        let entry = self.lower_all(graph, first, outer, self.jump(head))?;
+        graph.seal_mark(PointKind::Head, place, strip)?;
+        Ok(entry)
     }
 
     /// A test of no other temporary, and then one of two blocks.

@@ -65,14 +65,7 @@ impl Lowering<'_> {
             StmtKind::For(first, test, last, body) => {
                 let test = test.as_ref();
                 let last = last.as_ref();
-                let turned = self.lower_for(graph, body, first, s.place, test, last, behind)?;
-                let exits = Exits {
-                    out: turned.end,
-                    again: exits.again,
-                };
-                let made = self.lower_all(graph, first, exits, self.jump(turned.head))?;
-                graph.seal_mark(PointKind::Head, s.place, turned.strip)?;
-                Ok(made)
+                self.lower_for(graph, body, first, s.place, test, last, exits.again, behind)
             }
             StmtKind::Switch(value, cases, statements) => {
                 let end = graph.seal(behind)?;
@@ -97,9 +90,9 @@ impl Lowering<'_> {
         }
     }
 
-    // Statements one after another, and then a strip.
+    /// Statements one after another, and then a strip.
     #[cycle(statements)]
-    fn lower_all(
+    pub fn lower_all(
         &self,
         graph: &mut GraphBuilder,
         statements: &[Stmt],

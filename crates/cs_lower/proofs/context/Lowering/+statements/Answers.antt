@@ -1,5 +1,4 @@
 use Rattle.std.proofs.Common.{◌≡◌, ℕ, ◌+◌, List, ◌∷◌, [], length, drop, reverse, rules, sym, ap, subst, ◌∙◌, arith}
-use Rattle.std.proofs.lemmas.Grind.{common_steps}
 use Rattle.std.proofs.lemmas.List.{reverse-append}
 use Rattle.std.specs.Prelude.{option_map, option_copied}
 use Rattle.cs_ast.specs.declared.typed.statement.Stmt.{Stmt}
@@ -8,7 +7,7 @@ use Rattle.cs_ast.specs.TypedProgram.{typed_program, routine}
 use Rattle.cs_ast.specs.TypedView.{typed, some_typed, initial, statement, statement_at, statement_list}
 use Rattle.cs_plain.specs.Marks.{marks, marks_in}
 use Rattle.cs_lower.specs.Building.{built_of, point_of}
-use Rattle.cs_lower.specs.Statements.{block_at, ExecutesAll, EntersAll, TurnsFor}
+use Rattle.cs_lower.specs.Statements.{block_at, ExecutesAll, EntersAll}
 use Rattle.cs_lower.proofs.Executing as made
 use Rattle.cs_lower.proofs.Executing.{as_statement, executes_none, executes_further, executes_in}
 use Rattle.cs_lower.proofs.Forms.{if_made}
@@ -54,23 +53,20 @@ lower_statement-returns-in-Do t c =
     let is : statement c.args.s.now ≡ Do c.args.s.now.place (statement c.deref-in-Do.result.now) (typed c.in-Do.test) = search rules in
     if_made c.lower_do.result (λ strip h. as_statement is (h c.args.exits.out c.args.exits.again)) c.lower_do.ensures
 
-pub lower_statement-returns-in_ok-seal_mark-in-For : goal.lower_statement-returns-in_ok-seal_mark-in-For
-lower_statement-returns-in_ok-seal_mark-in-For t c =
+pub lower_statement-returns-in-For : goal.lower_statement-returns-in-For
+lower_statement-returns-in-For t c =
     let s = c.args.s.now in
-    let first = statement_list c.deref-in-For-3.result.now in
+    let first = statement_list c.deref-in-For-2.result.now in
     let body = statement c.deref-in-For.result.now in
     let test = option_map typed (option_copied c.as_ref-test.result) in
     let last = option_map typed (option_copied c.as_ref-last.result) in
     let is : statement s ≡ For s.place first test last body =
     for_is s c.in-For.first c.in-For.test c.in-For.last c.in-For.body c.in-For.is
-    ∙ (ap (λ l. For s.place (statement_list l) (some_typed c.in-For.test) (some_typed c.in-For.last) (statement c.in-For.body.value)) (sym c.deref-in-For-3.ensures.value)
+    ∙ (ap (λ l. For s.place (statement_list l) (some_typed c.in-For.test) (some_typed c.in-For.last) (statement c.in-For.body.value)) (sym c.deref-in-For-2.ensures.value)
     ∙ (ap (λ o. For s.place first (option_map typed o) (some_typed c.in-For.last) (statement c.in-For.body.value)) (sym c.as_ref-test.ensures.value)
     ∙ (ap (λ o. For s.place first test (option_map typed o) (statement c.in-For.body.value)) (sym c.as_ref-last.ensures.value)
     ∙ ap (λ (b : Stmt). For s.place first test last (statement b)) (sym c.deref-in-For.ensures)))) in
-    let turned = c.in_ok-turned-in-For.turned in
-    let again : c.deref-in-For-2.result.now ≡ c.deref-in-For-3.result.now = c.deref-in-For-2.ensures.value ∙ sym c.deref-in-For-3.ensures.value in
-    let turns = subst (λ l. TurnsFor (typed_program c.args.self.now.program.now) (routine c.args.self.now.function.now) s.place test last body (marks_in (statement_list l)) (built_of c.args.graph.now) (built_of c.lower_for.new.graph) turned.head turned.end (point_of turned.strip) (point_of c.args.behind)) again c.in_ok-turned-in-For.ensures in
-    as_statement is (for_made turns c.jump.ensures c.in_ok-made-in-For.ensures c.in_ok-seal_mark-in-For.ensures)
+    if_made c.lower_for.result (λ strip h. as_statement is (h c.args.exits.out)) c.lower_for.ensures
 
 pub lower_statement-returns-in_ok-entries-in-Switch : goal.lower_statement-returns-in_ok-entries-in-Switch
 lower_statement-returns-in_ok-entries-in-Switch t c =
@@ -93,7 +89,7 @@ lower_statement-returns-in_ok-seal_mark-in-Label t c =
     let is : statement c.args.s.now ≡ Label c.args.s.now.place c.in-Label.field-0 (statement c.deref-in-Label-2.result.now) = search rules in
     let inner : c.in_ok-inner-in-Label.inner ≡ marks (statement c.deref-in-Label-2.result.now) =
     c.in_ok-inner-in-Label.ensures ∙ ap (λ (b : Stmt). marks (statement b)) (c.deref-in-Label.ensures ∙ sym c.deref-in-Label-2.ensures) in
-    as_statement is (made.label {mark = c.in_ok-mark-in-Label.mark} {inner = c.in_ok-inner-in-Label.inner} {old = built_of c.args.graph.now} c.in_ok-mark-in-Label.ensures inner c.in_ok-made-in-Label.ensures c.in_ok-seal_mark-in-Label.ensures c.jump-in-Label.ensures)
+    as_statement is (made.label {mark = c.in_ok-mark-in-Label.mark} {inner = c.in_ok-inner-in-Label.inner} {old = built_of c.args.graph.now} c.in_ok-mark-in-Label.ensures inner c.in_ok-made-in-Label.ensures c.in_ok-seal_mark-in-Label.ensures c.jump.ensures)
 
 pub lower_statement-returns-in-Break : goal.lower_statement-returns-in-Break
 lower_statement-returns-in-Break t c =
@@ -149,8 +145,11 @@ lower_do-returns t c = λ out again.
     do_made {head = c.in_ok-head.head} {old = built_of c.args.graph.now} c.in_ok-head.ensures c.in_ok-inner.ensures c.in_ok-end.ensures c.in_ok-tested.ensures c.in_ok-again.ensures c.jump.ensures c.in_ok-turned.ensures c.in_ok-seal_mark.ensures c.jump-2.ensures
 
 pub lower_for-returns : goal.lower_for-returns
-lower_for-returns t c =
-    for_turned {counted = c.in_ok-before.before} {inside = c.in_ok-inside.inside} {inner = c.in_ok-inner.inner} {head = c.in_ok-head.head} {old = built_of c.args.graph.now} c.in_ok-head.ensures c.in_ok-inner.ensures c.in_ok-before.ensures c.in_ok-inside.ensures c.in_ok-end.ensures c.in_ok-again.ensures c.jump.ensures c.in_ok-made.ensures c.in_ok-strip.ensures
+lower_for-returns t c = λ out.
+    for_made
+    (for_turned {counted = c.in_ok-before.before} {inside = c.in_ok-inside.inside} {inner = c.in_ok-inner.inner} {head = c.in_ok-head.head} {old = built_of c.args.graph.now}
+    c.in_ok-head.ensures c.in_ok-inner.ensures c.in_ok-before.ensures c.in_ok-inside.ensures c.in_ok-end.ensures c.in_ok-again.ensures c.jump.ensures c.in_ok-made.ensures c.in_ok-strip.ensures)
+    c.jump-2.ensures c.in_ok-entry.ensures c.in_ok-seal_mark.ensures
 
 pub lower_all-loop-left-init : goal.lower_all-loop-left-init
 lower_all-loop-left-init t c = record {
@@ -169,6 +168,3 @@ lower_entries-loop-left-init t c =
       made = subst (λ l. Enters l (reverse c.new-entries.result.items)) (sym (dropped c.args.statements.now (length c.args.statements.now) (omega arith)))
           (subst (λ b. Enters [] b) (sym none) (enters_none c.args.exits.out c.args.exits.again (built_of c.args.graph.now) c.args.end));
     }
-
-pub lower_statement-lower_all-requires-in-For : goal.lower_statement-lower_all-requires-in-For
-lower_statement-lower_all-requires-in-For t c = first_of (search rules, search rules fits 5000 depth 12, grind (arith, common_steps))
