@@ -2,9 +2,12 @@
 use Rattle.std.proofs.Common.{◌≡◌, ℕ, suc, List, [], ◌∷◌, length, Some}
 use Rattle.cs_ast.specs.TypedTree.{Statement}
 use Rattle.cs_ast.specs.TypedProgram.{TypedProgram}
+use Rattle.cs_runs.specs.declared.outcome.RunBudgets.{RunBudgets}
+use Rattle.cs_runs.specs.Acts.{Goes}
 use Rattle.cs_plain.specs.Machine.{CallFrame, Frame, State, routine_of}
 use Rattle.cs_cfg.specs.Graph.{Point, Flow, Code, flow_of}
 use Rattle.cs_cfg.specs.Working.{CodeState}
+use Rattle.cs_cfg.specs.CodeSteps.{code_step}
 use Rattle.cs_cfg.specs.Placing.{Joins}
 use Rattle.cs_cfg.specs.Standing.{stands_at}
 use Rattle.cs_cfg.specs.Placed.{LowersBody}
@@ -34,11 +37,17 @@ module _ (code : Code) (program : TypedProgram) where
     waits : {frame : Frame} {frames : List Frame} {other : CallFrame Point} {others : List (CallFrame Point)} →
         FrameStands (suc (length frame.stack)) frame other → CallersStand frames others → CallersStand (frame ∷ frames) (other ∷ others)
 
-  -- a state of the code's run stands for one of the machine
-  pub record Related (m : State) (t : CodeState) : Type 0 where
+  -- a state of the code's run stands for one of the machine, step by step
+  pub record Aligned (m : State) (t : CodeState) : Type 0 where
     pub frame : FrameStands (length m.frame.stack) m.frame t.frame
     pub callers : CallersStand m.callers t.callers
     pub memory : t.memory ≡ m.memory
     pub frames : t.frames ≡ m.frames
     pub allocations : t.allocations ≡ m.allocations
     pub calls : t.calls ≡ m.calls
+
+  -- the same, or the code's run comes there silently: where `&&` or `||` is known after its first part, the machine puts down the
+  -- number in the same step, and the code in one of its own
+  pub data Related (budgets : RunBudgets) (m : State) : CodeState → Type 0 where
+    now : {t : CodeState} → Aligned m t → Related budgets m t
+    soon : {t next : CodeState} → code_step code program budgets t ≡ Goes next → Related budgets m next → Related budgets m t

@@ -117,7 +117,7 @@ module _ (program : TypedProgram) (flow : Flow) where
 
     abbrev mutual
       -- the point executes a statement, the first mark of which has this number, and then the graph goes on at a point; `break` and
-      -- `continue` lead to two others
+      -- `continue` lead to two others. The first part of a `for` stands in the loop for `break`, and outside of it for `continue`
       pub executes_at : Statement → ℕ → Point → Point → Point → Point → Type 0
       executes_at (Block at statements) mark out again p q = all_at statements mark out again p q
       executes_at (Declare at declaration initial) mark out again p q = declares_at at declaration initial p q
@@ -131,7 +131,7 @@ module _ (program : TypedProgram) (flow : Flow) where
       executes_at (Do at body test) mark out again p q =
           (head test_at : Point) × Joins program flow p head × do_loop at test mark (λ o a x y. executes_at body (mark + 1) o a x y) head test_at q
       executes_at (For at first test last body) mark out again p q =
-          (head last_part : Point) × all_at first (mark + 1) out again p head
+          (head last_part : Point) × all_at first (mark + 1) q again p head
           × for_loop at test last mark (λ o a x y. executes_at body (mark + 1 + marks_in first) o a x y) head last_part q
       executes_at (Switch at value cases statements) mark out again p q =
           (ways : List SwitchCase) × (otherwise : ℕ) × (entries : ℕ → Point)

@@ -143,10 +143,9 @@ module _ (program : TypedProgram) (flow : Flow) where
     item_at Out out again behind depth p = (depth ≡ 0) × (p ≡ out) × behind 0 p
     item_at (Begin at) out again behind depth p = (depth ≡ 0) × worked at (graph.Meet point.Enter) 0 behind 0 p
     item_at (End at value) out again behind depth p =
-        (depth ≡ 0) × ((nothing : Bool) × (value ≡ closed_with nothing) × (p ≡ does at 0 (graph.Close nothing) leaving))
-        × Joins program flow out finishing × Joins program flow again finishing
-    item_at (Give at) out again behind depth p = (depth ≡ 1) × (p ≡ does at 1 (graph.Meet point.Return) leaving)
-    item_at Leave out again behind depth p = (depth ≡ 1) × (p ≡ leaving)
+        (depth ≡ 0) × ((nothing : Bool) × (value ≡ closed_with nothing) × (p ≡ does at 0 (graph.Close nothing) leaving)) × behind 0 finishing
+    item_at (Give at) out again behind depth p = (depth ≡ 1) × (p ≡ does at 1 (graph.Meet point.Return) leaving) × ((q : Point) × behind 0 q)
+    item_at Leave out again behind depth p = (depth ≡ 1) × (p ≡ leaving) × ((q : Point) × behind 0 q)
 
     -- the point does all that is to be done; `break` and `continue` lead to the two others
     abbrev pub stands_at : List Item → Point → Point → Behind

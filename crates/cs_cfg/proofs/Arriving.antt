@@ -1,0 +1,55 @@
+-- What stands at a point where jumps lead to what is to be done: for jumps of the program and for statements in a row.
+use Rattle.std.proofs.Common.{ℕ, zero, suc, ◌+◌, List, ◌∷◌, refl}
+use Rattle.cs_ast.specs.TypedTree.{Statement, Statements, Empty, Then}
+use Rattle.cs_ast.specs.TypedProgram.{TypedProgram, Routine}
+use Rattle.cs_plain.specs.Machine.{Item, Again, Out}
+use Rattle.cs_plain.specs.Marks.{marks}
+use Rattle.cs_plain.specs.Jumps.{executes}
+use Rattle.cs_plain.specs.Statements.{executes_from}
+use Rattle.cs_cfg.specs.Graph.{Point, Flow}
+use Rattle.cs_cfg.specs.Placing.{Joins, there, jumps}
+use Rattle.cs_cfg.specs.Executing.{all_at, from_at}
+use Rattle.cs_cfg.specs.Standing.{Behind, loops_at, stands_at}
+
+-- jumps, and then more jumps
+pub jumps_on : {program : TypedProgram} {flow : Flow} {p q r : Point} → Joins program flow p q → Joins program flow q r → Joins program flow p r
+jumps_on there way = way
+jumps_on (jumps first) way = jumps (jumps_on first way)
+
+module _ (program : TypedProgram) (flow : Flow) (routine : Routine) (labels : ℕ → Point) where
+  -- jumps alone lead to where the things to do stand
+  abbrev pub Arrives : List Item → Point → Point → Behind
+  Arrives items out again depth p = (r : Point) × Joins program flow p r × stands_at program flow routine labels items out again depth r
+
+  -- more jumps before
+  pub arrives_from : {p q : Point} (items : List Item) (out again : Point) (depth : ℕ) → Joins program flow p q → Arrives items out again depth q → Arrives items out again depth p
+  arrives_from items out again depth way s = (s.0, jumps_on way s.1, s.2)
+
+  -- behind the body of a loop
+  pub again_stands : (s : Statement) (mark : ℕ) (items : List Item) (head after_body behind out again : Point) →
+      loops_at program flow routine labels s mark head after_body behind → Arrives items out again 0 behind →
+      stands_at program flow routine labels (Again s mark ∷ Out ∷ items) behind after_body 0 after_body
+  again_stands s mark items head after_body behind out again loop rest = (refl, refl, (head, loop, (again, (behind, there, (refl, refl, (out, rest))))))
+
+  -- behind a `switch` and behind a loop
+  pub out_stands : (items : List Item) (behind out again : Point) → Arrives items out again 0 behind → stands_at program flow routine labels (Out ∷ items) behind again 0 behind
+  out_stands items behind out again rest = (refl, refl, (out, rest))
+
+  -- statements in a row
+  pub row_arrives : (statements : Statements) (mark : ℕ) (items : List Item) (out again p q : Point) →
+      all_at program flow routine labels statements mark out again p q → Arrives items out again 0 q → Arrives (executes statements mark items) out again 0 p
+  row_arrives Empty mark items out again p q way rest = arrives_from items out again 0 way rest
+  row_arrives (Then first others) mark items out again p q it rest =
+      (p, there, (refl, (it.1.0, it.1.1, arrives_from (executes others (mark + marks first) items) out again 0 it.1.2 (row_arrives others (mark + marks first) items out again it.0 q it.2 rest))))
+
+  -- the same from the statement with a number on
+  pub rest_arrives : (number : ℕ) (statements : Statements) (mark : ℕ) (items : List Item) (out again p q : Point) →
+      from_at program flow routine labels number statements mark out again p q → Arrives items out again 0 q → Arrives (executes_from number statements mark items) out again 0 p
+  rest_arrives number Empty mark items out again p q way rest = arrives_from items out again 0 way rest
+  rest_arrives zero (Then first others) mark items out again p q it rest = row_arrives (Then first others) mark items out again p q it rest
+  rest_arrives (suc number) (Then first others) mark items out again p q it rest = rest_arrives number others (mark + marks first) items out again p q it rest
+
+  -- from the first statement on stand all of them
+  pub from_first : (statements : Statements) (mark : ℕ) (out again p q : Point) → from_at program flow routine labels 0 statements mark out again p q → all_at program flow routine labels statements mark out again p q
+  from_first Empty mark out again p q it = it
+  from_first (Then first others) mark out again p q it = it
