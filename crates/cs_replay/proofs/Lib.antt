@@ -1,0 +1,2 @@
+mod Performs
+mod Told
