@@ -1,2 +1,11 @@
 pub mod Works
 pub mod CodeStates
+pub mod WorkerView
+pub mod ReplayerView
+pub mod Nexts
+pub mod Ways
+pub mod Calling
+pub mod Callee
+pub mod Beginnings
+pub mod RunLengths
+pub mod Replays

@@ -1,2 +1,23 @@
 //! The replayer: it runs the code of a program from given inputs, operation by operation.
-#![tactic(auto)]
+#![tactic(auto, using(cs_interpreter::proofs::Performing::silent))]
+
+mod accesses;
+mod allocations;
+mod callees;
+mod calls;
+mod declared;
+mod ends;
+mod frames;
+mod nexts;
+mod operands;
+mod outside;
+mod replayer;
+mod replays;
+mod starting;
+mod steps;
+mod values;
+mod visits;
+mod worker;
+mod working;
+
+pub use replays::{Replayed, replay};

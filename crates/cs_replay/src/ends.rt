@@ -1,0 +1,126 @@
+//! What the end of a block does.
+ghost use Rattle.std.specs.Prelude.{◌≡◌, OnOk, IfErr, IfOk, map};
+ghost use Rattle.cs_cfg.specs.CodeSteps as steps;
+ghost use Rattle.cs_cfg.specs.Graph as graph;
+ghost use Rattle.cs_cfg.specs.GraphView as view;
+ghost use Rattle.cs_replay.specs.ReplayerView.{code_of, state_in, LeadsOn, Ends, KeepsSetting};
+ghost use Rattle.cs_replay.specs.Ways.{way_seen};
+
+use crate::operands::cut;
+use crate::replayer::{Position, Replayer};
+use cs_ast::Place;
+use cs_cfg::{BlockEnd, SwitchCase};
+use cs_interpreter::{Cell, Operand, Stop, Touch};
+use cs_runs::{Label, PointKind};
+use std::alloc::AllocError;
+
+/// A way out of a `switch`: the number of its case among those with a value, and the block to which it leads.
+#[derive(Clone, Copy, Debug, PartialEq, Eq)]
+pub struct Way {
+    pub number: u32,
+    pub block: u32,
+}
+
+impl<'a> Replayer<'a> {
+    /// The end of a block: to another one, or out of the frame.
+    pub fn end_block(&mut self, end: &BlockEnd) -> Result<(), Stop>
+        ensures ok { OnOk result (LeadsOn self.old self.new (steps.do_end (code_of self.old) (view.block_end end.now) (state_in self.old))) }
+        ensures err { IfErr result (Ends self.old self.new (steps.do_end (code_of self.old) (view.block_end end.now) (state_in self.old))) }
+        ensures kept { OnOk result (KeepsSetting self.old self.new) }
+    {
+        match end {
+            BlockEnd::Jump(block) => {
+                self.enter_block(*block);
+                Ok(())
+            }
+            BlockEnd::Branch(place, temporary, one, other) => {
+                self.branch(*place, *temporary, *one, *other)
+            }
+            BlockEnd::Switch(place, temporary, cases, otherwise) => {
+                self.switch(*place, *temporary, cases, *otherwise)
+            }
+            BlockEnd::Return(temporary) => self.give_back(*temporary),
+            BlockEnd::Finish => self.leave(Operand::Scalar(Cell::Unset)),
+        }
+    }
+
+    // The run goes on with a block of the function that runs.
+    fn enter_block(&mut self, block: u32)
+        ensures state { state_in self.new ≡ steps.enters (code_of self.old) block (state_in self.old) }
+        ensures log { self.new.worker.log ≡ self.old.worker.log }
+        ensures kept { KeepsSetting self.old self.new }
+    {
+        self.position = Position { block, done: 0 };
+    }
+
+    // A test: the way that it takes shows (C11 6.8.4.1, 6.8.5).
+    fn branch(&mut self, place: Place, temporary: u32, one: u32, other: u32) -> Result<(), Stop>
+        ensures ok { OnOk result (LeadsOn self.old self.new (steps.do_end (code_of self.old) (graph.Branch place temporary one other) (state_in self.old))) }
+        ensures err { IfErr result (Ends self.old self.new (steps.do_end (code_of self.old) (graph.Branch place temporary one other) (state_in self.old))) }
+        ensures kept { OnOk result (KeepsSetting self.old self.new) }
+    {
+        cut(&mut self.worker.machine, u64::from(temporary) + 1);
+        let worker = &mut self.worker;
+        let holds = worker
+            .machine
+            .test(&mut worker.log, worker.setting, place)?;
+        self.enter_block(if holds { one } else { other });
+        Ok(())
+    }
+
+    // A `switch`: the case that it takes shows (C11 6.8.4.2).
+    fn switch(
+        &mut self,
+        place: Place,
+        temporary: u32,
+        cases: &[SwitchCase],
+        otherwise: u32,
+    ) -> Result<(), Stop>
+        ensures ok { OnOk result (LeadsOn self.old self.new (steps.do_end (code_of self.old) (graph.Switch place temporary (map view.switch_case cases.now) otherwise) (state_in self.old))) }
+        ensures err { IfErr result (Ends self.old self.new (steps.do_end (code_of self.old) (graph.Switch place temporary (map view.switch_case cases.now) otherwise) (state_in self.old))) }
+        ensures kept { OnOk result (KeepsSetting self.old self.new) }
+    {
+        cut(&mut self.worker.machine, u64::from(temporary) + 1);
+        let number = self.worker.machine.pop_cell().number();
+        let way = way_of(cases, otherwise, number)?;
+        self.worker
+            .log
+            .touch(Touch::Meets(PointKind::Switch, place))?;
+        self.worker
+            .log
+            .show(self.worker.setting, place, Label::Case(way.number))?;
+        self.enter_block(way.block);
+        Ok(())
+    }
+
+    // The frame is left with a temporary.
+    fn give_back(&mut self, temporary: u32) -> Result<(), Stop>
+        ensures ok { OnOk result (LeadsOn self.old self.new (steps.do_end (code_of self.old) (graph.Return temporary) (state_in self.old))) }
+        ensures err { IfErr result (Ends self.old self.new (steps.do_end (code_of self.old) (graph.Return temporary) (state_in self.old))) }
+        ensures kept { OnOk result (KeepsSetting self.old self.new) }
+    {
+        cut(&mut self.worker.machine, u64::from(temporary) + 1);
+        let value = self.worker.machine.pop();
+        self.leave(value)
+    }
+}
+
+// The way that a number leads: that of the first case with it.
+fn way_of(cases: &[SwitchCase], otherwise: u32, number: i128) -> Result<Way, AllocError>
+    ensures { IfOk result (λ way. way_seen way ≡ steps.way_of (map view.switch_case cases.now) otherwise number 0) }
+{
+    let mut count = 0;
+    for case in cases {
+        if case.value == number {
+            return Ok(Way {
+                number: count,
+                block: case.block,
+            });
+        }
+        count = count.checked_add(1).ok_or(AllocError)?;
+    }
+    Ok(Way {
+        number: count,
+        block: otherwise,
+    })
+}
