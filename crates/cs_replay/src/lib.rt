@@ -8,6 +8,8 @@ mod calls;
 mod declared;
 mod ends;
 mod frames;
+#[cfg(test)]
+mod hand_built;
 mod nexts;
 mod operands;
 mod outside;

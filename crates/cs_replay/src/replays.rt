@@ -25,6 +25,7 @@ pub struct Replayed {
 }
 
 // A run that is to be followed, which ends.
+#[derive(Drop)]
 struct Course<'a> {
     setting: &'a Setting<'a>,
     code: &'a Code,
