@@ -1,18 +1,14 @@
--- Calls, told by what they are known by.
-use Rattle.std.specs.Prelude.{ℕ, ◌+◌, List, ◌∷◌, Bool, true, false, Option}
+-- Calls of functions without a body, told by what is known of the function.
+use Rattle.std.specs.Prelude.{ℕ, ◌+◌, List, Bool, true, false}
 use Rattle.cs_types.specs.Shape.{Shape, void}
 use Rattle.cs_ast.specs.declared.place.Place.{Place}
 use Rattle.cs_ast.specs.TypedProgram.{TypedProgram}
 use Rattle.cs_runs.specs.declared.event.Label.TheVariants as label
 use Rattle.cs_runs.specs.Acts.{Act, Goes}
-use Rattle.cs_plain.specs.Memory.{Block, Memory, Unknown}
+use Rattle.cs_plain.specs.Memory.{Memory, Unknown}
 use Rattle.cs_plain.specs.Access.{shows_then, receive}
-use Rattle.cs_plain.specs.Calls.{outside_result, write_arguments, result_path, without_locals}
-use Rattle.cs_plain.specs.Machine.{CallFrame, Operand, Scalar, Frame, Running, State, push}
-use Rattle.cs_interpreter.specs.MemoryView.{with_frame}
-use Rattle.cs_cfg.specs.Graph.{Point}
-use Rattle.cs_cfg.specs.Working.{CodeState}
-use Rattle.cs_replay.specs.CodeStates.{at_point}
+use Rattle.cs_plain.specs.Calls.{outside_result, write_arguments, result_path}
+use Rattle.cs_plain.specs.Machine.{Operand, Scalar, Running, State, push}
 
 -- whether a function that gives a type gives nothing
 abbrev pub is_nothing : Shape → Bool
@@ -30,23 +26,3 @@ call_returning program at function returns written arguments m =
     (outside_result program returns (m.calls + 1) m.memory (λ memory result.
     write_arguments program at (m.calls + 1) 0 written arguments memory (λ after.
     Goes (push result (record m { memory = after; calls = m.calls + 1 })))))
-
--- the run in a new frame that has come to a point, with these locals
-abbrev pub inside_with : Point → Frame → (ℕ → Option Block) → CodeState → CodeState
-inside_with p frame locals m = record m {
-  frame = at_point p frame;
-  callers = m.frame ∷ m.callers;
-  memory = with_frame m.frames locals m.memory;
-  frames = m.frames + 1;
-}
-
--- the run with one more frame that called the one that runs
-abbrev pub called_by : CallFrame Point → CodeState → CodeState
-called_by caller m = record m { callers = caller ∷ m.callers }
-
--- the run in a frame to which the frame that ran gives a value
-abbrev pub back_in : CallFrame Point → Operand → CodeState → CodeState
-back_in caller value m = record m {
-  frame = record caller { stack = value ∷ caller.stack };
-  memory = without_locals m.frame.number m.memory;
-}

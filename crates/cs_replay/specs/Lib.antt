@@ -5,6 +5,7 @@ pub mod ReplayerView
 pub mod Nexts
 pub mod Ways
 pub mod Calling
+pub mod FrameChanges
 pub mod Callee
 pub mod Beginnings
 pub mod RunLengths

@@ -8,7 +8,7 @@ ghost use Rattle.cs_plain.specs.Machine as machine;
 ghost use Rattle.cs_interpreter.specs.View.{operand_of};
 ghost use Rattle.cs_interpreter.specs.MemoryView.{type_of, block_at};
 ghost use Rattle.cs_interpreter.specs.MachineView.{state_of, frame_of};
-ghost use Rattle.cs_replay.specs.Calling.{inside_with, called_by, back_in};
+ghost use Rattle.cs_replay.specs.FrameChanges.{inside_with, called_by, back_in};
 ghost use Rattle.cs_replay.specs.ReplayerView.{program_of, budgets_of, code_of, point_of, caller_of, state_in, IsReady, LeadsOn, Ends, KeepsSetting};
 
 use crate::callees::callee_of;
