@@ -10,3 +10,5 @@ mod Rows
 mod Statics
 mod Writing
 mod Calling
+mod Blocks
+mod Cutting

@@ -1,6 +1,7 @@
 pub mod Works
 pub mod CodeStates
 pub mod WorkerView
+pub mod Points
 pub mod ReplayerView
 pub mod Nexts
 pub mod Ways

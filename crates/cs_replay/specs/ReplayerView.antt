@@ -1,5 +1,5 @@
 -- A run of code on its way, seen as the run of the code that its definition speaks of: its state, and what an act does to it.
-use Rattle.std.specs.Prelude.{◌≡◌, ℕ, List, map, reverse, drop}
+use Rattle.std.specs.Prelude.{◌≡◌, List, map, reverse}
 use Rattle.cs_ast.specs.TypedProgram.{TypedProgram}
 use Rattle.cs_runs.specs.declared.outcome.RunBudgets.{RunBudgets}
 use Rattle.cs_runs.specs.Acts.{Act}
@@ -12,22 +12,14 @@ use Rattle.cs_interpreter.specs.View.{setting_of, log_of}
 use Rattle.cs_interpreter.specs.MachineView.{frame_of}
 use Rattle.cs_cfg.specs.declared.code.Code.{Code}
 use Rattle.cs_cfg.specs.Graph as graph
-use Rattle.cs_cfg.specs.Graph.{Point, block_in}
+use Rattle.cs_cfg.specs.Graph.{Point}
 use Rattle.cs_cfg.specs.GraphView.{code}
 use Rattle.cs_cfg.specs.Working.{CodeState}
-use Rattle.cs_replay.specs.declared.replayer.Position.{Position}
 use Rattle.cs_replay.specs.declared.replayer.Caller.{Caller}
 use Rattle.cs_replay.specs.declared.replayer.Replayer.{Replayer}
 use Rattle.cs_replay.specs.CodeStates.{at_point, code_state}
+use Rattle.cs_replay.specs.Points.{point_of}
 use Rattle.cs_replay.specs.WorkerView as worker
-
--- what is left of a point once so many of its operations are done
-abbrev pub left_of : ℕ → Point → Point
-left_of done p = record p { operations = drop done p.operations }
-
--- the point to which a frame of a function has come
-abbrev pub point_of : Code → ℕ → Position → Point
-point_of graphs function position = left_of position.done (block_in (code graphs) function position.block)
 
 -- a frame that waits
 abbrev pub caller_of : Code → Caller → CallFrame Point

@@ -9,13 +9,14 @@ ghost use Rattle.cs_interpreter.specs.View.{operand_of};
 ghost use Rattle.cs_interpreter.specs.MemoryView.{type_of, block_at};
 ghost use Rattle.cs_interpreter.specs.MachineView.{state_of, frame_of};
 ghost use Rattle.cs_replay.specs.FrameChanges.{inside_with, called_by, back_in};
-ghost use Rattle.cs_replay.specs.ReplayerView.{program_of, budgets_of, code_of, point_of, caller_of, state_in, IsReady, LeadsOn, Ends, KeepsSetting};
+ghost use Rattle.cs_replay.specs.ReplayerView.{program_of, budgets_of, code_of, caller_of, state_in, IsReady, LeadsOn, Ends, KeepsSetting};
 
 use crate::callees::callee_of;
 use crate::frames::{local_blocks, new_frame};
 use crate::nexts::flow_at;
 use crate::operands::pop_newest;
-use crate::replayer::{Caller, Position, Replayer};
+use crate::positions::Position;
+use crate::replayer::{Caller, Replayer};
 use cs_ast::Place;
 use cs_cfg::Flow;
 use cs_interpreter::blocks::Block;

@@ -1,25 +1,18 @@
 //! What the end of a block does.
-ghost use Rattle.std.specs.Prelude.{◌≡◌, OnOk, IfErr, IfOk, map};
+ghost use Rattle.std.specs.Prelude.{◌≡◌, OnOk, IfErr, map};
 ghost use Rattle.cs_cfg.specs.CodeSteps as steps;
 ghost use Rattle.cs_cfg.specs.Graph as graph;
 ghost use Rattle.cs_cfg.specs.GraphView as view;
 ghost use Rattle.cs_replay.specs.ReplayerView.{code_of, state_in, LeadsOn, Ends, KeepsSetting};
-ghost use Rattle.cs_replay.specs.Ways.{way_seen};
 
 use crate::operands::cut;
-use crate::replayer::{Position, Replayer};
+use crate::positions::Position;
+use crate::replayer::Replayer;
+use crate::ways::way_of;
 use cs_ast::Place;
 use cs_cfg::{BlockEnd, SwitchCase};
 use cs_interpreter::{Cell, Operand, Stop, Touch};
 use cs_runs::{Label, PointKind};
-use std::alloc::AllocError;
-
-/// A way out of a `switch`: the number of its case among those with a value, and the block to which it leads.
-#[derive(Clone, Copy, Debug, PartialEq, Eq)]
-pub struct Way {
-    pub number: u32,
-    pub block: u32,
-}
 
 impl<'a> Replayer<'a> {
     /// The end of a block: to another one, or out of the frame.
@@ -103,24 +96,4 @@ impl<'a> Replayer<'a> {
         let value = self.worker.machine.pop();
         self.leave(value)
     }
-}
-
-// The way that a number leads: that of the first case with it.
-fn way_of(cases: &[SwitchCase], otherwise: u32, number: i128) -> Result<Way, AllocError>
-    ensures { IfOk result (λ way. way_seen way ≡ steps.way_of (map view.switch_case cases.now) otherwise number 0) }
-{
-    let mut count = 0;
-    for case in cases {
-        if case.value == number {
-            return Ok(Way {
-                number: count,
-                block: case.block,
-            });
-        }
-        count = count.checked_add(1).ok_or(AllocError)?;
-    }
-    Ok(Way {
-        number: count,
-        block: otherwise,
-    })
 }

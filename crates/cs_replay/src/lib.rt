@@ -13,12 +13,14 @@ mod hand_built;
 mod nexts;
 mod operands;
 mod outside;
+mod positions;
 mod replayer;
 mod replays;
 mod starting;
 mod steps;
 mod values;
 mod visits;
+mod ways;
 mod worker;
 mod working;
 

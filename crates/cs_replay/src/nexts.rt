@@ -1,11 +1,11 @@
 //! What a frame does next.
-ghost use Rattle.std.specs.Prelude.{◌≡◌};
+ghost use Rattle.std.specs.Prelude.{◌≡◌, ◌+◌};
 ghost use Rattle.cs_cfg.specs.Graph as graph;
 ghost use Rattle.cs_cfg.specs.GraphView as view;
 ghost use Rattle.cs_replay.specs.Nexts.{found_block, flow_found, unmarked, IsNext};
-ghost use Rattle.cs_replay.specs.ReplayerView.{left_of, point_of};
+ghost use Rattle.cs_replay.specs.Points.{left_of, point_of};
 
-use crate::replayer::Position;
+use crate::positions::Position;
 use cs_cfg::{Block, BlockEnd, Code, Flow, Mark, Operation};
 
 /// What a frame does next.

@@ -1,16 +1,9 @@
 //! A run of code on its way.
 
+use crate::positions::Position;
 use crate::worker::Worker;
 use cs_cfg::Code;
 use cs_interpreter::machine::Frame;
-
-/// How far a frame has come: a block of its function, and how many of the things that the block does are done. Its mark is the
-/// first one, where it has a mark.
-#[derive(Clone, Copy, Debug, PartialEq, Eq)]
-pub struct Position {
-    pub block: u32,
-    pub done: usize,
-}
 
 /// A frame that waits for the value of a call, and how far it has come.
 #[derive(Drop)]
