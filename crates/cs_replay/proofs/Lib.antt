@@ -12,3 +12,4 @@ mod Writing
 mod Calling
 mod Blocks
 mod Cutting
+mod Stepping

@@ -15,7 +15,7 @@ use Rattle.cs_model.specs.declared.standing.Standing.{Standing}
 use Rattle.cs_model.specs.declared.standing.Standing.TheVariants.{Live, Freed, Ended}
 use Rattle.cs_runs.specs.declared.outcome.RunBudgets.{RunBudgets}
 use Rattle.cs_runs.specs.declared.point.PointKind.{PointKind}
-use Rattle.std.specs.Prelude.{⊤, nat_lt, slice_get}
+use Rattle.std.specs.Prelude.{nat_lt, slice_get}
 use Rattle.cs_runs.specs.Operations.{is_true}
 use Rattle.cs_runs.specs.Objects.{Object, StartBlock, GlobalObject, LiteralObject, LocalObject, HeapBlock, Cell, NumberCell, NullCell, PointerCell, UnsetCell}
 use Rattle.cs_runs.specs.Acts.{Act, Goes, Touches}
@@ -40,24 +40,20 @@ use Rattle.cs_replay.specs.Works.{works}
 use Rattle.cs_replay.specs.CodeStates.{code_state}
 use Rattle.cs_replay.proofs.Performs.{Seen}
 
--- a state whose frame is one of a function
-abbrev pub IsIn : ℕ → State → Type 0
-IsIn function m = m.frame.function ≡ function
-
-module _ (p : Point) (callers : List (CallFrame Point)) (function : ℕ) where
+module _ (p : ℕ → Point) (callers : List (CallFrame Point)) where
   abbrev R : State → CodeState → Type 0
-  R = Seen (code_state p callers) (IsIn function)
+  R = Seen (code_state p callers)
 
-  -- an act of the code's run does what one of the machine does, and leads to its state at the same point, in the same function
+  -- an act of the code's run does what one of the machine does, and leads to its state at the same point
   abbrev pub Told : Act State → Act CodeState → Type 0
   Told = Tells R
 
-  release_told : (at : Place) (cell : Cell) (m : State) → IsIn function m → Told (release at cell m) (release at cell (code_state p callers m))
-  release_told at NullCell m is = tells_shows R at _ (both_go (refl, is))
-  release_told at (PointerCell object offset) m is = tells_shows R at _ (object_told object)
+  release_told : (at : Place) (cell : Cell) (m : State) → Told (release at cell m) (release at cell (code_state p callers m))
+  release_told at NullCell m = tells_shows R at _ (both_go refl)
+  release_told at (PointerCell object offset) m = tells_shows R at _ (object_told object)
     where
       block_told : (standing : Standing) (object : Object) → Told (release_block at standing object offset m) (release_block at standing object offset (code_state p callers m))
-      block_told Live object = tells_if R (int_eq offset (pos 0)) (both_go (refl, is)) both_stop
+      block_told Live object = tells_if R (int_eq offset (pos 0)) (both_go refl) both_stop
       block_told Freed object = both_stop
       block_told Ended object = both_stop
 
@@ -71,84 +67,84 @@ module _ (p : Point) (callers : List (CallFrame Point)) (function : ℕ) where
       object_told (GlobalObject global) = both_stop
       object_told (LiteralObject literal) = both_stop
       object_told (LocalObject frame declaration) = both_stop
-  release_told at (NumberCell n) m is = both_go (refl, is)
-  release_told at UnsetCell m is = both_go (refl, is)
+  release_told at (NumberCell n) m = both_go refl
+  release_told at UnsetCell m = both_go refl
 
-  allocated_told : (element : Shape) (bytes : ℤ) (fill : Fill) (given : Bool) (m : State) → IsIn function m → R (allocated element bytes fill given m) (allocated element bytes fill given (code_state p callers m))
-  allocated_told element bytes fill true m is = (refl, is)
-  allocated_told element bytes fill false m is = (refl, is)
+  allocated_told : (element : Shape) (bytes : ℤ) (fill : Fill) (given : Bool) (m : State) → R (allocated element bytes fill given m) (allocated element bytes fill given (code_state p callers m))
+  allocated_told element bytes fill true m = refl
+  allocated_told element bytes fill false m = refl
 
-  allocate_told : (program : TypedProgram) (at : Place) (allocator : Allocator) (element : Shape) (m : State) → IsIn function m → Told (allocate program at allocator element m) (allocate program at allocator element (code_state p callers m))
-  allocate_told program at Malloc element m is = both_allocate (λ given. both_go (allocated_told element (number_in (cell_at m 0)) UnsetFill given (pop m) is))
-  allocate_told program at Calloc element m is =
+  allocate_told : (program : TypedProgram) (at : Place) (allocator : Allocator) (element : Shape) (m : State) → Told (allocate program at allocator element m) (allocate program at allocator element (code_state p callers m))
+  allocate_told program at Malloc element m = both_allocate (λ given. both_go (allocated_told element (number_in (cell_at m 0)) UnsetFill given (pop m)))
+  allocate_told program at Calloc element m =
       both_ask (λ holds. tells_if R (is_true holds)
-      (tells_operate R program.model at Mul (size_type_of program.model) (number_in (cell_at m 1)) (number_in (cell_at m 0)) (λ bytes. both_allocate (λ given. both_go (allocated_told element bytes ZeroFill given (pop_many 2 m) is))))
-      (both_go (refl, is)))
+      (tells_operate R program.model at Mul (size_type_of program.model) (number_in (cell_at m 1)) (number_in (cell_at m 0)) (λ bytes. both_allocate (λ given. both_go (allocated_told element bytes ZeroFill given (pop_many 2 m)))))
+      (both_go refl))
 
-  stores_told : (program : TypedProgram) (at : Place) (object : Access) (age : ℕ) (operand : Operand) (count : ℕ) (left : Operand) (m : State) → IsIn function m → Told (stores_to program at object age operand count left m) (stores_to program at object age operand count left (code_state p callers m))
-  stores_told program at object age operand count left m is =
+  stores_told : (program : TypedProgram) (at : Place) (object : Access) (age : ℕ) (operand : Operand) (count : ℕ) (left : Operand) (m : State) → Told (stores_to program at object age operand count left m) (stores_to program at object age operand count left (code_state p callers m))
+  stores_told program at object age operand count left m =
       tells_store R program m.memory m.frame.number at object (cell_at m age) operand
       {f = λ memory. Goes (push left (with_memory memory (pop_many count m)))} {g = λ memory. Goes (push left (with_memory memory (pop_many count (code_state p callers m))))}
-      (λ memory. both_go (refl, is))
+      (λ memory. both_go refl)
 
-  use_told : (at : Place) (operand : Operand) (m : State) → IsIn function m → Told (use_result at operand m) (use_result at operand (code_state p callers m))
-  use_told at (Scalar cell) m is = tells_set R at cell (both_go (refl, is))
-  use_told at (Whole cells) m is = both_go (refl, is)
-  use_told at Nothing m is = both_go (refl, is)
+  use_told : (at : Place) (operand : Operand) (m : State) → Told (use_result at operand m) (use_result at operand (code_state p callers m))
+  use_told at (Scalar cell) m = tells_set R at cell (both_go refl)
+  use_told at (Whole cells) m = both_go refl
+  use_told at Nothing m = both_go refl
 
-  again_told : (budgets : RunBudgets) (at : Place) (kind : PointKind) (mark : ℕ) (count : Option ℕ) (m : State) → IsIn function m → Told (reached_again budgets at kind mark count m) (reached_again budgets at kind mark count (code_state p callers m))
-  again_told budgets at kind mark None m is = both_stop
-  again_told budgets at kind mark (Some count) m is = tells_if R (nat_lt count budgets.visits) (both_touch (both_go (refl, is))) both_stop
+  again_told : (budgets : RunBudgets) (at : Place) (kind : PointKind) (mark : ℕ) (count : Option ℕ) (m : State) → Told (reached_again budgets at kind mark count m) (reached_again budgets at kind mark count (code_state p callers m))
+  again_told budgets at kind mark None m = both_stop
+  again_told budgets at kind mark (Some count) m = tells_if R (nat_lt count budgets.visits) (both_touch (both_go refl)) both_stop
 
   -- a mark that is reached
-  pub mark_told : (code : Code) (program : TypedProgram) (budgets : RunBudgets) (at : Place) (kind : PointKind) (mark : ℕ) (m : State) → IsIn function m → Told (works program budgets at (Reach kind mark) m) (do_work code program budgets at (Reach kind mark) (code_state p callers m))
-  mark_told code program budgets at kind mark m is = again_told budgets at kind mark (slice_get m.frame.visits mark) m is
+  pub mark_told : (code : Code) (program : TypedProgram) (budgets : RunBudgets) (at : Place) (kind : PointKind) (mark : ℕ) (m : State) → Told (works program budgets at (Reach kind mark) m) (do_work code program budgets at (Reach kind mark) (code_state p callers m))
+  mark_told code program budgets at kind mark m = again_told budgets at kind mark (slice_get m.frame.visits mark) m
 
   -- an operation that is no call
-  pub work_told : (code : Code) (program : TypedProgram) (budgets : RunBudgets) (at : Place) (one : w.Work) (m : State) → IsIn function m → ((callee count : _) → one ≡ of.Call callee count → ⊥) → Told (works program budgets at (work one) m) (do_work code program budgets at (work one) (code_state p callers m))
-  work_told code program budgets at (of.Number n) m is h = both_go (refl, is)
-  work_told code program budgets at of.Null m is h = both_go (refl, is)
-  work_told code program budgets at (of.Text literal) m is h = both_go (refl, is)
-  work_told code program budgets at (of.Local declaration) m is h = both_go (refl, is)
-  work_told code program budgets at (of.Global global) m is h = both_go (refl, is)
-  work_told code program budgets at of.Nothing m is h = both_go (refl, is)
-  work_told code program budgets at (of.Sum bytes direction order) m is h =
-      tells_sum R program.model at (cell_at m (pointer_age order)) (directed direction (number_at m (amount_age order))) bytes (λ cell. both_go (refl, is))
-  work_told code program budgets at (of.Member offset) m is h = both_go (refl, is)
-  work_told code program budgets at (of.Arrow offset) m is h = tells_arrow R at (cell_at m 0) offset (λ cell. both_go (refl, is))
-  work_told code program budgets at (of.Load object) m is h = tells_load R program m.memory m.frame.number (access object) (cell_at m 0) (λ memory operand. both_go (refl, is))
-  work_told code program budgets at (of.Convert from to) m is h = tells_convert R program.model at (shape_of from) (shape_of to) (operand_at m 0) (λ operand. both_go (refl, is))
-  work_told code program budgets at (of.Unary operator ty) m is h = both_ask (λ number. both_go (refl, is))
-  work_told code program budgets at of.Not m is h = tells_truth R at (cell_at m 0) (λ holds. tells_shows R at _ (both_go (refl, is)))
-  work_told code program budgets at (of.Binary operator ty) m is h = tells_operate R program.model at operator ty (number_at m 1) (number_at m 0) (λ number. both_go (refl, is))
-  work_told code program budgets at (of.Compare operator) m is h = tells_compare R at operator (cell_at m 1) (cell_at m 0) (λ number. both_go (refl, is))
-  work_told code program budgets at (of.Difference bytes) m is h = tells_difference R at (cell_at m 1) (cell_at m 0) bytes (λ number. both_go (refl, is))
-  work_told code program budgets at of.Judge m is h = tells_truth R at (cell_at m 0) (λ holds. tells_shows R at _ (both_go (refl, is)))
-  work_told code program budgets at (of.Store object) m is h = stores_told program at (access object) 1 (operand_at m 0) 2 (operand_at m 0) m is
-  work_told code program budgets at (of.FetchNumber object works_in) m is h =
+  pub work_told : (code : Code) (program : TypedProgram) (budgets : RunBudgets) (at : Place) (one : w.Work) (m : State) → ((callee count : _) → one ≡ of.Call callee count → ⊥) → Told (works program budgets at (work one) m) (do_work code program budgets at (work one) (code_state p callers m))
+  work_told code program budgets at (of.Number n) m h = both_go refl
+  work_told code program budgets at of.Null m h = both_go refl
+  work_told code program budgets at (of.Text literal) m h = both_go refl
+  work_told code program budgets at (of.Local declaration) m h = both_go refl
+  work_told code program budgets at (of.Global global) m h = both_go refl
+  work_told code program budgets at of.Nothing m h = both_go refl
+  work_told code program budgets at (of.Sum bytes direction order) m h =
+      tells_sum R program.model at (cell_at m (pointer_age order)) (directed direction (number_at m (amount_age order))) bytes (λ cell. both_go refl)
+  work_told code program budgets at (of.Member offset) m h = both_go refl
+  work_told code program budgets at (of.Arrow offset) m h = tells_arrow R at (cell_at m 0) offset (λ cell. both_go refl)
+  work_told code program budgets at (of.Load object) m h = tells_load R program m.memory m.frame.number (access object) (cell_at m 0) (λ memory operand. both_go refl)
+  work_told code program budgets at (of.Convert from to) m h = tells_convert R program.model at (shape_of from) (shape_of to) (operand_at m 0) (λ operand. both_go refl)
+  work_told code program budgets at (of.Unary operator ty) m h = both_ask (λ number. both_go refl)
+  work_told code program budgets at of.Not m h = tells_truth R at (cell_at m 0) (λ holds. tells_shows R at _ (both_go refl))
+  work_told code program budgets at (of.Binary operator ty) m h = tells_operate R program.model at operator ty (number_at m 1) (number_at m 0) (λ number. both_go refl)
+  work_told code program budgets at (of.Compare operator) m h = tells_compare R at operator (cell_at m 1) (cell_at m 0) (λ number. both_go refl)
+  work_told code program budgets at (of.Difference bytes) m h = tells_difference R at (cell_at m 1) (cell_at m 0) bytes (λ number. both_go refl)
+  work_told code program budgets at of.Judge m h = tells_truth R at (cell_at m 0) (λ holds. tells_shows R at _ (both_go refl))
+  work_told code program budgets at (of.Store object) m h = stores_told program at (access object) 1 (operand_at m 0) 2 (operand_at m 0) m
+  work_told code program budgets at (of.FetchNumber object works_in) m h =
       tells_load R program m.memory m.frame.number (access object) (cell_at m 0) (λ memory operand.
       tells_convert_number R program.model at (access object).ty works_in (number_in (cell_of operand))
       {f = λ number. Goes (push_cell (NumberCell number) (push operand (with_memory memory m)))} {g = λ number. Goes (push_cell (NumberCell number) (push operand (with_memory memory (code_state p callers m))))}
-      (λ number. both_go (refl, is)))
-  work_told code program budgets at (of.Update operator object works_in gives) m is h =
+      (λ number. both_go refl))
+  work_told code program budgets at (of.Update operator object works_in gives) m h =
       tells_operate R program.model at operator works_in (number_at m 1) (number_at m 0) (λ number.
       tells_convert_number R program.model at (integer works_in) (integer_of (access object).ty) number (λ stored.
-      stores_told program at (access object) 3 (Scalar (NumberCell stored)) 4 (given gives (operand_at m 2) (Scalar (NumberCell stored))) m is))
-  work_told code program budgets at (of.FetchPointer object) m is h = tells_load R program m.memory m.frame.number (access object) (cell_at m 0) (λ memory operand. both_go (refl, is))
-  work_told code program budgets at (of.Move object bytes direction gives) m is h =
+      stores_told program at (access object) 3 (Scalar (NumberCell stored)) 4 (given gives (operand_at m 2) (Scalar (NumberCell stored))) m))
+  work_told code program budgets at (of.FetchPointer object) m h = tells_load R program m.memory m.frame.number (access object) (cell_at m 0) (λ memory operand. both_go refl)
+  work_told code program budgets at (of.Move object bytes direction gives) m h =
       tells_sum R program.model at (cell_at m 1) (directed direction (number_at m 0)) bytes (λ cell.
-      stores_told program at (access object) 2 (Scalar cell) 3 (given gives (operand_at m 1) (Scalar cell)) m is)
-  work_told code program budgets at (of.Call callee count) m is h = absurd (h callee count refl)
-  work_told code program budgets at (of.Allocate allocator element) m is h = allocate_told program at allocator (shape_of element) m is
-  work_told code program budgets at of.Free m is h = release_told at (cell_at m 0) (pop m) is
-  work_told code program budgets at of.Use m is h = use_told at (operand_at m 0) m is
-  work_told code program budgets at of.Drop m is h = both_go (refl, is)
-  work_told code program budgets at (of.Clear declaration scalar) m is h = tells_touches R _ (if_local scalar declaration) (both_go (refl, is))
-  work_told code program budgets at (of.Zero declaration) m is h = both_go (refl, is)
-  work_told code program budgets at (of.StoreLocal declaration offset ty scalar) m is h = tells_touches R _ (if_local scalar declaration) (both_go (refl, is))
-  work_told code program budgets at (of.Spell declaration offset bytes) m is h = both_go (refl, is)
-  work_told code program budgets at (of.Meet kind) m is h = both_touch (both_go (refl, is))
-  work_told code program budgets at (of.Close nothing) m is h = both_touch (both_go (refl, is))
+      stores_told program at (access object) 2 (Scalar cell) 3 (given gives (operand_at m 1) (Scalar cell)) m)
+  work_told code program budgets at (of.Call callee count) m h = absurd (h callee count refl)
+  work_told code program budgets at (of.Allocate allocator element) m h = allocate_told program at allocator (shape_of element) m
+  work_told code program budgets at of.Free m h = release_told at (cell_at m 0) (pop m)
+  work_told code program budgets at of.Use m h = use_told at (operand_at m 0) m
+  work_told code program budgets at of.Drop m h = both_go refl
+  work_told code program budgets at (of.Clear declaration scalar) m h = tells_touches R _ (if_local scalar declaration) (both_go refl)
+  work_told code program budgets at (of.Zero declaration) m h = both_go refl
+  work_told code program budgets at (of.StoreLocal declaration offset ty scalar) m h = tells_touches R _ (if_local scalar declaration) (both_go refl)
+  work_told code program budgets at (of.Spell declaration offset bytes) m h = both_go refl
+  work_told code program budgets at (of.Meet kind) m h = both_touch (both_go refl)
+  work_told code program budgets at (of.Close nothing) m h = both_touch (both_go refl)
 
 module _ {S T : Type 0} (R : S → T → Type 0) where
   tells_through : (program : TypedProgram) (at : Place) (path : Path) (cell : Cell) (memory : Memory) {f : Memory → Act S} {g : Memory → Act T} → ToldOfOne R f g → Tells R (write_through program at path cell memory f) (write_through program at path cell memory g)
@@ -173,18 +169,18 @@ module _ {S T : Type 0} (R : S → T → Type 0) where
   tells_result program (struct tag) call memory h = tells_receive R program memory (Unknown (result_path call) (struct tag)) (λ after cell. h after (Scalar cell))
 
 -- a call of a function without a body
-pub outside_told : (p : Point) (callers : List (CallFrame Point)) (function : ℕ) (program : TypedProgram) (at : Place) (callee : ℕ) (returns : Shape) (written : List Bool) (arguments : List Operand) (m : State) → IsIn function m → Told p callers function (call_returning program at callee returns written arguments m) (call_returning program at callee returns written arguments (code_state p callers m))
-outside_told p callers function program at callee returns written arguments m is =
-    let R = Seen (code_state p callers) (IsIn function) in
+pub outside_told : (p : ℕ → Point) (callers : List (CallFrame Point)) (program : TypedProgram) (at : Place) (callee : ℕ) (returns : Shape) (written : List Bool) (arguments : List Operand) (m : State) → Told p callers (call_returning program at callee returns written arguments m) (call_returning program at callee returns written arguments (code_state p callers m))
+outside_told p callers program at callee returns written arguments m =
+    let R = Seen (code_state p callers) in
     tells_shows R at _ (tells_result R program returns (m.calls + 1) m.memory (λ memory result.
     tells_arguments R program at (m.calls + 1) 0 written arguments memory (λ after.
-    both_go {s = push result (record m { memory = after; calls = m.calls + 1 })} {t = push result (record (code_state p callers m) { memory = after; calls = m.calls + 1 })} (refl, is))))
+    both_go {s = push result (record m { memory = after; calls = m.calls + 1 })} {t = push result (record (code_state p callers m) { memory = after; calls = m.calls + 1 })} refl)))
 
 -- what shows is the same, whatever the run goes on in
-pub shown_told : (at : Place) (what : Label) (m : State) (t : CodeState) → Tells (Seen (λ (s : State). t) (λ s. ⊤)) (shows_then at what (Goes m)) (shows_then at what (Goes t))
-shown_told at what m t = tells_shows (Seen (λ (s : State). t) (λ s. ⊤)) at what (both_go (refl, tt))
+pub shown_told : (at : Place) (what : Label) (m : State) (t : CodeState) → Tells (Seen (λ (s : State). t)) (shows_then at what (Goes m)) (shows_then at what (Goes t))
+shown_told at what m t = tells_shows (Seen (λ (s : State). t)) at what (both_go refl)
 
-pub touched_told : (touch : Touch) (at : Place) (what : Label) (m : State) (t : CodeState) → Tells (Seen (λ (s : State). t) (λ s. ⊤)) (Touches touch (shows_then at what (Goes m))) (Touches touch (shows_then at what (Goes t)))
+pub touched_told : (touch : Touch) (at : Place) (what : Label) (m : State) (t : CodeState) → Tells (Seen (λ (s : State). t)) (Touches touch (shows_then at what (Goes m))) (Touches touch (shows_then at what (Goes t)))
 touched_told touch at what m t = both_touch (shown_told at what m t)
 
 -- a test goes on in a state for each of its ways; on the machine's stack it is left which one it was
@@ -198,5 +194,5 @@ pub marked_so : (ways : Bool → CodeState) (m : State) (holds : Bool) → ways 
 marked_so ways m true = refl
 marked_so ways m false = refl
 
-pub branch_told : (at : Place) (cell : Cell) (m : State) (ways : Bool → CodeState) → Tells (Seen (way_seen ways) (λ s. ⊤)) (branch at cell (λ holds. Goes (marked m holds))) (branch at cell (λ holds. Goes (ways holds)))
-branch_told at cell m ways = tells_branch (Seen (way_seen ways) (λ s. ⊤)) at cell (λ holds. both_go (marked_so ways m holds, tt))
+pub branch_told : (at : Place) (cell : Cell) (m : State) (ways : Bool → CodeState) → Tells (Seen (way_seen ways)) (branch at cell (λ holds. Goes (marked m holds))) (branch at cell (λ holds. Goes (ways holds)))
+branch_told at cell m ways = tells_branch (Seen (way_seen ways)) at cell (λ holds. both_go (marked_so ways m holds))

@@ -9,6 +9,6 @@ use Rattle.cs_replay.specs.declared.positions.Position.{Position}
 abbrev pub left_of : ℕ → Point → Point
 left_of done p = record p { operations = drop done p.operations }
 
--- the point to which a frame of a function has come
-abbrev pub point_of : Code → ℕ → Position → Point
-point_of graphs function position = left_of position.done (block_in (code graphs) function position.block)
+-- the point of a function at a position
+abbrev pub point_of : Code → Position → ℕ → Point
+point_of graphs position function = left_of position.done (block_in (code graphs) function position.block)

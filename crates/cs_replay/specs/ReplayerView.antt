@@ -23,7 +23,7 @@ use Rattle.cs_replay.specs.WorkerView as worker
 
 -- a frame that waits
 abbrev pub caller_of : Code → Caller → CallFrame Point
-caller_of graphs caller = at_point (point_of graphs caller.frame.function caller.position) (frame_of caller.frame)
+caller_of graphs caller = at_point (point_of graphs caller.position caller.frame.function) (frame_of caller.frame)
 
 -- those that wait, the nearest first
 abbrev pub callers_of : Code → List Caller → List (CallFrame Point)
@@ -39,13 +39,9 @@ program_of run = worker.program_of run.worker
 abbrev pub budgets_of : Replayer → RunBudgets
 budgets_of run = worker.budgets_of run.worker
 
--- the point to which the frame that runs has come
-abbrev pub point_in : Replayer → Point
-point_in run = point_of run.code.now run.worker.machine.frame.function run.position
-
 -- the state
 abbrev pub state_in : Replayer → CodeState
-state_in run = code_state (point_in run) (callers_of run.code.now run.callers.items) (worker.state_in run.worker)
+state_in run = code_state (point_of run.code.now run.position) (callers_of run.code.now run.callers.items) (worker.state_in run.worker)
 
 -- the program's structs are laid out
 abbrev pub IsReady : Replayer → Type 0

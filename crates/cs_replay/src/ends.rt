@@ -54,9 +54,8 @@ impl<'a> Replayer<'a> {
     {
         cut(&mut self.worker.machine, u64::from(temporary) + 1);
         let worker = &mut self.worker;
-        let holds = worker
-            .machine
-            .test(&mut worker.log, worker.setting, place)?;
+        let setting = worker.setting;
+        let holds = worker.machine.test(&mut worker.log, setting, place)?;
         self.enter_block(if holds { one } else { other });
         Ok(())
     }
@@ -76,12 +75,10 @@ impl<'a> Replayer<'a> {
         cut(&mut self.worker.machine, u64::from(temporary) + 1);
         let number = self.worker.machine.pop_cell().number();
         let way = way_of(cases, otherwise, number)?;
-        self.worker
-            .log
-            .touch(Touch::Meets(PointKind::Switch, place))?;
-        self.worker
-            .log
-            .show(self.worker.setting, place, Label::Case(way.number))?;
+        let setting = self.worker.setting;
+        let log = &mut self.worker.log;
+        log.touch(Touch::Meets(PointKind::Switch, place))?;
+        log.show(setting, place, Label::Case(way.number))?;
         self.enter_block(way.block);
         Ok(())
     }

@@ -21,7 +21,7 @@ pub enum Next<'a> {
 
 /// What a frame of a function does next, that has come to a position.
 pub fn next_at(code: &Code, function: u32, position: Position) -> Next<'_>
-    ensures { IsNext result (point_of code.now function position) (point_of code.now function (record position { done = position.done + 1 })) }
+    ensures { IsNext result (point_of code.now position function) (point_of code.now (record position { done = position.done + 1 }) function) }
 {
     match block_at(code, function, position.block) {
         Some(block) => next_in(block, position.done),

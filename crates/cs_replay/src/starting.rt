@@ -45,7 +45,7 @@ pub fn start<'a>(
     requires { IsLaidOut setting.now.program.now.model setting.now.program.now.table.list }
     ensures state { IfOk result (λ run. state_in run ≡ code_started (view.code code.now) (typed_program setting.now.program.now) (number_at setting.now.inputs.now) entry (routine_of (typed_program setting.now.program.now) entry)) }
     ensures log { IfOk result (λ run. log_of run.worker.log ≡ empty) }
-    ensures kept { IfOk result (λ run. (run.worker.setting ≡ setting) × (run.code ≡ code)) }
+    ensures kept { IfOk result (λ run. (run.worker.setting.now ≡ setting.now) × (run.code.now ≡ code.now)) }
 {
     let (block, marks) = beginning(flow_at(code, entry));
     let callers = Vec::new(alloc);
