@@ -13,3 +13,4 @@ mod Calling
 mod Blocks
 mod Cutting
 mod Stepping
+mod Leading
