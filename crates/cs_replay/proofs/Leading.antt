@@ -1,20 +1,24 @@
 -- Where acts of the code's run lead, and how they end it, by those of the plain machine: for the contracts of steps.
-use Rattle.std.proofs.Common.{◌≡◌, ℕ, Bool, List, refl, sym, ap, ◌∙◌}
+use Rattle.std.proofs.Common.{◌≡◌, ℕ, Bool, List, [], ◌∷◌, refl, sym, ap, ◌∙◌}
 use Rattle.cs_ast.specs.declared.place.Place.{Place}
 use Rattle.cs_runs.specs.declared.event.Label.{Label}
+use Rattle.cs_runs.specs.declared.outcome.Outcome.{Outcome}
 use Rattle.cs_runs.specs.Objects.{Cell}
 use Rattle.cs_runs.specs.Touches.{Touch}
-use Rattle.cs_runs.specs.Acts.{Act, Goes, Touches}
-use Rattle.cs_runs.specs.Runs.{Setting, Log, Continues, perform}
+use Rattle.cs_runs.specs.Acts.{Act, Goes, Stops, Touches}
+use Rattle.cs_runs.specs.Runs.{Setting, Log, Continues, Finishes, perform}
 use Rattle.cs_runs.specs.Simulation.{Tells}
 use Rattle.cs_plain.specs.Access.{shows_then}
 use Rattle.cs_plain.specs.Operators.{branch}
-use Rattle.cs_plain.specs.Machine.{State}
+use Rattle.cs_plain.specs.Calls.{leave}
+use Rattle.cs_plain.specs.Machine.{Operand, CallFrame, State, with_stack}
 use Rattle.cs_interpreter.specs.declared.logs.Stop.{Stop}
 use Rattle.cs_interpreter.specs.declared.logs.Stop.TheVariants as stop
 use Rattle.cs_interpreter.specs.Pieces.{finished}
 use Rattle.cs_interpreter.proofs.Performing.{perform-Goes}
+use Rattle.cs_cfg.specs.Graph.{Point}
 use Rattle.cs_cfg.specs.Working.{CodeState}
+use Rattle.cs_replay.specs.CodeStates.{code_state}
 use Rattle.cs_replay.specs.ReplayerView.{ended}
 use Rattle.cs_replay.proofs.Performs.{Seen, leads_so, finishes_so}
 use Rattle.cs_replay.proofs.Told.{shown_told, touched_told, marked, way_seen, marked_so, branch_told}
@@ -48,6 +52,21 @@ module _ (setting : Setting) (log later : Log) where
   pub no_branch : (at : Place) (cell : Cell) (m : State) (ways : Bool → CodeState) (stop : Stop) → ((onward : Bool → Act State) → perform setting log (branch at cell onward) ≡ finished stop later (perform setting log (branch at cell onward))) → perform setting log (branch at cell (λ b. Goes (ways b))) ≡ ended stop later (perform setting log (branch at cell (λ b. Goes (ways b))))
   no_branch at cell m ways stop ends =
       ends_so (way_seen ways) (branch at cell (λ b. Goes (marked m b))) (branch at cell (λ b. Goes (ways b))) stop (branch_told at cell m ways) (ends (λ b. Goes (marked m b)))
+
+module _ (setting : Setting) (log : Log) where
+  -- an act leads to a state that is told in another way
+  pub arrives : (act : Act CodeState) (t last : CodeState) (later end : Log) → perform setting log act ≡ Continues t later → last ≡ t → end ≡ later → perform setting log act ≡ Continues last end
+  arrives act t last later end leads same same_log = leads ∙ (ap (λ (s : CodeState). Continues s later) (sym same) ∙ ap (λ (l : Log). Continues last l) (sym same_log))
+
+-- a frame is left without a look at its temporaries
+pub leaves_alike : (value : Operand) (stack : List Operand) (points : ℕ → Point) (callers : List (CallFrame Point)) (m : State) → leave value (code_state points callers (with_stack stack m)) ≡ leave value (code_state points callers m)
+leaves_alike value stack points [] m = refl
+leaves_alike value stack points (caller ∷ callers) m = refl
+
+-- the run ends at once
+pub stops_so : (setting : Setting) (log : Log) (outcome : Outcome) → perform {State = CodeState} setting log (Stops outcome) ≡ Finishes outcome log
+unfolding perform
+stops_so setting log outcome = refl
 
 -- an act of the code's run that goes on at once
 pub goes_so : (setting : Setting) (log : Log) (t : CodeState) → perform setting log (Goes t) ≡ Continues t log

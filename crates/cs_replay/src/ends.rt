@@ -1,5 +1,5 @@
 //! What the end of a block does.
-ghost use Rattle.std.specs.Prelude.{◌≡◌, OnOk, IfErr, map};
+ghost use Rattle.std.specs.Prelude.{◌≡◌, OnOk, IfErr, map, if◌then◌else◌};
 ghost use Rattle.cs_cfg.specs.CodeSteps as steps;
 ghost use Rattle.cs_cfg.specs.Graph as graph;
 ghost use Rattle.cs_cfg.specs.GraphView as view;
@@ -56,7 +56,7 @@ impl<'a> Replayer<'a> {
         let worker = &mut self.worker;
         let setting = worker.setting;
         let holds = worker.machine.test(&mut worker.log, setting, place)?;
-        self.enter_block(if holds { one } else { other });
+        self.enter_block(chosen(holds, one, other));
         Ok(())
     }
 
@@ -93,4 +93,11 @@ impl<'a> Replayer<'a> {
         let value = self.worker.machine.pop();
         self.leave(value)
     }
+}
+
+// The block to which a test leads.
+fn chosen(holds: bool, one: u32, other: u32) -> u32
+    ensures { result ≡ (if holds then one else other) }
+{
+    if holds { one } else { other }
 }
