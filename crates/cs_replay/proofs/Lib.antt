@@ -14,3 +14,7 @@ mod Blocks
 mod Cutting
 mod Stepping
 mod Leading
+mod Entering
+mod FrameStates
+mod Courses
+mod Beginning

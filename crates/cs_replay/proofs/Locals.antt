@@ -2,13 +2,12 @@
 use Rattle.std.proofs.Common.{◌≡◌, ℕ, ◌+◌, ◌==◌, Bool, true, false, Option, Some, None, List, ◌∷◌, refl, ap, if◌then◌else◌}
 use Rattle.std.specs.Prelude.{option_map, slice_get}
 use mathlib.Core.Path.{fun_ext}
-use Rattle.cs_ast.specs.TypedProgram.{TypedProgram, Routine, Variable}
+use Rattle.cs_ast.specs.TypedProgram.{TypedProgram, Variable}
 use Rattle.cs_runs.specs.Objects.{Object, StartBlock, GlobalObject, LiteralObject, LocalObject, HeapBlock, Cell}
 use Rattle.cs_plain.specs.Types.{size_of}
 use Rattle.cs_plain.specs.Memory.{Memory, Block, UnsetFill, new_block, write_cell, none_written}
-use Rattle.cs_plain.specs.Machine.{Operand, Frame, State, cell_of}
-use Rattle.cs_plain.specs.Calls.{argument_at, local_block, with_locals, inside}
-use Rattle.cs_replay.specs.Calling.{inside_with}
+use Rattle.cs_plain.specs.Machine.{Operand, cell_of}
+use Rattle.cs_plain.specs.Calls.{argument_at, local_block, with_locals}
 use Rattle.cs_interpreter.specs.MemoryView.{with_frame}
 
 -- a local that is no parameter holds nothing
@@ -32,10 +31,5 @@ locals_are program frame variables arguments locals memory are = fun_ext (λ obj
     at (LiteralObject literal) = refl
     at (LocalObject n d) = rw (are d) refl
     at (HeapBlock allocation) = refl
-
--- the machine in a new frame with the locals that it should have
-pub inside_is : (program : TypedProgram) (frame : Frame) (routine : Routine) (arguments : List Operand) (locals : ℕ → Option Block) (m : State) → ((n : ℕ) → locals n ≡ option_map (local_block program (slice_get arguments n)) (slice_get routine.variables n)) → inside_with frame locals m ≡ inside program frame routine arguments m
-inside_is program frame routine arguments locals m are =
-    ap (λ (memory : Memory). record m { frame = frame; callers = m.frame ∷ m.callers; memory = memory; frames = m.frames + 1 }) (locals_are program m.frames routine.variables arguments locals m.memory are)
 
 pub ruleset locals = (local_without, local_with)

@@ -4,10 +4,9 @@ ghost use Rattle.cs_cfg.specs.CodeSteps as steps;
 ghost use Rattle.cs_cfg.specs.GraphView as view;
 ghost use Rattle.cs_cfg.specs.Working as working;
 ghost use Rattle.cs_plain.specs.Calls as calls;
-ghost use Rattle.cs_plain.specs.Machine.{Scalar, to_do};
+ghost use Rattle.cs_plain.specs.Machine.{Scalar};
 ghost use Rattle.cs_runs.specs.Objects.{UnsetCell};
 ghost use Rattle.cs_replay.specs.Nexts.{reaching};
-ghost use Rattle.cs_replay.specs.Points.{point_of};
 ghost use Rattle.cs_replay.specs.ReplayerView.{program_of, budgets_of, code_of, state_in, IsReady, LeadsOn, Ends, KeepsSetting};
 
 use crate::nexts::{Next, next_at};
@@ -44,9 +43,7 @@ impl<'a> Replayer<'a> {
 
     // One more of the things that the block does is done.
     fn advance(&mut self) -> Result<(), AllocError>
-        ensures state { OnOk result (state_in self.new ≡ to_do (point_of self.old.code.now (record self.old.position { done = self.old.position.done + 1 }) self.old.worker.machine.frame.function) (state_in self.old)) }
-        ensures worker { self.new.worker ≡ self.old.worker }
-        ensures kept { OnOk result (KeepsSetting self.old self.new) }
+        ensures { OnOk result (self.new ≡ record self.old { position = record self.old.position { done = self.old.position.done + 1 } }) }
     {
         self.position.done = self.position.done.checked_add(1).ok_or(AllocError)?;
         Ok(())
