@@ -104,9 +104,7 @@ impl<'a> Worker<'a> {
         ensures kept { OnOk result (self.new.setting ≡ self.old.setting) }
     {
         let (target, before, converted, right) = pop_updated(&mut self.machine);
-        let number = self
-            .log
-            .operate(self.setting, place, operator, works_in, &converted, &right)?;
+        let number = self.log.operate(self.setting, place, operator, works_in, &converted, &right)?;
         let number = Cell::Number(number);
         let (from, to) = (CType::Int(works_in), integer_of(&object.ty));
         let stored = self

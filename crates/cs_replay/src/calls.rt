@@ -38,13 +38,8 @@ impl<'a> Replayer<'a> {
             Some(flow) => self.enter(place, function, flow, arguments),
             None => {
                 let callee = callee_of(self.worker.setting.program, function);
-                self.worker.call_outside(
-                    place,
-                    function,
-                    callee.returns,
-                    callee.written,
-                    arguments,
-                )?;
+                self.worker
+                    .call_outside(place, function, callee.returns, callee.written, arguments)?;
                 Ok(())
             }
         }

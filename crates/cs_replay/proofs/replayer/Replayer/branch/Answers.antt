@@ -33,6 +33,6 @@ returns-clause-ok c =
     let callers = callers_of run.code.now run.callers.items in
     let leads = branches_so (setting_of run.worker.setting.now) (log_of run.worker.log) (log_of c.test.new.log) c.args.place (cell_at m 0) m ways c.in_ok-holds.holds found.1 in
     let state : state_in c.enter_block.new.self ≡ ways c.in_ok-holds.holds =
-        rw c.chosen.ensures at c.enter_block.ensures.state
-        ∙ ap (λ (n : State). enters (code_of run) (if c.in_ok-holds.holds then c.args.one else c.args.other) (code_state points callers n)) found.0 in
+    rw c.chosen.ensures at c.enter_block.ensures.state
+    ∙ ap (λ (n : State). enters (code_of run) (if c.in_ok-holds.holds then c.args.one else c.args.other) (code_state points callers n)) found.0 in
     arrives (setting_of run.worker.setting.now) (log_of run.worker.log) (do_end (code_of run) (Branch c.args.place c.args.temporary c.args.one c.args.other) (state_in run)) (ways c.in_ok-holds.holds) (state_in c.enter_block.new.self) (log_of c.test.new.log) (log_of c.enter_block.new.self.worker.log) leads state (ap log_of c.enter_block.ensures.log)

@@ -25,7 +25,7 @@ returns-in_ok-come_back-in-Some-clause-ok c =
     let caller = caller_of run.code.now c.in-Some.caller in
     let leads = ap (λ (t : CodeState). perform setting log (leave value t)) c.in-Some.ensures.some ∙ goes_so setting log (back_in caller value behind) in
     let state : state_in c.come_back.new.self ≡ back_in caller value behind =
-        c.in_ok-come_back-in-Some.ensures.state ∙ ap (λ (code : Bor Code). back_in (caller_of code.now c.in-Some.caller) value behind) c.in-Some.ensures.kept.code in
+    c.in_ok-come_back-in-Some.ensures.state ∙ ap (λ (code : Bor Code). back_in (caller_of code.now c.in-Some.caller) value behind) c.in-Some.ensures.kept.code in
     let same_log : log_of c.come_back.new.self.worker.log ≡ log = ap log_of c.in_ok-come_back-in-Some.ensures.log ∙ ap (λ (w : Worker). log_of w.log) c.in-Some.ensures.log in
     arrives setting log (leave value (state_in run)) (back_in caller value behind) (state_in c.come_back.new.self) log (log_of c.come_back.new.self.worker.log) leads state same_log
 

@@ -63,7 +63,7 @@ returns-clause-ok c =
     let leads = meets_so (setting_of run.worker.setting.now) (log_of run.worker.log) (log_of c.show.new.self) (Meets AtSwitch c.args.place) c.args.place (Case wanted.number) m target (one ∙ two last) in
     let popped : state_of c.pop_cell.new.self ≡ pop m = c.pop_cell.ensures.state ∙ ap (λ (n : State). pop n) cut in
     let state : state_in c.enter_block.new.self ≡ target =
-        c.enter_block.ensures.state
-        ∙ (ap (λ (n : State). enters (code_of run) c.in_ok-way.way.block (code_state points callers n)) popped
-        ∙ ap (λ (block : ℕ). enters (code_of run) block (code_state points callers (pop m))) led) in
+    c.enter_block.ensures.state
+    ∙ (ap (λ (n : State). enters (code_of run) c.in_ok-way.way.block (code_state points callers n)) popped
+    ∙ ap (λ (block : ℕ). enters (code_of run) block (code_state points callers (pop m))) led) in
     arrives (setting_of run.worker.setting.now) (log_of run.worker.log) (goes_way (code_of run) c.args.place wanted (pop (working.cut (c.args.temporary + 1) (state_in run)))) target (state_in c.enter_block.new.self) (log_of c.show.new.self) (log_of c.enter_block.new.self.worker.log) leads state (ap log_of c.enter_block.ensures.log)
