@@ -8,7 +8,7 @@ ghost use Rattle.cs_grammar.specs.FileText.{file_text};
 ghost use Rattle.cs_consts.specs.Verdicts.{Answers};
 ghost use Rattle.cs_typing.specs.Programs.{constants_in, typed};
 ghost use Rattle.cs_well_formed.specs.Programs.{IsWellFormed};
-ghost use Rattle.cs_well_formed.specs.Tokens.{IsHeldToken};
+ghost use Rattle.cs_lexer.specs.Held.{IsHeldToken};
 
 use crate::file::typed_file;
 use crate::filed::Filed;
