@@ -1,13 +1,12 @@
 -- What the lexer takes has no constant that is too wide: for the tokens of lexed files.
-use Rattle.std.proofs.Common.{◌-◌, ◌≡◌, ℕ, ℤ, zero, suc, ◌+◌, ◌^◌, ◌<◌, Bool, true, false, cond, List, [], ◌∷◌, length, take, drop, Option, Some, None, refl, sym, subst, arith}
-use Rattle.std.specs.Prelude.{pos, negsuc, nat_le, nat_lt, not, ◌&&◌, ◌==◌, codes, IfSome, is_some, FitsSigned, nat_eq}
+use Rattle.std.proofs.Common.{◌-◌, ◌≡◌, ℕ, zero, suc, ◌+◌, ◌^◌, ◌<◌, Bool, true, false, cond, List, [], ◌∷◌, length, take, drop, Option, Some, None, refl, sym, subst, arith}
+use Rattle.std.specs.Prelude.{pos, negsuc, nat_le, nat_lt, not, ◌&&◌, codes, IfSome, is_some, FitsSigned, nat_eq}
 use Rattle.std.specs.Int.{w32}
 use Rattle.std.specs.Str.Parse.{digits_value}
-use Rattle.std.specs.List.{All, AllByRecursion, take_while, starts_with, list_all}
+use Rattle.std.specs.List.{All, AllByRecursion, take_while, starts_with}
 use Rattle.std.proofs.lemmas.Bool.{ltb-true, leb-false}
 use Rattle.std.proofs.lemmas.Int.{ints}
 use Rattle.std.proofs.lemmas.List.Elements.{All-nil, All-push, All-same, All-from_recursion, recursion_from_All}
-use Rattle.cs_ast.specs.declared.place.Place.{Place}
 use Rattle.cs_ast.specs.declared.token.Token.{Token}
 use Rattle.cs_ast.specs.declared.token.TokenKind.{TokenKind}
 use Rattle.cs_ast.specs.declared.token.TokenKind.TheVariants as token
@@ -20,7 +19,6 @@ use Rattle.cs_lexer.specs.declared.escape.Item.TheVariants as items
 use Rattle.cs_lexer.specs.declared.found.Fault.TheVariants.{BadByte, WideNumber}
 use Rattle.cs_lexer.specs.declared.found.Found.{Found}
 use Rattle.cs_lexer.specs.declared.found.Found.TheVariants as found
-use Rattle.cs_lexer.specs.declared.lexer.Lexed.{Lexed}
 use Rattle.cs_lexer.specs.declared.number.Suffix.{Suffix}
 use Rattle.cs_lexer.specs.declared.piece.Class.{Class}
 use Rattle.cs_lexer.specs.declared.piece.Class.TheVariants as class
@@ -29,14 +27,14 @@ use Rattle.cs_lexer.specs.Attributes.{has_group, group_length, without_attribute
 use Rattle.cs_lexer.specs.Comments.{is_inside, CommentGives}
 use Rattle.cs_lexer.specs.Cuttings.{Reaches, begins, gap, marker, token as one_token, token_at}
 use Rattle.cs_lexer.specs.Digits.{radix, run, value_of}
-use Rattle.cs_lexer.specs.Directives.{line_number, number_part, file_name, next_line, with_name, with_line, marker as marker_of, whole_length, line_of, skip_blanks, directive_at}
+use Rattle.cs_lexer.specs.Directives.{line_number, number_part, file_name, with_line, marker as marker_of, whole_length, line_of, skip_blanks, directive_at}
 use Rattle.cs_lexer.specs.Escapes.{item_at}
-use Rattle.cs_lexer.specs.Lexing.{tokens_of, Lexes}
+use Rattle.cs_lexer.specs.Lexing.{tokens_of}
 use Rattle.cs_lexer.specs.Marks.{IsMarkToken, MarkGives}
 use Rattle.cs_lexer.specs.Numbers.{base_of, prefix_length, suffix_of, goes_on, is_decimal, is_too_wide, constant, number_at}
 use Rattle.cs_lexer.specs.Pieces.{class_of, BeginsAs}
-use Rattle.cs_lexer.specs.Quoted.{closing, signed, character_with, character_of, character_in, character_at, IsTextToken, TextBodyGives, TextIn, TextGives}
-use Rattle.cs_lexer.specs.Texts.{text_of_kind, behind_text, text_before, joined_to, joined}
+use Rattle.cs_lexer.specs.Quoted.{closing, signed, character_with, character_of, character_in, IsTextToken, TextBodyGives, TextIn}
+use Rattle.cs_lexer.specs.Texts.{text_of_kind, behind_text, joined_to, joined}
 use Rattle.cs_lexer.specs.Words.{WordIs, WordGives}
 use Rattle.cs_lexer.specs.Held.{IsHeldToken, LexedTokensAreHeld}
 
