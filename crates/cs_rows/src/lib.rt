@@ -10,8 +10,6 @@ mod flows;
 #[cfg(test)]
 mod front;
 #[cfg(test)]
-mod ordered;
-#[cfg(test)]
 mod parsed;
 #[cfg(test)]
 mod refused;

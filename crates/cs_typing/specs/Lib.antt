@@ -1,4 +1,3 @@
-pub mod Order
 pub mod Objects
 pub mod Statements
 pub mod LabelNumbers

@@ -70,7 +70,6 @@ fn with_body(
     let Filed {
         known,
         globals,
-        order,
         functions,
     } = filed;
     let mut inside = Inside {
@@ -88,7 +87,6 @@ fn with_body(
     Ok(Filed {
         known,
         globals,
-        order,
         functions,
     })
 }

@@ -9,7 +9,6 @@ mod functions;
 mod inside;
 mod labels;
 mod objects;
-mod order;
 mod program;
 mod statements;
 mod switches;

@@ -16,4 +16,3 @@ pub mod Initials
 pub mod Growth
 pub mod Tokens
 pub mod Leading
-pub mod Labels

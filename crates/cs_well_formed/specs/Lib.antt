@@ -8,4 +8,3 @@ pub mod Laws
 pub mod Growth
 pub mod Tokens
 pub mod Leading
-pub mod Landing
