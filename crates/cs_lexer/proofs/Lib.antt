@@ -16,3 +16,4 @@ pub mod Onward
 pub mod OnePiece
 pub mod OneCutting
 pub mod OneLexing
+pub mod HeldTokens

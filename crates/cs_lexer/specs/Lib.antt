@@ -15,3 +15,4 @@ pub mod Cuttings
 pub mod Attributes
 pub mod Texts
 pub mod Lexing
+pub mod Held

@@ -1,6 +1,8 @@
 //! The tokens of a preprocessed C text, with their places.
 #![tactic(auto)]
 
+ghost use Rattle.cs_lexer.specs.Held.{LexedTokensAreHeld};
+
 mod attributes;
 mod byte;
 mod comment;
@@ -26,3 +28,8 @@ mod word;
 pub use cs_ast::{Token, TokenKind};
 pub use lexer::{Lexed, tokens};
 pub use refusal::LexRefusal;
+
+/// No token of a lexed text is a constant that is too wide for the types of its list (C11 6.4.4, paragraph 2).
+pub fn lexed_tokens_are_held()
+    ensures { LexedTokensAreHeld }
+{}

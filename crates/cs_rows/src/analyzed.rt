@@ -6,7 +6,7 @@ use std::alloc::Global;
 use std::test::Fail;
 
 /// Files with the status and the text of their analysis.
-const ANALYSES: [(&str, Status, &str); 15] = [
+const ANALYSES: [(&str, Status, &str); 18] = [
     (
         "int f(int x){if(x==0)return 0;return 10/x;}",
         Status::Clean,
@@ -62,6 +62,21 @@ const ANALYSES: [(&str, Status, &str); 15] = [
         "int g(int x){return 1/x;}int f(){return 4/2;}",
         Status::Found,
         "entry g complete\nreport divide <input>:1:22 confirmed\n  input x = 0\nentry f complete\n",
+    ),
+    (
+        "int g(int y);int f(int x){return 10/x;}int g(int y){return 1/y;}",
+        Status::Found,
+        "entry f complete\nreport divide <input>:1:36 confirmed\n  input x = 0\nentry g complete\nreport divide <input>:1:61 confirmed\n  input y = 0\n",
+    ),
+    (
+        "int h(int x);int g(int x);int f(int x){return x;}int g(int x){return x;}int h(int x){return x;}int f(int x);",
+        Status::Clean,
+        "entry f complete\nentry g complete\nentry h complete\n",
+    ),
+    (
+        "void free(void*p);int f(int x){return x;}void*malloc(unsigned long n);",
+        Status::Clean,
+        "entry f complete\n",
     ),
     (
         "# 1 \"a.h\"\nint f(int x){return 1/x;}\n# 7 \"b.c\"\nint g(int y){if(y==0)return 1/y;return 2/y;}\n",

@@ -10,6 +10,8 @@ mod flows;
 #[cfg(test)]
 mod front;
 #[cfg(test)]
+mod ordered;
+#[cfg(test)]
 mod parsed;
 #[cfg(test)]
 mod refused;

@@ -383,7 +383,7 @@ const PROGRAMS: [(&str, &str, &str); 74] = [
 
 /// Words and a file with the line of how the run ends: each kind of fault, the order of checks at one access, budgets, and what an
 /// entry returns; what a function without a body writes; data models; inputs.
-const ENDS: [(&str, &str, &str); 54] = [
+const ENDS: [(&str, &str, &str); 58] = [
     (
         "replay f",
         "int f(int*p){return *p;}",
@@ -613,6 +613,26 @@ const ENDS: [(&str, &str, &str); 54] = [
         "replay f p=1 p@8=5",
         "struct s{long a;int b;};int f(struct s*p){return p->b;}",
         "done 5\n",
+    ),
+    (
+        "replay f x=7",
+        "int g(int x);int f(int x){return g(x);}int g(int y){return y;}",
+        "done 7\n",
+    ),
+    (
+        "replay h x=7",
+        "int g(int x);int f(int x);int h(int x){return g(x)+1;}int f(int x){return x/0;}int g(int x){return x*10;}int g(int y);",
+        "done 71\n",
+    ),
+    (
+        "replay even n=2",
+        "int odd(int n);int even(int n){if(n==0)return 1;return odd(n-1);}int odd(int n){if(n==0)return 0;return even(n-1);}",
+        "done 1\n",
+    ),
+    (
+        "replay f call#1=5",
+        "int g(int x);int e(void);void free(void*p);int f(int x){free(0);return g(e());}int g(int x){return x+100;}",
+        "done 105\n",
     ),
     ("replay f x=1 x=2", "int f(int x){return x;}", "done 2\n"),
     ("replay f x=300", "int f(char x){return x;}", "done 0\n"),

@@ -3,10 +3,18 @@ pub mod CasesInTurn
 pub mod ChangedParts
 pub mod ConstantNumbers
 pub mod ConstantsSoFar
+pub mod DeclarationsBehind
+pub mod FilesSoFar
 pub mod FunctionAgain
+pub mod FunctionNumbers
+pub mod HeldConstants
+pub mod LedJumps
 pub mod LabelPlaces
+pub mod LiteralsBehind
 pub mod LocalsInTurn
+pub mod OrderedNames
 pub mod ParameterTypes
+pub mod PlacedFunctions
 pub mod ProgramsLaidOut
 pub mod SoundFiles
 pub mod SoundStatements
@@ -14,3 +22,7 @@ pub mod StatementKinds
 pub mod StatementRows
 pub mod StatementsInARow
 pub mod StatementsInTurn
+pub mod WellFiles
+pub mod WellFunctions
+pub mod WellObjects
+pub mod WellStatements

@@ -29,7 +29,8 @@ use Rattle.cs_declarations.proofs.FineVerdicts.{IfFine, IfFine-lift, IfFine-lift
 use Rattle.cs_declarations.proofs.SoundBodies.{TypeGoesOn, specs_type-GoesOn}
 use Rattle.cs_declarations.proofs.SoundParameters.{HeadGoesOn, typedefs_added-GoesOn, parameters_typed-GoesOn}
 use Rattle.cs_declarations.proofs.SoundStructs.{GoesOn, none-AreSound}
-use Rattle.cs_typing.specs.Objects.{Filed, Object, with_known, may_be_object, object_of, object_initialized, marked, object_added, objects_added}
+use Rattle.cs_typing.specs.Objects.{Filed, Object, with_known, is_completed, may_be_object, object_of, object_initialized, marked, object_added, objects_added}
+use Rattle.cs_typing.specs.Order.{order_of}
 use Rattle.cs_typing.specs.Statements.{body_typed, nothing_told}
 use Rattle.cs_typing.specs.Functions.{Routed, same_types, types_of, function_of, may_be_function, where_in, at_beginning, declared_inside, body_added, completed, outside_of, headed, is_result, resulted, function_added}
 use Rattle.cs_typing.specs.Files.{beginning, external_declared, external_typed, specs_of, file_typed, typed_file}
@@ -61,7 +62,7 @@ module _ (m : DataModel) where
   object_added-sound s base d f h =
       let found = object_of f d.declarator (meaning_here d.declarator.name f.known) in
       let added : Shape → Verdict Filed = λ ty. lift (object_initialized ty d.initial) (lift (marked s d.declarator) (found ty)) in
-      IfFine-cond (may_be_object f.globals (is_some d.initial) (meaning_here d.declarator.name f.known)) (lift added (object_type f.known.context base d))
+      IfFine-cond (may_be_object f.globals (is_completed f base d.declarator) (is_some d.initial) (meaning_here d.declarator.name f.known)) (lift added (object_type f.known.context base d))
       (Fault DeclaredTwice d.declarator.place) FiledIsSound
       (λ may. IfFine-lift_any added (object_type f.known.context base d) FiledIsSound
       (λ ty. IfFine-lift (object_initialized ty d.initial) (lift (marked s d.declarator) (found ty)) ObjectIsSound FiledIsSound
@@ -129,4 +130,4 @@ module _ (m : DataModel) where
       IfFine-lift (file_typed es) (external_typed e.place e.kind f) FiledIsSound FiledIsSound (external_typed-sound e.place e.kind f h) (λ g i. file_typed-sound es g i)
 
 pub typed_file-sound : (model : DataModel) (file : List RawExternal) → IfFine (typed_file model file) (FiledIsSound model)
-typed_file-sound model file = file_typed-sound model file (beginning model) (none-AreSound model, refl)
+typed_file-sound model file = file_typed-sound model file (beginning model (order_of file)) (none-AreSound model, refl)

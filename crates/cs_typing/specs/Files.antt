@@ -1,5 +1,5 @@
 -- The typing of files (C11 6.9): the program that written declarations and functions are, or the first failing place.
-use Rattle.std.specs.Prelude.{ℕ, List, [], ◌∷◌, codes, Some, None}
+use Rattle.std.specs.Prelude.{ℕ, List, [], ◌∷◌, codes, map, Some, None}
 use Rattle.cs_types.specs.declared.data_model.DataModel.{DataModel}
 use Rattle.cs_types.specs.DataModel.{size_type_of}
 use Rattle.cs_types.specs.Shape.{Shape, void, integer, pointer}
@@ -8,11 +8,13 @@ use Rattle.cs_ast.specs.declared.raw.declaration.RawSpecs.{RawSpecs}
 use Rattle.cs_ast.specs.declared.raw.external.RawExternalKind.{RawExternalKind}
 use Rattle.cs_ast.specs.declared.raw.external.RawExternalKind.TheVariants as external
 use Rattle.cs_ast.specs.declared.raw.external.RawExternal.{RawExternal}
+use Rattle.cs_ast.specs.TypedProgram.{Routine}
 use Rattle.cs_consts.specs.declared.scope.Callee.{Callee}
 use Rattle.cs_consts.specs.declared.scope.Callee.TheVariants.{Malloc, Calloc, Free}
 use Rattle.cs_consts.specs.Verdicts.{Verdict, Fine, lift}
 use Rattle.cs_consts.specs.Meanings.{Declaration, Function}
 use Rattle.cs_declarations.specs.Bodies.{Typing, specs_type, typedefs_added}
+use Rattle.cs_typing.specs.Order.{order_of}
 use Rattle.cs_typing.specs.Objects.{Filed, with_known, objects_added}
 use Rattle.cs_typing.specs.Functions.{function_added}
 
@@ -28,9 +30,22 @@ allocators model =
     ∷ library_function (codes "free") Free void (pointer void ∷ [])
     ∷ []
 
--- a file of which nothing was read yet
-abbrev pub beginning : DataModel → Filed
-beginning model = record {
+-- a function that isn't declared yet
+abbrev pub blank : List ℕ → Routine
+blank name = record {
+  name = name;
+  at = record { file = 0; line = 1; column = 1 };
+  returns = void;
+  parameters = 0;
+  variables = [];
+  body = None;
+  closes = record { file = 0; line = 1; column = 1 };
+  written = [];
+}
+
+-- a file whose functions stand in this order, and of which nothing was read yet
+abbrev pub beginning : DataModel → List (List ℕ) → Filed
+beginning model order = record {
   known = record {
     context = record { model = model; table = record { list = [] }; scope = record { declarations = allocators model; tags = [] } };
     reading = [];
@@ -38,7 +53,8 @@ beginning model = record {
     literals = [];
   };
   globals = [];
-  routines = [];
+  order = order;
+  routines = map blank order;
 }
 
 -- what stands before the declarators of a part of a file
@@ -71,4 +87,4 @@ file_typed (e ∷ es) f = lift (file_typed es) (external_typed e.place e.kind f)
 
 -- a typed file
 abbrev pub typed_file : DataModel → List RawExternal → Verdict Filed
-typed_file model file = file_typed file (beginning model)
+typed_file model file = file_typed file (beginning model (order_of file))

@@ -1,6 +1,8 @@
 -- Functions (C11 6.9.1).
-use Rattle.std.specs.Prelude.{ℕ, Bool, true, false, not, ◌&&◌, if◌then◌else◌, List, [], ◌∷◌, ◌++◌, length, map, drop, slice_get, Option, Some, None, is_some}
+use Rattle.std.specs.Prelude.{ℕ, nat_eq, Bool, true, false, not, ◌&&◌, if◌then◌else◌, List, [], ◌∷◌, ◌++◌, length, map, drop, slice_get, Option, Some, None, is_some}
 use Rattle.std.specs.Option.{option_and_then}
+use Rattle.std.specs.List.{position_or_len}
+use Rattle.std.specs.Cmp.Lexicographic.{pointwise}
 use Rattle.cs_types.specs.Shape.{Shape, array, struct, same_shape}
 use Rattle.cs_ast.specs.declared.raw.declaration.RawFunction.{RawFunction}
 use Rattle.cs_ast.specs.declared.raw.external.RawBody.{RawBody}
@@ -59,17 +61,22 @@ bodiless d result parameters written = record {
 abbrev pub numbered : ℕ → Shape → List Variable → Signature
 numbered number result parameters = record { callee = Numbered number; result = result; parameters = types_of parameters }
 
+-- the number of a function: its place in the order of the file's functions
+abbrev pub number_in : List (List ℕ) → List ℕ → ℕ
+number_in order name = position_or_len (pointwise nat_eq name) order
+
 -- a declared function, with the file that has it
 abbrev pub Routed : Type 0
 Routed = Callee × Filed
 
 abbrev pub new_function : Filed → RawFunction → Shape → List Variable → List Bool → Routed
 new_function f d result parameters written = (
-  Numbered (length f.routines),
+  Numbered (number_in f.order d.name),
   record {
-    known = declaring d.name (Function (numbered (length f.routines) result parameters)) f.known;
+    known = declaring d.name (Function (numbered (number_in f.order d.name) result parameters)) f.known;
     globals = f.globals;
-    routines = f.routines ++ bodiless d result parameters written ∷ [];
+    order = f.order;
+    routines = changed (number_in f.order d.name) (λ blank. bodiless d result parameters written) f.routines;
   },
 )
 
@@ -104,6 +111,7 @@ abbrev pub with_body : RawFunction → RawBody → ℕ → Filed → Told → Ve
 with_body d body number f told = Fine (record {
   known = left f.known told.inside.known;
   globals = f.globals;
+  order = f.order;
   routines = changed number (bodied d body told) f.routines;
 })
 

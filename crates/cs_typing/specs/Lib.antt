@@ -1,3 +1,4 @@
+pub mod Order
 pub mod Objects
 pub mod Statements
 pub mod LabelNumbers

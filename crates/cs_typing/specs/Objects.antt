@@ -12,25 +12,33 @@ use Rattle.cs_ast.specs.TypedProgram.{Variable, FileObject, Routine}
 use Rattle.cs_consts.specs.declared.refusal.TypeCode.TheVariants.{DeclaredTwice}
 use Rattle.cs_consts.specs.Verdicts.{Verdict, Fine, Fault, lift}
 use Rattle.cs_consts.specs.Meanings.{Meaning, Global, Local}
+use Rattle.cs_consts.specs.Objects.{is_complete}
+use Rattle.cs_consts.specs.TypeNames.{starred}
 use Rattle.cs_declarations.specs.Known.{Known, with_literals, declaring, is_declared_here, meaning_here}
 use Rattle.cs_declarations.specs.Initializers.{InFile, InFunction, Reading, initial_typed}
 use Rattle.cs_declarations.specs.Objects.{object_type, is_constant_object}
 
--- a file so far
+-- a file so far; its functions stand in the order of the whole file, and those that aren't declared yet are blank
 pub record Filed : Type 0 where
   pub known : Known
   pub globals : List FileObject
+  pub order : List (List ℕ)
   pub routines : List Routine
 
 -- the object has what it holds at first
 abbrev pub is_initialized : ℕ → List FileObject → Bool
 is_initialized number globals = is_some (option_and_then (λ (g : FileObject). g.initial) (slice_get globals number))
 
--- a name that stands for no object yet may become one's; one that stands for an object may do so again, and is initialized once
-abbrev pub may_be_object : List FileObject → Bool → Option Meaning → Bool
-may_be_object globals initializes None = true
-may_be_object globals initializes (Some (Global number ty)) = not (initializes && is_initialized number globals)
-may_be_object globals initializes (Some other) = false
+-- what stands before a declarator's name is a complete type, so that the object may have one (C11 6.7, paragraph 7)
+abbrev pub is_completed : Filed → Shape → RawDeclarator → Bool
+is_completed f base d = is_complete f.known.context.table.list (starred d.pointers.items base)
+
+-- a name that stands for nothing yet may become an object's; one that stands for an object may do so again, and is initialized once: not
+-- with an incomplete type, which is another than the object has
+abbrev pub may_be_object : List FileObject → Bool → Bool → Option Meaning → Bool
+may_be_object globals completed initializes None = true
+may_be_object globals completed initializes (Some (Global number ty)) = completed && not (initializes && is_initialized number globals)
+may_be_object globals completed initializes (Some other) = false
 
 -- the object of a name: a new one, or the one that was declared before with the same type
 pub record Object : Type 0 where
@@ -38,10 +46,10 @@ pub record Object : Type 0 where
   pub filed : Filed
 
 abbrev pub with_known : Known → Filed → Filed
-with_known k f = record { known = k; globals = f.globals; routines = f.routines }
+with_known k f = record { known = k; globals = f.globals; order = f.order; routines = f.routines }
 
 abbrev pub with_globals : List FileObject → Filed → Filed
-with_globals globals f = record { known = f.known; globals = globals; routines = f.routines }
+with_globals globals f = record { known = f.known; globals = globals; order = f.order; routines = f.routines }
 
 abbrev pub new_object : Filed → RawDeclarator → Shape → Object
 new_object f d ty = record {
@@ -49,6 +57,7 @@ new_object f d ty = record {
   filed = record {
     known = declaring d.name (Global (length f.globals) ty) f.known;
     globals = f.globals ++ record { name = d.name; at = d.place; ty = ty; constant = false; initial = None } ∷ [];
+    order = f.order;
     routines = f.routines;
   };
 }
@@ -71,7 +80,7 @@ abbrev pub holding : Initial → FileObject → FileObject
 holding first g = record { name = g.name; at = g.at; ty = g.ty; constant = g.constant; initial = Some first }
 
 abbrev pub with_initial : ℕ → Filed → Reading → Verdict Filed
-with_initial number f r = Fine (record { known = with_literals r.1 f.known; globals = changed number (holding r.0) f.globals; routines = f.routines })
+with_initial number f r = Fine (record { known = with_literals r.1 f.known; globals = changed number (holding r.0) f.globals; order = f.order; routines = f.routines })
 
 -- what stands behind its declarator
 abbrev pub object_initialized : Shape → Option RawFirstValue → Object → Verdict Filed
@@ -85,7 +94,7 @@ marked s d o = Fine (record { number = o.number; filed = with_globals (changed o
 -- a declared object of a file
 abbrev pub object_added : RawSpecs → Shape → RawInit → Filed → Verdict Filed
 object_added s base d f =
-    if may_be_object f.globals (is_some d.initial) (meaning_here d.declarator.name f.known)
+    if may_be_object f.globals (is_completed f base d.declarator) (is_some d.initial) (meaning_here d.declarator.name f.known)
     then lift (λ ty. lift (object_initialized ty d.initial) (lift (marked s d.declarator) (object_of f d.declarator (meaning_here d.declarator.name f.known) ty)))
     (object_type f.known.context base d)
     else Fault DeclaredTwice d.declarator.place

@@ -70,6 +70,7 @@ fn with_body(
     let Filed {
         known,
         globals,
+        order,
         functions,
     } = filed;
     let mut inside = Inside {
@@ -87,6 +88,7 @@ fn with_body(
     Ok(Filed {
         known,
         globals,
+        order,
         functions,
     })
 }

@@ -9,6 +9,7 @@ ghost use Rattle.cs_typing.specs.View.{filed_of};
 
 use crate::bodies::with_function;
 use crate::filed::Filed;
+use crate::order::{blanks, order_of};
 use cs_ast::raw::declaration::RawSpecs;
 use cs_ast::raw::external::{RawExternal, RawExternalKind};
 use cs_consts::{
@@ -17,6 +18,7 @@ use cs_consts::{
 use cs_declarations::{Known, specs_type};
 use cs_names::Name;
 use cs_types::{CType, DataModel, StructTable, Structs, size_type};
+use indexmap::IndexSet;
 use std::alloc::{AllocError, Global};
 
 // Declares a function of the library, which takes so many objects of one type.
@@ -74,9 +76,13 @@ fn allocators(alloc: Global, model: DataModel) -> Result<Declarations, AllocErro
     Ok(all)
 }
 
-/// A file of which nothing was read yet.
-pub fn beginning(alloc: Global, model: DataModel) -> Result<Filed, AllocError>
-    ensures { IfOk result (λ filed. filed_of filed ≡ beginning model) }
+/// A file whose functions stand in this order, and of which nothing was read yet.
+pub fn beginning(
+    alloc: Global,
+    model: DataModel,
+    order: IndexSet<Name>,
+) -> Result<Filed, AllocError>
+    ensures { IfOk result (λ filed. filed_of filed ≡ beginning model order.keys) }
 {
     let scope = Scope {
         declarations: allocators(alloc, model)?,
@@ -97,7 +103,8 @@ pub fn beginning(alloc: Global, model: DataModel) -> Result<Filed, AllocError>
             literals: Vec::new(alloc),
         },
         globals: Vec::new(alloc),
-        functions: Vec::new(alloc),
+        functions: blanks(alloc, order.as_slice())?,
+        order,
     })
 }
 
@@ -176,6 +183,6 @@ pub fn typed_file(
 ) -> Result<Filed, TypeRefusal>
     ensures { Answers filed_of (typed_file model file.now) result }
 {
-    let filed = beginning(alloc, model)?;
+    let filed = beginning(alloc, model, order_of(alloc, file)?)?;
     with_externals(alloc, filed, file)
 }

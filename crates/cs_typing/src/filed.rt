@@ -2,11 +2,16 @@
 
 use cs_ast::typed::program::{Function, Global};
 use cs_declarations::Known;
+use cs_names::Name;
+use indexmap::IndexSet;
 
 /// What is known behind the parts of a file that were read, with its objects and functions.
 #[derive(Drop)]
 pub struct Filed {
     pub known: Known,
     pub globals: Vec<Global>,
+    /// The names of the whole file's functions, each at the number of its function.
+    pub order: IndexSet<Name>,
+    /// Each is blank before it is declared.
     pub functions: Vec<Function>,
 }

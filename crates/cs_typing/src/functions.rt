@@ -1,13 +1,14 @@
 //! Functions (C11 6.9.1).
 ghost use Rattle.std.specs.Prelude.{◌≡◌, map, IfOk};
 ghost use Rattle.cs_types.specs.Shape.{shape_of};
-ghost use Rattle.cs_ast.specs.TypedProgram.{variable};
+ghost use Rattle.cs_ast.specs.TypedProgram.{variable, routine};
 ghost use Rattle.cs_consts.specs.Meanings.{signature_of};
 ghost use Rattle.cs_declarations.specs.Answered.{AnswersWith};
 ghost use Rattle.cs_declarations.specs.Known.{meaning_here};
 ghost use Rattle.cs_declarations.specs.View.{known_of};
 ghost use Rattle.cs_typing.specs.Functions as functions;
-ghost use Rattle.cs_typing.specs.Functions.{is_result, same_types, types_of, has_body, may_be_function, numbered};
+ghost use Rattle.cs_typing.specs.Objects.{changed};
+ghost use Rattle.cs_typing.specs.Functions.{is_result, same_types, types_of, has_body, may_be_function, number_in, bodiless, numbered};
 ghost use Rattle.cs_typing.specs.View.{filed_of, routed_of};
 
 use crate::filed::Filed;
@@ -78,6 +79,37 @@ fn copied(alloc: Global, parameters: &[Local]) -> Result<Vec<Local>, AllocError>
     Ok(list)
 }
 
+// A function without a body.
+fn bodiless(
+    alloc: Global,
+    head: &RawFunction,
+    returns: &CType,
+    parameters: &Head,
+) -> Result<Function, AllocError>
+    ensures { IfOk result (λ made. routine made ≡ bodiless head.now (shape_of returns.now) (map variable parameters.now.parameters.items) parameters.now.written.items) }
+{
+    let list = parameters.parameters.as_slice();
+    Ok(Function {
+        name: head.name.copy()?,
+        place: head.place,
+        result: returns.copy(alloc)?,
+        parameters: u32::try_from(list.len()).map_err(|_| AllocError)?,
+        locals: copied(alloc, list)?,
+        body: None,
+        end: head.place,
+        written: Vec::from_slice(alloc, &parameters.written)?,
+    })
+}
+
+// Puts a function where the blank one with its number stands.
+fn put(functions: &mut Vec<Function>, number: u32, function: Function)
+    ensures { map routine functions.new.items ≡ changed number (λ blank. routine function) (map routine functions.old.items) }
+{
+    if let Some(blank) = functions.get_mut(number as usize) {
+        *blank = function;
+    }
+}
+
 impl Filed {
     // Whether a function has a body already, or none may stand for it in a file.
     fn has_body(&self, callee: Callee) -> bool
@@ -106,7 +138,16 @@ impl Filed {
         }
     }
 
-    // Adds a function without a body, for which its name stands.
+    // The number of a function of the file.
+    #[tactic(auto, using(crate::proofs::FunctionNumbers::place_or_length))]
+    fn number_of(&self, name: &Name) -> Result<u32, AllocError>
+        ensures { IfOk result (λ number. number ≡ number_in (filed_of self.now).order name.now) }
+    {
+        let place = self.order.get_index_of(name);
+        u32::try_from(place.unwrap_or(self.order.len())).map_err(|_| AllocError)
+    }
+
+    // Puts a function without a body in its place, and its name stands for it.
     fn add_function(
         &mut self,
         alloc: Global,
@@ -116,20 +157,11 @@ impl Filed {
     ) -> Result<Callee, AllocError>
         ensures { IfOk result (λ callee. routed_of callee self.new ≡ functions.new_function (filed_of self.old) head.now (shape_of returns.now) (map variable parameters.now.parameters.items) parameters.now.written.items) }
     {
-        let number = u32::try_from(self.functions.len()).map_err(|_| AllocError)?;
-        let list = parameters.parameters.as_slice();
-        let meaning = Meaning::Function(signature(alloc, number, returns, list)?);
+        let number = self.number_of(&head.name)?;
+        let meaning = Meaning::Function(signature(alloc, number, returns, &parameters.parameters)?);
         self.known.declare(&head.name, meaning)?;
-        self.functions.push(Function {
-            name: head.name.copy()?,
-            place: head.place,
-            result: returns.copy(alloc)?,
-            parameters: u32::try_from(list.len()).map_err(|_| AllocError)?,
-            locals: copied(alloc, list)?,
-            body: None,
-            end: head.place,
-            written: Vec::from_slice(alloc, &parameters.written)?,
-        })?;
+        let function = bodiless(alloc, head, returns, parameters)?;
+        put(&mut self.functions, number, function);
         Ok(Callee::Numbered(number))
     }
 

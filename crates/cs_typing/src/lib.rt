@@ -9,6 +9,7 @@ mod functions;
 mod inside;
 mod labels;
 mod objects;
+mod order;
 mod program;
 mod statements;
 mod switches;

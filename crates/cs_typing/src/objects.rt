@@ -6,28 +6,43 @@ ghost use Rattle.cs_declarations.specs.Answered.{AnswersWith, Leaves};
 ghost use Rattle.cs_declarations.specs.Known.{meaning_here};
 ghost use Rattle.cs_declarations.specs.View.{known_of};
 ghost use Rattle.cs_typing.specs.Objects as objects;
-ghost use Rattle.cs_typing.specs.Objects.{may_be_object, new_object, with_globals, changed, made_constant, holding, is_initialized, object_initialized, object_added, objects_added};
+ghost use Rattle.cs_typing.specs.Objects.{is_completed, may_be_object, new_object, with_globals, changed, made_constant, holding, is_initialized, object_initialized, object_added, objects_added};
 ghost use Rattle.cs_typing.specs.View.{filed_of, object_of};
 
 use crate::filed::Filed;
 use cs_ast::raw::declaration::{RawDeclarator, RawFirstValue, RawInit, RawSpecs};
 use cs_ast::typed::program::Global;
 use cs_ast::typed::statement::Initial;
-use cs_consts::{Meaning, TypeCode, TypeRefusal};
+use cs_consts::{Meaning, TypeCode, TypeRefusal, is_complete, starred};
 use cs_declarations::{Storage, initial_typed, is_constant_object, object_type};
 use cs_names::Name;
 use cs_types::CType;
 use std::alloc::{AllocError, Global as Allocation};
 
 impl Filed {
+    // Whether what stands before a declarator's name is a complete type (C11 6.7, paragraph 7).
+    fn is_completed(
+        &self,
+        alloc: Allocation,
+        base: &CType,
+        declarator: &RawDeclarator,
+    ) -> Result<bool, AllocError>
+        ensures { IfOk result (λ completed. completed ≡ is_completed (filed_of self.now) (shape_of base.now) declarator.now) }
+    {
+        let ty = starred(alloc, &declarator.pointers, base.copy(alloc)?)?;
+        Ok(is_complete(&self.known.context.table, &ty))
+    }
+
     // Whether a name may be declared as an object's, which is initialized there or isn't: it stands for nothing in the file yet, or for
-    // an object, which is initialized once.
-    fn may_be_object(&self, name: &Name, initializes: bool) -> bool
-        ensures { result ≡ may_be_object (filed_of self.now).globals initializes (meaning_here name.now (known_of self.now.known)) }
+    // an object, which is initialized once and has a complete type.
+    fn may_be_object(&self, name: &Name, completed: bool, initializes: bool) -> bool
+        ensures { result ≡ may_be_object (filed_of self.now).globals completed initializes (meaning_here name.now (known_of self.now.known)) }
     {
         match self.known.meaning_here(name) {
             None => true,
-            Some(Meaning::Global(number, _)) => !(initializes && self.is_initialized(*number)),
+            Some(Meaning::Global(number, _)) => {
+                completed && !(initializes && self.is_initialized(*number))
+            }
             Some(_) => false,
         }
     }
@@ -143,7 +158,8 @@ impl Filed {
         ensures { Leaves (object_added specs.now (shape_of base.now) declared.now (filed_of self.old)) result (filed_of self.new) }
     {
         let declarator = &declared.declarator;
-        if !self.may_be_object(&declarator.name, declared.initial.is_some()) {
+        let completed = self.is_completed(alloc, base, declarator)?;
+        if !self.may_be_object(&declarator.name, completed, declared.initial.is_some()) {
             return Err(TypeRefusal::Code(TypeCode::DeclaredTwice, declarator.place));
         }
         let ty = object_type(alloc, &self.known.context, base, declared)?;

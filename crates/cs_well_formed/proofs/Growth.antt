@@ -11,7 +11,7 @@ use Rattle.cs_types.specs.Members.{Member}
 use Rattle.cs_types.specs.Shape.{Shape, void, integer, pointer, array, struct}
 use Rattle.cs_ast.specs.declared.typed.operator.Allocator.TheVariants as allocator
 use Rattle.cs_ast.specs.TypedTree.{Typed, Of, Form, Number, Null, Text, Local, Global, Through, Index, Member as MemberOf, Arrow, Load, Address, Decay, Convert, Unary, Not, Binary, Compare, Sum, Difference, And, Or, Choice, Comma, Assign, Update, Move, Call, Allocate, Free, TypedList, NoMore, Further, Initial, Value, Parts, Bytes, Initials, NoPart, Part, Statement, Block, Declare, Run, If, IfElse, While, Do, For, Switch, Goto, Label, Break, Continue, Return, Statements, Empty, Then}
-use Rattle.cs_ast.specs.TypedProgram.{TypedProgram, FileObject, Routine}
+use Rattle.cs_ast.specs.TypedProgram.{TypedProgram, Variable, FileObject, Routine}
 use Rattle.cs_consts.specs.declared.context.Context.{Context}
 use Rattle.cs_consts.specs.declared.scope.Callee.{Callee}
 use Rattle.cs_consts.specs.declared.scope.Callee.TheVariants.{Malloc, Calloc, Free as FreeOf, Numbered}
@@ -19,8 +19,8 @@ use Rattle.cs_consts.specs.Meanings.{Signature, Meaning, Typedef, Constant, Glob
 use Rattle.cs_consts.specs.Integers.{type_of}
 use Rattle.cs_well_formed.specs.Expressions.{Setting, IsWell, IsWellForm, AreWell, IsWhole, IsHeld, IsElementPointer, HasMember, AreValuesOf, sizes_of}
 use Rattle.cs_well_formed.specs.Initials.{HasParts, IsWellInitial, AreWellParts, HasConstantValues}
-use Rattle.cs_well_formed.specs.Statements.{IsWellStatement, AreWellStatements, IsDroppedIfAny, IsTestIfAny, IsReturned}
-use Rattle.cs_well_formed.specs.Programs.{setting_of, IsWellRoutine, outside, IsWellGlobal}
+use Rattle.cs_well_formed.specs.Statements.{IsWellStatement, AreWellStatements, AreCases, count_of, IsDroppedIfAny, IsTestIfAny, IsReturned}
+use Rattle.cs_well_formed.specs.Programs.{setting_of, IsWellBody, IsWellRoutine, outside, IsWellGlobal}
 use Rattle.cs_well_formed.specs.Agreement.{IsFunction, IsThere, Agrees}
 use Rattle.cs_well_formed.specs.Growth.{Extends, Grows}
 
@@ -151,7 +151,8 @@ module _ (s t : Setting) (grows : Grows s t) where
     IsWellStatement-grown (Do at body test) h = (IsWell-grown test h.0, h.1, IsWellStatement-grown body h.2)
     IsWellStatement-grown (For at first test last body) h =
         (AreWellStatements-grown first h.0, IsTestIfAny-grown test h.1, IsDroppedIfAny-grown last h.2, IsWellStatement-grown body h.3)
-    IsWellStatement-grown (Switch at value cases statements) h = (IsWell-grown value h.0, h.1, h.2, AreWellStatements-grown statements h.3)
+    IsWellStatement-grown (Switch at value cases statements) h =
+        (IsWell-grown value h.0, h.1, subst (λ m. AreCases m (type_of value) (count_of statements) cases) grows.program.model h.2, AreWellStatements-grown statements h.3)
     IsWellStatement-grown (Goto at label) h = label-grown label h
     IsWellStatement-grown (Label at label body) h = (label-grown label h.0, IsWellStatement-grown body h.1)
     IsWellStatement-grown (Break at) h = tt
@@ -231,8 +232,19 @@ IsWellGlobal-grown p q g h well =
 
 -- a well-formed function
 pub IsWellRoutine-grown : (p q : TypedProgram) (r : Routine) → Extends p q → IsWellRoutine p r → IsWellRoutine q r
-IsWellRoutine-grown p q r h well = record { parameters = well.parameters; written = well.written; body = inside r.body well.body }
+IsWellRoutine-grown p q r h well = record {
+  returns = well.returns;
+  parameters = well.parameters;
+  passed = well.passed;
+  variables = All-weaker (λ (v : Variable). IsWhole p v.ty) (λ (v : Variable). IsWhole q v.ty) (λ v whole. IsWhole-grown (outside p) (outside q) (Grows-inside (outside p) q h) v.ty whole) r.variables well.variables;
+  written = well.written;
+  body = inside r.body well.body;
+}
   where
-    inside : (body : Option Statement) → IfSome body (λ b. IsWellStatement (setting_of p r b) b) → IfSome body (λ b. IsWellStatement (setting_of q r b) b)
+    inside : (body : Option Statement) → IfSome body (IsWellBody p r) → IfSome body (IsWellBody q r)
     inside None held = tt
-    inside (Some b) held = IsWellStatement-grown (setting_of p r b) (setting_of q r b) (Grows-inside (setting_of p r b) q h) b held
+    inside (Some b) held = record {
+      statement = IsWellStatement-grown (setting_of p r b) (setting_of q r b) (Grows-inside (setting_of p r b) q h) b held.statement;
+      labels = held.labels;
+      jumps = held.jumps;
+    }

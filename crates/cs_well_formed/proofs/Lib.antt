@@ -16,3 +16,4 @@ pub mod Initials
 pub mod Growth
 pub mod Tokens
 pub mod Leading
+pub mod Labels

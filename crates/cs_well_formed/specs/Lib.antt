@@ -8,3 +8,4 @@ pub mod Laws
 pub mod Growth
 pub mod Tokens
 pub mod Leading
+pub mod Landing

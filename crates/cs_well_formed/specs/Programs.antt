@@ -1,22 +1,36 @@
 -- Well-formed programs: each node has the type and the parts that its form asks for, and each number names what is there.
-use Rattle.std.specs.Prelude.{◌≡◌, ◌≤◌, [], length, IfSome}
+use Rattle.std.specs.Prelude.{◌≡◌, ◌≤◌, ◌⊎◌, false, [], length, IfSome}
 use Rattle.std.specs.List.{All}
 use Rattle.cs_types.specs.Layout.{IsLaidOut}
-use Rattle.cs_types.specs.Shape.{void}
+use Rattle.cs_types.specs.Shape.{Shape, void}
 use Rattle.cs_ast.specs.TypedTree.{Statement}
-use Rattle.cs_ast.specs.TypedProgram.{TypedProgram, FileObject, Routine}
-use Rattle.cs_well_formed.specs.Expressions.{Setting, IsWhole}
+use Rattle.cs_ast.specs.TypedProgram.{TypedProgram, Variable, FileObject, Routine}
+use Rattle.cs_well_formed.specs.Expressions.{Setting, IsScalar, IsWhole, parameter_types}
 use Rattle.cs_well_formed.specs.Initials.{IsWellInitial, HasConstantValues}
-use Rattle.cs_well_formed.specs.Statements.{IsWellStatement, label_count}
+use Rattle.cs_well_formed.specs.Statements.{IsWellStatement, label_count, AreNumbered, JumpsLead}
 
 -- where the body of a function stands
 abbrev pub setting_of : TypedProgram → Routine → Statement → Setting
 setting_of p r body = record { program = p; variables = r.variables; labels = label_count body; returns = r.returns }
 
+-- a function gives a scalar or nothing (C11 6.9.1, paragraph 3, without structs)
+abbrev pub IsResult : Shape → Type 0
+IsResult ty = (ty ≡ void) ⊎ IsScalar ty
+
+-- the body of a function: its labels are numbered as they stand, and its jumps lead somewhere
+pub record IsWellBody (p : TypedProgram) (r : Routine) (body : Statement) : Type 0 where
+  pub statement : IsWellStatement (setting_of p r body) body
+  pub labels : AreNumbered 0 body
+  pub jumps : JumpsLead false false body
+
+-- a function: the first of its variables are its parameters, which are scalars, each with its mark
 pub record IsWellRoutine (p : TypedProgram) (r : Routine) : Type 0 where
+  pub returns : IsResult r.returns
   pub parameters : r.parameters ≤ length r.variables
+  pub passed : All IsScalar (parameter_types r)
+  pub variables : All (λ (v : Variable). IsWhole p v.ty) r.variables
   pub written : length r.written ≡ r.parameters
-  pub body : IfSome r.body (λ body. IsWellStatement (setting_of p r body) body)
+  pub body : IfSome r.body (IsWellBody p r)
 
 -- where the initializers of file-scope objects stand
 abbrev pub outside : TypedProgram → Setting

@@ -2,6 +2,7 @@
 #![tactic(auto)]
 
 ghost use Rattle.cs_well_formed.specs.Growth.{ExpressionsStay, InitialsStay, StatementsStay, AgreementStays, GlobalsStay, RoutinesStay};
+ghost use Rattle.cs_well_formed.specs.Landing.{LabelsAreThere};
 ghost use Rattle.cs_well_formed.specs.Laws.{FormedAreWell, OperandsAreWell, AssignedAreWell, TestsAreWell, SelectorsAreWell, DiscardedAreWell, ConstantsAreInRange, InitialsAreWell, FileInitialsAreConstant};
 ghost use Rattle.cs_well_formed.specs.Leading.{WordsLead, TypedefsLead, ParametersLead, ObjectsAreWhole};
 ghost use Rattle.cs_well_formed.specs.Tokens.{TextsHoldConstants, InitialTextsHoldConstants};
@@ -46,4 +47,9 @@ pub fn declarations_lead()
     ensures typedefs { TypedefsLead }
     ensures parameters { ParametersLead }
     ensures objects { ObjectsAreWhole }
+{}
+
+/// Where the labels of a body are numbered as they stand, a `goto` leads to one that is there.
+pub fn labels_are_there()
+    ensures { LabelsAreThere }
 {}

@@ -1,5 +1,6 @@
 use Rattle.cs_typing.specs.View.{filed_of}
 use Rattle.cs_typing.proofs.ProgramsLaidOut.{laid_out, made}
+use Rattle.cs_typing.proofs.WellFiles.{well_formed}
 use Rattle.cs_typing.proofs.program.typed.Goals as goal
 
 pub returns-clause-told : goal.returns-clause-told
@@ -9,3 +10,6 @@ returns-clause-told c =
 
 pub returns-clause-laid_out : goal.returns-clause-laid_out
 returns-clause-laid_out c = laid_out c.args.model c.args.files.now c.args.tokens.now c.args.file.now _ (returns-clause-told c)
+
+pub returns-clause-well_formed : goal.returns-clause-well_formed
+returns-clause-well_formed c = well_formed c.args.model c.args.files.now c.args.tokens.now c.args.file.now _ (returns-clause-told c)

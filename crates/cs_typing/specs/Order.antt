@@ -1,0 +1,37 @@
+-- The order of a file's functions: that of their places, each the place of its name in its definition, or else in its first declaration.
+use Rattle.std.specs.Prelude.{ℕ, Bool, true, false, not, nat_eq, codes, ◌&&◌, ◌||◌, if◌then◌else◌, List, [], ◌∷◌, ◌++◌, Option, Some, None, option_to_list}
+use Rattle.std.specs.Cmp.Lexicographic.{pointwise}
+use Rattle.indexmap.specs.IndexSet.{insert_all}
+use Rattle.cs_ast.specs.declared.raw.external.RawExternalKind.{RawExternalKind}
+use Rattle.cs_ast.specs.declared.raw.external.RawExternalKind.TheVariants as external
+use Rattle.cs_ast.specs.declared.raw.external.RawExternal.{RawExternal}
+
+-- a function of the library, which is none of the file's (C11 7.22.3)
+abbrev pub is_of_library : List ℕ → Bool
+is_of_library name = pointwise nat_eq name (codes "malloc") || pointwise nat_eq name (codes "calloc") || pointwise nat_eq name (codes "free")
+
+-- a part of a file is the definition of a function with this name (C11 6.9.1)
+abbrev pub defines : List ℕ → RawExternalKind → Bool
+defines name (external.Definition s d body) = pointwise nat_eq d.name name
+defines name other = false
+
+-- a function with this name is defined in a file
+abbrev pub is_defined : List ℕ → List RawExternal → Bool
+is_defined name [] = false
+is_defined name (e ∷ es) = defines name e.kind || is_defined name es
+
+-- the function that may have its place in a part of a file, of whose functions these are defined: one that is defined there, or one that is
+-- declared there and defined nowhere
+abbrev pub placed : (List ℕ → Bool) → RawExternalKind → Option (List ℕ)
+placed defined (external.Definition s d body) = Some d.name
+placed defined (external.Function s d) = if is_of_library d.name || defined d.name then None else Some d.name
+placed defined other = None
+
+-- the same of all parts of a file
+abbrev pub all_placed : (List ℕ → Bool) → List RawExternal → List (List ℕ)
+all_placed defined [] = []
+all_placed defined (e ∷ es) = option_to_list (placed defined e.kind) ++ all_placed defined es
+
+-- the names of a file's functions: each once, where it is placed first
+abbrev pub order_of : List RawExternal → List (List ℕ)
+order_of file = insert_all (pointwise nat_eq) [] (all_placed (λ name. is_defined name file) file)
