@@ -59,9 +59,10 @@ def main():
         with tempfile.NamedTemporaryFile("w", suffix=".c", delete=False) as file:
             file.write(text)
         print(f"{name}: {len(text)} bytes")
-        for command in [[PROGRAM, "parse"], [PROGRAM]] + [[c, "-fsyntax-only", "-w", file.name] for c in COMPILERS]:
+        stages = [[PROGRAM, "parse"], [PROGRAM, "type"], [PROGRAM, "lower"]]
+        for command in stages + [[c, "-fsyntax-only", "-w", file.name] for c in COMPILERS]:
             spent, memory = seconds(command, file.name)
-            print(f"  {os.path.basename(command[0])} {command[1] if command[1:2] == ['parse'] else ''}: {spent:.2f} s, {memory} MB")
+            print(f"  {os.path.basename(command[0])} {command[1]}: {spent:.2f} s, {memory} MB")
         os.unlink(file.name)
 
 

@@ -1,15 +1,18 @@
-//! Times the front end from outside: cuts standard input into tokens, parses them, types the tree unless the word is `parse`, and says
-//! how many there were of each.
+//! Times the front end from outside: cuts standard input into tokens, parses them, types the tree and lowers the program, and says how
+//! many there were of each. The word `parse` or `type` ends it behind that stage.
 #![tactic(auto)]
 
 ghost use Rattle.std.specs.Prelude.{◌≤◌, length};
+ghost use Rattle.cs_types.specs.Layout.{IsLaidOut};
 
 use cs_ast::raw::external::RawExternal;
+use cs_ast::typed::program::Program;
 use cs_consts::TypeRefusal;
 use cs_decl_parser::parse;
 use cs_grammar::SyntaxRefusal;
 use cs_io::{StdSource, read_all};
 use cs_lexer::{Lexed, tokens};
+use cs_lower::lower;
 use cs_types::DataModel;
 use cs_typing::typed;
 use std::{env, io};
@@ -61,29 +64,56 @@ fn parsed(rt: &HostRuntime, lexed: &Lexed) -> io::Result<()> {
     }
 }
 
-// Whether the word says that nothing is typed.
-fn only_parses(rt: &HostRuntime) -> bool {
-    match env::args(rt) {
-        Ok(mut arguments) => arguments
-            .nth(1)
-            .is_some_and(|word| word.as_str() == "parse"),
-        Err(_) => false,
+// The last stage that is timed.
+enum Stage {
+    Parse,
+    Type,
+    Lower,
+}
+
+// The stage that the word names; all of them where there is none.
+fn last_stage(rt: &HostRuntime) -> Stage {
+    let Ok(mut arguments) = env::args(rt) else {
+        return Stage::Lower;
+    };
+    match arguments.nth(1) {
+        Some(word) if word.as_str() == "parse" => Stage::Parse,
+        Some(word) if word.as_str() == "type" => Stage::Type,
+        _ => Stage::Lower,
     }
 }
 
-// Types a tree.
+// Types a tree, and lowers the program.
 fn with_types(rt: &HostRuntime, lexed: &Lexed, tree: &[RawExternal]) -> io::Result<()> {
-    if only_parses(rt) {
+    let stage = last_stage(rt);
+    if let Stage::Parse = stage {
         return Ok(());
     }
     match typed(rt.alloc(), DataModel::Lp64, &lexed.files, &lexed.list, tree) {
         Ok(program) => {
             let count = program.functions.len();
-            println!(rt; "{count} functions")
+            println!(rt; "{count} functions")?;
+            match stage {
+                Stage::Parse | Stage::Type => Ok(()),
+                Stage::Lower => lowered(rt, &program),
+            }
         }
         Err(TypeRefusal::Code(code, place)) => {
             println!(rt; "type {} {}:{}", code.number(), place.line, place.column)
         }
         Err(TypeRefusal::Memory) => println!(rt; "memory"),
+    }
+}
+
+// Lowers a program.
+fn lowered(rt: &HostRuntime, program: &Program) -> io::Result<()>
+    requires { IsLaidOut program.now.model program.now.table.list }
+{
+    match lower(rt.alloc(), program) {
+        Ok(code) => {
+            let count = code.flows.iter().flatten().count();
+            println!(rt; "{count} graphs")
+        }
+        Err(_) => println!(rt; "memory"),
     }
 }

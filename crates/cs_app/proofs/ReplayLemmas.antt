@@ -1,13 +1,17 @@
 -- The entry of a replay, and which texts belong to a status of its run: for the functions that answer a replay.
-use Rattle.std.proofs.Common.{◌≡◌, ℕ, suc, Bool, List, [], ◌∷◌, ◌++◌, map, length, Option, Some, None, refl, sym, ap, subst, rules}
-use Rattle.std.specs.Prelude.{is_some, codes, option_map}
+use Rattle.std.proofs.Common.{◌≡◌, ℕ, suc, Bool, true, false, List, [], ◌∷◌, ◌++◌, map, length, Option, Some, None, refl, sym, ap, ◌∙◌, subst, rules}
+use Rattle.std.specs.Prelude.{is_some, codes, option_map, nat_eq, ◌&&◌}
 use Rattle.std.specs.List.{position, prefix_len}
+use Rattle.std.specs.Cmp.Lexicographic.{pointwise}
+use Rattle.std.proofs.lemmas.List.Quantifiers.{position-Some}
+use Rattle.std.proofs.lemmas.Option.{unwrap_or-slice_get}
 use Rattle.cs_ast.specs.declared.typed.program.Function.{Function}
 use Rattle.cs_ast.specs.TypedProgram.{TypedProgram, routine}
 use Rattle.cs_runs.specs.declared.outcome.Outcome.{Outcome}
 use Rattle.cs_runs.specs.declared.outcome.Outcome.TheVariants.{Done, Fault, Over}
 use Rattle.cs_runs.specs.declared.guess.Guess.{Guess}
 use Rattle.cs_runs.specs.Runs.{Log}
+use Rattle.cs_plain.specs.Machine.{NOWHERE, no_routine, routine_of}
 use Rattle.cs_plain.specs.PlainRuns.{RunGives}
 use Rattle.cs_report.specs.ReplayLines.{replay_line}
 use Rattle.cs_words.specs.declared.command.ReplayWords.{ReplayWords}
@@ -61,3 +65,18 @@ replay_is files program words entry number guesses outcome log status text same 
   says = says;
   tells = tells;
 }
+
+-- the entry that is found has a body
+pub entry_has_body : (program : TypedProgram) (name : List ℕ) (entry : ℕ) → entry_of name program ≡ Some entry → (routine_of program entry).body ≡ None → ⊥
+entry_has_body program name entry found none =
+    let nowhere = no_routine NOWHERE in
+    let is = (position-Some (is_entry name) program.routines entry nowhere found).1.0 in
+    let has = right (pointwise nat_eq (routine_of program entry).name name) (is_some (routine_of program entry).body) (ap (is_entry name) (unwrap_or-slice_get program.routines entry nowhere) ∙ is) in
+    lacks (ap is_some none ∙ refl) has
+  where
+    right : (a b : Bool) → (a && b) ≡ true → b ≡ true
+    right true b h = h
+    right false b h = absurd cc
+
+    lacks : {b : Bool} → b ≡ false → b ≡ true → ⊥
+    lacks e h = absurd cc

@@ -1,9 +1,13 @@
 //! The answer to a file: its tokens, its tree, its program.
 ghost use Rattle.std.specs.Prelude.{◌≡◌, ◌≤◌, ℕ, List, length, IfOk};
-ghost use Rattle.cs_types.specs.Layout.{IsLaidOut};
-ghost use Rattle.cs_lexer.specs.Lexing.{Lexes};
+ghost use Rattle.std.specs.List.{All};
+ghost use Rattle.cs_ast.specs.HeldTokens.{IsHeldToken};
 ghost use Rattle.cs_ast.specs.TypedProgram.{typed_program};
-ghost use Rattle.cs_app.specs.Trees.{MOST_BYTES, Parses};
+ghost use Rattle.cs_grammar.specs.FileText.{file_text};
+ghost use Rattle.cs_lexer.specs.Lexing.{Lexes};
+ghost use Rattle.cs_decl_parser.specs.Files.{parts_of};
+ghost use Rattle.cs_well_formed.specs.Programs.{IsWellFormed};
+ghost use Rattle.cs_app.specs.Trees.{MOST_BYTES, AreHeld, Parses};
 ghost use Rattle.cs_app.specs.Answers.{IsAnalysisAnswer, IsProgramAnswer, IsAnswer, model_of};
 
 use crate::answer::Answer;
@@ -41,7 +45,8 @@ pub fn answer_to(alloc: Global, command: &Command, file: &[u8]) -> Result<Answer
 
 /// The answer to a file with these tokens.
 fn answer_by_syntax(alloc: Global, command: &Command, lexed: &Lexed) -> Result<Answer, AllocError>
-    requires { length lexed.now.list.items ≤ 400000 }
+    requires few { length lexed.now.list.items ≤ 400000 }
+    requires held { AreHeld lexed.now.list.items }
     ensures { IfOk result (λ answer. (file : List ℕ) → length file ≤ MOST_BYTES → Lexes file lexed.now
         → IsAnswer command.now file answer.status answer.text.items) }
 {
@@ -75,6 +80,7 @@ fn answer_by_type(
     lexed: &Lexed,
     tree: &[RawExternal],
 ) -> Result<Answer, AllocError>
+    requires { All IsHeldToken (file_text (parts_of tree.now)) }
     ensures { IfOk result (λ answer. (file : List ℕ) → Parses file lexed.now tree.now
         → IsAnswer command.now file answer.status answer.text.items) }
 {
@@ -97,7 +103,7 @@ fn answer_of(
     files: &[Name],
     program: &Program,
 ) -> Result<Answer, AllocError>
-    requires { IsLaidOut program.now.model program.now.table.list }
+    requires { IsWellFormed (typed_program program.now) }
     ensures { IfOk result (λ answer. IsProgramAnswer command.now files.now (typed_program program.now) answer.status answer.text.items) }
 {
     match command {

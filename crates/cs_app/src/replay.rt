@@ -1,9 +1,10 @@
-//! The answer to a replay: how the run of a function ends with these inputs.
-ghost use Rattle.std.specs.Prelude.{◌≡◌, ◌++◌, codes, IfOk};
+//! The answer to a replay: how the run of a function ends with these inputs. The run goes over the function's flow graph.
+ghost use Rattle.std.specs.Prelude.{◌≡◌, ◌++◌, Some, codes, IfOk};
 ghost use Rattle.std.specs.List.{position};
-ghost use Rattle.cs_types.specs.Layout.{IsLaidOut};
 ghost use Rattle.cs_ast.specs.TypedProgram.{routine, typed_program};
-ghost use Rattle.cs_app.specs.Trees.{is_entry};
+ghost use Rattle.cs_well_formed.specs.Programs.{IsWellFormed};
+ghost use Rattle.cs_report.specs.ReplayLines.{replay_line};
+ghost use Rattle.cs_app.specs.Trees.{is_entry, entry_of};
 ghost use Rattle.cs_app.specs.Answers.{outcome_status, IsReplayOf, IsReplayAnswer};
 
 use crate::answer::Answer;
@@ -11,10 +12,11 @@ use crate::entries::number_of;
 use crate::status::Status;
 use cs_ast::typed::program::{Function, Program};
 use cs_interpreter::Setting;
+use cs_lower::lower;
 use cs_names::Name;
+use cs_replay::{ReplayRefusal, replay};
 use cs_report::append_replayed;
 use cs_runs::Outcome;
-use cs_steps::run;
 use cs_words::ReplayWords;
 use std::alloc::{AllocError, Global};
 
@@ -52,7 +54,7 @@ pub fn replayed(
     program: &Program,
     words: &ReplayWords,
 ) -> Result<Answer, AllocError>
-    requires { IsLaidOut program.now.model program.now.table.list }
+    requires { IsWellFormed (typed_program program.now) }
     ensures { IfOk result (λ answer. IsReplayAnswer files.now (typed_program program.now) words.now answer.status answer.text.items) }
 {
     match entry_of(&program.functions, &words.entry) {
@@ -67,7 +69,7 @@ pub fn replayed(
     }
 }
 
-/// The line of the outcome in which the run of the function with this number ends.
+/// The line of the outcome in which the run of the function with this number, the words' entry, ends.
 fn run_of(
     alloc: Global,
     files: &[Name],
@@ -75,10 +77,12 @@ fn run_of(
     words: &ReplayWords,
     entry: usize,
 ) -> Result<Answer, AllocError>
-    requires { IsLaidOut program.now.model program.now.table.list }
+    requires well_formed { IsWellFormed (typed_program program.now) }
+    requires found { entry_of words.now.entry (typed_program program.now) ≡ Some entry }
     ensures { IfOk result (λ answer. IsReplayOf files.now (typed_program program.now) words.now entry answer.status answer.text.items) }
 {
     let number = number_of(entry)?;
+    let code = lower(alloc, program)?;
     let guesses = Vec::new(alloc);
     let setting = Setting {
         program,
@@ -86,11 +90,28 @@ fn run_of(
         guesses: &guesses,
         budgets: words.budgets,
     };
-    let ended = run(alloc, &setting, number)?;
+    match replay(alloc, &setting, &code, number) {
+        Ok(replayed) => {
+            let answer = outcome_of(alloc, files, replayed.outcome)?;
+            Ok(answer)
+        }
+        Err(ReplayRefusal::NoEntry) => {
+            let answer = refused_entry(alloc, &words.entry)?;
+            Ok(answer)
+        }
+        Err(ReplayRefusal::Memory) => Err(AllocError),
+    }
+}
+
+/// The line of an outcome.
+fn outcome_of(alloc: Global, files: &[Name], outcome: Outcome) -> Result<Answer, AllocError>
+    ensures status { IfOk result (λ answer. answer.status ≡ outcome_status outcome) }
+    ensures text { IfOk result (λ answer. answer.text.items ≡ replay_line files.now outcome) }
+{
     let mut text = Vec::new(alloc);
-    append_replayed(&mut text, files, ended.outcome)?;
+    append_replayed(&mut text, files, outcome)?;
     Ok(Answer {
-        status: outcome_status(ended.outcome),
+        status: outcome_status(outcome),
         text,
     })
 }

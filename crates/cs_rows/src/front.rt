@@ -1,4 +1,7 @@
 //! The front end on a text.
+ghost use Rattle.std.specs.Prelude.{IfSome};
+ghost use Rattle.cs_ast.specs.TypedProgram.{typed_program};
+ghost use Rattle.cs_well_formed.specs.Programs.{IsWellFormed};
 
 use cs_ast::raw::external::Tree;
 use cs_ast::typed::program::Program;
@@ -39,8 +42,10 @@ pub fn front(alloc: Global, text: &str) -> Told {
     }
 }
 
-/// The program that a text is under LP64, if it is one.
-pub fn program(alloc: Global, text: &str) -> Option<Program> {
+/// The program that a text is under a data model, if it is one.
+pub fn program(alloc: Global, model: DataModel, text: &str) -> Option<Program>
+    ensures { IfSome result (λ program. IsWellFormed (typed_program program)) }
+{
     let bytes = text.as_bytes();
     if bytes.len() > 4_194_304 {
         return None;
@@ -51,5 +56,5 @@ pub fn program(alloc: Global, text: &str) -> Option<Program> {
         return None;
     }
     let tree = parse(alloc, list, lexed.end).ok()?;
-    typed(alloc, DataModel::Lp64, &lexed.files, list, &tree.externals).ok()
+    typed(alloc, model, &lexed.files, list, &tree.externals).ok()
 }

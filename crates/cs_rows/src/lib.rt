@@ -4,6 +4,8 @@
 #[cfg(test)]
 mod analyzed;
 #[cfg(test)]
+mod coded;
+#[cfg(test)]
 mod edited;
 #[cfg(test)]
 mod flows;

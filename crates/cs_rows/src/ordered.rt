@@ -2,6 +2,7 @@
 
 use crate::front::program;
 use cs_ast::typed::program::Function;
+use cs_types::DataModel;
 use std::alloc::{AllocError, Global};
 use std::str;
 use std::test::Fail;
@@ -42,7 +43,7 @@ fn names_of(alloc: Global, functions: &[Function]) -> Result<String, AllocError>
 #[test]
 fn functions_stand_in_the_order_of_their_definitions(rt: HostRuntime) -> Result<(), Fail> {
     for (file, names) in ORDERED {
-        let Some(program) = program(rt.alloc(), file) else {
+        let Some(program) = program(rt.alloc(), DataModel::Lp64, file) else {
             panic!(rt; "no program: {file}");
         };
         let found = names_of(rt.alloc(), &program.functions)?;

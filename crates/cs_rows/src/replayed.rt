@@ -7,6 +7,7 @@ use cs_ast::Function;
 use cs_machine::run;
 use cs_model::{Budgets, Finding, Outcome};
 use cs_small::functions_of;
+use cs_types::DataModel;
 use std::alloc::{AllocError, Global};
 use std::str;
 use std::test::Fail;
@@ -58,7 +59,7 @@ fn line_of(alloc: Global, outcome: Outcome) -> Result<String, AllocError> {
 fn each_report_replays_to_its_fault(rt: HostRuntime) -> Result<(), Fail> {
     let alloc = rt.alloc();
     for (file, expected) in REPORTED {
-        let Some(program) = program(alloc, file) else {
+        let Some(program) = program(alloc, DataModel::Lp64, file) else {
             panic!(rt; "no program: {file}");
         };
         let Ok(functions) = functions_of(alloc, &program) else {
