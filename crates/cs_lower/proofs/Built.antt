@@ -1,0 +1,124 @@
+-- What was built and what more is: for the contracts of `GraphBuilder`, and for every lemma on what is built one after another.
+use Rattle.std.proofs.Common.{◌≡◌, ℕ, zero, suc, ◌+◌, List, [], ◌∷◌, ◌++◌, length, map, reverse, Option, Some, None, refl, sym, ap, subst, ◌∙◌, arith}
+use Rattle.std.specs.Prelude.{slice_get, unwrap_or}
+use Rattle.std.proofs.lemmas.List.{reverse-append, reverse-reverse, length-reverse, map-append}
+use Rattle.cs_ast.specs.declared.place.Place.{Place}
+use Rattle.cs_runs.specs.declared.point.PointKind.{PointKind}
+use Rattle.cs_cfg.specs.Graph.{Point, no_point, Flow, Reach, block_of}
+use Rattle.cs_cfg.specs.Placing.{does}
+use Rattle.cs_lower.specs.Building.{Built, Has, Grows}
+use Rattle.cs_lower.specs.Sealing.{Seals, SealsMark}
+
+module _ {X : Type 0} where
+  -- what is in a list stays where it is when more comes behind
+  kept : (xs ys : List X) (n : ℕ) (x : X) → slice_get xs n ≡ Some x → slice_get (xs ++ ys) n ≡ Some x
+  kept [] ys n x e = cc
+  kept (y ∷ xs) ys zero x e = e
+  kept (y ∷ xs) ys (suc n) x e = kept xs ys n x e
+
+  behind : (xs ys : List X) (n : ℕ) → slice_get (xs ++ ys) (length xs + n) ≡ slice_get ys n
+  behind [] ys n = ap (slice_get ys) (omega arith)
+  behind (x ∷ xs) ys n =
+      let e : suc (length xs) + n ≡ suc (length xs + n) = omega arith in
+      ap (slice_get ((x ∷ xs) ++ ys)) e ∙ behind xs ys n
+
+  newest : (xs : List X) (x : X) → slice_get (xs ++ x ∷ []) (length xs) ≡ Some x
+  newest [] x = refl
+  newest (y ∷ xs) x = newest xs x
+
+  longer : (xs : List X) (x : X) → length (xs ++ x ∷ []) ≡ 1 + length xs
+  longer [] x = refl
+  longer (y ∷ xs) x =
+      let e = longer xs x in
+      omega arith
+
+  -- where an element is from the end
+  from_end : (xs : List X) (n m : ℕ) (x : X) → slice_get xs n ≡ Some x → m + suc n ≡ length xs → slice_get (reverse xs) m ≡ Some x
+  from_end [] n m x e h = cc
+  from_end (y ∷ xs) zero m x e h =
+      let last : m ≡ length (reverse xs) = omega (arith, length-reverse xs) in
+      ap (slice_get (reverse (y ∷ xs))) last ∙ (ap (λ (l : List X). slice_get l (length (reverse xs))) (reverse-append (y ∷ []) xs) ∙ (newest (reverse xs) y ∙ e))
+  from_end (y ∷ xs) (suc n) m x e h =
+      ap (λ (l : List X). slice_get l m) (reverse-append (y ∷ []) xs) ∙ kept (reverse xs) (y ∷ []) m x (from_end xs n m x e (omega arith))
+
+-- a list in reverse, seen as another
+pub map_reverse : {X Y : Type 0} (f : X → Y) (xs : List X) → map f (reverse xs) ≡ reverse (map f xs)
+map_reverse f [] = refl
+map_reverse f (x ∷ xs) =
+    ap (map f) (reverse-append (x ∷ []) xs)
+    ∙ (map-append f (reverse xs) (x ∷ [])
+    ∙ (ap (λ l. l ++ f x ∷ []) (map_reverse f xs) ∙ sym (reverse-append (f x ∷ []) (map f xs))))
+
+pub reverse_map_push : {X Y : Type 0} (f : X → Y) (xs : List X) (x : X) → reverse (map f (xs ++ x ∷ [])) ≡ f x ∷ reverse (map f xs)
+reverse_map_push f xs x = ap reverse (map-append f xs (x ∷ [])) ∙ reverse-append (map f xs) (f x ∷ [])
+
+-- nothing more, and more and more
+pub nothing_more : (built : Built) → Grows 0 built built
+nothing_more built = record { same = refl; counts = omega arith; keeps = λ flow has. has }
+
+pub more_and_more : {old mid new : Built} (m n k : ℕ) → Grows m old mid → Grows n mid new → k ≡ m + n → Grows k old new
+more_and_more m n k first second e =
+    let f = first.counts in
+    let s = second.counts in
+    record {
+      same = second.same ∙ first.same;
+      counts = omega arith;
+      keeps = λ flow has. first.keeps flow (second.keeps flow has);
+    }
+
+-- the same where no marks are among it
+pub grows_on : {old mid new : Built} → Grows 0 old mid → Grows 0 mid new → Grows 0 old new
+grows_on first second = more_and_more 0 0 0 first second refl
+
+-- one more block
+pub pushed : (old : Built) (p : Point) → Seals old (record old { others = old.others ++ p ∷ [] }) (old.marks + length old.others) p
+pushed old p = record {
+  grows = record {
+    same = refl;
+    counts = omega arith;
+    keeps = λ flow has. record {
+      heads = has.heads;
+      others = λ n q at. has.others n q (kept old.others (p ∷ []) n q at);
+    };
+  };
+  is = λ flow has. has.others (length old.others) p (newest old.others p);
+}
+
+-- one more block of a mark
+pub pushed_mark : (old : Built) (kind : PointKind) (at : Place) (p : Point) (number : ℕ) → number + suc (length old.heads) ≡ old.marks → SealsMark old (record old { heads = old.heads ++ does at 0 (Reach kind number) p ∷ [] }) kind at p
+pushed_mark old kind at p number is_last = record {
+  grows = record {
+    same = refl;
+    counts = longer old.heads (does at 0 (Reach kind number) p);
+    keeps = λ flow has. record {
+      heads = λ n mark q got. has.heads n mark q (kept old.heads (does at 0 (Reach kind number) p ∷ []) n q got);
+      others = has.others;
+    };
+  };
+  is = λ flow has mark e.
+      let same : number ≡ mark = omega arith in
+      has.heads (length old.heads) mark (does at 0 (Reach kind number) p) (newest old.heads (does at 0 (Reach kind number) p)) e ∙ ap (λ (k : ℕ). does at 0 (Reach kind k) p) same;
+}
+
+-- a graph of all that was built
+pub whole : (heads others : List Point) (entry marks : ℕ) → length heads ≡ marks → Has (record { blocks = reverse heads ++ others; entry = entry; marks = marks }) (record { marks = marks; heads = heads; others = others })
+whole heads others entry marks all = record {
+  heads = λ n mark p got e.
+      let at : mark + suc n ≡ length heads = omega arith in
+      ap (λ (q : Option Point). unwrap_or q no_point) (kept (reverse heads) others mark p (from_end heads n mark p got at));
+  others = λ n p got.
+      let at : marks + n ≡ length (reverse heads) + n = omega (arith, length-reverse heads) in
+      ap (λ (q : Option Point). unwrap_or q no_point) (ap (slice_get (reverse heads ++ others)) at ∙ (behind (reverse heads) others n ∙ got));
+}
+
+-- the same of what is known to be more
+pub sealed : (old new : Built) (block : ℕ) (p : Point) → new ≡ record old { others = old.others ++ p ∷ [] } → block ≡ old.marks + length old.others → Seals old new block p
+sealed old new block p is number =
+    subst (λ (n : ℕ). Seals old new n p) (sym number) (subst (λ (b : Built). Seals old b (old.marks + length old.others) p) (sym is) (pushed old p))
+
+pub sealed_mark : (old new : Built) (kind : PointKind) (at : Place) (p : Point) (number : ℕ) → new ≡ record old { heads = old.heads ++ does at 0 (Reach kind number) p ∷ [] } → number + suc (length old.heads) ≡ old.marks → SealsMark old new kind at p
+sealed_mark old new kind at p number is last = subst (λ (b : Built). SealsMark old b kind at p) (sym is) (pushed_mark old kind at p number last)
+
+-- one more at the end of a list, seen as another
+pub map_push : {X Y : Type 0} (f : X → Y) (xs new : List X) (x : X) (y : Y) → new ≡ xs ++ x ∷ [] → f x ≡ y → map f new ≡ map f xs ++ y ∷ []
+map_push f xs new x y is seen = ap (map f) is ∙ (map-append f xs (x ∷ []) ∙ ap (λ z. map f xs ++ z ∷ []) seen)

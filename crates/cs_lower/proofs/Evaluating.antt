@@ -1,0 +1,130 @@
+-- What is built of expressions, one after another: for the contracts of the functions that `lower_expression` calls.
+use Rattle.std.proofs.Common.{◌≡◌, ℕ, zero, suc, ◌+◌, ◌-◌, ◌≤◌, ℤ, pos, List, ◌∷◌, length, drop, get_or, drop-cons, refl, sym, ap, subst, ◌∙◌, arith}
+use Rattle.cs_types.specs.Shape.{Shape}
+use Rattle.cs_ast.specs.declared.place.Place.{Place}
+use Rattle.cs_ast.specs.declared.typed.expression.Expr.{Expr}
+use Rattle.cs_ast.specs.TypedView.{typed, typed_list}
+use Rattle.cs_ast.specs.TypedTree.{Typed, Of, Form, TypedList, NoMore, Further}
+use Rattle.cs_ast.specs.TypedProgram.{TypedProgram}
+use Rattle.cs_cfg.specs.Graph as graph
+use Rattle.cs_cfg.specs.Graph.{Point, Flow, block_of}
+use Rattle.cs_cfg.specs.Placing.{does, split, used_then, Joins, there, jumps, known, evaluates, evaluates_form, used, used_all, joined, judged}
+use Rattle.cs_lower.specs.Allocations.{HasArguments, AllHaveArguments}
+use Rattle.cs_lower.specs.Building.{jump_to, Built, Has, Grows}
+use Rattle.cs_lower.specs.Sealing.{Seals}
+use Rattle.cs_lower.specs.Expressions.{Evaluates, Uses, UsesBoth, UsesAll, UsesIn, Ands, Ors, Chooses, Commas}
+use Rattle.cs_lower.proofs.Built.{nothing_more, grows_on}
+
+module _ (program : TypedProgram) (flow : Flow) where
+  -- a jump to a block that is a point
+  pub jump_joins : (end : ℕ) (q : Point) → block_of flow end ≡ q → Joins program flow (jump_to end) q
+  jump_joins end q is = jumps (subst (λ p. Joins program flow p q) (sym is) there)
+
+  used_is : (e : Typed) (number : ℕ) (p q : Point) → evaluates program flow e number p (used_then e number q) → used program flow e number p q
+  used_is (Of at ty form) number p q h = h
+
+  joined_is : (e : Typed) (number : ℕ) (p r q : Point) → used program flow e number p r → Joins program flow r q → joined program flow e number p q
+  joined_is (Of at ty form) number p r q h j = (r, h, j)
+
+  judged_is : (at : Place) (e : Typed) (number : ℕ) (p r q : Point) → used program flow e number p (does at number graph.Judge r) → Joins program flow r q → judged program flow at e number p q
+  judged_is place (Of at ty form) number p r q h j = (r, h, j)
+
+module _ {program : TypedProgram} where
+  -- an expression whose value is used
+  pub uses : {e : Typed} {number : ℕ} {old new : Built} {p s q : Point} → s ≡ used_then e number q → Evaluates program e number old new p s → Uses program e number old new p q
+  uses {e = e} {number = number} {p = p} {q = q} is h = record {
+    grows = h.grows;
+    does = λ flow has args. used_is program flow e number p q (subst (λ s. evaluates program flow e number p s) is (h.does flow has args));
+  }
+
+  -- an expression at the beginning of a block
+  pub uses_in : {e : Typed} {number block : ℕ} {old mid new : Built} {p q : Point} → Uses program e number old mid p q → Seals mid new block p → UsesIn program e number old new block q
+  uses_in {e = e} {number = number} {q = q} h seals = record {
+    grows = grows_on h.grows seals.grows;
+    does = λ flow has args. subst (λ p. used program flow e number p q) (sym (seals.is flow has)) (h.does flow (seals.grows.keeps flow has) args);
+  }
+
+  -- two expressions
+  pub uses_both : {first second : Typed} {number next : ℕ} {old mid new : Built} {p r q : Point} → next ≡ 1 + number → Uses program second next old mid r q → Uses program first number mid new p r → UsesBoth program first second number old new p q
+  uses_both {second = second} {number = number} {next = next} {r = r} {q = q} above last one =
+      let is : next ≡ suc number = omega arith in
+      record {
+        grows = grows_on last.grows one.grows;
+        does = λ flow has a b. (r, one.does flow has a, subst (λ (n : ℕ). used program flow second n r q) is (last.does flow (one.grows.keeps flow has) b));
+      }
+
+  -- expressions in a row
+  pub uses_none : (number : ℕ) (built : Built) (p : Point) → UsesAll program NoMore number built built p p
+  uses_none number built p = record { grows = nothing_more built; does = λ flow has args. refl }
+
+  -- one more of a row that is lowered from its end
+  pub uses_further : {here : ℕ} {old mid new : Built} {p r q : Point} (row : List Expr) (left number : ℕ) (e : Expr) → 1 ≤ left → left ≤ length row → e ≡ get_or row (left - 1) e → here ≡ left - 1 + number
+      → UsesAll program (typed_list (drop left row)) (left + number) old mid r q → Uses program (typed e) here mid new p r → UsesAll program (typed_list (drop (left - 1) row)) (left - 1 + number) old new p q
+  uses_further {p = p} {r = r} {q = q} row left number e some within is at last one =
+      let next : left ≡ suc (left - 1) = omega arith in
+      let above : left + number ≡ suc (left - 1 + number) = omega arith in
+      let cut : drop (left - 1) row ≡ e ∷ drop left row =
+      drop-cons row (left - 1) e (omega arith) ∙ (ap (λ x. x ∷ drop (suc (left - 1)) row) (sym is) ∙ ap (λ (n : ℕ). e ∷ drop n row) (sym next)) in
+      record {
+        grows = grows_on last.grows one.grows;
+        does = λ flow has args.
+            let both = subst (λ l. AllHaveArguments (typed_list l)) cut args in
+            subst (λ l. used_all program flow (typed_list l) (left - 1 + number) p q) (sym cut) (
+              r,
+              subst (λ (n : ℕ). used program flow (typed e) n p r) at (one.does flow has both.0),
+              subst (λ (n : ℕ). used_all program flow (typed_list (drop left row)) n r q) above (last.does flow (one.grows.keeps flow has) both.1),
+            );
+      }
+
+  -- the comma
+  pub commas : {at : Place} {a b : Typed} {number : ℕ} {old mid new : Built} {p s r q : Point} → Uses program b number old mid r q → s ≡ does at number graph.Drop r → Evaluates program a number mid new p s → Commas program at a b number old new p q
+  commas {a = a} {number = number} {p = p} {r = r} last is one = record {
+    grows = grows_on last.grows one.grows;
+    does = λ flow has first second ty. (r, subst (λ s. evaluates program flow a number p s) is (one.does flow has first), last.does flow (one.grows.keeps flow has) second);
+  }
+
+  -- the ways of a branch, each of which ends with a jump to one block
+  pub ands : {at : Place} {a b : Typed} {number end one other : ℕ} {old x y z new : Built} {p q s t : Point} → Seals old x end q → Seals x y other (does at number (graph.Number (pos 0)) (jump_to end)) → s ≡ does at number graph.Judge (jump_to end) → UsesIn program b number y z one s → t ≡ split at number one other → Uses program a number z new p t → Ands program at a b number old new p q
+  ands {at = at} {a = a} {b = b} {number = number} {end = end} {one = one} {other = other} {p = p} {q = q} ends knows judges way tests test = record {
+    grows = grows_on ends.grows (grows_on knows.grows (grows_on way.grows test.grows));
+    does = λ flow has first second ty.
+        let in_z = test.grows.keeps flow has in
+        let in_y = way.grows.keeps flow in_z in
+        let on = jump_joins program flow end q (ends.is flow (knows.grows.keeps flow in_y)) in (
+          one,
+          other,
+          subst (λ r. used program flow a number p r) tests (test.does flow has first),
+          judged_is program flow at b number (block_of flow one) (jump_to end) q (subst (λ r. used program flow b number (block_of flow one) r) judges (way.does flow in_z second)) on,
+          (jump_to end, knows.is flow in_y, on),
+        );
+  }
+
+  pub ors : {at : Place} {a b : Typed} {number end one other : ℕ} {old x y z new : Built} {p q s t : Point} → Seals old x end q → Seals x y one (does at number (graph.Number (pos 1)) (jump_to end)) → s ≡ does at number graph.Judge (jump_to end) → UsesIn program b number y z other s → t ≡ split at number one other → Uses program a number z new p t → Ors program at a b number old new p q
+  ors {at = at} {a = a} {b = b} {number = number} {end = end} {one = one} {other = other} {p = p} {q = q} ends knows judges way tests test = record {
+    grows = grows_on ends.grows (grows_on knows.grows (grows_on way.grows test.grows));
+    does = λ flow has first second ty.
+        let in_z = test.grows.keeps flow has in
+        let in_y = way.grows.keeps flow in_z in
+        let on = jump_joins program flow end q (ends.is flow (knows.grows.keeps flow in_y)) in (
+          one,
+          other,
+          subst (λ r. used program flow a number p r) tests (test.does flow has first),
+          (jump_to end, knows.is flow in_y, on),
+          judged_is program flow at b number (block_of flow other) (jump_to end) q (subst (λ r. used program flow b number (block_of flow other) r) judges (way.does flow in_z second)) on,
+        );
+  }
+
+  pub chooses : {at : Place} {a b c : Typed} {number end one other : ℕ} {old x y z new : Built} {p q t u v : Point} → Seals old x end q → u ≡ jump_to end → UsesIn program b number x y one u → v ≡ jump_to end → UsesIn program c number y z other v → t ≡ split at number one other → Uses program a number z new p t → Chooses program at a b c number old new p q
+  chooses {a = a} {b = b} {c = c} {number = number} {end = end} {one = one} {other = other} {p = p} {q = q} ends jump_one way_one jump_other way_other tests test = record {
+    grows = grows_on ends.grows (grows_on way_one.grows (grows_on way_other.grows test.grows));
+    does = λ flow has first second third ty.
+        let in_z = test.grows.keeps flow has in
+        let in_y = way_other.grows.keeps flow in_z in
+        let on = jump_joins program flow end q (ends.is flow (way_one.grows.keeps flow in_y)) in (
+          one,
+          other,
+          subst (λ r. used program flow a number p r) tests (test.does flow has first),
+          joined_is program flow b number (block_of flow one) (jump_to end) q (subst (λ r. used program flow b number (block_of flow one) r) jump_one (way_one.does flow in_y second)) on,
+          joined_is program flow c number (block_of flow other) (jump_to end) q (subst (λ r. used program flow c number (block_of flow other) r) jump_other (way_other.does flow in_z third)) on,
+        );
+  }

@@ -1,0 +1,180 @@
+-- What is built of statements, one after another: for the contracts of `lower_statement` and of those that it calls.
+use Rattle.std.proofs.Common.{◌≡◌, ℕ, zero, suc, ◌+◌, ◌-◌, ◌≤◌, List, [], ◌∷◌, length, drop, get_or, drop-cons, Option, Some, None, refl, sym, ap, subst, ◌∙◌, arith}
+use Rattle.std.specs.Prelude.{option_map, unwrap_or}
+use Rattle.cs_ast.specs.declared.place.Place.{Place}
+use Rattle.cs_ast.specs.declared.typed.statement.Stmt.{Stmt}
+use Rattle.cs_ast.specs.TypedView.{statement, statement_list}
+use Rattle.cs_ast.specs.TypedTree.{Typed, Initial, Statement, Block, Declare, Run, If, IfElse, Goto, Label, Break, Continue, Return, Statements, Empty, Then}
+use Rattle.cs_ast.specs.TypedProgram.{TypedProgram, Routine}
+use Rattle.cs_runs.specs.declared.point.PointKind.TheVariants as point
+use Rattle.cs_plain.specs.Machine.{body_of}
+use Rattle.cs_plain.specs.Marks.{marks, marks_in}
+use Rattle.cs_plain.specs.Jumps.{Landing, landing}
+use Rattle.cs_cfg.specs.Graph as graph
+use Rattle.cs_cfg.specs.Graph.{Point, Flow, block_of}
+use Rattle.cs_cfg.specs.Placing.{does, split, Joins, there, jumps, evaluates, used}
+use Rattle.cs_cfg.specs.Executing.{executes_at, all_at, goes_to, is_led_to}
+use Rattle.cs_lower.specs.Allocations.{StatementsHaveArguments}
+use Rattle.cs_lower.specs.Building.{jump_to, Built, Has, Grows}
+use Rattle.cs_lower.specs.Sealing.{Seals, SealsMark}
+use Rattle.cs_lower.specs.Expressions.{Evaluates, Uses}
+use Rattle.cs_lower.specs.Labels.{marked_label}
+use Rattle.cs_lower.specs.Statements.{labels_in, Executes, ExecutesAll, ExecutesIn, Declares, Returns}
+use Rattle.cs_lower.proofs.Built.{nothing_more, grows_on, more_and_more}
+use Rattle.cs_lower.proofs.Evaluating.{jump_joins}
+
+-- where a statement stands, its mark is so many before those behind it
+pub mark_before : {old new : Built} {count : ℕ} → Grows count old new → (mark : ℕ) → mark + length new.heads ≡ new.marks → mark + count + length old.heads ≡ old.marks
+mark_before grows mark e =
+    let counts = grows.counts in
+    let same = grows.same in
+    omega arith
+
+-- the same where no marks are between
+pub mark_stays : {old new : Built} → Grows 0 old new → (mark : ℕ) → mark + length new.heads ≡ new.marks → mark + length old.heads ≡ old.marks
+mark_stays grows mark e =
+    let counts = grows.counts in
+    let same = grows.same in
+    omega arith
+
+module _ {program : TypedProgram} {flow : Flow} where
+  joins_on : {p q r : Point} → Joins program flow p q → Joins program flow q r → Joins program flow p r
+  joins_on there on = on
+  joins_on (jumps more) on = jumps (joins_on more on)
+
+module _ {program : TypedProgram} {routine : Routine} where
+  -- a statement that is another
+  pub as_statement : {s it : Statement} {out again : ℕ} {old new : Built} {p q : Point} → s ≡ it → Executes program routine it out again old new p q → Executes program routine s out again old new p q
+  as_statement {out = out} {again = again} {old = old} {new = new} {p = p} {q = q} is h = subst (λ s. Executes program routine s out again old new p q) (sym is) h
+
+  pub block : {at : Place} {statements : Statements} {out again : ℕ} {old new : Built} {p q : Point} → ExecutesAll program routine statements out again old new p q → Executes program routine (Block at statements) out again old new p q
+  block h = record { grows = h.grows; does = h.does }
+
+  pub declare : {at : Place} {declaration : ℕ} {initial : Option Initial} {out again : ℕ} {old new : Built} {p q : Point} → Declares program routine at declaration initial old new p q → Executes program routine (Declare at declaration initial) out again old new p q
+  declare h = record { grows = h.grows; does = λ flow has args mark e. h.does flow has args }
+
+  pub run : {at : Place} {e : Typed} {out again : ℕ} {old new : Built} {p s q : Point} → s ≡ does at 0 graph.Drop q → Evaluates program e 0 old new p s → Executes program routine (Run at e) out again old new p q
+  run {e = e} {p = p} is h = record { grows = h.grows; does = λ flow has args mark at. subst (λ s. evaluates program flow e 0 p s) is (h.does flow has args) }
+
+  pub returns : {at : Place} {value : Option Typed} {out again : ℕ} {old new : Built} {p q : Point} → Returns program routine at value old new p → Executes program routine (Return at value) out again old new p q
+  returns h = record { grows = h.grows; does = λ flow has args mark e. h.does flow has args }
+
+  pub break : {at : Place} {out again : ℕ} {built : Built} {p q : Point} → p ≡ jump_to out → Executes program routine (Break at) out again built built p q
+  break {out = out} {built = built} is = record { grows = nothing_more built; does = λ flow has args mark e. subst (λ p. Joins program flow p (block_of flow out)) (sym is) (jumps there) }
+
+  pub continue : {at : Place} {out again : ℕ} {built : Built} {p q : Point} → p ≡ jump_to again → Executes program routine (Continue at) out again built built p q
+  continue {again = again} {built = built} is = record { grows = nothing_more built; does = λ flow has args mark e. subst (λ p. Joins program flow p (block_of flow again)) (sym is) (jumps there) }
+
+  -- a statement at the beginning of a block
+  pub executes_in : {s : Statement} {out again block end : ℕ} {old mid new : Built} {p q : Point} → q ≡ jump_to end → Executes program routine s out again old mid p q → Seals mid new block p → ExecutesIn program routine s out again old new block end
+  executes_in {s = s} {out = out} {again = again} {end = end} {p = p} {q = q} is h seals = record {
+    grows = more_and_more (marks s) 0 (marks s) h.grows seals.grows (omega arith);
+    does = λ flow has args mark e.
+        subst (λ r. executes_at program flow routine (labels_in routine flow) s mark (block_of flow out) (block_of flow again) r (jump_to end)) (sym (seals.is flow has))
+        (subst (λ r. executes_at program flow routine (labels_in routine flow) s mark (block_of flow out) (block_of flow again) p r) is
+        (h.does flow (seals.grows.keeps flow has) args mark (mark_stays seals.grows mark e)));
+  }
+
+  -- an `if`, and one with an `else`
+  pub if : {at : Place} {test : Typed} {body : Statement} {out again end one : ℕ} {old x y new : Built} {p q : Point} → Seals old x end q → ExecutesIn program routine body out again x y one end → Uses program test 0 y new p (split at 0 one end) → Executes program routine (If at test body) out again old new p q
+  if {body = body} {end = end} {one = one} {q = q} ends way tests = record {
+    grows = more_and_more 0 (marks body) (marks body) ends.grows (more_and_more (marks body) 0 (marks body) way.grows tests.grows (omega arith)) (omega arith);
+    does = λ flow has args mark e.
+        let in_y = tests.grows.keeps flow has in
+        let is = ends.is flow (way.grows.keeps flow in_y) in (
+          one,
+          end,
+          tests.does flow has args.0,
+          ((jump_to end, way.does flow in_y args.1 mark (mark_stays tests.grows mark e), jump_joins program flow end q is), subst (λ r. Joins program flow r q) (sym is) there),
+        );
+  }
+
+  pub if_else : {at : Place} {test : Typed} {body behind : Statement} {out again end one other : ℕ} {old x y z new : Built} {p q : Point} → Seals old x end q → ExecutesIn program routine behind out again x y other end → ExecutesIn program routine body out again y z one end → Uses program test 0 z new p (split at 0 one other) → Executes program routine (IfElse at test body behind) out again old new p q
+  if_else {body = body} {behind = behind} {end = end} {one = one} {other = other} {q = q} ends way_other way_one tests = record {
+    grows = more_and_more 0 (marks body + marks behind) (marks body + marks behind) ends.grows
+        (more_and_more (marks behind) (marks body) (marks body + marks behind) way_other.grows (more_and_more (marks body) 0 (marks body) way_one.grows tests.grows (omega arith)) (omega arith)) (omega arith);
+    does = λ flow has args mark e.
+        let in_z = tests.grows.keeps flow has in
+        let in_y = way_one.grows.keeps flow in_z in
+        let here = mark_stays tests.grows mark e in
+        let on = jump_joins program flow end q (ends.is flow (way_other.grows.keeps flow in_y)) in (
+          one,
+          other,
+          tests.does flow has args.0,
+          ((jump_to end, way_one.does flow in_z args.1 mark here, on), (jump_to end, way_other.does flow in_y args.2 (mark + marks body) (mark_before way_one.grows mark here), on)),
+        );
+  }
+
+  -- a `goto`
+  pub goto_there : {at : Place} {label mark out again : ℕ} {built : Built} {p q : Point} → marked_label routine label ≡ Some mark → p ≡ jump_to mark → Executes program routine (Goto at label) out again built built p q
+  goto_there {label = label} {mark = mark} {built = built} {p = p} {q = q} found is = record {
+    grows = nothing_more built;
+    does = λ flow has args n e. goes flow (landing label (body_of routine) 0 []) found;
+  }
+    where
+      goes : (flow : Flow) (o : Option Landing) → option_map (λ (l : Landing). l.mark) o ≡ Some mark → goes_to program flow routine (labels_in routine flow) o (block_of flow (unwrap_or (option_map (λ (l : Landing). l.mark) o) 0)) p q
+      goes flow None none = cc
+      goes flow (Some l) some =
+          let same : l.mark ≡ mark = cc in
+          subst (λ r. Joins program flow r (block_of flow l.mark)) (sym is) (jumps (subst (λ (m : ℕ). Joins program flow (block_of flow mark) (block_of flow m)) (sym same) there))
+
+  pub goto_nowhere : {at : Place} {label out again : ℕ} {built : Built} {p : Point} → marked_label routine label ≡ None → Executes program routine (Goto at label) out again built built p p
+  goto_nowhere {label = label} {built = built} {p = p} none = record {
+    grows = nothing_more built;
+    does = λ flow has args n e. goes flow (landing label (body_of routine) 0 []) none;
+  }
+    where
+      goes : (flow : Flow) (o : Option Landing) → option_map (λ (l : Landing). l.mark) o ≡ None → goes_to program flow routine (labels_in routine flow) o (block_of flow (unwrap_or (option_map (λ (l : Landing). l.mark) o) 0)) p p
+      goes flow None nothing = there
+      goes flow (Some l) some = cc
+
+  -- a label
+  pub label : {at : Place} {number mark inner out again : ℕ} {body : Statement} {old x new : Built} {p r q : Point} → mark + suc (inner + length old.heads) ≡ old.marks → inner ≡ marks body → Executes program routine body out again old x r q → SealsMark x new point.Label at r → p ≡ jump_to mark → Executes program routine (Label at number body) out again old new p q
+  label {at = at} {number = number} {mark = mark} {inner = inner} {out = out} {again = again} {body = body} {old = old} {x = x} {new = new} {p = p} {r = r} {q = q} before counts inside seals jump = record {
+    grows = more_and_more (marks body) 1 (1 + marks body) inside.grows seals.grows (omega arith);
+    does = λ flow has args n e.
+        let a = inside.grows.counts in
+        let b = seals.grows.counts in
+        let c = inside.grows.same in
+        let d = seals.grows.same in
+        let is : mark ≡ n = omega arith in
+        let last : mark + suc (length x.heads) ≡ x.marks = omega arith in
+        let here : mark + 1 + length x.heads ≡ x.marks = omega arith in
+        subst (λ (m : ℕ). executes_at program flow routine (labels_in routine flow) (Label at number body) m (block_of flow out) (block_of flow again) p q) is (
+          block_of flow mark,
+          r,
+          subst (λ s. Joins program flow s (block_of flow mark)) (sym jump) (jumps there),
+          seals.is flow has mark last,
+          led flow (landing number (body_of routine) 0 []),
+          inside.does flow (seals.grows.keeps flow has) args (mark + 1) here,
+        );
+  }
+    where
+      led : (flow : Flow) (o : Option Landing) → is_led_to program flow routine (labels_in routine flow) o mark (block_of flow (unwrap_or (option_map (λ (l : Landing). l.mark) o) 0)) (block_of flow mark)
+      led flow None = tt
+      led flow (Some l) = λ e. ap (block_of flow) e
+
+  -- statements in a row, lowered from the end
+  pub executes_none : (out again : ℕ) (built : Built) (p : Point) → ExecutesAll program routine Empty out again built built p p
+  executes_none out again built p = record { grows = nothing_more built; does = λ flow has args mark e. there }
+
+  pub executes_then : {first : Statement} {others : Statements} {out again : ℕ} {old mid new : Built} {p r q : Point} → ExecutesAll program routine others out again old mid r q → Executes program routine first out again mid new p r → ExecutesAll program routine (Then first others) out again old new p q
+  executes_then {first = first} {others = others} {r = r} last one = record {
+    grows = more_and_more (marks_in others) (marks first) (marks first + marks_in others) last.grows one.grows (omega arith);
+    does = λ flow has args mark e.
+        (r, (r, one.does flow has args.0 mark e, there), last.does flow (one.grows.keeps flow has) args.1 (mark + marks first) (mark_before one.grows mark e));
+  }
+
+  -- one more of a row that is lowered from its end
+  pub executes_further : {out again : ℕ} {old mid new : Built} {p r q : Point} (row : List Stmt) (left : ℕ) (s : Stmt) → 1 ≤ left → left ≤ length row → s ≡ get_or row (left - 1) s
+      → ExecutesAll program routine (statement_list (drop left row)) out again old mid r q → Executes program routine (statement s) out again mid new p r → ExecutesAll program routine (statement_list (drop (left - 1) row)) out again old new p q
+  executes_further {out = out} {again = again} {old = old} {new = new} {p = p} {q = q} row left s some within is last one =
+      let next : left ≡ suc (left - 1) = omega arith in
+      let cut : drop (left - 1) row ≡ s ∷ drop left row =
+      drop-cons row (left - 1) s (omega arith) ∙ (ap (λ x. x ∷ drop (suc (left - 1)) row) (sym is) ∙ ap (λ (n : ℕ). s ∷ drop n row) (sym next)) in
+      subst (λ l. ExecutesAll program routine (statement_list l) out again old new p q) (sym cut) (executes_then last one)
+
+-- the last point of statements in a row may lead on by jumps
+pub all_on : (program : TypedProgram) (routine : Routine) (flow : Flow) (statements : Statements) (mark : ℕ) (out again p q r : Point) → all_at program flow routine (labels_in routine flow) statements mark out again p q → Joins program flow q r → all_at program flow routine (labels_in routine flow) statements mark out again p r
+all_on program routine flow Empty mark out again p q r h on = joins_on h on
+all_on program routine flow (Then first others) mark out again p q r h on = (h.0, h.1, all_on program routine flow others (mark + marks first) out again h.0 q r h.2 on)

@@ -1,0 +1,10 @@
+pub mod Built
+pub mod Declaring
+pub mod Evaluating
+pub mod Executing
+pub mod Forms
+pub mod LabelMarks
+pub mod StatementForms
+pub mod Switching
+pub mod TurningLoops
+pub mod WholeBodies

@@ -1,0 +1,80 @@
+use Rattle.std.proofs.Common.{◌≡◌, ℕ, ◌+◌, drop, rules, sym, ap, subst, ◌∙◌, arith}
+use Rattle.cs_types.specs.Shape.{shape_of}
+use Rattle.cs_ast.specs.TypedProgram.{typed_program}
+use Rattle.cs_ast.specs.TypedTree.{And, Or, Choice, Comma, Update, Move, Call, Allocate}
+use Rattle.cs_ast.specs.TypedView.{form, typed, typed_list}
+use Rattle.cs_ast.proofs.TypedRows.{form-Call, form-Allocate}
+use Rattle.cs_lower.specs.Building.{built_of, point_of}
+use Rattle.cs_lower.specs.Expressions.{UsesAll}
+use Rattle.cs_lower.proofs.Evaluating.{ands, ors, chooses, uses_further}
+use Rattle.cs_lower.proofs.Forms as forms
+use Rattle.cs_lower.proofs.Forms.{if_made}
+use Rattle.cs_lower.proofs.context.Lowering.+expressions.Goals as goal
+
+pub lower_and-returns : goal.lower_and-returns
+lower_and-returns t c = ands c.in_ok-end.ensures c.in_ok-other.ensures c.in_ok-judged.ensures c.in_ok-one.ensures c.branch-test.ensures c.in_ok-made.ensures
+
+pub lower_or-returns : goal.lower_or-returns
+lower_or-returns t c = ors c.in_ok-end.ensures c.in_ok-one.ensures c.in_ok-judged.ensures c.in_ok-other.ensures c.branch-test.ensures c.in_ok-made.ensures
+
+pub lower_choice-returns : goal.lower_choice-returns
+lower_choice-returns t c =
+    chooses c.in_ok-end.ensures c.jump.ensures c.in_ok-one.ensures c.jump-2.ensures c.in_ok-other.ensures c.branch-test_of.ensures c.in_ok-made.ensures
+
+pub lower_expression-returns-in-And : goal.lower_expression-returns-in-And
+lower_expression-returns-in-And t c =
+    let is : form c.args.e.now.kind ≡ And (typed c.deref-in-And.result.now) (typed c.deref-in-And-2.result.now) = search rules in
+    if_made c.lower_and.result (λ made h. forms.and is c.in_ok-behind.ensures h) c.lower_and.ensures
+
+pub lower_expression-returns-in-Or : goal.lower_expression-returns-in-Or
+lower_expression-returns-in-Or t c =
+    let is : form c.args.e.now.kind ≡ Or (typed c.deref-in-Or.result.now) (typed c.deref-in-Or-2.result.now) = search rules in
+    if_made c.lower_or.result (λ made h. forms.or is c.in_ok-behind.ensures h) c.lower_or.ensures
+
+pub lower_expression-returns-in-Choice : goal.lower_expression-returns-in-Choice
+lower_expression-returns-in-Choice t c =
+    let is : form c.args.e.now.kind ≡ Choice (typed c.deref-in-Choice.result.now) (typed c.deref-in-Choice-2.result.now) (typed c.deref-in-Choice-3.result.now) = search rules in
+    if_made c.lower_choice.result (λ made h. forms.choice is c.in_ok-behind.ensures h) c.lower_choice.ensures
+
+pub lower_expression-returns-in-Comma : goal.lower_expression-returns-in-Comma
+lower_expression-returns-in-Comma t c =
+    let is : form c.args.e.now.kind ≡ Comma (typed c.deref-in-Comma.result.now) (typed c.deref-in-Comma-2.result.now) = search rules in
+    if_made c.lower_comma.result (λ made h. forms.comma is c.in_ok-behind.ensures h) c.lower_comma.ensures
+
+pub lower_expression-returns-in_ok-fetched-in-Update : goal.lower_expression-returns-in_ok-fetched-in-Update
+lower_expression-returns-in_ok-fetched-in-Update t c =
+    let is : form c.args.e.now.kind ≡ Update c.in-Update.field-0 (typed c.deref-in-Update-2.result.now) (typed c.deref-in-Update.result.now) c.in-Update.field-3 c.in-Update.field-4 = search rules in
+    if_made c.lower_used-in-Update-2.result (λ made h. forms.update is c.in_ok-behind.ensures c.in_ok-above-in-Update.ensures c.in_ok-made-in-Update.ensures c.in_ok-fetched-in-Update.ensures h) c.lower_used-in-Update-2.ensures
+
+pub lower_expression-returns-in_ok-fetched-in-Move : goal.lower_expression-returns-in_ok-fetched-in-Move
+lower_expression-returns-in_ok-fetched-in-Move t c =
+    let is : form c.args.e.now.kind ≡ Move (typed c.deref-in-Move-2.result.now) (typed c.deref-in-Move.result.now) c.in-Move.field-2 c.in-Move.field-3 = search rules in
+    if_made c.lower_used-in-Move-2.result (λ made h. forms.move is c.in_ok-behind.ensures c.in_ok-above-in-Move.ensures c.in_ok-made-in-Move.ensures c.in_ok-fetched-in-Move.ensures h) c.lower_used-in-Move-2.ensures
+
+pub lower_expression-returns-in-Call : goal.lower_expression-returns-in-Call
+lower_expression-returns-in-Call t c =
+    let f = c.in-Call.field-0 in
+    let is : form c.args.e.now.kind ≡ Call f (typed_list c.deref-in-Call.result.now) =
+    ap form c.in-Call.is ∙ (form-Call f c.in-Call.arguments ∙ ap (λ l. Call f (typed_list l)) (sym c.deref-in-Call.ensures.value)) in
+    if_made c.lower_row.result (λ made h. forms.call is c.in_ok-behind.ensures h) c.lower_row.ensures
+
+pub lower_expression-returns-in-Allocate : goal.lower_expression-returns-in-Allocate
+lower_expression-returns-in-Allocate t c =
+    let a = c.in-Allocate.field-0 in
+    let ty = c.in-Allocate.field-2 in
+    let is : form c.args.e.now.kind ≡ Allocate a (typed_list c.deref-in-Allocate.result.now) (shape_of ty) =
+    ap form c.in-Allocate.is ∙ (form-Allocate a c.in-Allocate.arguments ty ∙ ap (λ l. Allocate a (typed_list l) (shape_of ty)) (sym c.deref-in-Allocate.ensures.value)) in
+    if_made c.lower_row-in-Allocate.result (λ made h. forms.allocate is c.in_ok-behind.ensures h) c.lower_row-in-Allocate.ensures
+
+pub lower_row-loop-left-preserved : goal.lower_row-loop-left-preserved
+lower_row-loop-left-preserved t c = record {
+  within = omega arith;
+  made = uses_further c.args.row.now c.loop-left.left c.args.number c.index-row-left.result (omega arith) c.loop-left.invariant.within c.index-row-left.is c.in_ok-above.ensures c.loop-left.invariant.made c.in_ok-made.ensures;
+}
+
+pub lower_row-returns : goal.lower_row-returns
+lower_row-returns t c =
+    let none : c.loop-left.left ≡ 0 = omega arith in
+    let P : ℕ → ℕ → Type 0 = λ left number. UsesAll (typed_program c.args.self.now.program.now) (typed_list (drop left c.args.row.now)) number (built_of c.args.graph.now) (built_of c.loop-left.graph) (point_of c.loop-left.made) (point_of c.args.behind) in
+    let at : c.loop-left.left + c.args.number ≡ c.args.number = omega arith in
+    subst (λ (k : ℕ). P k c.args.number) none (subst (λ (n : ℕ). P c.loop-left.left n) at c.loop-left.invariant.made)

@@ -1,0 +1,9 @@
+pub mod Allocations
+pub mod Building
+pub mod Expressions
+pub mod Functions
+pub mod Labels
+pub mod Ready
+pub mod Sealing
+pub mod Statements
+pub mod Switching
