@@ -11,3 +11,4 @@ pub mod RawFileHeight
 pub mod TypedTree
 pub mod TypedView
 pub mod TypedProgram
+pub mod HeldTokens

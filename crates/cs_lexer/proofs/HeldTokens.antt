@@ -36,7 +36,8 @@ use Rattle.cs_lexer.specs.Pieces.{class_of, BeginsAs}
 use Rattle.cs_lexer.specs.Quoted.{closing, signed, character_with, character_of, character_in, IsTextToken, TextBodyGives, TextIn}
 use Rattle.cs_lexer.specs.Texts.{text_of_kind, behind_text, joined_to, joined}
 use Rattle.cs_lexer.specs.Words.{WordIs, WordGives}
-use Rattle.cs_lexer.specs.Held.{IsHeldToken, LexedTokensAreHeld}
+use Rattle.cs_ast.specs.HeldTokens.{IsHeldToken}
+use Rattle.cs_lexer.specs.Held.{LexedTokensAreHeld}
 
 -- ---- pieces
 

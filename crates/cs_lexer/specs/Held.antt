@@ -1,24 +1,10 @@
--- Constants that are not too wide for the types of their lists (C11 6.4.4, paragraph 2).
-use Rattle.std.specs.Prelude.{◌≡◌, ◌^◌, ◌<◌, ℕ, List, true, false, FitsSigned}
-use Rattle.std.specs.Int.{w32}
+-- No constant of a lexed text is too wide for the types of its list (C11 6.4.4, paragraph 2).
+use Rattle.std.specs.Prelude.{ℕ, List}
 use Rattle.std.specs.List.{All}
-use Rattle.cs_ast.specs.declared.token.IntegerConstant.{IntegerConstant}
 use Rattle.cs_ast.specs.declared.token.Token.{Token}
-use Rattle.cs_ast.specs.declared.token.TokenKind.{TokenKind}
-use Rattle.cs_ast.specs.declared.token.TokenKind.TheVariants as token
+use Rattle.cs_ast.specs.HeldTokens.{IsHeldToken}
 use Rattle.cs_lexer.specs.declared.lexer.Lexed.{Lexed}
 use Rattle.cs_lexer.specs.Lexing.{Lexes}
-
--- an integer constant that is not too wide: one in base ten without `u` has signed types alone (C11 6.4.4.1, paragraph 5)
-pub record IsHeldConstant (k : IntegerConstant) : Type 0 where
-  pub fits : k.value < 2 ^ 64
-  pub fits_signed : k.decimal ≡ true → k.unsigned ≡ false → k.value < 2 ^ 63
-
--- a token that is no constant, or one that is not too wide; a character is a number of `int`
-abbrev pub IsHeldToken : TokenKind → Type 0
-IsHeldToken (token.Number constant) = IsHeldConstant constant
-IsHeldToken (token.Character value) = FitsSigned w32 value
-IsHeldToken other = Unit {0}
 
 -- no token of a lexed text is too wide
 abbrev pub LexedTokensAreHeld : Type 0

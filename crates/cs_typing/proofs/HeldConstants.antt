@@ -29,7 +29,7 @@ use Rattle.cs_ast.specs.RawStatementView.{first_of, sentence, item, items_row, s
 use Rattle.cs_grammar.specs.Text.{Kinds, pointers_text, type_word_text}
 use Rattle.cs_grammar.specs.FileText.{name_text, some_text, comma_text, each_behind_comma, with_commas, brackets_text, declarator_text, value_text, constant_text, spec_text, specs_text, members_text, first_value_text, declared_text, declaration_text, parameter_text, parameters_text, head_text, first_text, test_text, sentence_text, item_text, items_text, switch_item_text, switch_text, external_text, externals_text, file_text}
 use Rattle.cs_well_formed.specs.Constants.{HasConstants, InitialHasConstants}
-use Rattle.cs_well_formed.specs.Tokens.{IsHeldToken}
+use Rattle.cs_ast.specs.HeldTokens.{IsHeldToken}
 use Rattle.cs_well_formed.proofs.Tokens.{AreHeld, text-held, initial_text-held}
 
 -- the constants of what stands behind a declarator, and of declared objects

@@ -28,7 +28,7 @@ use Rattle.cs_well_formed.specs.Expressions.{IsScalar, IsWhole}
 use Rattle.cs_well_formed.specs.Programs.{outside, IsWellGlobal, IsWellRoutine, IsWellFormed}
 use Rattle.cs_well_formed.specs.Agreement.{IsThere}
 use Rattle.cs_well_formed.specs.Leading.{Leads}
-use Rattle.cs_well_formed.specs.Tokens.{IsHeldToken}
+use Rattle.cs_ast.specs.HeldTokens.{IsHeldToken}
 use Rattle.cs_well_formed.proofs.Verdicts.{IfFine, if_fine-at, if_fine-weaker, lift-then}
 use Rattle.cs_well_formed.proofs.Leading.{specs_type-leads, typedefs_added-leads}
 use Rattle.cs_typing.proofs.DeclarationsBehind.{starts-self, DeclaresOn, TypeDeclaresOn, specs_type-on, typedefs_added-on}

@@ -2,13 +2,13 @@
 ghost use Rattle.std.specs.Prelude.{◌≡◌, map, IfOk};
 ghost use Rattle.std.specs.List.{All};
 ghost use Rattle.cs_types.specs.Layout.{IsLaidOut};
+ghost use Rattle.cs_ast.specs.HeldTokens.{IsHeldToken};
 ghost use Rattle.cs_ast.specs.RawStatementView.{external};
 ghost use Rattle.cs_ast.specs.TypedProgram.{typed_program};
 ghost use Rattle.cs_grammar.specs.FileText.{file_text};
 ghost use Rattle.cs_consts.specs.Verdicts.{Answers};
 ghost use Rattle.cs_typing.specs.Programs.{constants_in, typed};
 ghost use Rattle.cs_well_formed.specs.Programs.{IsWellFormed};
-ghost use Rattle.cs_well_formed.specs.Tokens.{IsHeldToken};
 
 use crate::file::typed_file;
 use crate::filed::Filed;

@@ -17,7 +17,7 @@ use Rattle.cs_types.specs.Shape.{Shape, void, integer, pointer, array, struct}
 use Rattle.cs_ast.specs.declared.token.IntegerConstant.{IntegerConstant}
 use Rattle.cs_consts.specs.Objects.{limited, bytes_in}
 use Rattle.cs_consts.specs.Typing.{has_room, first_with_room, unsigned_types, decimal_types, other_types, constant_type}
-use Rattle.cs_well_formed.specs.Constants.{IsHeldConstant}
+use Rattle.cs_ast.specs.HeldTokens.{IsHeldConstant}
 
 -- every type holds the numbers to 127
 pub small-InRange : (model : DataModel) (ty : IntType) (n : ℕ) → n ≤ 127 → InRange model ty (pos n)

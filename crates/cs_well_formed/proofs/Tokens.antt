@@ -10,7 +10,8 @@ use Rattle.cs_ast.specs.RawDeclarations.{Initial, Single, Listed, Initials, NoIt
 use Rattle.cs_grammar.specs.Text.{Kinds, words_text, pointers_text, text, listed, behind_commas, bounds_text}
 use Rattle.cs_grammar.specs.FileText.{comma_text, initial_text, initials_text, further_initials_text}
 use Rattle.cs_well_formed.specs.Constants.{HasConstants, HaveConstants, InitialHasConstants, InitialsHaveConstants}
-use Rattle.cs_well_formed.specs.Tokens.{IsHeldToken, TextsHoldConstants, InitialTextsHoldConstants}
+use Rattle.cs_ast.specs.HeldTokens.{IsHeldToken}
+use Rattle.cs_well_formed.specs.Tokens.{TextsHoldConstants, InitialTextsHoldConstants}
 
 -- none of these tokens is too wide
 abbrev pub AreHeld : Kinds → Type 0

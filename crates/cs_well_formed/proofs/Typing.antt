@@ -29,7 +29,8 @@ use Rattle.cs_consts.specs.Scopes.{newest}
 use Rattle.cs_consts.specs.Calls.{called, parameters_of}
 use Rattle.cs_consts.specs.Typing.{Literals, literals_behind, literals_behind_row, row_length, constant_type, done, value_in, operand_in, purpose_if, purpose_behind, is_address, prefixed_value, prefixed, indexed_values, arrow_on, stepped_object, is_plain, left_side, stored, right_target, cast_type, given_shape, cast_operand, cast_to, chosen_values, measured_type, measured_arrays, base_in, further, formed, arguments_formed}
 use Rattle.cs_well_formed.specs.Expressions.{Setting, IsWell, IsWellForm, IsValue, IsScalarValue}
-use Rattle.cs_well_formed.specs.Constants.{IsHeldConstant, HasConstants, HaveConstants}
+use Rattle.cs_ast.specs.HeldTokens.{IsHeldConstant}
+use Rattle.cs_well_formed.specs.Constants.{HasConstants, HaveConstants}
 use Rattle.cs_well_formed.specs.Agreement.{Agrees, AreFirst}
 use Rattle.cs_well_formed.proofs.Verdicts.{IfFine, if_fine-any, if_fine-weaker, lift-then, lift2-then, lift3-then, cond-then}
 use Rattle.cs_well_formed.proofs.Numbers.{constant-InRange, character-InRange}

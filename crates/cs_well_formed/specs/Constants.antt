@@ -1,14 +1,9 @@
 -- Written constants, each of which some type of its list holds (C11 6.4.4, paragraph 2).
-use Rattle.std.specs.Prelude.{◌≡◌, ◌^◌, ◌<◌, true, false, FitsSigned}
+use Rattle.std.specs.Prelude.{FitsSigned}
 use Rattle.std.specs.Int.{w32}
-use Rattle.cs_ast.specs.declared.token.IntegerConstant.{IntegerConstant}
+use Rattle.cs_ast.specs.HeldTokens.{IsHeldConstant}
 use Rattle.cs_ast.specs.RawTree.{Written, WrittenList, Named, Numeral, Character, Literal, Enclosed, Index, Call, Member, Arrow, StepBehind, StepBefore, Prefix, SizeOf, SizeOfType, Cast, Infix, Choice, Assign, Comma, End, More}
 use Rattle.cs_ast.specs.RawDeclarations.{Initial, Single, Listed, Initials, NoItem, MoreItems}
-
--- an integer constant that is not too wide: one in base ten without `u` has signed types alone (C11 6.4.4.1, paragraph 5)
-pub record IsHeldConstant (k : IntegerConstant) : Type 0 where
-  pub fits : k.value < 2 ^ 64
-  pub fits_signed : k.decimal ≡ true → k.unsigned ≡ false → k.value < 2 ^ 63
 
 abbrev mutual
   -- the integer constants of an expression are not too wide, and its characters are numbers of `int`
