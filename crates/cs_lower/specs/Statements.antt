@@ -1,19 +1,23 @@
 -- What the lowering of statements ensures: in every graph that has what was built, the point executes the statement, and behind it
 -- stands the other one.
-use Rattle.std.specs.Prelude.{◌≡◌, ℕ, suc, ◌+◌, List, length, Option, unwrap_or, slice_get}
+use Rattle.std.specs.Prelude.{◌≡◌, ℕ, suc, ◌+◌, List, ◌∷◌, ◌++◌, length, Option, unwrap_or, slice_get}
 use Rattle.cs_ast.specs.declared.place.Place.{Place}
-use Rattle.cs_ast.specs.TypedTree.{Typed, Initial, Statement, Statements}
+use Rattle.cs_ast.specs.TypedTree.{Typed, Initial, Statement, Declare, Return, Statements}
 use Rattle.cs_ast.specs.TypedProgram.{TypedProgram, Routine}
 use Rattle.cs_runs.specs.declared.point.PointKind.TheVariants as point
 use Rattle.cs_plain.specs.Initials.{Piece}
 use Rattle.cs_plain.specs.Marks.{marks, marks_in}
 use Rattle.cs_plain.specs.Statements.{count_of}
+use Rattle.cs_cfg.specs.ControlPoints.{Next, points_some, Targets, for_tested, for_points, flows}
+use Rattle.cs_cfg.specs.Fitting.{Brings}
 use Rattle.cs_cfg.specs.Graph.{Point, Flow, Reach, block_of}
+use Rattle.cs_cfg.specs.GraphPoints.{MeetsNext}
+use Rattle.cs_cfg.specs.PiecePoints.{points_pieces}
 use Rattle.cs_cfg.specs.Placing.{does}
 use Rattle.cs_cfg.specs.Executing.{for_loop, executes_at, all_at, from_at, for_test_at, last_at, returns_at, declares_at, stores_at}
 use Rattle.cs_lower.specs.Allocations.{OptionHasArguments, OptionInitialHasArguments, PiecesHaveArguments, StatementHasArguments, StatementsHaveArguments}
 use Rattle.cs_lower.specs.Labels.{marked_label}
-use Rattle.cs_lower.specs.Building.{jump_to, Built, Has, Grows}
+use Rattle.cs_lower.specs.Building.{jump_to, Built, blocks, Has, Grows}
 
 -- where the `goto`s of a function lead: to the block of that mark
 abbrev pub labels_in : Routine → Flow → ℕ → Point
@@ -53,26 +57,34 @@ module _ (program : TypedProgram) (routine : Routine) where
   pub record StoresPieces (at : Place) (declaration : ℕ) (pieces : List Piece) (old new : Built) (p q : Point) : Type 0 where
     pub grows : Grows 0 old new
     pub does : (flow : Flow) → Has flow new → PiecesHaveArguments pieces → stores_at program flow routine (labels_in routine flow) at declaration pieces p q
+    pub brings : (flow : Flow) → Has flow new → PiecesHaveArguments pieces → (behind : Next) → MeetsNext flow q behind → Brings flow (points_pieces pieces behind) (q ∷ blocks old) (p ∷ blocks new)
 
   -- a declaration
   pub record Declares (at : Place) (declaration : ℕ) (initial : Option Initial) (old new : Built) (p q : Point) : Type 0 where
     pub grows : Grows 0 old new
     pub does : (flow : Flow) → Has flow new → OptionInitialHasArguments initial → declares_at program flow routine (labels_in routine flow) at declaration initial p q
+    pub brings : (flow : Flow) → Has flow new → OptionInitialHasArguments initial → (to : Targets) (behind : Next) → MeetsNext flow q behind →
+        Brings flow (flows to (Declare at declaration initial) behind) (q ∷ blocks old) (p ∷ blocks new)
 
   -- a `return`
   pub record Returns (at : Place) (value : Option Typed) (old new : Built) (p : Point) : Type 0 where
     pub grows : Grows 0 old new
     pub does : (flow : Flow) → Has flow new → OptionHasArguments value → returns_at program flow routine (labels_in routine flow) at value p
+    pub brings : (flow : Flow) → Has flow new → OptionHasArguments value → (to : Targets) (behind : Next) → Brings flow (flows to (Return at value) behind) (blocks old) (p ∷ blocks new)
 
 -- a test, and then one of two blocks, is a use over no temporaries; the test of a `for` may be left out
 pub record TestsFor (program : TypedProgram) (at : Place) (test : Option Typed) (old new : Built) (p body : Point) (end : ℕ) : Type 0 where
   pub grows : Grows 0 old new
   pub does : (flow : Flow) (q : Point) → Has flow new → OptionHasArguments test → block_of flow end ≡ q → for_test_at program flow at test p body q
+  pub brings : (flow : Flow) → Has flow new → OptionHasArguments test → (inside behind : Next) → MeetsNext flow body inside → MeetsNext flow (block_of flow end) behind →
+      Brings flow (for_tested at test inside behind ++ for_points at test) (body ∷ blocks old) (p ∷ blocks new)
 
 -- the last part of a `for`, with a jump to its head
 pub record EndsFor (program : TypedProgram) (last : Option Typed) (old new : Built) (block head : ℕ) : Type 0 where
   pub grows : Grows 0 old new
   pub does : (flow : Flow) → Has flow new → OptionHasArguments last → last_at program flow last (block_of flow block) (block_of flow head)
+  pub brings : (flow : Flow) → Has flow new → OptionHasArguments last → (behind : Next) → MeetsNext flow (block_of flow head) behind →
+      Brings flow (points_some last behind) (jump_to head ∷ blocks old) (blocks new)
 
 -- a `for` without its first part, which has so many marks: once its head is reached comes a point, and behind the loop stands the other
 -- one, which is a block

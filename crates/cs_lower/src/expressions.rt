@@ -174,9 +174,9 @@ impl Lowering<'_> {
         ensures { IfOk result (λ made. Ands (typed_program self.now.program.now) place (typed left.now) (typed right.now) number (built_of graph.old) (built_of graph.new) (point_of made) (point_of behind)) }
     {
         let end = graph.seal(behind)?;
-        let other = self.known_way(graph, place, number, 0, end)?;
         let judged = self.judged(place, number, end)?;
         let one = self.lower_way(graph, right, number, judged)?;
+        let other = self.known_way(graph, place, number, 0, end)?;
         let test = self.branch(place, number, one, other);
         let made = self.lower_used(graph, left, number, test)?;
         Ok(made)
@@ -197,9 +197,9 @@ impl Lowering<'_> {
         ensures { IfOk result (λ made. Ors (typed_program self.now.program.now) place (typed left.now) (typed right.now) number (built_of graph.old) (built_of graph.new) (point_of made) (point_of behind)) }
     {
         let end = graph.seal(behind)?;
-        let one = self.known_way(graph, place, number, 1, end)?;
         let judged = self.judged(place, number, end)?;
         let other = self.lower_way(graph, right, number, judged)?;
+        let one = self.known_way(graph, place, number, 1, end)?;
         let test = self.branch(place, number, one, other);
         let made = self.lower_used(graph, left, number, test)?;
         Ok(made)
