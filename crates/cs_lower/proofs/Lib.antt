@@ -4,6 +4,7 @@ pub mod Evaluating
 pub mod Executing
 pub mod Forms
 pub mod LabelMarks
+pub mod LoopParts
 pub mod StatementForms
 pub mod Switching
 pub mod TurningLoops

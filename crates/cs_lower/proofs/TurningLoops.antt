@@ -156,29 +156,3 @@ module _ {program : TypedProgram} {routine : Routine} where
             subst (λ (m : ℕ). executes_at program flow routine (labels_in routine flow) (For at first test last body) m (block_of flow out) (block_of flow again) p q) same
             (block_of flow head, loop.0, all_on program routine flow first (head + 1) q (block_of flow again) p (jump_to head) (block_of flow head) begins (jumps there), loop.1);
       }
-
--- the test of a `for`, if there is one, and its last part
-module _ {program : TypedProgram} where
-  pub no_test : {at : Place} {built : Built} {p : Point} {end : ℕ} → TestsFor program at None built built p p end
-  no_test {built = built} = record { grows = nothing_more built; does = λ flow q has args is. refl }
-
-  pub tests_for : {at : Place} {test : Typed} {one end : ℕ} {old x new : Built} {p body : Point} → Seals old x one body → Uses program test 0 x new p (split at 0 one end) → TestsFor program at (Some test) old new p body end
-  tests_for {one = one} {end = end} seals tests = record {
-    grows = grows_on seals.grows tests.grows;
-    does = λ flow q has args is. (one, end, tests.does flow has args, (seals.is flow (tests.grows.keeps flow has), block_joins program flow end q is));
-  }
-
-  pub no_last : {built : Built} {head : ℕ} → EndsFor program None built built head head
-  no_last {built = built} = record { grows = nothing_more built; does = λ flow has args. there }
-
-  pub ends_for : {at : Place} {last : Typed} {block head : ℕ} {old x new : Built} {p s : Point} → s ≡ does at 0 graph.Drop (jump_to head) → Uses program last 0 old x p s → Seals x new block p → EndsFor program (Some last) old new block head
-  ends_for {at = at} {last = last} {head = head} {p = p} is one seals = record {
-    grows = grows_on one.grows seals.grows;
-    does = λ flow has args. (
-      at,
-      jump_to head,
-      subst (λ r. used program flow last 0 r (does at 0 graph.Drop (jump_to head))) (sym (seals.is flow has))
-          (subst (λ s. used program flow last 0 p s) is (one.does flow (seals.grows.keeps flow has) args)),
-      jumps there,
-    );
-  }
