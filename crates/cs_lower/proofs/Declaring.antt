@@ -1,5 +1,5 @@
 -- What is built of declarations: for the contracts of the functions in `initializers`.
-use Rattle.std.proofs.Common.{◌≡◌, ℕ, zero, suc, ◌+◌, ◌-◌, ◌≤◌, List, [], ◌∷◌, ◌++◌, append-nil, length, drop, get_or, drop-cons, map, Option, Some, None, refl, sym, ap, subst, ◌∙◌, arith}
+use Rattle.std.proofs.Common.{◌≡◌, Bool, ℕ, zero, suc, ◌+◌, ◌-◌, ◌≤◌, List, [], ◌∷◌, ◌++◌, append-nil, length, drop, get_or, drop-cons, map, Option, Some, None, refl, sym, ap, subst, ◌∙◌, arith}
 use Rattle.cs_types.specs.Shape.{Shape}
 use Rattle.cs_ast.specs.declared.place.Place.{Place}
 use Rattle.cs_ast.specs.TypedTree.{Typed, Initial, Value, Parts, Bytes, Initials, NoPart, Part}
@@ -58,29 +58,36 @@ first_has (Spelled offset bytes) others has = (tt, has)
 
 -- the control points of an expression, and of a piece that is one
 module _ {flow : Flow} where
-  as_piece : {next : Next} {old new : List Point} (offset : ℕ) (e : Typed) → Brings flow (points e next) old new → Brings flow (points_pieces (Evaluated offset e ∷ []) next) old new
-  as_piece {next = next} {old = old} {new = new} offset e brings = subst (λ some. Brings flow some old new) (sym (append-nil (points e next))) brings
+  as_piece : {old new : List Point} (offset : ℕ) (e : Typed) (next : Next) → Brings flow (points e next) old new → Brings flow (points_pieces (Evaluated offset e ∷ []) next) old new
+  as_piece {old = old} {new = new} offset e next brings = subst (λ some. Brings flow some old new) (sym (append-nil (points e next))) brings
 
-  as_value : {next : Next} {old new : List Point} (offset : ℕ) (e : Typed) → Brings flow (points_pieces (Evaluated offset e ∷ []) next) old new → Brings flow (points e next) old new
-  as_value {next = next} {old = old} {new = new} offset e brings = subst (λ some. Brings flow some old new) (append-nil (points e next)) brings
+  as_value : {old new : List Point} (offset : ℕ) (e : Typed) (next : Next) → Brings flow (points_pieces (Evaluated offset e ∷ []) next) old new → Brings flow (points e next) old new
+  as_value {old = old} {new = new} offset e next brings = subst (λ some. Brings flow some old new) (append-nil (points e next)) brings
 
   -- a piece before others
   brings_before : (one : Piece) (others : List Piece) (behind : Next) {old between new : List Point} → Brings flow (points_pieces others behind) old between
       → Brings flow (points_pieces (one ∷ []) (first_pieces others behind)) between new → Brings flow (points_pieces (one ∷ others) behind) old new
-  brings_before (Evaluated offset e) others behind rest one = brings_both rest (as_value offset e one)
+  brings_before (Evaluated offset e) others behind rest one = brings_both rest (as_value offset e (first_pieces others behind) one)
   brings_before (Spelled offset bytes) others behind rest one = then_nothing rest one
+
+-- the object becomes zero before its pieces are stored
+zeroed_first : (program : TypedProgram) {flow : Flow} {at : Place} {declaration : ℕ} {old new : List Point} {p r : Point} (shape : Shape) (initial : Initial) (behind : Next) → p ≡ does at 0 (graph.Zero declaration) r
+    → Brings flow (points_pieces (pieces program shape 0 initial) behind) old (r ∷ new) → Brings flow (points_initial initial behind) old (p ∷ new)
+zeroed_first program {flow = flow} {at = at} {declaration = declaration} {old = old} {new = new} {p = p} {r = r} shape initial behind zeroed stored =
+    subst (λ some. Brings flow some old (p ∷ new)) (points_same program initial shape 0 behind) (same_before zeroed (then_nothing stored (brings_silent at 0 (graph.Zero declaration) r refl)))
 
 module _ {program : TypedProgram} {routine : Routine} where
   -- a value is stored
-  pub value_stored : {at : Place} {declaration offset : ℕ} {e : Typed} {old new : Built} {p s q : Point} → s ≡ does at 0 (graph.StoreLocal declaration offset (type_of e) (is_scalar (type_in routine declaration))) q → Uses program e 0 old new p s
-      → StoresPieces program routine at declaration (Evaluated offset e ∷ []) old new p q
-  value_stored {at = at} {declaration = declaration} {offset = offset} {e = e} {p = p} {q = q} is h =
+  pub value_stored : {at : Place} {declaration offset : ℕ} {e : Typed} {ty : Shape} {scalar : Bool} {old new : Built} {p s q : Point} → ty ≡ type_of e → scalar ≡ is_scalar (type_in routine declaration) → s ≡ does at 0 (graph.StoreLocal declaration offset ty scalar) q
+      → Uses program e 0 old new p s → StoresPieces program routine at declaration (Evaluated offset e ∷ []) old new p q
+  value_stored {at = at} {declaration = declaration} {offset = offset} {e = e} {ty = ty} {scalar = scalar} {p = p} {s = s} {q = q} of_type of_local stores h =
       let store = graph.StoreLocal declaration offset (type_of e) (is_scalar (type_in routine declaration)) in
+      let is : s ≡ does at 0 store q = stores ∙ (ap (λ t. does at 0 (graph.StoreLocal declaration offset t scalar) q) of_type ∙ ap (λ b. does at 0 (graph.StoreLocal declaration offset (type_of e) b) q) of_local) in
       record {
         grows = h.grows;
         does = λ flow has args. (q, subst (λ s. used program flow e 0 p s) is (h.does flow has args.0), refl);
         brings = λ flow has args behind m.
-            as_piece offset e (brings_past at 0 store q refl (same_behind is (h.brings flow has args.0 behind (same_meets is (does_meets at 0 store q refl m)))));
+            as_piece offset e behind (brings_past at 0 store q refl (same_behind is (h.brings flow has args.0 behind (same_meets is (does_meets at 0 store q refl m)))));
       }
 
   -- a text is stored
@@ -132,15 +139,8 @@ module _ {program : TypedProgram} {routine : Routine} where
     does = λ flow has args.
         let stored = h.does flow has (args, tt) in
         subst (λ r. used program flow e 0 p (does at 0 (graph.StoreLocal declaration 0 (type_of e) (is_scalar (type_in routine declaration))) r)) stored.2 stored.1;
-    brings = λ flow has args to behind m. as_value 0 e (h.brings flow has (args, tt) behind m);
+    brings = λ flow has args to behind m. as_value 0 e behind (h.brings flow has (args, tt) behind m);
   }
-
-  -- the object becomes zero before its pieces are stored
-  zeroed_first : {flow : Flow} {at : Place} {declaration : ℕ} {old new : List Point} {p r : Point} {behind : Next} (initial : Initial) → p ≡ does at 0 (graph.Zero declaration) r
-      → Brings flow (points_pieces (pieces program (type_in routine declaration) 0 initial) behind) old (r ∷ new) → Brings flow (points_initial initial behind) old (p ∷ new)
-  zeroed_first {flow = flow} {at = at} {declaration = declaration} {old = old} {new = new} {p = p} {r = r} {behind = behind} initial zeroed stored =
-      subst (λ some. Brings flow some old (p ∷ new)) (points_same program initial (type_in routine declaration) 0 behind)
-      (same_before zeroed (then_nothing stored (brings_silent at 0 (graph.Zero declaration) r refl)))
 
   pub declared_parts : {at : Place} {declaration : ℕ} {initial : Initial} {parts : Initials} {old new : Built} {p r q : Point} → initial ≡ Parts parts → p ≡ does at 0 (graph.Zero declaration) r
       → StoresPieces program routine at declaration (pieces program (type_in routine declaration) 0 initial) old new r q → Declares program routine at declaration (Some initial) old new p q
@@ -149,7 +149,7 @@ module _ {program : TypedProgram} {routine : Routine} where
       (λ stored. record {
         grows = stored.grows;
         does = λ flow has args. (r, zeroed, stored.does flow has (pieces_have program (type_in routine declaration) 0 (Parts parts) args));
-        brings = λ flow has args to behind m. zeroed_first {declaration = declaration} (Parts parts) zeroed (stored.brings flow has (pieces_have program (type_in routine declaration) 0 (Parts parts) args) behind m);
+        brings = λ flow has args to behind m. zeroed_first program (type_in routine declaration) (Parts parts) behind zeroed (stored.brings flow has (pieces_have program (type_in routine declaration) 0 (Parts parts) args) behind m);
       }) h
 
   pub declared_text : {at : Place} {declaration : ℕ} {initial : Initial} {bytes : List ℕ} {old new : Built} {p r q : Point} → initial ≡ Bytes bytes → p ≡ does at 0 (graph.Zero declaration) r
@@ -159,5 +159,5 @@ module _ {program : TypedProgram} {routine : Routine} where
       (λ stored. record {
         grows = stored.grows;
         does = λ flow has args. (r, zeroed, stored.does flow has (pieces_have program (type_in routine declaration) 0 (Bytes bytes) args));
-        brings = λ flow has args to behind m. zeroed_first {declaration = declaration} (Bytes bytes) zeroed (stored.brings flow has (pieces_have program (type_in routine declaration) 0 (Bytes bytes) args) behind m);
+        brings = λ flow has args to behind m. zeroed_first program (type_in routine declaration) (Bytes bytes) behind zeroed (stored.brings flow has (pieces_have program (type_in routine declaration) 0 (Bytes bytes) args) behind m);
       }) h
