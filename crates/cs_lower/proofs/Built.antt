@@ -1,13 +1,13 @@
 -- What was built and what more is: for the contracts of `GraphBuilder`, and for every lemma on what is built one after another.
-use Rattle.std.proofs.Common.{◌≡◌, ℕ, zero, suc, ◌+◌, List, [], ◌∷◌, ◌++◌, length, map, reverse, Option, Some, None, refl, sym, ap, subst, ◌∙◌, arith}
+use Rattle.std.proofs.Common.{◌≡◌, ℕ, zero, suc, ◌+◌, List, [], ◌∷◌, ◌++◌, length, map, reverse, Option, Some, refl, sym, ap, subst, ◌∙◌, arith}
 use Rattle.std.specs.Prelude.{Contains, slice_get, unwrap_or}
 use Rattle.std.specs.List.{All}
-use Rattle.std.proofs.lemmas.List.{reverse-append, reverse-reverse, length-reverse, map-append}
+use Rattle.std.proofs.lemmas.List.{reverse-append, length-reverse, map-append}
 use Rattle.std.proofs.lemmas.List.Elements.{All-append, All-cons, All-head, All-nil, All-weaker, All-contains_itself, Contains-append_left, Contains-append_right}
 use Rattle.cs_ast.specs.declared.place.Place.{Place}
 use Rattle.cs_runs.specs.declared.point.PointKind.{PointKind}
 use Rattle.cs_cfg.specs.Fitting.{Brings}
-use Rattle.cs_cfg.specs.Graph.{Point, no_point, Flow, Reach, block_of}
+use Rattle.cs_cfg.specs.Graph.{Point, no_point, Flow, Reach}
 use Rattle.cs_cfg.specs.Placing.{does}
 use Rattle.cs_cfg.proofs.Fitting.{brings_among}
 use Rattle.cs_lower.specs.Building.{Built, blocks, Has, Grows}

@@ -1,5 +1,5 @@
 -- What is built of declarations: for the contracts of the functions in `initializers`.
-use Rattle.std.proofs.Common.{◌≡◌, Bool, ℕ, zero, suc, ◌+◌, ◌-◌, ◌≤◌, List, [], ◌∷◌, ◌++◌, append-nil, length, drop, get_or, drop-cons, map, Option, Some, None, refl, sym, ap, subst, ◌∙◌, arith}
+use Rattle.std.proofs.Common.{◌≡◌, Bool, ℕ, suc, ◌+◌, ◌-◌, ◌≤◌, List, [], ◌∷◌, ◌++◌, append-nil, length, drop, get_or, drop-cons, map, Some, None, refl, sym, ap, subst, ◌∙◌, arith}
 use Rattle.cs_types.specs.Shape.{Shape}
 use Rattle.cs_ast.specs.declared.place.Place.{Place}
 use Rattle.cs_ast.specs.TypedTree.{Typed, Initial, Value, Parts, Bytes, Initials, NoPart, Part}
@@ -20,7 +20,7 @@ use Rattle.cs_cfg.proofs.Starting.{stores_meet}
 use Rattle.cs_interpreter.specs.declared.blocks.Piece.{Piece as CodePiece}
 use Rattle.cs_interpreter.specs.MemoryView.{piece_of}
 use Rattle.cs_lower.specs.Allocations.{InitialHasArguments, InitialsHaveArguments, PiecesHaveArguments}
-use Rattle.cs_lower.specs.Building.{Built, blocks, Has}
+use Rattle.cs_lower.specs.Building.{Built}
 use Rattle.cs_lower.specs.Expressions.{Uses}
 use Rattle.cs_lower.specs.Statements.{labels_in, StoresPieces, Declares}
 use Rattle.cs_lower.proofs.Built.{nothing_more, grows_on, brings_nothing}

@@ -1,22 +1,22 @@
 -- What is built of expressions, one after another: for the contracts of the functions that `lower_expression` calls.
-use Rattle.std.proofs.Common.{◌≡◌, ℕ, zero, suc, ◌+◌, ◌-◌, ◌≤◌, ℤ, pos, List, ◌∷◌, length, drop, get_or, drop-cons, refl, sym, ap, subst, ◌∙◌, arith}
+use Rattle.std.proofs.Common.{◌≡◌, ℕ, suc, ◌+◌, ◌-◌, ◌≤◌, pos, List, ◌∷◌, length, drop, get_or, drop-cons, refl, sym, ap, subst, ◌∙◌, arith}
 use Rattle.cs_types.specs.Shape.{Shape, void}
 use Rattle.cs_ast.specs.declared.place.Place.{Place}
 use Rattle.cs_ast.specs.declared.typed.expression.Expr.{Expr}
 use Rattle.cs_ast.specs.TypedView.{typed, typed_list}
-use Rattle.cs_ast.specs.TypedTree.{Typed, Of, Form, And, Or, Choice, TypedList, NoMore, Further}
+use Rattle.cs_ast.specs.TypedTree.{Typed, Of, And, Or, Choice, NoMore}
 use Rattle.cs_ast.specs.TypedProgram.{TypedProgram}
 use Rattle.cs_runs.specs.declared.point.PointKind.TheVariants as point
 use Rattle.cs_cfg.specs.ControlPoints.{met, ControlPoint, first, first_in, points_in}
 use Rattle.cs_cfg.specs.Fitting.{Brings}
 use Rattle.cs_cfg.specs.Graph as graph
 use Rattle.cs_cfg.specs.Graph.{Point, Flow, block_of}
-use Rattle.cs_cfg.specs.Placing.{does, split, used_then, Joins, there, jumps, known, evaluates, evaluates_form, used, used_all, joined, judged}
+use Rattle.cs_cfg.specs.Placing.{does, split, used_then, Joins, there, jumps, evaluates, evaluates_form, used, used_all, joined, judged}
 use Rattle.cs_cfg.proofs.Choosing.{brings_use, and_brings, or_brings, choice_brings}
 use Rattle.cs_cfg.proofs.Fitting.{brings_both, brings_past, then_nothing}
 use Rattle.cs_cfg.proofs.Meeting.{joins_meet, does_meets, split_meets, same_meets, use_meets, used_meets, all_meet}
 use Rattle.cs_lower.specs.Allocations.{HasArguments, AllHaveArguments}
-use Rattle.cs_lower.specs.Building.{jump_to, Built, blocks, Has, Grows}
+use Rattle.cs_lower.specs.Building.{jump_to, Built, blocks, Has}
 use Rattle.cs_lower.specs.Sealing.{Seals}
 use Rattle.cs_lower.specs.Expressions.{Evaluates, Uses, UsesBoth, UsesAll, UsesIn, Ands, Ors, Chooses, Commas}
 use Rattle.cs_lower.proofs.Built.{nothing_more, grows_on, brings_nothing}

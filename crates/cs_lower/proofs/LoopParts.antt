@@ -1,6 +1,6 @@
 -- What is built of the test of a `for` and of its last part, either of which may be left out, and of a `return`: for the contracts of
 -- `lower_for_test`, `lower_last` and `lower_return`.
-use Rattle.std.proofs.Common.{◌≡◌, ℕ, List, [], ◌∷◌, Option, Some, None, refl, sym, subst}
+use Rattle.std.proofs.Common.{◌≡◌, ℕ, List, ◌∷◌, Option, Some, None, refl, sym, subst}
 use Rattle.cs_ast.specs.declared.place.Place.{Place}
 use Rattle.cs_ast.specs.TypedTree.{Typed, Return}
 use Rattle.cs_ast.specs.TypedProgram.{TypedProgram, Routine}
@@ -15,7 +15,7 @@ use Rattle.cs_cfg.specs.Placing.{does, split, Joins, there, jumps, used}
 use Rattle.cs_cfg.proofs.Bringing.{for_test_brings, return_brings}
 use Rattle.cs_cfg.proofs.Fitting.{brings_among, brings_jump, brings_past, brings_silent, nothing_then, then_nothing}
 use Rattle.cs_cfg.proofs.Meeting.{does_meets, point_meets, same_meets, split_meets}
-use Rattle.cs_lower.specs.Building.{jump_to, Built, blocks, Has}
+use Rattle.cs_lower.specs.Building.{jump_to, Built, blocks}
 use Rattle.cs_lower.specs.Sealing.{Seals}
 use Rattle.cs_lower.specs.Expressions.{Uses}
 use Rattle.cs_lower.specs.Statements.{TestsFor, EndsFor, Returns}

@@ -1,7 +1,7 @@
 -- What the lowering of expressions ensures: in every graph that has what was built, the point evaluates the expression, and behind it
 -- stands the other one; and of the blocks that were there before, the other point first, those that are there now were made, the point
 -- first, which brings in no control points but those of the expression.
-use Rattle.std.specs.Prelude.{◌≡◌, ℕ, suc, ◌++◌, ◌∷◌, Option, Some, None}
+use Rattle.std.specs.Prelude.{ℕ, suc, ◌++◌, ◌∷◌, Option, Some, None}
 use Rattle.cs_types.specs.Shape.{Shape}
 use Rattle.cs_ast.specs.declared.place.Place.{Place}
 use Rattle.cs_ast.specs.TypedTree.{Typed, Of, Form, And, Or, Choice, Comma, Update, Move, TypedList}
