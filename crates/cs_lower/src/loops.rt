@@ -63,14 +63,14 @@ impl Lowering<'_> {
         ensures { IfOk result (λ made. (out again : ℕ) → Executes (typed_program self.now.program.now) (routine self.now.function.now) (Do place (statement body.now) (typed test.now)) out again (built_of graph.old) (built_of graph.new) (point_of made) (point_of behind)) }
     {
         let inner = marks(body)?;
-        let head = graph.mark_before(inner)?;
+        let start = graph.mark_before(inner)?;
         let end = graph.seal(behind)?;
-        let tested = self.lower_test(graph, place, test, head, end)?;
+        let tested = self.lower_test(graph, place, test, start, end)?;
         let again = graph.seal(tested)?;
         let exits = Exits { out: end, again };
         let turned = self.lower_statement(graph, body, exits, self.jump(again))?;
         graph.seal_mark(PointKind::Head, place, turned)?;
-        Ok(self.jump(head))
+        Ok(self.jump(start))
     }
 
     /// A `for` (C11 6.8.5.3). In its first part `continue` leads out of it, to a block.
@@ -78,8 +78,8 @@ impl Lowering<'_> {
     pub fn lower_for(
         &self,
         graph: &mut GraphBuilder,
-        body: &Stmt,
         first: &[Stmt],
+        body: &Stmt,
         place: Place,
         test: Option<&Expr>,
         last: Option<&Expr>,
@@ -94,9 +94,12 @@ impl Lowering<'_> {
         let inner = together(before, inside)?;
         let head = graph.mark_before(inner)?;
         let end = graph.seal(behind)?;
-        let again = self.lower_last(graph, place, last, head)?;
-        let exits = Exits { out: end, again };
-        let made = self.lower_statement(graph, body, exits, self.jump(again))?;
+        let turn = self.lower_last(graph, place, last, head)?;
+        let exits = Exits {
+            out: end,
+            again: turn,
+        };
+        let made = self.lower_statement(graph, body, exits, self.jump(turn))?;
         let strip = self.lower_for_test(graph, place, test, made, end)?;
         let outer = Exits {
             out: end,
