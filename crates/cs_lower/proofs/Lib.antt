@@ -9,6 +9,7 @@ pub mod Forms
 pub mod Keeping
 pub mod LabelMarks
 pub mod Leaving
+pub mod LoopParts
 pub mod StatementForms
 pub mod Switching
 pub mod TurningLoops

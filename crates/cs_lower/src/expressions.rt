@@ -51,18 +51,14 @@ impl Lowering<'_> {
             ExprKind::Unary(_, a) => self.lower_used(graph, a, number, behind),
             ExprKind::Not(a) => self.lower_used(graph, a, number, behind),
             ExprKind::Free(a) => self.lower_used(graph, a, number, behind),
-            ExprKind::Index(a, b, Order::PointerFirst) => self.lower_pair(
-                graph, a, b, number, behind,
-            ),
-            ExprKind::Index(a, b, Order::AmountFirst) => self.lower_pair(
-                graph, b, a, number, behind,
-            ),
-            ExprKind::Sum(a, b, _, Order::PointerFirst) => self.lower_pair(
-                graph, a, b, number, behind,
-            ),
-            ExprKind::Sum(a, b, _, Order::AmountFirst) => self.lower_pair(
-                graph, b, a, number, behind,
-            ),
+            ExprKind::Index(a, b, order) => match order {
+                Order::PointerFirst => self.lower_pair(graph, a, b, number, behind),
+                Order::AmountFirst => self.lower_pair(graph, b, a, number, behind),
+            },
+            ExprKind::Sum(a, b, _, order) => match order {
+                Order::PointerFirst => self.lower_pair(graph, a, b, number, behind),
+                Order::AmountFirst => self.lower_pair(graph, b, a, number, behind),
+            },
             ExprKind::Binary(_, a, b) => self.lower_pair(graph, a, b, number, behind),
             ExprKind::Compare(_, a, b) => self.lower_pair(graph, a, b, number, behind),
             ExprKind::Difference(a, b) => self.lower_pair(graph, a, b, number, behind),

@@ -6,7 +6,7 @@ use Rattle.cs_ast.specs.TypedView.{typed}
 use Rattle.cs_lower.specs.Building.{built_of, point_of}
 use Rattle.cs_lower.specs.Statements.{TestsFor}
 use Rattle.cs_lower.proofs.Forms.{if_made}
-use Rattle.cs_lower.proofs.TurningLoops.{tests_for}
+use Rattle.cs_lower.proofs.LoopParts.{tests_for}
 use Rattle.cs_lower.proofs.context.Lowering.lower_for_test.Goals as goal
 
 pub returns-in_ok-one-in-Some : goal.returns-in_ok-one-in-Some
