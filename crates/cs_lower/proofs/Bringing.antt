@@ -1,9 +1,9 @@
 -- What is brought in by code that is put together: for the control points of what is built.
-use Rattle.std.proofs.Common.{◌≡◌, ℕ, List, [], ◌∷◌, ◌++◌, Option, refl, sym, subst}
+use Rattle.std.proofs.Common.{ℕ, List, [], ◌∷◌, ◌++◌, Option, refl}
 use Rattle.cs_ast.specs.declared.place.Place.{Place}
 use Rattle.cs_ast.specs.TypedTree.{Typed, Statement, Statements, IfElse, For}
 use Rattle.cs_runs.specs.declared.point.PointKind.TheVariants as point
-use Rattle.cs_cfg.specs.ControlPoints.{Next, met, first_some, ControlPoint, points, points_some, Targets, for_test, for_tested, for_points, in_loop, in_switch, starts, flows, flows_in}
+use Rattle.cs_cfg.specs.ControlPoints.{Next, met, first_some, points, points_some, Targets, for_test, for_tested, for_points, in_loop, in_switch, starts, flows, flows_in}
 use Rattle.cs_cfg.specs.Fitting.{Brings}
 use Rattle.cs_cfg.specs.Graph.{Point, Flow, Reach, block_of}
 use Rattle.cs_cfg.specs.GraphPoints.{MeetsNext}
@@ -12,19 +12,9 @@ use Rattle.cs_cfg.proofs.Fitting.{fits_passed, block_point, fit_first, fit_other
 use Rattle.cs_lower.specs.Building.{jump_to}
 
 module _ {flow : Flow} where
-  -- the same blocks, and all but the first
-  pub brings_same : {blocks : List Point} → Brings flow [] blocks blocks
-  brings_same = record { keeps = λ all includes fit. fit }
-
+  -- all blocks but the first
   pub brings_less : {block : Point} {blocks : List Point} → Brings flow [] (block ∷ blocks) blocks
   brings_less = record { keeps = λ all includes fit. fit_others fit }
-
-  -- the first block is another
-  pub brings_from : {some : List ControlPoint} {p q : Point} {old new : List Point} → p ≡ q → Brings flow some (p ∷ old) new → Brings flow some (q ∷ old) new
-  brings_from {some = some} {old = old} {new = new} is h = subst (λ r. Brings flow some (r ∷ old) new) is h
-
-  pub brings_to : {some : List ControlPoint} {p q : Point} {old new : List Point} → p ≡ q → Brings flow some old (q ∷ new) → Brings flow some old (p ∷ new)
-  brings_to {some = some} {old = old} {new = new} is h = subst (λ r. Brings flow some old (r ∷ new)) (sym is) h
 
   -- an `if` with an `else`, which is put together before the other way
   pub if_else_brings : (at : Place) (test : Typed) (body other : Statement) (to : Targets) (behind : Next) (one two end : ℕ) {old with_other with_both new : List Point} →

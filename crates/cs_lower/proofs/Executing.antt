@@ -26,9 +26,9 @@ use Rattle.cs_lower.specs.Sealing.{Seals, SealsMark}
 use Rattle.cs_lower.specs.Expressions.{Evaluates, Uses}
 use Rattle.cs_lower.specs.Statements.{labels_in, Executes, ExecutesAll, ExecutesIn, Declares}
 use Rattle.cs_lower.proofs.Aiming.{aims_of}
-use Rattle.cs_lower.proofs.Bringing.{brings_same, brings_from, brings_to, if_else_brings}
-use Rattle.cs_lower.proofs.Built.{nothing_more, grows_on, more_and_more}
-use Rattle.cs_lower.proofs.Evaluating.{jump_joins}
+use Rattle.cs_lower.proofs.Bringing.{if_else_brings}
+use Rattle.cs_lower.proofs.Built.{nothing_more, more_and_more, brings_nothing}
+use Rattle.cs_lower.proofs.Evaluating.{jump_joins, same_behind, same_before}
 
 -- where a statement stands, its mark is so many before those behind it
 pub mark_before : {old new : Built} {count : ℕ} → Grows count old new → (mark : ℕ) → mark + length new.heads ≡ new.marks → mark + count + length old.heads ≡ old.marks
@@ -69,7 +69,7 @@ module _ {program : TypedProgram} {routine : Routine} where
     grows = h.grows;
     does = λ flow has args mark at. subst (λ s. evaluates program flow e 0 p s) is (h.does flow has args);
     brings = λ flow has args mark at to aims behind m.
-        brings_past place 0 graph.Drop q refl (brings_from is (h.brings flow has args behind (same_meets is (does_meets place 0 graph.Drop q refl m))));
+        brings_past place 0 graph.Drop q refl (same_behind is (h.brings flow has args behind (same_meets is (does_meets place 0 graph.Drop q refl m))));
   }
 
   -- a statement at the beginning of a block
@@ -81,7 +81,7 @@ module _ {program : TypedProgram} {routine : Routine} where
         (subst (λ r. executes_at program flow routine (labels_in routine flow) s mark (block_of flow out) (block_of flow again) p r) is
         (h.does flow (seals.grows.keeps flow has) args mark (mark_stays seals.grows mark e)));
     brings = λ flow has args mark e to aims behind m.
-        then_nothing (brings_from is (h.brings flow (seals.grows.keeps flow has) args mark (mark_stays seals.grows mark e) to aims behind (same_meets is (past_jump m)))) (seals.brings flow);
+        then_nothing (same_behind is (h.brings flow (seals.grows.keeps flow has) args mark (mark_stays seals.grows mark e) to aims behind (same_meets is (past_jump m)))) (seals.brings flow);
   }
 
   -- an `if`, and one with an `else`
@@ -160,7 +160,7 @@ module _ {program : TypedProgram} {routine : Routine} where
         brings = λ flow has args n e to aims behind m.
             let in_x = seals.grows.keeps flow has in
             let inside_met = starts_meet program flow routine (labels_in routine flow) body (mark + 1) (block_of flow out) (block_of flow again) r q (aims_of aims) (inside.does flow in_x args (mark + 1) here) m in
-            brings_to jump (label_brings at number body mark mark to r q behind inside_met (inside.brings flow in_x args (mark + 1) here to aims behind m) (seals.brings flow mark last));
+            same_before jump (label_brings at number body mark mark to r q behind inside_met (inside.brings flow in_x args (mark + 1) here to aims behind m) (seals.brings flow mark last));
       }
     where
       led : (flow : Flow) (o : Option Landing) → is_led_to program flow routine (labels_in routine flow) o mark (block_of flow (unwrap_or (option_map (λ (l : Landing). l.mark) o) 0)) (block_of flow mark)
@@ -169,7 +169,7 @@ module _ {program : TypedProgram} {routine : Routine} where
 
   -- statements in a row, lowered from the end
   pub executes_none : (out again : ℕ) (built : Built) (p : Point) → ExecutesAll program routine Empty out again built built p p
-  executes_none out again built p = record { grows = nothing_more built; does = λ flow has args mark e. there; brings = λ flow has args mark e to aims behind m. brings_same }
+  executes_none out again built p = record { grows = nothing_more built; does = λ flow has args mark e. there; brings = λ flow has args mark e to aims behind m. brings_nothing }
 
   pub executes_then : {first : Statement} {others : Statements} {out again : ℕ} {old mid new : Built} {p r q : Point} → ExecutesAll program routine others out again old mid r q → Executes program routine first out again mid new p r → ExecutesAll program routine (Then first others) out again old new p q
   executes_then {first = first} {others = others} {out = out} {again = again} {r = r} {q = q} last one = record {

@@ -19,8 +19,9 @@ use Rattle.cs_lower.specs.Building.{jump_to, Built, blocks, Has, Grows}
 use Rattle.cs_lower.specs.Sealing.{Seals, SealsMark}
 use Rattle.cs_lower.specs.Statements.{labels_in, Aims, Executes, ExecutesAll, TestsFor, EndsFor}
 use Rattle.cs_lower.proofs.Aiming.{aims_of, aims_in_loop, aims_in_switch}
-use Rattle.cs_lower.proofs.Bringing.{brings_from, for_brings}
+use Rattle.cs_lower.proofs.Bringing.{for_brings}
 use Rattle.cs_lower.proofs.Built.{more_and_more}
+use Rattle.cs_lower.proofs.Evaluating.{same_behind}
 use Rattle.cs_lower.proofs.Executing.{mark_stays, all_on}
 use Rattle.cs_lower.proofs.TurningLoops.{behind_head}
 
@@ -94,7 +95,7 @@ module _ {program : TypedProgram} {routine : Routine} where
             let body_brings = way.brings flow (in_z flow has) has_body mark inner_mark (in_for to at last behind) (inner_aims flow has has_last head_is to out again aims behind m) (turning at last)
                 (same_meets leads (past_jump (again_met flow has has_last head_is))) in
             let test_brings = tests.brings flow has has_test (in_body to at last body behind) behind (body_met flow has has_last has_body head_is to out again aims behind m) (same_meets (on flow has) m) in
-            brings_both (brings_both (nothing_then (ends.brings flow) (nothing_then (brings_jump head) last_brings)) (nothing_then (brings_jump block) (brings_from leads body_brings))) test_brings;
+            brings_both (brings_both (nothing_then (ends.brings flow) (nothing_then (brings_jump head) last_brings)) (nothing_then (brings_jump block) (same_behind leads body_brings))) test_brings;
       }
 
   -- a `for`
@@ -132,5 +133,5 @@ module _ {program : TypedProgram} {routine : Routine} where
             let first_aims = aims_in_switch (block_of flow end) aims (same_meets (turns.is flow in_z) m) in
             let first_brings = before_it.brings flow in_u args.0 (head + 1) here (in_switch to behind) first_aims (met point.Head at) (same_meets starts (past_jump head_met)) in
             for_brings at first test last body to behind head p r (turns.meets flow in_z args.1 args.2 args.3 head_is to o g aims behind m)
-            (turns.brings flow in_z args.1 args.2 args.3 head_is to o g aims behind m) (brings_from starts first_brings) (seals.brings flow head final);
+            (turns.brings flow in_z args.1 args.2 args.3 head_is to o g aims behind m) (same_behind starts first_brings) (seals.brings flow head final);
       }

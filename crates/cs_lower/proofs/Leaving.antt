@@ -15,15 +15,15 @@ use Rattle.cs_lower.specs.Building.{jump_to, Built, blocks, Has}
 use Rattle.cs_lower.specs.Keeping.{Keeps, LeadsOff}
 use Rattle.cs_lower.specs.Labels.{marked_label}
 use Rattle.cs_lower.specs.Statements.{labels_in, Executes, Returns}
-use Rattle.cs_lower.proofs.Bringing.{brings_same, brings_to}
-use Rattle.cs_lower.proofs.Built.{nothing_more, grows_on}
+use Rattle.cs_lower.proofs.Built.{nothing_more, grows_on, brings_nothing}
+use Rattle.cs_lower.proofs.Evaluating.{same_before}
 
 jump_leads : {program : TypedProgram} (flow : Flow) (block : ℕ) (p : Point) → p ≡ jump_to block → Joins program flow p (block_of flow block)
 jump_leads {program = program} flow block p is = subst (λ r. Joins program flow r (block_of flow block)) (sym is) (jumps there)
 
 -- what comes behind is kept, and brings in no control points
 led_off : (flow : Flow) {block : ℕ} {old new : Built} {p q : Point} → LeadsOff old new block p q → Brings flow [] (q ∷ blocks old) (p ∷ blocks new)
-led_off flow {block = block} h = brings_to h.is (then_nothing (h.keeps.brings flow) (brings_jump block))
+led_off flow {block = block} h = same_before h.is (then_nothing (h.keeps.brings flow) (brings_jump block))
 
 module _ {program : TypedProgram} {routine : Routine} where
   pub break : {at : Place} {out again : ℕ} {old new : Built} {p q : Point} → LeadsOff old new out p q → Executes program routine (Break at) out again old new p q
@@ -51,7 +51,7 @@ module _ {program : TypedProgram} {routine : Routine} where
   goto_nowhere {label = label} {built = built} {p = p} none = record {
     grows = nothing_more built;
     does = λ flow has args n e. goes flow (landing label (body_of routine) 0 []) none;
-    brings = λ flow has args n e to aims behind m. brings_same;
+    brings = λ flow has args n e to aims behind m. brings_nothing;
   }
     where
       goes : (flow : Flow) (o : Option Landing) → option_map (λ (l : Landing). l.mark) o ≡ None → goes_to program flow routine (labels_in routine flow) o (block_of flow (unwrap_or (option_map (λ (l : Landing). l.mark) o) 0)) p p

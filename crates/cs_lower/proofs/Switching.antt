@@ -28,8 +28,8 @@ use Rattle.cs_lower.specs.Expressions.{Uses}
 use Rattle.cs_lower.specs.Statements.{labels_in, block_at, Executes, ExecutesIn, EntersAll}
 use Rattle.cs_lower.specs.Switching.{with_case, cases_to, leads_to}
 use Rattle.cs_lower.proofs.Aiming.{aims_of, aims_in_switch}
-use Rattle.cs_lower.proofs.Bringing.{brings_same, brings_less}
-use Rattle.cs_lower.proofs.Built.{nothing_more, more_and_more}
+use Rattle.cs_lower.proofs.Bringing.{brings_less}
+use Rattle.cs_lower.proofs.Built.{nothing_more, more_and_more, brings_nothing}
 use Rattle.cs_lower.proofs.Executing.{mark_before, mark_stays}
 
 module _ (program : TypedProgram) (routine : Routine) where
@@ -56,7 +56,7 @@ module _ {program : TypedProgram} {routine : Routine} where
     grows = nothing_more built;
     counts = refl;
     does = λ flow has args mark e item. there;
-    brings = λ flow has args mark e to aims behind m. brings_same;
+    brings = λ flow has args mark e to aims behind m. brings_nothing;
   }
 
   pub enters_then : {first : Statement} {others : Statements} {out again : ℕ} {old mid new : Built} {block next end : ℕ} {entries : List ℕ} → next ≡ block_at entries end 0

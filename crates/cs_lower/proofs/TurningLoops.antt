@@ -20,9 +20,8 @@ use Rattle.cs_lower.specs.Sealing.{Seals, SealsMark}
 use Rattle.cs_lower.specs.Expressions.{Uses}
 use Rattle.cs_lower.specs.Statements.{labels_in, Executes, ExecutesIn}
 use Rattle.cs_lower.proofs.Aiming.{aims_of, aims_in_loop}
-use Rattle.cs_lower.proofs.Bringing.{brings_from, brings_to}
 use Rattle.cs_lower.proofs.Built.{more_and_more}
-use Rattle.cs_lower.proofs.Evaluating.{jump_joins}
+use Rattle.cs_lower.proofs.Evaluating.{jump_joins, same_behind, same_before}
 use Rattle.cs_lower.proofs.Executing.{mark_stays}
 
 -- the head of a loop has the number that was told before its body
@@ -91,7 +90,7 @@ module _ {program : TypedProgram} {routine : Routine} where
             let in_x = way.grows.keeps flow in_y in
             let turns = same_meets (seals.is flow has head last) (point_meets at 0 (graph.Reach point.Head head) r refl) in
             let inner_aims = aims_in_loop (block_of flow end) (block_of flow head) aims (same_meets (ends.is flow in_x) m) turns in
-            brings_to jump
+            same_before jump
             (while_brings program flow routine (labels_in routine flow) head (block_of flow out) (block_of flow again) p q (aims_of aims) m (ends.brings flow) at test body head (placed flow has args)
             (way.brings flow in_y args.1 (head + 1) here (in_loop to behind (met point.Head at)) inner_aims (met point.Head at) turns)
             (tests.brings flow in_z args.0 (met point.Branch at) (split_meets at 0 one end)) (seals.brings flow head last));
@@ -136,8 +135,8 @@ module _ {program : TypedProgram} {routine : Routine} where
             let again_next = first test (met point.Branch at) in
             let again_met = same_meets (tested.is flow in_z) (used_meets program flow test 0 r (split at 0 head end) (tests.does flow in_y args.1) (split_meets at 0 head end)) in
             let inner_aims = aims_in_loop (block_of flow end) (block_of flow behind) aims (same_meets (ends.is flow in_x) m) again_met in
-            brings_to jump
+            same_before jump
             (do_brings program flow routine (labels_in routine flow) head (block_of flow out) (block_of flow again) p q (aims_of aims) m (ends.brings flow) at body test head behind (placed flow has args)
             (then_nothing (tests.brings flow in_y args.1 (met point.Branch at) (split_meets at 0 head end)) (tested.brings flow))
-            (brings_from leads (way.brings flow in_w args.0 (head + 1) here (in_loop to next again_next) inner_aims again_next (same_meets leads (past_jump again_met)))) (seals.brings flow head last));
+            (same_behind leads (way.brings flow in_w args.0 (head + 1) here (in_loop to next again_next) inner_aims again_next (same_meets leads (past_jump again_met)))) (seals.brings flow head last));
       }

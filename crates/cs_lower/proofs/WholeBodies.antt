@@ -31,8 +31,8 @@ use Rattle.cs_lower.specs.Sealing.{Seals}
 use Rattle.cs_lower.specs.Statements.{labels_in, Aims, Executes}
 use Rattle.cs_lower.specs.Functions.{BeginsBody, IsGraphOf, HasGraph}
 use Rattle.cs_lower.proofs.Aiming.{aims_from}
-use Rattle.cs_lower.proofs.Bringing.{brings_from}
 use Rattle.cs_lower.proofs.Built.{more_and_more}
+use Rattle.cs_lower.proofs.Evaluating.{same_behind}
 
 module _ {program : TypedProgram} {routine : Routine} where
   -- a body between its beginning and its end
@@ -68,10 +68,10 @@ module _ {program : TypedProgram} {routine : Routine} where
             let At : Point → Point → Type 0 = λ o a. Aims program routine flow (body_targets routine) o a in
             let aims_here = subst (λ a. At (block_of flow finish) a) is (subst (λ o. At o finishing) is (aims_from (aims program flow routine body has_body low))) in
             let end_met = same_meets closes (point_meets routine.closes 0 (graph.Close nothing) leaving refl) in
-            let made = brings_from closes (executes.brings flow (in_y flow has) args 0 (first all) (body_targets routine) aims_here (end_of routine) end_met) in
+            let made = same_behind closes (executes.brings flow (in_y flow has) args 0 (first all) (body_targets routine) aims_here (end_of routine) end_met) in
             let Made : Statement → Type 0 = λ b. Brings flow (flows (body_targets routine) b (end_of routine)) (does routine.closes 0 (graph.Close nothing) leaving ∷ blocks x) (inside ∷ blocks y) in
             let finished = (finishes.brings flow).keeps (control_points routine) includes_none (fit_more (subst (λ p. BlockFits flow (control_points routine) p) (sym finish_is) (block_end graph.Finish refl)) fit) in
-            graph_fits program flow routine body has_body low (blocks new) (subst (λ b. Made b) (sym (executed routine body has_body)) made) (brings_from enters (begins.brings flow)) finished;
+            graph_fits program flow routine body has_body low (blocks new) (subst (λ b. Made b) (sym (executed routine body has_body)) made) (same_behind enters (begins.brings flow)) finished;
       }
 
   -- all of a body's graph
