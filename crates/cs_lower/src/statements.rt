@@ -64,8 +64,6 @@ impl Lowering<'_> {
             StmtKind::While(test, body) => self.lower_while(graph, body, s.place, test, behind),
             StmtKind::Do(body, test) => self.lower_do(graph, body, s.place, test, behind),
             StmtKind::For(first, test, last, body) => {
-                let test = test.as_ref();
-                let last = last.as_ref();
                 self.lower_for(graph, first, body, s.place, test, last, exits.again, behind)
             }
             StmtKind::Switch(value, cases, statements) => {

@@ -61,15 +61,12 @@ pub lower_statement-returns-in-For : goal.lower_statement-returns-in-For
 lower_statement-returns-in-For t c =
     let s = c.args.s.now in
     let first = statement_list c.deref-in-For.result.now in
-    let body = statement c.deref-in-For-2.result.now in
-    let test = option_map typed (option_copied c.as_ref-test.result) in
-    let last = option_map typed (option_copied c.as_ref-last.result) in
-    let is : statement s ≡ For s.place first test last body =
+    let test = some_typed c.in-For.test in
+    let last = some_typed c.in-For.last in
+    let is : statement s ≡ For s.place first test last (statement c.deref-in-For-2.result.now) =
     for_is s c.in-For.first c.in-For.test c.in-For.last c.in-For.body c.in-For.is
-    ∙ (ap (λ l. For s.place (statement_list l) (some_typed c.in-For.test) (some_typed c.in-For.last) (statement c.in-For.body.value)) (sym c.deref-in-For.ensures.value)
-    ∙ (ap (λ o. For s.place first (option_map typed o) (some_typed c.in-For.last) (statement c.in-For.body.value)) (sym c.as_ref-test.ensures.value)
-    ∙ (ap (λ o. For s.place first test (option_map typed o) (statement c.in-For.body.value)) (sym c.as_ref-last.ensures.value)
-    ∙ ap (λ (b : Stmt). For s.place first test last (statement b)) (sym c.deref-in-For-2.ensures)))) in
+    ∙ (ap (λ l. For s.place (statement_list l) test last (statement c.in-For.body.value)) (sym c.deref-in-For.ensures.value)
+    ∙ ap (λ (b : Stmt). For s.place first test last (statement b)) (sym c.deref-in-For-2.ensures)) in
     if_made c.lower_for.result (λ strip h. as_statement is (h c.args.exits.out)) c.lower_for.ensures
 
 pub lower_statement-returns-in-Switch : goal.lower_statement-returns-in-Switch
@@ -156,10 +153,18 @@ lower_do-returns t c = λ out again.
 
 pub lower_for-returns : goal.lower_for-returns
 lower_for-returns t c = λ out.
-    for_made
+    let place = c.args.place in
+    let first = statement_list c.args.first.now in
+    let test = option_map typed (option_copied c.as_ref-test.result) in
+    let body = statement c.args.body.now in
+    let is : For place first (some_typed c.args.test.now) (some_typed c.args.last.now) body ≡ For place first test (option_map typed (option_copied c.as_ref-last.result)) body =
+    ap (λ o. For place first (option_map typed o) (some_typed c.args.last.now) body) (sym c.as_ref-test.ensures.value)
+    ∙ ap (λ o. For place first test (option_map typed o) body) (sym c.as_ref-last.ensures.value) in
+    as_statement is
+    (for_made
     (for_turned {counted = c.in_ok-before.before} {inside = c.in_ok-inside.inside} {inner = c.in_ok-inner.inner} {head = c.in_ok-head.head} {old = built_of c.args.graph.now}
     c.in_ok-head.ensures c.in_ok-inner.ensures c.in_ok-before.ensures c.in_ok-inside.ensures c.in_ok-end.ensures c.in_ok-turn.ensures c.jump.ensures c.in_ok-made.ensures c.in_ok-strip.ensures)
-    c.jump-2.ensures c.in_ok-entry.ensures c.in_ok-seal_mark.ensures
+    c.jump-2.ensures c.in_ok-entry.ensures c.in_ok-seal_mark.ensures)
 
 pub lower_all-loop-left-init : goal.lower_all-loop-left-init
 lower_all-loop-left-init t c = record {
