@@ -24,4 +24,4 @@ lower_whole-requires c = record {
 
 pub returns : goal.returns
 returns c =
-    whole_body c.in_ok-entry.ensures c.new-graph.ensures (omega (arith, c.in_ok-marks.ensures.next)) c.in_ok-flow.ensures.whole c.in_ok-flow.ensures.entry c.in_ok-flow.ensures.marks
+    whole_body c.in_ok-entry.ensures c.new-graph.ensures (omega (arith, c.in_ok-marks.ensures.next)) c.in_ok-flow.ensures.whole c.in_ok-flow.ensures.no_other c.in_ok-flow.ensures.entry c.in_ok-flow.ensures.marks c.requires.own
