@@ -1,8 +1,10 @@
 -- What is built of a function, and of all functions: for the contracts of `lower_whole`, `lower_body`, `lower_function` and `lower`.
 use Rattle.std.specs.Prelude.{slice_get, unwrap_or, option_map, Contains}
 use Rattle.std.specs.List.{All}
+use Rattle.std.specs.Option.{IfSome}
 use Rattle.std.proofs.Common.{◌≡◌, ℕ, zero, suc, ◌+◌, ◌<◌, ◌≤◌, nat_lt, Bool, true, false, List, [], ◌∷◌, ◌++◌, length, map, get_or, Option, Some, None, refl, sym, ap, subst, ◌∙◌, arith}
 use Rattle.std.proofs.lemmas.Option.{slice_get_past, slice_get-map, slice_get-get_or}
+use Rattle.std.proofs.lemmas.Bool.{false≢true}
 use Rattle.std.proofs.lemmas.Bool.Decides.{nat_tests}
 use Rattle.cs_ast.specs.TypedTree.{Statement}
 use Rattle.cs_ast.specs.TypedProgram.{TypedProgram, Routine}
@@ -147,6 +149,16 @@ one_more_graph {program = program} {count = count} {graphs = graphs} {more = mor
         subst (λ g. HasGraph program (routine_of program n) (unwrap_or g None)) (sym (ap (λ l. slice_get l n) is ∙ (ap (slice_get (graphs ++ graph ∷ [])) here ∙ at_last graphs graph)))
         (subst (λ (k : ℕ). HasGraph program (routine_of program k) graph) last new)
 
+-- what is so of the graph of each body is so of a graph that is there, if just what has a body has a graph
+if_there : {P : Flow → Type 0} (body : Option Statement) (graph : Option Flow) → is_there graph ≡ is_there body → ((b : Statement) (flow : Flow) → body ≡ Some b → graph ≡ Some flow → P flow) → IfSome graph P
+if_there body None same each = tt
+if_there None (Some flow) same each = absurd (false≢true (sym same))
+if_there (Some body) (Some flow) same each = each body flow refl refl
+
+graph_fits_if : (routine : Routine) (graph : Option Flow) → IfSome graph (λ flow. AllFit flow (control_points routine) flow.blocks) → GraphFits routine graph
+graph_fits_if routine None fits = tt
+graph_fits_if routine (Some flow) fits = fits
+
 -- all graphs
 module _ {program : TypedProgram} {count : ℕ} {graphs : List (Option Flow)} (all : count ≡ length program.routines) (below : HasGraphsBelow program count graphs) where
   none_past : (n : ℕ) → count ≤ n → HasGraph program (routine_of program n) (unwrap_or (slice_get graphs n) None)
@@ -176,13 +188,10 @@ module _ {program : TypedProgram} {count : ℕ} {graphs : List (Option Flow)} (a
     }
 
     -- and has no control points but those of its function
-    fits : (n : ℕ) (body : Option Statement) (graph : Option Flow) → (routine_of program n).body ≡ body → unwrap_or (slice_get graphs n) None ≡ graph → is_there graph ≡ is_there body → GraphFits (routine_of program n) graph
-    fits n body None has_body has_graph same = tt
-    fits n None (Some flow) has_body has_graph same = cc
-    fits n (Some body) (Some flow) has_body has_graph same = ((graph_of n).lowers body flow has_body has_graph (args n body has_body)).fits
-
     all_fit : CodeFits (record { flows = graphs }) program
-    all_fit n = fits n (routine_of program n).body (unwrap_or (slice_get graphs n) None) refl refl (graph_of n).there
+    all_fit n =
+        graph_fits_if (routine_of program n) (unwrap_or (slice_get graphs n) None)
+        (if_there (routine_of program n).body (unwrap_or (slice_get graphs n) None) (graph_of n).there (λ body flow has_body has_flow. ((graph_of n).lowers body flow has_body has_flow (args n body has_body)).fits))
 
     pub all_lowered : IsLowered (record { flows = graphs }) program
     all_lowered = is_lowered (record { flows = graphs }) program all_placed (reads_off (record { flows = graphs }) program all_placed all_fit)
