@@ -1,10 +1,10 @@
 -- What is built of statements, one after another: for the contracts of `lower_statement` and of those that it calls.
-use Rattle.std.proofs.Common.{◌≡◌, ℕ, zero, suc, ◌+◌, ◌-◌, ◌≤◌, List, [], ◌∷◌, length, drop, get_or, drop-cons, Option, Some, None, refl, sym, ap, subst, ◌∙◌, arith}
+use Rattle.std.proofs.Common.{◌≡◌, ℕ, zero, suc, ◌+◌, ◌-◌, ◌≤◌, List, [], ◌∷◌, length, drop, get_or, drop-cons, Option, Some, None, sym, ap, subst, ◌∙◌, arith}
 use Rattle.std.specs.Prelude.{option_map, unwrap_or}
 use Rattle.cs_ast.specs.declared.place.Place.{Place}
 use Rattle.cs_ast.specs.declared.typed.statement.Stmt.{Stmt}
 use Rattle.cs_ast.specs.TypedView.{statement, statement_list}
-use Rattle.cs_ast.specs.TypedTree.{Typed, Initial, Statement, Block, Declare, Run, If, IfElse, Goto, Label, Break, Continue, Return, Statements, Empty, Then}
+use Rattle.cs_ast.specs.TypedTree.{Typed, Initial, Statement, Block, Declare, Run, If, IfElse, Label, Statements, Empty, Then}
 use Rattle.cs_ast.specs.TypedProgram.{TypedProgram, Routine}
 use Rattle.cs_runs.specs.declared.point.PointKind.TheVariants as point
 use Rattle.cs_plain.specs.Machine.{body_of}
@@ -13,13 +13,12 @@ use Rattle.cs_plain.specs.Jumps.{Landing, landing}
 use Rattle.cs_cfg.specs.Graph as graph
 use Rattle.cs_cfg.specs.Graph.{Point, Flow, block_of}
 use Rattle.cs_cfg.specs.Placing.{does, split, Joins, there, jumps, evaluates, used}
-use Rattle.cs_cfg.specs.Executing.{executes_at, all_at, goes_to, is_led_to}
+use Rattle.cs_cfg.specs.Executing.{executes_at, all_at, is_led_to}
 use Rattle.cs_lower.specs.Allocations.{StatementsHaveArguments}
 use Rattle.cs_lower.specs.Building.{jump_to, Built, Has, Grows}
 use Rattle.cs_lower.specs.Sealing.{Seals, SealsMark}
 use Rattle.cs_lower.specs.Expressions.{Evaluates, Uses}
-use Rattle.cs_lower.specs.Labels.{marked_label}
-use Rattle.cs_lower.specs.Statements.{labels_in, Executes, ExecutesAll, ExecutesIn, Declares, Returns}
+use Rattle.cs_lower.specs.Statements.{labels_in, Executes, ExecutesAll, ExecutesIn, Declares}
 use Rattle.cs_lower.proofs.Built.{nothing_more, grows_on, more_and_more}
 use Rattle.cs_lower.proofs.Evaluating.{jump_joins}
 
@@ -55,15 +54,6 @@ module _ {program : TypedProgram} {routine : Routine} where
 
   pub run : {at : Place} {e : Typed} {out again : ℕ} {old new : Built} {p s q : Point} → s ≡ does at 0 graph.Drop q → Evaluates program e 0 old new p s → Executes program routine (Run at e) out again old new p q
   run {e = e} {p = p} is h = record { grows = h.grows; does = λ flow has args mark at. subst (λ s. evaluates program flow e 0 p s) is (h.does flow has args) }
-
-  pub returns : {at : Place} {value : Option Typed} {out again : ℕ} {old new : Built} {p q : Point} → Returns program routine at value old new p → Executes program routine (Return at value) out again old new p q
-  returns h = record { grows = h.grows; does = λ flow has args mark e. h.does flow has args }
-
-  pub break : {at : Place} {out again : ℕ} {built : Built} {p q : Point} → p ≡ jump_to out → Executes program routine (Break at) out again built built p q
-  break {out = out} {built = built} is = record { grows = nothing_more built; does = λ flow has args mark e. subst (λ p. Joins program flow p (block_of flow out)) (sym is) (jumps there) }
-
-  pub continue : {at : Place} {out again : ℕ} {built : Built} {p q : Point} → p ≡ jump_to again → Executes program routine (Continue at) out again built built p q
-  continue {again = again} {built = built} is = record { grows = nothing_more built; does = λ flow has args mark e. subst (λ p. Joins program flow p (block_of flow again)) (sym is) (jumps there) }
 
   -- a statement at the beginning of a block
   pub executes_in : {s : Statement} {out again block end : ℕ} {old mid new : Built} {p q : Point} → q ≡ jump_to end → Executes program routine s out again old mid p q → Seals mid new block p → ExecutesIn program routine s out again old new block end
@@ -104,29 +94,6 @@ module _ {program : TypedProgram} {routine : Routine} where
           ((jump_to end, way_one.does flow in_z args.1 mark here, on), (jump_to end, way_other.does flow in_y args.2 (mark + marks body) (mark_before way_one.grows mark here), on)),
         );
   }
-
-  -- a `goto`
-  pub goto_there : {at : Place} {label mark out again : ℕ} {built : Built} {p q : Point} → marked_label routine label ≡ Some mark → p ≡ jump_to mark → Executes program routine (Goto at label) out again built built p q
-  goto_there {label = label} {mark = mark} {built = built} {p = p} {q = q} found is = record {
-    grows = nothing_more built;
-    does = λ flow has args n e. goes flow (landing label (body_of routine) 0 []) found;
-  }
-    where
-      goes : (flow : Flow) (o : Option Landing) → option_map (λ (l : Landing). l.mark) o ≡ Some mark → goes_to program flow routine (labels_in routine flow) o (block_of flow (unwrap_or (option_map (λ (l : Landing). l.mark) o) 0)) p q
-      goes flow None none = cc
-      goes flow (Some l) some =
-          let same : l.mark ≡ mark = cc in
-          subst (λ r. Joins program flow r (block_of flow l.mark)) (sym is) (jumps (subst (λ (m : ℕ). Joins program flow (block_of flow mark) (block_of flow m)) (sym same) there))
-
-  pub goto_nowhere : {at : Place} {label out again : ℕ} {built : Built} {p : Point} → marked_label routine label ≡ None → Executes program routine (Goto at label) out again built built p p
-  goto_nowhere {label = label} {built = built} {p = p} none = record {
-    grows = nothing_more built;
-    does = λ flow has args n e. goes flow (landing label (body_of routine) 0 []) none;
-  }
-    where
-      goes : (flow : Flow) (o : Option Landing) → option_map (λ (l : Landing). l.mark) o ≡ None → goes_to program flow routine (labels_in routine flow) o (block_of flow (unwrap_or (option_map (λ (l : Landing). l.mark) o) 0)) p p
-      goes flow None nothing = there
-      goes flow (Some l) some = cc
 
   -- a label
   pub label : {at : Place} {number mark inner out again : ℕ} {body : Statement} {old x new : Built} {p r q : Point} → mark + suc (inner + length old.heads) ≡ old.marks → inner ≡ marks body → Executes program routine body out again old x r q → SealsMark x new point.Label at r → p ≡ jump_to mark → Executes program routine (Label at number body) out again old new p q

@@ -3,7 +3,9 @@ pub mod Declaring
 pub mod Evaluating
 pub mod Executing
 pub mod Forms
+pub mod Keeping
 pub mod LabelMarks
+pub mod Leaving
 pub mod StatementForms
 pub mod Switching
 pub mod TurningLoops

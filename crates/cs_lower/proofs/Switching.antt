@@ -93,6 +93,7 @@ module _ {program : TypedProgram} {routine : Routine} where
           (λ item. subst (λ o. From item o) on (enters.does flow in_y args.1 mark (mark_stays goes.grows mark e) item)),
           cases_led program routine flow cases blocks end,
           ap (λ (n : ℕ). block_of flow (block_at blocks end (default_item cases n))) enters.counts,
+          (block_at blocks end 0, there),
         );
   }
 

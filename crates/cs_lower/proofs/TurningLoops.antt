@@ -16,6 +16,7 @@ use Rattle.cs_lower.specs.Statements.{labels_in, Executes, ExecutesAll, Executes
 use Rattle.cs_lower.proofs.Built.{nothing_more, grows_on, more_and_more}
 use Rattle.cs_lower.proofs.Evaluating.{jump_joins}
 use Rattle.cs_lower.proofs.Executing.{mark_before, mark_stays, all_on}
+use Rattle.cs_lower.proofs.Keeping.{kept_at}
 
 -- the head of a loop has the number that was told before its body
 pub is_head : {old y new : Built} {count head inner mark : ℕ} → Grows count old y → Grows 1 y new → head + suc (inner + length old.heads) ≡ old.marks → inner ≡ count → mark + length new.heads ≡ new.marks → head ≡ mark
@@ -160,7 +161,7 @@ module _ {program : TypedProgram} {routine : Routine} where
 -- the test of a `for`, if there is one, and its last part
 module _ {program : TypedProgram} where
   pub no_test : {at : Place} {built : Built} {p : Point} {end : ℕ} → TestsFor program at None built built p p end
-  no_test {built = built} = record { grows = nothing_more built; does = λ flow q has args is. refl }
+  no_test {built = built} {end = end} = record { grows = nothing_more built; does = λ flow q has args is. (refl, kept_at program flow end q is) }
 
   pub tests_for : {at : Place} {test : Typed} {one end : ℕ} {old x new : Built} {p body : Point} → Seals old x one body → Uses program test 0 x new p (split at 0 one end) → TestsFor program at (Some test) old new p body end
   tests_for {one = one} {end = end} seals tests = record {

@@ -2,6 +2,7 @@
 ghost use Rattle.std.specs.Prelude.{◌≡◌, ◌+◌, suc, [], length, IfOk, OnOk};
 ghost use Rattle.cs_cfg.specs.GraphView as view;
 ghost use Rattle.cs_lower.specs.Building.{point_of, built_of, Has};
+ghost use Rattle.cs_lower.specs.Keeping.{Keeps};
 ghost use Rattle.cs_lower.specs.Sealing.{Seals, SealsMark};
 
 use crate::strips::Strip;
@@ -39,6 +40,19 @@ impl GraphBuilder {
         let block = self.next_block()?;
         self.others.push(strip.into_block(None))?;
         Ok(block)
+    }
+
+    /// Keeps code to which nothing leads: in a block of its own, unless it is a jump to a block.
+    pub fn keep(&mut self, strip: Strip) -> Result<(), AllocError>
+        ensures { OnOk result (Keeps (built_of self.old) (built_of self.new) (point_of strip)) }
+    {
+        match strip.target() {
+            Some(_) => Ok(()),
+            None => {
+                self.seal(strip)?;
+                Ok(())
+            }
+        }
     }
 
     // The number of the next block that isn't that of a mark.

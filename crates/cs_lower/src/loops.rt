@@ -3,7 +3,7 @@ ghost use Rattle.std.specs.Prelude.{ℕ, IfOk, option_map, option_copied};
 ghost use Rattle.cs_types.specs.Layout.{IsLaidOut};
 ghost use Rattle.cs_ast.specs.TypedTree.{While, Do, For};
 ghost use Rattle.cs_ast.specs.TypedProgram.{typed_program, routine};
-ghost use Rattle.cs_ast.specs.TypedView.{typed, statement, statement_list};
+ghost use Rattle.cs_ast.specs.TypedView.{typed, some_typed, statement, statement_list};
 ghost use Rattle.cs_cfg.specs.Placing.{split};
 ghost use Rattle.cs_lower.specs.Building.{point_of, built_of};
 ghost use Rattle.cs_lower.specs.Expressions.{Uses};
@@ -63,14 +63,14 @@ impl Lowering<'_> {
         ensures { IfOk result (λ made. (out again : ℕ) → Executes (typed_program self.now.program.now) (routine self.now.function.now) (Do place (statement body.now) (typed test.now)) out again (built_of graph.old) (built_of graph.new) (point_of made) (point_of behind)) }
     {
         let inner = marks(body)?;
-        let head = graph.mark_before(inner)?;
+        let start = graph.mark_before(inner)?;
         let end = graph.seal(behind)?;
-        let tested = self.lower_test(graph, place, test, head, end)?;
+        let tested = self.lower_test(graph, place, test, start, end)?;
         let again = graph.seal(tested)?;
         let exits = Exits { out: end, again };
         let turned = self.lower_statement(graph, body, exits, self.jump(again))?;
         graph.seal_mark(PointKind::Head, place, turned)?;
-        Ok(self.jump(head))
+        Ok(self.jump(start))
     }
 
     /// A `for` (C11 6.8.5.3). In its first part `continue` leads out of it, to a block.
@@ -78,25 +78,30 @@ impl Lowering<'_> {
     pub fn lower_for(
         &self,
         graph: &mut GraphBuilder,
-        body: &Stmt,
         first: &[Stmt],
+        body: &Stmt,
         place: Place,
-        test: Option<&Expr>,
-        last: Option<&Expr>,
+        test: &Option<Expr>,
+        last: &Option<Expr>,
         around: u32,
         behind: Strip,
     ) -> Result<Strip, AllocError>
         requires { IsReady self.now }
-        ensures { IfOk result (λ made. (out : ℕ) → Executes (typed_program self.now.program.now) (routine self.now.function.now) (For place (statement_list first.now) (option_map typed (option_copied test.entry)) (option_map typed (option_copied last.entry)) (statement body.now)) out around (built_of graph.old) (built_of graph.new) (point_of made) (point_of behind)) }
+        ensures { IfOk result (λ made. (out : ℕ) → Executes (typed_program self.now.program.now) (routine self.now.function.now) (For place (statement_list first.now) (some_typed test.now) (some_typed last.now) (statement body.now)) out around (built_of graph.old) (built_of graph.new) (point_of made) (point_of behind)) }
     {
         let before = marks_in(first)?;
         let inside = marks(body)?;
         let inner = together(before, inside)?;
         let head = graph.mark_before(inner)?;
         let end = graph.seal(behind)?;
-        let again = self.lower_last(graph, place, last, head)?;
-        let exits = Exits { out: end, again };
-        let made = self.lower_statement(graph, body, exits, self.jump(again))?;
+        let last = last.as_ref();
+        let turn = self.lower_last(graph, place, last, head)?;
+        let exits = Exits {
+            out: end,
+            again: turn,
+        };
+        let made = self.lower_statement(graph, body, exits, self.jump(turn))?;
+        let test = test.as_ref();
         let strip = self.lower_for_test(graph, place, test, made, end)?;
         let outer = Exits {
             out: end,

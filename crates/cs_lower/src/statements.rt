@@ -2,10 +2,11 @@
 ghost use Rattle.std.specs.Prelude.{ℕ, IfOk, option_map, option_copied};
 ghost use Rattle.cs_types.specs.Layout.{IsLaidOut};
 ghost use Rattle.cs_ast.specs.declared.place.Place.{Place};
-ghost use Rattle.cs_ast.specs.TypedTree.{Goto};
+ghost use Rattle.cs_ast.specs.TypedTree.{Goto, Label};
 ghost use Rattle.cs_ast.specs.TypedProgram.{typed_program, routine};
 ghost use Rattle.cs_ast.specs.TypedView.{typed, statement, statement_list};
-ghost use Rattle.cs_lower.specs.Building.{point_of, built_of, Built};
+ghost use Rattle.cs_lower.specs.Building.{point_of, built_of};
+ghost use Rattle.cs_lower.specs.Keeping.{LeadsOff};
 ghost use Rattle.cs_lower.specs.Ready.{IsReady};
 ghost use Rattle.cs_lower.specs.Statements.{Executes, ExecutesAll, ExecutesIn, EntersAll, Returns};
 
@@ -63,30 +64,27 @@ impl Lowering<'_> {
             StmtKind::While(test, body) => self.lower_while(graph, body, s.place, test, behind),
             StmtKind::Do(body, test) => self.lower_do(graph, body, s.place, test, behind),
             StmtKind::For(first, test, last, body) => {
-                let test = test.as_ref();
-                let last = last.as_ref();
-                self.lower_for(graph, body, first, s.place, test, last, exits.again, behind)
+                self.lower_for(graph, first, body, s.place, test, last, exits.again, behind)
             }
             StmtKind::Switch(value, cases, statements) => {
-                let end = graph.seal(behind)?;
-                let exits = Exits {
-                    out: end,
-                    again: exits.again,
-                };
-                let entries = self.lower_entries(graph, statements, exits, end)?;
-                self.lower_switch(graph, s.place, value, cases, &entries, end)
+                self.lower_switch(
+                    graph,
+                    statements,
+                    s.place,
+                    value,
+                    cases,
+                    exits.again,
+                    behind,
+                )
             }
-            StmtKind::Goto(label) => Ok(self.lower_goto(*label, behind)),
-            StmtKind::Label(_, body) => {
-                let inner = marks(body)?;
-                let mark = graph.mark_before(inner)?;
-                let made = self.lower_statement(graph, body, exits, behind)?;
-                graph.seal_mark(PointKind::Label, s.place, made)?;
-                Ok(self.jump(mark))
+            StmtKind::Goto(label) => self.lower_goto(graph, *label, behind),
+            StmtKind::Label(_, body) => self.lower_label(graph, body, s.place, exits, behind),
+            StmtKind::Break => self.lower_jump(graph, exits.out, behind),
+            StmtKind::Continue => self.lower_jump(graph, exits.again, behind),
+            StmtKind::Return(value) => {
+                graph.keep(behind)?;
+                self.lower_return(graph, s.place, value.as_ref())
             }
-            StmtKind::Break => Ok(self.jump(exits.out)),
-            StmtKind::Continue => Ok(self.jump(exits.again)),
-            StmtKind::Return(value) => self.lower_return(graph, s.place, value.as_ref()),
         }
     }
 
@@ -111,9 +109,9 @@ impl Lowering<'_> {
         Ok(made)
     }
 
-    // The statements of a `switch`, each in a block of its own, and then a block. Gives their blocks.
+    /// The statements of a `switch`, each in a block of its own, and then a block. Gives their blocks.
     #[cycle(statements)]
-    fn lower_entries(
+    pub fn lower_entries(
         &self,
         graph: &mut GraphBuilder,
         statements: &[Stmt],
@@ -152,14 +150,52 @@ impl Lowering<'_> {
         Ok(block)
     }
 
-    // A `goto` leads to its label; one whose label isn't there leads on (C11 6.8.6.1).
-    fn lower_goto(&self, label: u32, behind: Strip) -> Strip
+    // A label (C11 6.8.1), whose mark is the one before those of its statement.
+    #[cycle(statements)]
+    fn lower_label(
+        &self,
+        graph: &mut GraphBuilder,
+        body: &Stmt,
+        place: Place,
+        exits: Exits,
+        behind: Strip,
+    ) -> Result<Strip, AllocError>
         requires { IsReady self.now }
-        ensures { (place : Place) (out again : ℕ) (built : Built) → Executes (typed_program self.now.program.now) (routine self.now.function.now) (Goto place label) out again built built (point_of result) (point_of behind) }
+        ensures { IfOk result (λ made. (label : ℕ) → Executes (typed_program self.now.program.now) (routine self.now.function.now) (Label place label (statement body.now)) exits.out exits.again (built_of graph.old) (built_of graph.new) (point_of made) (point_of behind)) }
+    {
+        let inner = marks(body)?;
+        let mark = graph.mark_before(inner)?;
+        let made = self.lower_statement(graph, body, exits, behind)?;
+        graph.seal_mark(PointKind::Label, place, made)?;
+        Ok(self.jump(mark))
+    }
+
+    // A jump, and behind it code to which nothing leads.
+    fn lower_jump(
+        &self,
+        graph: &mut GraphBuilder,
+        block: u32,
+        behind: Strip,
+    ) -> Result<Strip, AllocError>
+        ensures { IfOk result (λ made. LeadsOff (built_of graph.old) (built_of graph.new) block (point_of made) (point_of behind)) }
+    {
+        graph.keep(behind)?;
+        Ok(self.jump(block))
+    }
+
+    // A `goto` leads to its label; one whose label isn't there leads on (C11 6.8.6.1).
+    fn lower_goto(
+        &self,
+        graph: &mut GraphBuilder,
+        label: u32,
+        behind: Strip,
+    ) -> Result<Strip, AllocError>
+        requires { IsReady self.now }
+        ensures { IfOk result (λ made. (place : Place) (out again : ℕ) → Executes (typed_program self.now.program.now) (routine self.now.function.now) (Goto place label) out again (built_of graph.old) (built_of graph.new) (point_of made) (point_of behind)) }
     {
         match self.labels.get(&label) {
-            Some(mark) => self.jump(*mark),
-            None => behind,
+            Some(mark) => self.lower_jump(graph, *mark, behind),
+            None => Ok(behind),
         }
     }
 

@@ -1,8 +1,8 @@
 //! Strips: code that has no number yet. It is built from its end.
-ghost use Rattle.std.specs.Prelude.{◌≡◌, [], IfOk};
+ghost use Rattle.std.specs.Prelude.{◌≡◌, ℕ, [], IfOk, Some};
 ghost use Rattle.cs_cfg.specs.GraphView as view;
 ghost use Rattle.cs_cfg.specs.Placing.{does};
-ghost use Rattle.cs_lower.specs.Building.{point_of};
+ghost use Rattle.cs_lower.specs.Building.{point_of, jump_to};
 
 use cs_ast::Place;
 use cs_cfg::{Block, BlockEnd, Mark, Operation, Work};
@@ -36,6 +36,20 @@ impl Strip {
             work,
         })?;
         Ok(self)
+    }
+
+    /// The block to which the strip jumps at once, if it is a jump and nothing before it.
+    pub fn target(&self) -> Option<u32>
+        ensures { (block : ℕ) → result ≡ Some block → point_of self.now ≡ jump_to block }
+    {
+        if !self.operations.is_empty() {
+            return None;
+        }
+        match self.end {
+            BlockEnd::Jump(block) => Some(block),
+            BlockEnd::Branch(_, _, _, _) | BlockEnd::Switch(_, _, _, _) => None,
+            BlockEnd::Return(_) | BlockEnd::Finish => None,
+        }
     }
 
     /// The block that the strip is, which may be that of a mark.

@@ -1,27 +1,56 @@
 //! The lowering of `switch` (C11 6.8.4.2).
-ghost use Rattle.std.specs.Prelude.{◌≡◌, ◌++◌, [], IfOk, OnOk, length, map};
+ghost use Rattle.std.specs.Prelude.{◌≡◌, ◌++◌, ℕ, [], IfOk, OnOk, length, map};
 ghost use Rattle.cs_types.specs.Layout.{IsLaidOut};
-ghost use Rattle.cs_ast.specs.TypedProgram.{typed_program};
-ghost use Rattle.cs_ast.specs.TypedView.{typed};
+ghost use Rattle.cs_ast.specs.TypedTree.{Switch};
+ghost use Rattle.cs_ast.specs.TypedProgram.{typed_program, routine};
+ghost use Rattle.cs_ast.specs.TypedView.{typed, statement_list};
 ghost use Rattle.cs_plain.specs.Statements.{default_item};
 ghost use Rattle.cs_cfg.specs.GraphView.{switch_case};
 ghost use Rattle.cs_lower.specs.Building.{point_of, built_of};
 ghost use Rattle.cs_lower.specs.Expressions.{Uses};
+ghost use Rattle.cs_lower.specs.Ready.{IsReady};
 ghost use Rattle.cs_lower.specs.Statements as statements;
+ghost use Rattle.cs_lower.specs.Statements.{Executes};
 ghost use Rattle.cs_lower.specs.Switching.{with_case, cases_to, leads_to};
 
 use crate::building::GraphBuilder;
 use crate::context::Lowering;
+use crate::statements::Exits;
 use crate::strips::Strip;
 use cs_ast::Place;
 use cs_ast::typed::expression::Expr;
-use cs_ast::typed::statement::Case;
+use cs_ast::typed::statement::{Case, Stmt};
 use cs_cfg::{BlockEnd, SwitchCase};
 use std::alloc::AllocError;
 
 impl Lowering<'_> {
-    /// The value of a `switch`, and then the block of its case. The blocks are those of its statements; `end` comes behind them.
+    /// A `switch`. Its statements stand one after another, and `break` leads behind them.
+    #[cycle(statements)]
     pub fn lower_switch(
+        &self,
+        graph: &mut GraphBuilder,
+        statements: &[Stmt],
+        place: Place,
+        value: &Expr,
+        cases: &[Case],
+        around: u32,
+        behind: Strip,
+    ) -> Result<Strip, AllocError>
+        requires { IsReady self.now }
+        ensures { IfOk result (λ made. (out : ℕ) → Executes (typed_program self.now.program.now) (routine self.now.function.now) (Switch place (typed value.now) cases.now (statement_list statements.now)) out around (built_of graph.old) (built_of graph.new) (point_of made) (point_of behind)) }
+    {
+        let end = graph.seal(behind)?;
+        let exits = Exits {
+            out: end,
+            again: around,
+        };
+        let entries = self.lower_entries(graph, statements, exits, end)?;
+        let made = self.lower_cases(graph, place, value, cases, &entries, end)?;
+        Ok(made)
+    }
+
+    // The value of a `switch`, and then the block of its case. The blocks are those of its statements; `end` comes behind them.
+    fn lower_cases(
         &self,
         graph: &mut GraphBuilder,
         place: Place,

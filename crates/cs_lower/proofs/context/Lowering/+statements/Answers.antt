@@ -2,6 +2,7 @@ use Rattle.std.proofs.Common.{◌≡◌, ℕ, ◌+◌, List, ◌∷◌, [], leng
 use Rattle.std.proofs.lemmas.List.{reverse-append}
 use Rattle.std.specs.Prelude.{option_map, option_copied}
 use Rattle.cs_ast.specs.declared.typed.statement.Stmt.{Stmt}
+use Rattle.cs_ast.specs.declared.typed.statement.StmtKind.TheViews.{sized-For, size-StmtKind, size_is-Stmt}
 use Rattle.cs_ast.specs.TypedTree.{Block, Declare, Run, If, IfElse, While, Do, For, Switch, Goto, Label, Break, Continue, Return}
 use Rattle.cs_ast.specs.TypedProgram.{typed_program, routine}
 use Rattle.cs_ast.specs.TypedView.{typed, some_typed, initial, statement, statement_at, statement_list}
@@ -11,6 +12,7 @@ use Rattle.cs_lower.specs.Statements.{block_at, ExecutesAll, EntersAll}
 use Rattle.cs_lower.proofs.Executing as made
 use Rattle.cs_lower.proofs.Executing.{as_statement, executes_none, executes_further, executes_in}
 use Rattle.cs_lower.proofs.Forms.{if_made}
+use Rattle.cs_lower.proofs.Leaving as leave
 use Rattle.cs_lower.proofs.StatementForms.{block_is, for_is, switch_is}
 use Rattle.cs_lower.proofs.Switching.{enters_none, enters_further, switch_made, dropped}
 use Rattle.cs_lower.proofs.TurningLoops.{while_made, do_made, for_turned, for_made}
@@ -53,59 +55,58 @@ lower_statement-returns-in-Do t c =
     let is : statement c.args.s.now ≡ Do c.args.s.now.place (statement c.deref-in-Do.result.now) (typed c.in-Do.test) = search rules in
     if_made c.lower_do.result (λ strip h. as_statement is (h c.args.exits.out c.args.exits.again)) c.lower_do.ensures
 
+pub lower_statement-lower_for-requires : goal.lower_statement-lower_for-requires
+lower_statement-lower_for-requires t c =
+    let deeper = size_is-Stmt c.args.s.now in
+    let parts = ap size-StmtKind c.in-For.is ∙ sized-For c.in-For.first c.in-For.test c.in-For.last c.in-For.body in
+    (grind arith, c.requires)
+
 pub lower_statement-returns-in-For : goal.lower_statement-returns-in-For
 lower_statement-returns-in-For t c =
     let s = c.args.s.now in
-    let first = statement_list c.deref-in-For-2.result.now in
-    let body = statement c.deref-in-For.result.now in
-    let test = option_map typed (option_copied c.as_ref-test.result) in
-    let last = option_map typed (option_copied c.as_ref-last.result) in
-    let is : statement s ≡ For s.place first test last body =
+    let first = statement_list c.deref-in-For.result.now in
+    let test = some_typed c.in-For.test in
+    let last = some_typed c.in-For.last in
+    let is : statement s ≡ For s.place first test last (statement c.deref-in-For-2.result.now) =
     for_is s c.in-For.first c.in-For.test c.in-For.last c.in-For.body c.in-For.is
-    ∙ (ap (λ l. For s.place (statement_list l) (some_typed c.in-For.test) (some_typed c.in-For.last) (statement c.in-For.body.value)) (sym c.deref-in-For-2.ensures.value)
-    ∙ (ap (λ o. For s.place first (option_map typed o) (some_typed c.in-For.last) (statement c.in-For.body.value)) (sym c.as_ref-test.ensures.value)
-    ∙ (ap (λ o. For s.place first test (option_map typed o) (statement c.in-For.body.value)) (sym c.as_ref-last.ensures.value)
-    ∙ ap (λ (b : Stmt). For s.place first test last (statement b)) (sym c.deref-in-For.ensures)))) in
+    ∙ (ap (λ l. For s.place (statement_list l) test last (statement c.in-For.body.value)) (sym c.deref-in-For.ensures.value)
+    ∙ ap (λ (b : Stmt). For s.place first test last (statement b)) (sym c.deref-in-For-2.ensures)) in
     if_made c.lower_for.result (λ strip h. as_statement is (h c.args.exits.out)) c.lower_for.ensures
 
-pub lower_statement-returns-in_ok-entries-in-Switch : goal.lower_statement-returns-in_ok-entries-in-Switch
-lower_statement-returns-in_ok-entries-in-Switch t c =
+pub lower_statement-returns-in-Switch : goal.lower_statement-returns-in-Switch
+lower_statement-returns-in-Switch t c =
     let statements = c.in-Switch.statements.items in
     let is : statement c.args.s.now ≡ Switch c.args.s.now.place (typed c.in-Switch.value) c.deref-in-Switch-2.result.now (statement_list c.deref-in-Switch.result.now) =
     switch_is c.args.s.now c.in-Switch.value c.in-Switch.cases c.in-Switch.statements c.in-Switch.is
     ∙ (ap (λ l. Switch c.args.s.now.place (typed c.in-Switch.value) l (statement_list statements)) (sym c.deref-in-Switch-2.ensures.value)
     ∙ ap (λ l. Switch c.args.s.now.place (typed c.in-Switch.value) c.deref-in-Switch-2.result.now (statement_list l)) (sym c.deref-in-Switch.ensures.value)) in
-    let Entered : List ℕ → Type 0 = λ l. EntersAll (typed_program c.args.self.now.program.now) (routine c.args.self.now.function.now) (statement_list c.deref-in-Switch.result.now) c.in_ok-end-in-Switch.end c.args.exits.again (built_of c.seal-in-Switch.new.self) (built_of c.lower_entries.new.graph) l c.in_ok-end-in-Switch.end in
-    let entered = subst (λ l. Entered l) (sym c.deref-in-Switch-3.ensures.value) c.in_ok-entries-in-Switch.ensures in
-    if_made c.lower_switch.result (λ strip h. as_statement is (switch_made c.in_ok-end-in-Switch.ensures entered h)) c.lower_switch.ensures
+    if_made c.lower_switch.result (λ strip h. as_statement is (h c.args.exits.out)) c.lower_switch.ensures
 
 pub lower_statement-returns-in-Goto : goal.lower_statement-returns-in-Goto
 lower_statement-returns-in-Goto t c =
     let is : statement c.args.s.now ≡ Goto c.args.s.now.place c.in-Goto.label = ap (statement_at c.args.s.now.place) c.in-Goto.is in
-    as_statement is (c.lower_goto.ensures c.args.s.now.place c.args.exits.out c.args.exits.again (built_of c.args.graph.now))
+    if_made c.lower_goto.result (λ strip h. as_statement is (h c.args.s.now.place c.args.exits.out c.args.exits.again)) c.lower_goto.ensures
 
-pub lower_statement-returns-in_ok-seal_mark-in-Label : goal.lower_statement-returns-in_ok-seal_mark-in-Label
-lower_statement-returns-in_ok-seal_mark-in-Label t c =
-    let is : statement c.args.s.now ≡ Label c.args.s.now.place c.in-Label.field-0 (statement c.deref-in-Label-2.result.now) = search rules in
-    let inner : c.in_ok-inner-in-Label.inner ≡ marks (statement c.deref-in-Label-2.result.now) =
-    c.in_ok-inner-in-Label.ensures ∙ ap (λ (b : Stmt). marks (statement b)) (c.deref-in-Label.ensures ∙ sym c.deref-in-Label-2.ensures) in
-    as_statement is (made.label {mark = c.in_ok-mark-in-Label.mark} {inner = c.in_ok-inner-in-Label.inner} {old = built_of c.args.graph.now} c.in_ok-mark-in-Label.ensures inner c.in_ok-made-in-Label.ensures c.in_ok-seal_mark-in-Label.ensures c.jump.ensures)
+pub lower_statement-returns-in-Label : goal.lower_statement-returns-in-Label
+lower_statement-returns-in-Label t c =
+    let is : statement c.args.s.now ≡ Label c.args.s.now.place c.in-Label.field-0 (statement c.deref-in-Label.result.now) = search rules in
+    if_made c.lower_label.result (λ strip h. as_statement is (h c.in-Label.field-0)) c.lower_label.ensures
 
 pub lower_statement-returns-in-Break : goal.lower_statement-returns-in-Break
 lower_statement-returns-in-Break t c =
     let is : statement c.args.s.now ≡ Break c.args.s.now.place = ap (statement_at c.args.s.now.place) c.in-Break.is in
-    as_statement is (made.break c.jump-in-Break.ensures)
+    if_made c.lower_jump.result (λ strip h. as_statement is (leave.break h)) c.lower_jump.ensures
 
 pub lower_statement-returns-in-Continue : goal.lower_statement-returns-in-Continue
 lower_statement-returns-in-Continue t c =
     let is : statement c.args.s.now ≡ Continue c.args.s.now.place = ap (statement_at c.args.s.now.place) c.in-Continue.is in
-    as_statement is (made.continue c.jump-in-Continue.ensures)
+    if_made c.lower_jump-in-Continue.result (λ strip h. as_statement is (leave.continue h)) c.lower_jump-in-Continue.ensures
 
-pub lower_statement-returns-in-Return : goal.lower_statement-returns-in-Return
-lower_statement-returns-in-Return t c =
+pub lower_statement-returns-in_ok-keep-in-Return : goal.lower_statement-returns-in_ok-keep-in-Return
+lower_statement-returns-in_ok-keep-in-Return t c =
     let is : statement c.args.s.now ≡ Return c.args.s.now.place (option_map typed (option_copied c.as_ref-in-Return.result)) =
     ap (statement_at c.args.s.now.place) c.in-Return.is ∙ ap (λ o. Return c.args.s.now.place (option_map typed o)) (sym c.as_ref-in-Return.ensures.value) in
-    if_made c.lower_return.result (λ strip h. as_statement is (made.returns h)) c.lower_return.ensures
+    if_made c.lower_return.result (λ strip h. as_statement is (leave.returns c.in_ok-keep-in-Return.ensures h)) c.lower_return.ensures
 
 pub lower_all-loop-left-preserved : goal.lower_all-loop-left-preserved
 lower_all-loop-left-preserved t c = record {
@@ -136,20 +137,38 @@ lower_entries-returns t c =
 pub lower_way_out-returns : goal.lower_way_out-returns
 lower_way_out-returns t c = executes_in c.jump.ensures c.in_ok-made.ensures c.in_ok-block.ensures
 
+pub lower_label-returns : goal.lower_label-returns
+lower_label-returns t c = λ label.
+    made.label {mark = c.in_ok-mark.mark} {inner = c.in_ok-inner.inner} {old = built_of c.args.graph.now} c.in_ok-mark.ensures c.in_ok-inner.ensures c.in_ok-made.ensures c.in_ok-seal_mark.ensures c.jump.ensures
+
+pub lower_switch-returns : goal.lower_switch-returns
+lower_switch-returns t c = λ out.
+    let Entered : List ℕ → Type 0 = λ l. EntersAll (typed_program c.args.self.now.program.now) (routine c.args.self.now.function.now) (statement_list c.args.statements.now) c.in_ok-end.end c.args.around (built_of c.seal.new.self) (built_of c.lower_entries.new.graph) l c.in_ok-end.end in
+    let entered = subst (λ l. Entered l) (sym c.deref.ensures.value) c.in_ok-entries.ensures in
+    switch_made c.in_ok-end.ensures entered c.in_ok-made.ensures
+
 pub lower_while-returns : goal.lower_while-returns
 lower_while-returns t c = λ out again.
     while_made {head = c.in_ok-head.head} {old = built_of c.args.graph.now} c.in_ok-head.ensures c.in_ok-inner.ensures c.in_ok-end.ensures c.in_ok-one.ensures c.in_ok-turned.ensures c.in_ok-seal_mark.ensures c.jump.ensures
 
 pub lower_do-returns : goal.lower_do-returns
 lower_do-returns t c = λ out again.
-    do_made {head = c.in_ok-head.head} {old = built_of c.args.graph.now} c.in_ok-head.ensures c.in_ok-inner.ensures c.in_ok-end.ensures c.in_ok-tested.ensures c.in_ok-again.ensures c.jump.ensures c.in_ok-turned.ensures c.in_ok-seal_mark.ensures c.jump-2.ensures
+    do_made {head = c.in_ok-start.start} {old = built_of c.args.graph.now} c.in_ok-start.ensures c.in_ok-inner.ensures c.in_ok-end.ensures c.in_ok-tested.ensures c.in_ok-again.ensures c.jump.ensures c.in_ok-turned.ensures c.in_ok-seal_mark.ensures c.jump-2.ensures
 
 pub lower_for-returns : goal.lower_for-returns
 lower_for-returns t c = λ out.
-    for_made
+    let place = c.args.place in
+    let first = statement_list c.args.first.now in
+    let test = option_map typed (option_copied c.as_ref-test.result) in
+    let body = statement c.args.body.now in
+    let is : For place first (some_typed c.args.test.now) (some_typed c.args.last.now) body ≡ For place first test (option_map typed (option_copied c.as_ref-last.result)) body =
+    ap (λ o. For place first (option_map typed o) (some_typed c.args.last.now) body) (sym c.as_ref-test.ensures.value)
+    ∙ ap (λ o. For place first test (option_map typed o) body) (sym c.as_ref-last.ensures.value) in
+    as_statement is
+    (for_made
     (for_turned {counted = c.in_ok-before.before} {inside = c.in_ok-inside.inside} {inner = c.in_ok-inner.inner} {head = c.in_ok-head.head} {old = built_of c.args.graph.now}
-    c.in_ok-head.ensures c.in_ok-inner.ensures c.in_ok-before.ensures c.in_ok-inside.ensures c.in_ok-end.ensures c.in_ok-again.ensures c.jump.ensures c.in_ok-made.ensures c.in_ok-strip.ensures)
-    c.jump-2.ensures c.in_ok-entry.ensures c.in_ok-seal_mark.ensures
+    c.in_ok-head.ensures c.in_ok-inner.ensures c.in_ok-before.ensures c.in_ok-inside.ensures c.in_ok-end.ensures c.in_ok-turn.ensures c.jump.ensures c.in_ok-made.ensures c.in_ok-strip.ensures)
+    c.jump-2.ensures c.in_ok-entry.ensures c.in_ok-seal_mark.ensures)
 
 pub lower_all-loop-left-init : goal.lower_all-loop-left-init
 lower_all-loop-left-init t c = record {
