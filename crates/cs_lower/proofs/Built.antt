@@ -1,12 +1,16 @@
 -- What was built and what more is: for the contracts of `GraphBuilder`, and for every lemma on what is built one after another.
-use Rattle.std.proofs.Common.{◌≡◌, ℕ, zero, suc, ◌+◌, List, [], ◌∷◌, ◌++◌, length, map, reverse, Option, Some, None, refl, sym, ap, subst, ◌∙◌, arith}
-use Rattle.std.specs.Prelude.{slice_get, unwrap_or}
-use Rattle.std.proofs.lemmas.List.{reverse-append, reverse-reverse, length-reverse, map-append}
+use Rattle.std.proofs.Common.{◌≡◌, ℕ, zero, suc, ◌+◌, List, [], ◌∷◌, ◌++◌, length, map, reverse, Option, Some, refl, sym, ap, subst, ◌∙◌, arith}
+use Rattle.std.specs.Prelude.{Contains, slice_get, unwrap_or}
+use Rattle.std.specs.List.{All}
+use Rattle.std.proofs.lemmas.List.{reverse-append, length-reverse, map-append}
+use Rattle.std.proofs.lemmas.List.Elements.{All-append, All-cons, All-head, All-nil, All-weaker, All-contains_itself, Contains-append_left, Contains-append_right}
 use Rattle.cs_ast.specs.declared.place.Place.{Place}
 use Rattle.cs_runs.specs.declared.point.PointKind.{PointKind}
-use Rattle.cs_cfg.specs.Graph.{Point, no_point, Flow, Reach, block_of}
+use Rattle.cs_cfg.specs.Fitting.{Brings}
+use Rattle.cs_cfg.specs.Graph.{Point, no_point, Flow, Reach}
 use Rattle.cs_cfg.specs.Placing.{does}
-use Rattle.cs_lower.specs.Building.{Built, Has, Grows}
+use Rattle.cs_cfg.proofs.Fitting.{brings_among}
+use Rattle.cs_lower.specs.Building.{Built, blocks, Has, Grows}
 use Rattle.cs_lower.specs.Sealing.{Seals, SealsMark}
 
 module _ {X : Type 0} where
@@ -70,6 +74,54 @@ more_and_more m n k first second e =
 pub grows_on : {old mid new : Built} → Grows 0 old mid → Grows 0 mid new → Grows 0 old new
 grows_on first second = more_and_more 0 0 0 first second refl
 
+module _ {X : Type 0} where
+  -- what is in a list is among more, and so is the rest of a list
+  among_left : (xs ys : List X) → All (Contains (xs ++ ys)) xs
+  among_left xs ys = All-weaker (Contains xs) (Contains (xs ++ ys)) (λ x in_xs. Contains-append_left xs ys x in_xs) xs (All-contains_itself xs)
+
+  among_right : (xs ys : List X) → All (Contains (xs ++ ys)) ys
+  among_right xs ys = All-weaker (Contains ys) (Contains (xs ++ ys)) (λ x in_ys. Contains-append_right xs ys x in_ys) ys (All-contains_itself ys)
+
+  pub among_rest : (x : X) (xs : List X) → All (Contains (x ∷ xs)) xs
+  among_rest x xs = among_right (x ∷ []) xs
+
+  -- a list with one more at its end
+  among_last : (x : X) (xs ys : List X) → All (Contains (x ∷ (xs ++ ys))) (xs ++ (ys ++ x ∷ []))
+  among_last x xs ys =
+      let whole = x ∷ (xs ++ ys) in
+      let rest = among_rest x (xs ++ ys) in
+      let wider = λ (zs : List X) (some : All (Contains (xs ++ ys)) zs). All-weaker (Contains (xs ++ ys)) (Contains whole) (λ z in_rest. Contains-append_right (x ∷ []) (xs ++ ys) z in_rest) zs some in
+      All-append (Contains whole) xs (ys ++ x ∷ []) (wider xs (among_left xs ys))
+      (All-append (Contains whole) ys (x ∷ []) (wider ys (among_right xs ys)) (All-cons (Contains whole) x [] (All-head (Contains whole) x (xs ++ ys) (All-contains_itself whole)) (All-nil (Contains whole))))
+
+  -- a list with one more in the middle
+  among_middle : (x : X) (xs ys : List X) → All (Contains (x ∷ (xs ++ ys))) ((xs ++ x ∷ []) ++ ys)
+  among_middle x xs ys =
+      let whole = x ∷ (xs ++ ys) in
+      let wider = λ (zs : List X) (some : All (Contains (xs ++ ys)) zs). All-weaker (Contains (xs ++ ys)) (Contains whole) (λ z in_rest. Contains-append_right (x ∷ []) (xs ++ ys) z in_rest) zs some in
+      All-append (Contains whole) (xs ++ x ∷ []) ys
+      (All-append (Contains whole) xs (x ∷ []) (wider xs (among_left xs ys)) (All-cons (Contains whole) x [] (All-head (Contains whole) x (xs ++ ys) (All-contains_itself whole)) (All-nil (Contains whole))))
+      (wider ys (among_right xs ys))
+
+  -- a list in reverse
+  among_reverse : (xs : List X) → All (Contains xs) (reverse xs)
+  among_reverse [] = All-nil (Contains [])
+  among_reverse (x ∷ xs) =
+      let whole = x ∷ xs in
+      let rest = All-weaker (Contains xs) (Contains whole) (λ z in_rest. Contains-append_right (x ∷ []) xs z in_rest) (reverse xs) (among_reverse xs) in
+      subst (All (Contains whole)) (sym (reverse-append (x ∷ []) xs))
+      (All-append (Contains whole) (reverse xs) (x ∷ []) rest (All-cons (Contains whole) x [] (All-head (Contains whole) x xs (All-contains_itself whole)) (All-nil (Contains whole))))
+
+  -- two lists, the first in reverse
+  pub among_reversed : (xs ys : List X) → All (Contains (xs ++ ys)) (reverse xs ++ ys)
+  among_reversed xs ys =
+      let first = All-weaker (Contains xs) (Contains (xs ++ ys)) (λ x in_xs. Contains-append_left xs ys x in_xs) (reverse xs) (among_reverse xs) in
+      All-append (Contains (xs ++ ys)) (reverse xs) ys first (among_right xs ys)
+
+-- the same blocks bring in nothing
+pub brings_nothing : {flow : Flow} {some : List Point} → Brings flow [] some some
+brings_nothing = record { keeps = λ points includes fit. fit }
+
 -- one more block
 pub pushed : (old : Built) (p : Point) → Seals old (record old { others = old.others ++ p ∷ [] }) (old.marks + length old.others) p
 pushed old p = record {
@@ -82,6 +134,7 @@ pushed old p = record {
     };
   };
   is = λ flow has. has.others (length old.others) p (newest old.others p);
+  brings = λ flow. brings_among (p ∷ blocks old) (old.heads ++ (old.others ++ p ∷ [])) (among_last p old.heads old.others);
 }
 
 -- one more block of a mark
@@ -98,6 +151,11 @@ pushed_mark old kind at p number is_last = record {
   is = λ flow has mark e.
       let same : number ≡ mark = omega arith in
       has.heads (length old.heads) mark (does at 0 (Reach kind number) p) (newest old.heads (does at 0 (Reach kind number) p)) e ∙ ap (λ (k : ℕ). does at 0 (Reach kind k) p) same;
+  brings = λ flow mark e.
+      let same : number ≡ mark = omega arith in
+      let head = does at 0 (Reach kind number) p in
+      subst (λ (k : ℕ). Brings flow [] (does at 0 (Reach kind k) p ∷ blocks old) ((old.heads ++ head ∷ []) ++ old.others)) same
+      (brings_among (head ∷ blocks old) ((old.heads ++ head ∷ []) ++ old.others) (among_middle head old.heads old.others));
 }
 
 -- a graph of all that was built

@@ -1,6 +1,6 @@
 -- What is built of a `switch`: for the contracts of `lower_entries`, of the functions in `switches`, and of a `switch` in
 -- `lower_statement`.
-use Rattle.std.proofs.Common.{◌≡◌, ℕ, zero, suc, ◌+◌, ◌-◌, ◌≤◌, ℤ, List, [], ◌∷◌, ◌++◌, length, drop, get_or, drop-cons, map, Option, Some, None, refl, sym, ap, subst, ◌∙◌, arith}
+use Rattle.std.proofs.Common.{◌≡◌, ℕ, zero, suc, ◌+◌, ◌-◌, ◌≤◌, ℤ, List, [], ◌∷◌, ◌++◌, length, drop, get_or, drop-cons, Option, Some, None, refl, sym, ap, subst, ◌∙◌, arith}
 use Rattle.std.proofs.lemmas.Option.{slice_get_past}
 use Rattle.std.specs.Prelude.{unwrap_or}
 use Rattle.std.proofs.lemmas.List.{append_assoc}
@@ -10,17 +10,26 @@ use Rattle.cs_ast.specs.declared.typed.statement.Stmt.{Stmt}
 use Rattle.cs_ast.specs.TypedView.{statement, statement_list}
 use Rattle.cs_ast.specs.TypedTree.{Typed, Statement, Switch, Statements, Empty, Then}
 use Rattle.cs_ast.specs.TypedProgram.{TypedProgram, Routine}
+use Rattle.cs_runs.specs.declared.point.PointKind.TheVariants as point
 use Rattle.cs_plain.specs.Marks.{marks, marks_in}
-use Rattle.cs_plain.specs.Statements.{count_of, default_or, default_item}
+use Rattle.cs_plain.specs.Statements.{default_item}
+use Rattle.cs_cfg.specs.ControlPoints.{met, in_switch, starts_in}
 use Rattle.cs_cfg.specs.Graph.{Point, Flow, SwitchCase, block_of}
-use Rattle.cs_cfg.specs.Placing.{Joins, there, jumps}
+use Rattle.cs_cfg.specs.Placing.{there, jumps}
 use Rattle.cs_cfg.specs.Executing.{executes_at, all_at, from_at, case_leads, cases_lead}
+use Rattle.cs_cfg.proofs.Bringing.{switch_brings}
+use Rattle.cs_cfg.proofs.Fitting.{brings_jump, brings_both, nothing_then}
+use Rattle.cs_cfg.proofs.Meeting.{switch_meets, same_meets}
+use Rattle.cs_cfg.proofs.Starting.{all_start}
+use Rattle.cs_lower.specs.Allocations.{StatementHasArguments}
 use Rattle.cs_lower.specs.Building.{jump_to, Built, Has}
 use Rattle.cs_lower.specs.Sealing.{Seals}
 use Rattle.cs_lower.specs.Expressions.{Uses}
 use Rattle.cs_lower.specs.Statements.{labels_in, block_at, Executes, ExecutesIn, EntersAll}
 use Rattle.cs_lower.specs.Switching.{with_case, cases_to, leads_to}
-use Rattle.cs_lower.proofs.Built.{nothing_more, more_and_more}
+use Rattle.cs_lower.proofs.Aiming.{aims_of, aims_in_switch}
+use Rattle.cs_lower.proofs.Bringing.{brings_less}
+use Rattle.cs_lower.proofs.Built.{nothing_more, more_and_more, brings_nothing}
 use Rattle.cs_lower.proofs.Executing.{mark_before, mark_stays}
 
 module _ (program : TypedProgram) (routine : Routine) where
@@ -43,28 +52,41 @@ module _ (program : TypedProgram) (routine : Routine) where
 module _ {program : TypedProgram} {routine : Routine} where
   -- statements that begin blocks
   pub enters_none : (out again : ℕ) (built : Built) (end : ℕ) → EntersAll program routine Empty out again built built [] end
-  enters_none out again built end = record { grows = nothing_more built; counts = refl; does = λ flow has args mark e item. there }
+  enters_none out again built end = record {
+    grows = nothing_more built;
+    counts = refl;
+    does = λ flow has args mark e item. there;
+    brings = λ flow has args mark e to aims behind m. brings_nothing;
+  }
 
-  pub enters_then : {first : Statement} {others : Statements} {out again : ℕ} {old mid new : Built} {block next end : ℕ} {blocks : List ℕ} → next ≡ block_at blocks end 0
-      → EntersAll program routine others out again old mid blocks end → ExecutesIn program routine first out again mid new block next → EntersAll program routine (Then first others) out again old new (block ∷ blocks) end
-  enters_then {first = first} {others = others} {out = out} {again = again} {old = old} {mid = mid} {new = new} {block = block} {next = next} {end = end} {blocks = blocks} is last one =
+  pub enters_then : {first : Statement} {others : Statements} {out again : ℕ} {old mid new : Built} {block next end : ℕ} {entries : List ℕ} → next ≡ block_at entries end 0
+      → EntersAll program routine others out again old mid entries end → ExecutesIn program routine first out again mid new block next → EntersAll program routine (Then first others) out again old new (block ∷ entries) end
+  enters_then {first = first} {others = others} {out = out} {again = again} {old = old} {mid = mid} {new = new} {block = block} {next = next} {end = end} {entries = entries} is last one =
       let counts = last.counts in
       record {
         grows = more_and_more (marks_in others) (marks first) (marks first + marks_in others) last.grows one.grows (omega arith);
         counts = omega arith;
         does = λ flow has args mark e.
             enters flow mark (one.does flow has args.0 mark e) (last.does flow (one.grows.keeps flow has) args.1 (mark + marks first) (mark_before one.grows mark e));
+        brings = λ flow has args mark e to aims behind m.
+            let in_mid = one.grows.keeps flow has in
+            let below = mark_before one.grows mark e in
+            let behind_first = others_at flow mark (last.does flow in_mid args.1 (mark + marks first) below) in
+            let on = all_start program flow routine (labels_in routine flow) others (mark + marks first) (block_of flow out) (block_of flow again) (block_of flow next) (block_of flow end) (aims_of aims) behind_first m in
+            brings_both (last.brings flow in_mid args.1 (mark + marks first) below to aims behind m)
+            (nothing_then (brings_jump next) (one.brings flow has args.0 mark e to aims (starts_in to others behind) on));
       }
     where
+      others_at : (flow : Flow) (mark : ℕ) → ((item : ℕ) → from_at program flow routine (labels_in routine flow) item others (mark + marks first) (block_of flow out) (block_of flow again) (block_of flow (block_at entries end item)) (block_of flow end))
+          → all_at program flow routine (labels_in routine flow) others (mark + marks first) (block_of flow out) (block_of flow again) (block_of flow next) (block_of flow end)
+      others_at flow mark behind =
+          subst (λ (b : ℕ). all_at program flow routine (labels_in routine flow) others (mark + marks first) (block_of flow out) (block_of flow again) (block_of flow b) (block_of flow end)) (sym is)
+          (all_from program routine flow others (mark + marks first) (block_of flow out) (block_of flow again) (block_of flow (block_at entries end 0)) (block_of flow end) (behind 0))
+
       enters : (flow : Flow) (mark : ℕ) → executes_at program flow routine (labels_in routine flow) first mark (block_of flow out) (block_of flow again) (block_of flow block) (jump_to next)
-          → ((item : ℕ) → from_at program flow routine (labels_in routine flow) item others (mark + marks first) (block_of flow out) (block_of flow again) (block_of flow (block_at blocks end item)) (block_of flow end))
-          → (item : ℕ) → from_at program flow routine (labels_in routine flow) item (Then first others) mark (block_of flow out) (block_of flow again) (block_of flow (block_at (block ∷ blocks) end item)) (block_of flow end)
-      enters flow mark here behind zero = (
-        block_of flow next,
-        (jump_to next, here, jumps there),
-        subst (λ (b : ℕ). all_at program flow routine (labels_in routine flow) others (mark + marks first) (block_of flow out) (block_of flow again) (block_of flow b) (block_of flow end)) (sym is)
-            (all_from program routine flow others (mark + marks first) (block_of flow out) (block_of flow again) (block_of flow (block_at blocks end 0)) (block_of flow end) (behind 0)),
-      )
+          → ((item : ℕ) → from_at program flow routine (labels_in routine flow) item others (mark + marks first) (block_of flow out) (block_of flow again) (block_of flow (block_at entries end item)) (block_of flow end))
+          → (item : ℕ) → from_at program flow routine (labels_in routine flow) item (Then first others) mark (block_of flow out) (block_of flow again) (block_of flow (block_at (block ∷ entries) end item)) (block_of flow end)
+      enters flow mark here behind zero = (block_of flow next, (jump_to next, here, jumps there), others_at flow mark behind)
       enters flow mark here behind (suc item) = behind item
 
   -- one more of a row that is lowered from its end
@@ -78,24 +100,35 @@ module _ {program : TypedProgram} {routine : Routine} where
       (subst (λ l. EntersAll program routine (statement_list l) out again old new (block ∷ blocks) end) (sym cut) (enters_then first last one))
 
   -- a `switch`
-  pub switch_made : {at : Place} {value : Typed} {cases : List Case} {statements : Statements} {out again end : ℕ} {old x y new : Built} {p q : Point} {blocks : List ℕ} → Seals old x end q
-      → EntersAll program routine statements end again x y blocks end → Uses program value 0 y new p (leads_to at cases blocks end) → Executes program routine (Switch at value cases statements) out again old new p q
-  switch_made {cases = cases} {statements = statements} {again = again} {end = end} {q = q} {blocks = blocks} ends enters goes = record {
-    grows = more_and_more 0 (marks_in statements) (marks_in statements) ends.grows (more_and_more (marks_in statements) 0 (marks_in statements) enters.grows goes.grows (omega arith)) (omega arith);
-    does = λ flow has args mark e.
-        let in_y = goes.grows.keeps flow has in
-        let on = ends.is flow (enters.grows.keeps flow in_y) in
-        let From : ℕ → Point → Type 0 = λ item o. from_at program flow routine (labels_in routine flow) item statements mark o (block_of flow again) (block_of flow (block_at blocks end item)) o in (
-          cases_to blocks end cases,
-          block_at blocks end (default_item cases (length blocks)),
-          (λ item. block_of flow (block_at blocks end item)),
-          goes.does flow has args.0,
-          (λ item. subst (λ o. From item o) on (enters.does flow in_y args.1 mark (mark_stays goes.grows mark e) item)),
-          cases_led program routine flow cases blocks end,
-          ap (λ (n : ℕ). block_of flow (block_at blocks end (default_item cases n))) enters.counts,
-          (block_at blocks end 0, there),
-        );
-  }
+  pub switch_made : {at : Place} {value : Typed} {cases : List Case} {statements : Statements} {out again end : ℕ} {old x y new : Built} {p q : Point} {entries : List ℕ} → Seals old x end q
+      → EntersAll program routine statements end again x y entries end → Uses program value 0 y new p (leads_to at cases entries end) → Executes program routine (Switch at value cases statements) out again old new p q
+  switch_made {at = at} {value = value} {cases = cases} {statements = statements} {out = out} {again = again} {end = end} {new = new} {p = p} {q = q} {entries = entries} ends enters goes =
+      let placed : (flow : Flow) → Has flow new → StatementHasArguments (Switch at value cases statements) → (mark : ℕ) → mark + length new.heads ≡ new.marks →
+      executes_at program flow routine (labels_in routine flow) (Switch at value cases statements) mark (block_of flow out) (block_of flow again) p q =
+      λ flow has args mark e.
+      let in_y = goes.grows.keeps flow has in
+      let on = ends.is flow (enters.grows.keeps flow in_y) in
+      let From : ℕ → Point → Type 0 = λ item o. from_at program flow routine (labels_in routine flow) item statements mark o (block_of flow again) (block_of flow (block_at entries end item)) o in (
+        cases_to entries end cases,
+        block_at entries end (default_item cases (length entries)),
+        (λ item. block_of flow (block_at entries end item)),
+        goes.does flow has args.0,
+        (λ item. subst (λ o. From item o) on (enters.does flow in_y args.1 mark (mark_stays goes.grows mark e) item)),
+        cases_led program routine flow cases entries end,
+        ap (λ (n : ℕ). block_of flow (block_at entries end (default_item cases n))) enters.counts,
+        (block_at entries end 0, there),
+      ) in
+      record {
+        grows = more_and_more 0 (marks_in statements) (marks_in statements) ends.grows (more_and_more (marks_in statements) 0 (marks_in statements) enters.grows goes.grows (omega arith)) (omega arith);
+        does = placed;
+        brings = λ flow has args mark e to aims behind m.
+            let in_y = goes.grows.keeps flow has in
+            let on = same_meets (ends.is flow (enters.grows.keeps flow in_y)) m in
+            let inner_aims = aims_in_switch (block_of flow end) aims on in
+            switch_brings program flow routine (labels_in routine flow) mark (block_of flow out) (block_of flow again) p q (aims_of aims) m (ends.brings flow) at value cases statements end (placed flow has args mark e)
+            (nothing_then brings_less (enters.brings flow in_y args.1 mark (mark_stays goes.grows mark e) (in_switch to behind) inner_aims behind on))
+            (goes.brings flow has args.0 (met point.Switch at) (switch_meets at (cases_to entries end cases) (block_at entries end (default_item cases (length entries)))));
+      }
 
 -- the cases with a value, and the one of `default`, as they are gone through
 pub cases_to-on : (blocks : List ℕ) (end : ℕ) (cases : List Case) (i : ℕ) (one : Case) → suc i ≤ length cases → one ≡ get_or cases i one → cases_to blocks end (drop i cases) ≡ with_case one.value (block_at blocks end one.item) [] ++ cases_to blocks end (drop (i + 1) cases)

@@ -1,5 +1,5 @@
 -- What has been built of a graph, seen as plain data.
-use Rattle.std.specs.Prelude.{◌≡◌, ℕ, suc, ◌+◌, List, [], map, reverse, length, Some, slice_get}
+use Rattle.std.specs.Prelude.{◌≡◌, ℕ, suc, ◌+◌, List, [], ◌++◌, map, reverse, length, Some, slice_get}
 use Rattle.cs_cfg.specs.Graph.{Point, Jump, Flow, block_of}
 use Rattle.cs_cfg.specs.GraphView as view
 use Rattle.cs_lower.specs.declared.strips.Strip.{Strip}
@@ -18,6 +18,10 @@ pub record Built : Type 0 where
   pub marks : ℕ
   pub heads : List Point
   pub others : List Point
+
+-- all of these blocks
+abbrev pub blocks : Built → List Point
+blocks built = built.heads ++ built.others
 
 abbrev pub built_of : GraphBuilder → Built
 built_of graph = record { marks = graph.marks; heads = map view.block graph.heads.items; others = map view.block graph.others.items }

@@ -1,7 +1,7 @@
 //! What has been built of a function's graph.
-ghost use Rattle.std.specs.Prelude.{◌≡◌, ◌+◌, suc, [], length, IfOk, OnOk};
+ghost use Rattle.std.specs.Prelude.{◌≡◌, ◌+◌, suc, [], length, All, Contains, IfOk, OnOk};
 ghost use Rattle.cs_cfg.specs.GraphView as view;
-ghost use Rattle.cs_lower.specs.Building.{point_of, built_of, Has};
+ghost use Rattle.cs_lower.specs.Building.{point_of, built_of, blocks, Has};
 ghost use Rattle.cs_lower.specs.Keeping.{Keeps};
 ghost use Rattle.cs_lower.specs.Sealing.{Seals, SealsMark};
 
@@ -97,6 +97,7 @@ impl GraphBuilder {
         ensures entry { IfOk result (λ flow. flow.entry ≡ entry) }
         ensures marks { IfOk result (λ flow. flow.marks ≡ self.marks) }
         ensures whole { IfOk result (λ flow. length (built_of self).heads ≡ self.marks → Has (view.flow flow) (built_of self)) }
+        ensures no_other { IfOk result (λ flow. All (Contains (blocks (built_of self))) (view.flow flow).blocks) }
     {
         self.heads.reverse();
         self.heads.append(&mut self.others)?;

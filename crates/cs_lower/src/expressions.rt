@@ -51,18 +51,14 @@ impl Lowering<'_> {
             ExprKind::Unary(_, a) => self.lower_used(graph, a, number, behind),
             ExprKind::Not(a) => self.lower_used(graph, a, number, behind),
             ExprKind::Free(a) => self.lower_used(graph, a, number, behind),
-            ExprKind::Index(a, b, Order::PointerFirst) => self.lower_pair(
-                graph, a, b, number, behind,
-            ),
-            ExprKind::Index(a, b, Order::AmountFirst) => self.lower_pair(
-                graph, b, a, number, behind,
-            ),
-            ExprKind::Sum(a, b, _, Order::PointerFirst) => self.lower_pair(
-                graph, a, b, number, behind,
-            ),
-            ExprKind::Sum(a, b, _, Order::AmountFirst) => self.lower_pair(
-                graph, b, a, number, behind,
-            ),
+            ExprKind::Index(a, b, order) => match order {
+                Order::PointerFirst => self.lower_pair(graph, a, b, number, behind),
+                Order::AmountFirst => self.lower_pair(graph, b, a, number, behind),
+            },
+            ExprKind::Sum(a, b, _, order) => match order {
+                Order::PointerFirst => self.lower_pair(graph, a, b, number, behind),
+                Order::AmountFirst => self.lower_pair(graph, b, a, number, behind),
+            },
             ExprKind::Binary(_, a, b) => self.lower_pair(graph, a, b, number, behind),
             ExprKind::Compare(_, a, b) => self.lower_pair(graph, a, b, number, behind),
             ExprKind::Difference(a, b) => self.lower_pair(graph, a, b, number, behind),
@@ -174,9 +170,9 @@ impl Lowering<'_> {
         ensures { IfOk result (λ made. Ands (typed_program self.now.program.now) place (typed left.now) (typed right.now) number (built_of graph.old) (built_of graph.new) (point_of made) (point_of behind)) }
     {
         let end = graph.seal(behind)?;
-        let other = self.known_way(graph, place, number, 0, end)?;
         let judged = self.judged(place, number, end)?;
         let one = self.lower_way(graph, right, number, judged)?;
+        let other = self.known_way(graph, place, number, 0, end)?;
         let test = self.branch(place, number, one, other);
         let made = self.lower_used(graph, left, number, test)?;
         Ok(made)
@@ -197,9 +193,9 @@ impl Lowering<'_> {
         ensures { IfOk result (λ made. Ors (typed_program self.now.program.now) place (typed left.now) (typed right.now) number (built_of graph.old) (built_of graph.new) (point_of made) (point_of behind)) }
     {
         let end = graph.seal(behind)?;
-        let one = self.known_way(graph, place, number, 1, end)?;
         let judged = self.judged(place, number, end)?;
         let other = self.lower_way(graph, right, number, judged)?;
+        let one = self.known_way(graph, place, number, 1, end)?;
         let test = self.branch(place, number, one, other);
         let made = self.lower_used(graph, left, number, test)?;
         Ok(made)

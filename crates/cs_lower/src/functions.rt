@@ -7,10 +7,11 @@ ghost use Rattle.cs_ast.specs.TypedView.{statement};
 ghost use Rattle.cs_plain.specs.Calls.{falls_off};
 ghost use Rattle.cs_cfg.specs.GraphView as view;
 ghost use Rattle.cs_cfg.specs.Working.{closed_with};
-ghost use Rattle.cs_cfg.specs.Placed.{LowersBody, IsPlaced};
+ghost use Rattle.cs_cfg.specs.Lowered.{IsLowered};
+ghost use Rattle.cs_cfg.specs.Placed.{IsPlaced};
 ghost use Rattle.cs_lower.specs.Allocations.{StatementHasArguments, AllocationsHaveArguments};
 ghost use Rattle.cs_lower.specs.Building.{built_of};
-ghost use Rattle.cs_lower.specs.Functions.{BeginsBody, HasGraph};
+ghost use Rattle.cs_lower.specs.Functions.{BeginsBody, IsGraphOf, HasGraph};
 ghost use Rattle.cs_lower.specs.Ready.{IsReady};
 
 use crate::building::GraphBuilder;
@@ -26,11 +27,12 @@ use cs_types::CType;
 use std::alloc::{AllocError, Global};
 use std::collections::BTreeMap;
 
-/// The code of a program: each function with a body has a flow graph that executes it, where each allocation has the arguments that
-/// its function takes (C11 7.22.3). Its only error is want of memory.
+/// The code of a program: each function with a body has a flow graph that executes it, and has just its control points, where each
+/// allocation has the arguments that its function takes (C11 7.22.3). Its only error is want of memory.
 pub fn lower(alloc: Global, program: &Program) -> Result<Code, AllocError>
     requires { IsLaidOut program.now.model program.now.table.list }
-    ensures { IfOk result (λ code. AllocationsHaveArguments (typed_program program.now) → IsPlaced (view.code code) (typed_program program.now)) }
+    ensures placed { IfOk result (λ code. AllocationsHaveArguments (typed_program program.now) → IsPlaced (view.code code) (typed_program program.now)) }
+    ensures lowered { IfOk result (λ code. AllocationsHaveArguments (typed_program program.now) → IsLowered (view.code code) (typed_program program.now)) }
 {
     let mut flows = Vec::new(alloc);
     for function in &program.functions {
@@ -67,7 +69,7 @@ fn lower_body(
 ) -> Result<Flow, AllocError>
     requires laid_out { IsLaidOut program.now.model program.now.table.list }
     requires own { (routine function.now).body ≡ Some (statement body.now) }
-    ensures { IfOk result (λ flow. StatementHasArguments (statement body.now) → LowersBody (typed_program program.now) (routine function.now) (statement body.now) (view.flow flow)) }
+    ensures { IfOk result (λ flow. StatementHasArguments (statement body.now) → IsGraphOf (typed_program program.now) (routine function.now) (statement body.now) (view.flow flow)) }
 {
     let mut labels = BTreeMap::new(alloc);
     let marks = add_labels(&mut labels, body, 0)?;

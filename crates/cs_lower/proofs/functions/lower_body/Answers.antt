@@ -1,4 +1,4 @@
-use Rattle.std.proofs.Common.{◌≡◌, None, sym, ap, ◌∙◌, arith}
+use Rattle.std.proofs.Common.{sym, ap, ◌∙◌, arith}
 use Rattle.std.specs.Prelude.{unwrap_or}
 use Rattle.std.specs.Option.{option_or}
 use Rattle.std.specs.Map.{lookup}
@@ -24,4 +24,4 @@ lower_whole-requires c = record {
 
 pub returns : goal.returns
 returns c =
-    whole_body c.in_ok-entry.ensures c.new-graph.ensures (omega (arith, c.in_ok-marks.ensures.next)) c.in_ok-flow.ensures.whole c.in_ok-flow.ensures.entry c.in_ok-flow.ensures.marks
+    whole_body c.in_ok-entry.ensures c.new-graph.ensures (omega (arith, c.in_ok-marks.ensures.next)) c.in_ok-flow.ensures.whole c.in_ok-flow.ensures.no_other c.in_ok-flow.ensures.entry c.in_ok-flow.ensures.marks c.requires.own

@@ -1,4 +1,4 @@
-use Rattle.std.proofs.Common.{◌≡◌, List, map, ap}
+use Rattle.std.proofs.Common.{List, map, ap}
 use Rattle.cs_cfg.specs.Graph.{Point}
 use Rattle.cs_cfg.specs.GraphView as view
 use Rattle.cs_lower.specs.Building.{Built, built_of, point_of}

@@ -1,4 +1,4 @@
-use Rattle.std.proofs.Common.{◌≡◌, List, map, ap, arith}
+use Rattle.std.proofs.Common.{List, map, ap, arith}
 use Rattle.cs_cfg.specs.Graph.{Point, Reach}
 use Rattle.cs_cfg.specs.GraphView as view
 use Rattle.cs_cfg.specs.Placing.{does}

@@ -1,5 +1,5 @@
 -- The measures of the lowering of expressions: how deep the expression is, and behind it which function has it.
-use Rattle.std.proofs.Common.{ℕ, ◌+◌, ◌*◌, ◌≤◌, length, max, drop}
+use Rattle.std.proofs.Common.{◌+◌, ◌*◌, ◌≤◌, length, max, drop}
 use Rattle.cs_ast.specs.TypedProgram.{typed_program}
 use Rattle.cs_ast.specs.TypedView.{typed_list}
 use Rattle.cs_lower.specs.Building.{point_of, built_of}

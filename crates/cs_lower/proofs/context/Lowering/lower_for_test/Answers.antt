@@ -6,13 +6,14 @@ use Rattle.cs_ast.specs.TypedView.{typed}
 use Rattle.cs_lower.specs.Building.{built_of, point_of}
 use Rattle.cs_lower.specs.Statements.{TestsFor}
 use Rattle.cs_lower.proofs.Forms.{if_made}
-use Rattle.cs_lower.proofs.TurningLoops.{no_test, tests_for}
+use Rattle.cs_lower.proofs.LoopParts.{no_test, tests_for}
 use Rattle.cs_lower.proofs.context.Lowering.lower_for_test.Goals as goal
 
 pub returns-in-None : goal.returns-in-None
 returns-in-None c =
     let built = built_of c.args.graph.now in
-    subst (λ (o : Option (Bor Expr)). TestsFor (typed_program c.args.self.now.program.now) c.args.place (option_map typed (option_copied o)) built built (point_of c.args.body) (point_of c.args.body) c.args.end) (sym c.in-None.is) no_test
+    let body = point_of c.args.body in
+    subst (λ (o : Option (Bor Expr)). TestsFor (typed_program c.args.self.now.program.now) c.args.place (option_map typed (option_copied o)) built built body body c.args.end) (sym c.in-None.is) no_test
 
 pub returns-in_ok-one-in-Some : goal.returns-in_ok-one-in-Some
 returns-in_ok-one-in-Some c =

@@ -8,7 +8,7 @@ use Rattle.cs_cfg.specs.Placing.{does}
 use Rattle.cs_lower.specs.Building.{built_of}
 use Rattle.cs_lower.specs.Statements.{EndsFor}
 use Rattle.cs_lower.proofs.Forms.{if_made}
-use Rattle.cs_lower.proofs.TurningLoops.{no_last, ends_for}
+use Rattle.cs_lower.proofs.LoopParts.{no_last, ends_for}
 use Rattle.cs_lower.proofs.context.Lowering.lower_last.Goals as goal
 
 pub returns-in-None : goal.returns-in-None

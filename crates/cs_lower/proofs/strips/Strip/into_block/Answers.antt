@@ -1,4 +1,4 @@
-use Rattle.std.proofs.Common.{◌≡◌, List, map, ap, ◌∙◌}
+use Rattle.std.proofs.Common.{List, map, ap, ◌∙◌}
 use Rattle.cs_cfg.specs.Graph.{Operation, Point}
 use Rattle.cs_cfg.specs.GraphView as view
 use Rattle.cs_lower.proofs.Built.{map_reverse}
