@@ -36,7 +36,7 @@ module _ {flow : Flow} where
   pub for_brings : (at : Place) (beginning : Statements) (test last : Option Typed) (body : Statement) (to : Targets) (behind : Next) (head : ℕ) (p r : Point) {old with_loop with_first new : List Point} →
       MeetsNext flow r (for_test at test (starts (in_loop to behind (first_some last (met point.Head at))) body (first_some last (met point.Head at)))) →
       Brings flow ((for_tested at test (starts (in_loop to behind (first_some last (met point.Head at))) body (first_some last (met point.Head at))) behind ++ for_points at test)
-          ++ (flows (in_loop to behind (first_some last (met point.Head at))) body (first_some last (met point.Head at)) ++ points_some last (met point.Head at))) old (r ∷ with_loop) →
+      ++ (flows (in_loop to behind (first_some last (met point.Head at))) body (first_some last (met point.Head at)) ++ points_some last (met point.Head at))) old (r ∷ with_loop) →
       Brings flow (flows_in (in_switch to behind) beginning (met point.Head at)) (jump_to head ∷ with_loop) (p ∷ with_first) → Brings flow [] (does at 0 (Reach point.Head head) r ∷ with_first) new →
       Brings flow (flows to (For at beginning test last body) behind) old (p ∷ new)
   for_brings at beginning test last body to behind head p r inside_met loop begins heads = record {

@@ -118,14 +118,14 @@ module _ {program : TypedProgram} where
   ands {at = at} {a = a} {b = b} {number = number} {end = end} {one = one} {other = other} {z = z} {new = new} {p = p} {q = q} ends judges way knows tests test =
       let joins : (flow : Flow) → Has flow z → Joins program flow (jump_to end) q = λ flow in_z. jump_joins program flow end q (ends.is flow (way.grows.keeps flow (knows.grows.keeps flow in_z))) in
       let placed : (flow : Flow) → Has flow new → HasArguments a → HasArguments b → (ty : Shape) → evaluates_form program flow at ty (And a b) number p q = λ flow has in_a in_b ty.
-          let in_z = test.grows.keeps flow has in
-          let in_y = knows.grows.keeps flow in_z in (
-            one,
-            other,
-            subst (λ r. used program flow a number p r) tests (test.does flow has in_a),
-            judged_is program flow at b number (block_of flow one) (jump_to end) q (subst (λ r. used program flow b number (block_of flow one) r) judges (way.does flow in_y in_b)) (joins flow in_z),
-            (jump_to end, knows.is flow in_z, joins flow in_z),
-          ) in
+      let in_z = test.grows.keeps flow has in
+      let in_y = knows.grows.keeps flow in_z in (
+        one,
+        other,
+        subst (λ r. used program flow a number p r) tests (test.does flow has in_a),
+        judged_is program flow at b number (block_of flow one) (jump_to end) q (subst (λ r. used program flow b number (block_of flow one) r) judges (way.does flow in_y in_b)) (joins flow in_z),
+        (jump_to end, knows.is flow in_z, joins flow in_z),
+      ) in
       record {
         grows = grows_on ends.grows (grows_on way.grows (grows_on knows.grows test.grows));
         does = placed;
@@ -142,14 +142,14 @@ module _ {program : TypedProgram} where
   ors {at = at} {a = a} {b = b} {number = number} {end = end} {one = one} {other = other} {z = z} {new = new} {p = p} {q = q} ends judges way knows tests test =
       let joins : (flow : Flow) → Has flow z → Joins program flow (jump_to end) q = λ flow in_z. jump_joins program flow end q (ends.is flow (way.grows.keeps flow (knows.grows.keeps flow in_z))) in
       let placed : (flow : Flow) → Has flow new → HasArguments a → HasArguments b → (ty : Shape) → evaluates_form program flow at ty (Or a b) number p q = λ flow has in_a in_b ty.
-          let in_z = test.grows.keeps flow has in
-          let in_y = knows.grows.keeps flow in_z in (
-            one,
-            other,
-            subst (λ r. used program flow a number p r) tests (test.does flow has in_a),
-            (jump_to end, knows.is flow in_z, joins flow in_z),
-            judged_is program flow at b number (block_of flow other) (jump_to end) q (subst (λ r. used program flow b number (block_of flow other) r) judges (way.does flow in_y in_b)) (joins flow in_z),
-          ) in
+      let in_z = test.grows.keeps flow has in
+      let in_y = knows.grows.keeps flow in_z in (
+        one,
+        other,
+        subst (λ r. used program flow a number p r) tests (test.does flow has in_a),
+        (jump_to end, knows.is flow in_z, joins flow in_z),
+        judged_is program flow at b number (block_of flow other) (jump_to end) q (subst (λ r. used program flow b number (block_of flow other) r) judges (way.does flow in_y in_b)) (joins flow in_z),
+      ) in
       record {
         grows = grows_on ends.grows (grows_on way.grows (grows_on knows.grows test.grows));
         does = placed;
@@ -166,14 +166,14 @@ module _ {program : TypedProgram} where
   chooses {at = at} {a = a} {b = b} {c = c} {number = number} {end = end} {one = one} {other = other} {y = y} {new = new} {p = p} {q = q} ends jump_one way_one jump_other way_other tests test =
       let joins : (flow : Flow) → Has flow y → Joins program flow (jump_to end) q = λ flow in_y. jump_joins program flow end q (ends.is flow (way_one.grows.keeps flow in_y)) in
       let placed : (flow : Flow) → Has flow new → HasArguments a → HasArguments b → HasArguments c → (ty : Shape) → evaluates_form program flow at ty (Choice a b c) number p q = λ flow has in_a in_b in_c ty.
-          let in_z = test.grows.keeps flow has in
-          let in_y = way_other.grows.keeps flow in_z in (
-            one,
-            other,
-            subst (λ r. used program flow a number p r) tests (test.does flow has in_a),
-            joined_is program flow b number (block_of flow one) (jump_to end) q (subst (λ r. used program flow b number (block_of flow one) r) jump_one (way_one.does flow in_y in_b)) (joins flow in_y),
-            joined_is program flow c number (block_of flow other) (jump_to end) q (subst (λ r. used program flow c number (block_of flow other) r) jump_other (way_other.does flow in_z in_c)) (joins flow in_y),
-          ) in
+      let in_z = test.grows.keeps flow has in
+      let in_y = way_other.grows.keeps flow in_z in (
+        one,
+        other,
+        subst (λ r. used program flow a number p r) tests (test.does flow has in_a),
+        joined_is program flow b number (block_of flow one) (jump_to end) q (subst (λ r. used program flow b number (block_of flow one) r) jump_one (way_one.does flow in_y in_b)) (joins flow in_y),
+        joined_is program flow c number (block_of flow other) (jump_to end) q (subst (λ r. used program flow c number (block_of flow other) r) jump_other (way_other.does flow in_z in_c)) (joins flow in_y),
+      ) in
       record {
         grows = grows_on ends.grows (grows_on way_one.grows (grows_on way_other.grows test.grows));
         does = placed;

@@ -1,5 +1,5 @@
 -- What is built of statements, one after another: for the contracts of `lower_statement` and of those that it calls.
-use Rattle.std.proofs.Common.{◌≡◌, ℕ, zero, suc, ◌+◌, ◌-◌, ◌≤◌, List, [], ◌∷◌, length, drop, get_or, drop-cons, Option, Some, None, refl, sym, ap, subst, ◌∙◌, arith}
+use Rattle.std.proofs.Common.{◌≡◌, ℕ, suc, ◌+◌, ◌-◌, ◌≤◌, List, [], ◌∷◌, length, drop, get_or, drop-cons, Option, Some, None, refl, sym, ap, subst, ◌∙◌, arith}
 use Rattle.std.specs.Prelude.{option_map, unwrap_or}
 use Rattle.cs_ast.specs.declared.place.Place.{Place}
 use Rattle.cs_ast.specs.declared.typed.statement.Stmt.{Stmt}
@@ -14,7 +14,7 @@ use Rattle.cs_cfg.specs.ControlPoints.{met, starts_in}
 use Rattle.cs_cfg.specs.Graph as graph
 use Rattle.cs_cfg.specs.Graph.{Point, Flow, block_of}
 use Rattle.cs_cfg.specs.GraphPoints.{past_jump}
-use Rattle.cs_cfg.specs.Placing.{does, split, Joins, there, jumps, evaluates, used}
+use Rattle.cs_cfg.specs.Placing.{does, split, Joins, there, jumps, evaluates}
 use Rattle.cs_cfg.specs.Executing.{executes_at, all_at, is_led_to}
 use Rattle.cs_cfg.proofs.Bringing.{if_brings, label_brings}
 use Rattle.cs_cfg.proofs.Fitting.{brings_past, brings_both, nothing_then, then_nothing}
@@ -88,15 +88,15 @@ module _ {program : TypedProgram} {routine : Routine} where
   pub if : {at : Place} {test : Typed} {body : Statement} {out again end one : ℕ} {old x y new : Built} {p q : Point} → Seals old x end q → ExecutesIn program routine body out again x y one end → Uses program test 0 y new p (split at 0 one end) → Executes program routine (If at test body) out again old new p q
   if {at = at} {test = test} {body = body} {out = out} {again = again} {end = end} {one = one} {new = new} {p = p} {q = q} ends way tests =
       let placed : (flow : Flow) → Has flow new → StatementHasArguments (If at test body) → (mark : ℕ) → mark + length new.heads ≡ new.marks →
-          executes_at program flow routine (labels_in routine flow) (If at test body) mark (block_of flow out) (block_of flow again) p q =
+      executes_at program flow routine (labels_in routine flow) (If at test body) mark (block_of flow out) (block_of flow again) p q =
       λ flow has args mark e.
-          let in_y = tests.grows.keeps flow has in
-          let is = ends.is flow (way.grows.keeps flow in_y) in (
-            one,
-            end,
-            tests.does flow has args.0,
-            ((jump_to end, way.does flow in_y args.1 mark (mark_stays tests.grows mark e), jump_joins program flow end q is), subst (λ r. Joins program flow r q) (sym is) there),
-          ) in
+      let in_y = tests.grows.keeps flow has in
+      let is = ends.is flow (way.grows.keeps flow in_y) in (
+        one,
+        end,
+        tests.does flow has args.0,
+        ((jump_to end, way.does flow in_y args.1 mark (mark_stays tests.grows mark e), jump_joins program flow end q is), subst (λ r. Joins program flow r q) (sym is) there),
+      ) in
       record {
         grows = more_and_more 0 (marks body) (marks body) ends.grows (more_and_more (marks body) 0 (marks body) way.grows tests.grows (omega arith)) (omega arith);
         does = placed;

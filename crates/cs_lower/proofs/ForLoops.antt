@@ -73,13 +73,13 @@ module _ {program : TypedProgram} {routine : Routine} where
       let again_met : (flow : Flow) → Has flow new → OptionHasArguments last → IsHead flow at head r → MeetsNext flow (block_of flow block) (turning at last) =
       λ flow has has_last head_is. last_meets program flow routine (labels_in routine flow) last (block_of flow block) (block_of flow head) (ended.does flow (in_y flow has) has_last) (turns flow head_is) in
       let inner_aims : (flow : Flow) → Has flow new → OptionHasArguments last → IsHead flow at head r → (to : Targets) (out again : Point) → Aims program routine flow to out again → (behind : Next) → MeetsNext flow q behind →
-          Aims program routine flow (in_for to at last behind) (block_of flow end) (block_of flow block) =
+      Aims program routine flow (in_for to at last behind) (block_of flow end) (block_of flow block) =
       λ flow has has_last head_is to out again aims behind m. aims_in_loop (block_of flow end) (block_of flow block) aims (same_meets (on flow has) m) (again_met flow has has_last head_is) in
       let body_met : (flow : Flow) → Has flow new → OptionHasArguments last → StatementHasArguments body → IsHead flow at head r → (to : Targets) (out again : Point) → Aims program routine flow to out again → (behind : Next) → MeetsNext flow q behind →
-          MeetsNext flow v (in_body to at last body behind) =
+      MeetsNext flow v (in_body to at last body behind) =
       λ flow has has_last has_body head_is to out again aims behind m.
-          starts_meet program flow routine (labels_in routine flow) body mark (block_of flow end) (block_of flow block) v s (aims_of (inner_aims flow has has_last head_is to out again aims behind m))
-          (way.does flow (in_z flow has) has_body mark inner_mark) (same_meets leads (past_jump (again_met flow has has_last head_is))) in
+      starts_meet program flow routine (labels_in routine flow) body mark (block_of flow end) (block_of flow block) v s (aims_of (inner_aims flow has has_last head_is to out again aims behind m))
+      (way.does flow (in_z flow has) has_body mark inner_mark) (same_meets leads (past_jump (again_met flow has has_last head_is))) in
       record {
         grows = grown;
         counts = counted;
@@ -93,7 +93,7 @@ module _ {program : TypedProgram} {routine : Routine} where
         brings = λ flow has has_test has_last has_body head_is to out again aims behind m.
             let last_brings = ended.brings flow (in_y flow has) has_last (met point.Head at) (turns flow head_is) in
             let body_brings = way.brings flow (in_z flow has) has_body mark inner_mark (in_for to at last behind) (inner_aims flow has has_last head_is to out again aims behind m) (turning at last)
-                (same_meets leads (past_jump (again_met flow has has_last head_is))) in
+            (same_meets leads (past_jump (again_met flow has has_last head_is))) in
             let test_brings = tests.brings flow has has_test (in_body to at last body behind) behind (body_met flow has has_last has_body head_is to out again aims behind m) (same_meets (on flow has) m) in
             brings_both (brings_both (nothing_then (ends.brings flow) (nothing_then (brings_jump head) last_brings)) (nothing_then (brings_jump block) (same_behind leads body_brings))) test_brings;
       }

@@ -75,12 +75,12 @@ module _ {program : TypedProgram} {at : Place} {ty : Shape} {number : ℕ} {old 
       → UsesBoth program a b number old new p s → Evaluates program (Of at ty form) number old new p q
   pair {a = a} {b = b} is does args points_are acts h = from_parts is acts h.grows
       (λ flow at_once has all.
-          let both = args all in
-          let placed = h.does flow has both.0 both.1 in
-          does flow placed.0 placed.1 (subst (λ r. used program flow b (suc number) placed.0 r) at_once placed.2))
+      let both = args all in
+      let placed = h.does flow has both.0 both.1 in
+      does flow placed.0 placed.1 (subst (λ r. used program flow b (suc number) placed.0 r) at_once placed.2))
       (λ flow has all behind m.
-          let both = args all in
-          subst (λ some. Brings flow some (s ∷ blocks old) (p ∷ blocks new)) (points_are behind) (h.brings flow has both.0 both.1 behind m))
+      let both = args all in
+      subst (λ some. Brings flow some (s ∷ blocks old) (p ∷ blocks new)) (points_are behind) (h.brings flow has both.0 both.1 behind m))
 
   -- a conversion to void doesn't use the value
   pub convert_away : {form : Form} {a : Typed} → form ≡ Convert a → ty ≡ void → s ≡ acted program (Of at ty form) number q → Evaluates program a number old new p s → Evaluates program (Of at ty form) number old new p q
@@ -146,14 +146,14 @@ module _ {program : TypedProgram} {at : Place} {ty : Shape} {number next : ℕ} 
       let loads : t ≡ does at number load r = subst (λ f. t ≡ fetched (Of at ty f) number r) is fetch in
       from_parts is acts (grows_on last.grows one.grows)
       (λ flow at_once has args. (
-          r,
-          subst (λ u. used program flow a number p u) loads (one.does flow has args.0),
-          subst (λ u. used program flow b (3 + number) r u) at_once (subst (λ (n : ℕ). used program flow b n r s) above (last.does flow (one.grows.keeps flow has) args.1)),
+        r,
+        subst (λ u. used program flow a number p u) loads (one.does flow has args.0),
+        subst (λ u. used program flow b (3 + number) r u) at_once (subst (λ (n : ℕ). used program flow b n r s) above (last.does flow (one.grows.keeps flow has) args.1)),
       ))
       (λ flow has args behind m.
-          let in_mid = one.grows.keeps flow has in
-          let loaded = does_meets at number load r refl (used_meets program flow b next r s (last.does flow in_mid args.1) m) in
-          brings_both (last.brings flow in_mid args.1 behind m) (brings_past at number load r refl (same_behind loads (one.brings flow has args.0 (first b behind) (same_meets loads loaded)))))
+      let in_mid = one.grows.keeps flow has in
+      let loaded = does_meets at number load r refl (used_meets program flow b next r s (last.does flow in_mid args.1) m) in
+      brings_both (last.brings flow in_mid args.1 behind m) (brings_past at number load r refl (same_behind loads (one.brings flow has args.0 (first b behind) (same_meets loads loaded)))))
 
   pub move : {form : Form} {a b : Typed} {direction : Direction} {gives : Gives} → form ≡ Move a b direction gives → s ≡ acted program (Of at ty form) number q → next ≡ 2 + number → Uses program b next old mid r s → t ≡ fetched (Of at ty form) number r → Uses program a number mid new p t → Evaluates program (Of at ty form) number old new p q
   move {a = a} {b = b} is acts above last fetch one =
@@ -161,11 +161,11 @@ module _ {program : TypedProgram} {at : Place} {ty : Shape} {number next : ℕ} 
       let loads : t ≡ does at number load r = subst (λ f. t ≡ fetched (Of at ty f) number r) is fetch in
       from_parts is acts (grows_on last.grows one.grows)
       (λ flow at_once has args. (
-          r,
-          subst (λ u. used program flow a number p u) loads (one.does flow has args.0),
-          subst (λ u. used program flow b (2 + number) r u) at_once (subst (λ (n : ℕ). used program flow b n r s) above (last.does flow (one.grows.keeps flow has) args.1)),
+        r,
+        subst (λ u. used program flow a number p u) loads (one.does flow has args.0),
+        subst (λ u. used program flow b (2 + number) r u) at_once (subst (λ (n : ℕ). used program flow b n r s) above (last.does flow (one.grows.keeps flow has) args.1)),
       ))
       (λ flow has args behind m.
-          let in_mid = one.grows.keeps flow has in
-          let loaded = does_meets at number load r refl (used_meets program flow b next r s (last.does flow in_mid args.1) m) in
-          brings_both (last.brings flow in_mid args.1 behind m) (brings_past at number load r refl (same_behind loads (one.brings flow has args.0 (first b behind) (same_meets loads loaded)))))
+      let in_mid = one.grows.keeps flow has in
+      let loaded = does_meets at number load r refl (used_meets program flow b next r s (last.does flow in_mid args.1) m) in
+      brings_both (last.brings flow in_mid args.1 behind m) (brings_past at number load r refl (same_behind loads (one.brings flow has args.0 (first b behind) (same_meets loads loaded)))))

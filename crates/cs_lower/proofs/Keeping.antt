@@ -4,7 +4,7 @@ use Rattle.cs_ast.specs.TypedProgram.{TypedProgram}
 use Rattle.cs_cfg.specs.Graph.{Point, Flow, block_of}
 use Rattle.cs_cfg.specs.Placing.{Joins, there, jumps}
 use Rattle.cs_cfg.specs.Executing.{IsKept}
-use Rattle.cs_lower.specs.Building.{jump_to, Built, Has}
+use Rattle.cs_lower.specs.Building.{jump_to, Built}
 use Rattle.cs_lower.specs.Keeping.{Keeps}
 use Rattle.cs_lower.specs.Sealing.{Seals}
 use Rattle.cs_lower.proofs.Bringing.{brings_less}

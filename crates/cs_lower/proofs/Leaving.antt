@@ -11,7 +11,7 @@ use Rattle.cs_cfg.specs.Graph.{Point, Flow, block_of}
 use Rattle.cs_cfg.specs.Placing.{Joins, there, jumps}
 use Rattle.cs_cfg.specs.Executing.{IsKept, goes_to}
 use Rattle.cs_cfg.proofs.Fitting.{brings_jump, nothing_then, then_nothing}
-use Rattle.cs_lower.specs.Building.{jump_to, Built, blocks, Has}
+use Rattle.cs_lower.specs.Building.{jump_to, Built, blocks}
 use Rattle.cs_lower.specs.Keeping.{Keeps, LeadsOff}
 use Rattle.cs_lower.specs.Labels.{marked_label}
 use Rattle.cs_lower.specs.Statements.{labels_in, Executes, Returns}

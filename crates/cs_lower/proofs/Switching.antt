@@ -1,6 +1,6 @@
 -- What is built of a `switch`: for the contracts of `lower_entries`, of the functions in `switches`, and of a `switch` in
 -- `lower_statement`.
-use Rattle.std.proofs.Common.{◌≡◌, ℕ, zero, suc, ◌+◌, ◌-◌, ◌≤◌, ℤ, List, [], ◌∷◌, ◌++◌, length, drop, get_or, drop-cons, map, Option, Some, None, refl, sym, ap, subst, ◌∙◌, arith}
+use Rattle.std.proofs.Common.{◌≡◌, ℕ, zero, suc, ◌+◌, ◌-◌, ◌≤◌, ℤ, List, [], ◌∷◌, ◌++◌, length, drop, get_or, drop-cons, Option, Some, None, refl, sym, ap, subst, ◌∙◌, arith}
 use Rattle.std.proofs.lemmas.Option.{slice_get_past}
 use Rattle.std.specs.Prelude.{unwrap_or}
 use Rattle.std.proofs.lemmas.List.{append_assoc}
@@ -12,10 +12,10 @@ use Rattle.cs_ast.specs.TypedTree.{Typed, Statement, Switch, Statements, Empty, 
 use Rattle.cs_ast.specs.TypedProgram.{TypedProgram, Routine}
 use Rattle.cs_runs.specs.declared.point.PointKind.TheVariants as point
 use Rattle.cs_plain.specs.Marks.{marks, marks_in}
-use Rattle.cs_plain.specs.Statements.{count_of, default_or, default_item}
+use Rattle.cs_plain.specs.Statements.{default_item}
 use Rattle.cs_cfg.specs.ControlPoints.{met, in_switch, starts_in}
 use Rattle.cs_cfg.specs.Graph.{Point, Flow, SwitchCase, block_of}
-use Rattle.cs_cfg.specs.Placing.{Joins, there, jumps}
+use Rattle.cs_cfg.specs.Placing.{there, jumps}
 use Rattle.cs_cfg.specs.Executing.{executes_at, all_at, from_at, case_leads, cases_lead}
 use Rattle.cs_cfg.proofs.Bringing.{switch_brings}
 use Rattle.cs_cfg.proofs.Fitting.{brings_jump, brings_both, nothing_then}
@@ -104,20 +104,20 @@ module _ {program : TypedProgram} {routine : Routine} where
       → EntersAll program routine statements end again x y entries end → Uses program value 0 y new p (leads_to at cases entries end) → Executes program routine (Switch at value cases statements) out again old new p q
   switch_made {at = at} {value = value} {cases = cases} {statements = statements} {out = out} {again = again} {end = end} {new = new} {p = p} {q = q} {entries = entries} ends enters goes =
       let placed : (flow : Flow) → Has flow new → StatementHasArguments (Switch at value cases statements) → (mark : ℕ) → mark + length new.heads ≡ new.marks →
-          executes_at program flow routine (labels_in routine flow) (Switch at value cases statements) mark (block_of flow out) (block_of flow again) p q =
+      executes_at program flow routine (labels_in routine flow) (Switch at value cases statements) mark (block_of flow out) (block_of flow again) p q =
       λ flow has args mark e.
-          let in_y = goes.grows.keeps flow has in
-          let on = ends.is flow (enters.grows.keeps flow in_y) in
-          let From : ℕ → Point → Type 0 = λ item o. from_at program flow routine (labels_in routine flow) item statements mark o (block_of flow again) (block_of flow (block_at entries end item)) o in (
-            cases_to entries end cases,
-            block_at entries end (default_item cases (length entries)),
-            (λ item. block_of flow (block_at entries end item)),
-            goes.does flow has args.0,
-            (λ item. subst (λ o. From item o) on (enters.does flow in_y args.1 mark (mark_stays goes.grows mark e) item)),
-            cases_led program routine flow cases entries end,
-            ap (λ (n : ℕ). block_of flow (block_at entries end (default_item cases n))) enters.counts,
-            (block_at entries end 0, there),
-          ) in
+      let in_y = goes.grows.keeps flow has in
+      let on = ends.is flow (enters.grows.keeps flow in_y) in
+      let From : ℕ → Point → Type 0 = λ item o. from_at program flow routine (labels_in routine flow) item statements mark o (block_of flow again) (block_of flow (block_at entries end item)) o in (
+        cases_to entries end cases,
+        block_at entries end (default_item cases (length entries)),
+        (λ item. block_of flow (block_at entries end item)),
+        goes.does flow has args.0,
+        (λ item. subst (λ o. From item o) on (enters.does flow in_y args.1 mark (mark_stays goes.grows mark e) item)),
+        cases_led program routine flow cases entries end,
+        ap (λ (n : ℕ). block_of flow (block_at entries end (default_item cases n))) enters.counts,
+        (block_at entries end 0, there),
+      ) in
       record {
         grows = more_and_more 0 (marks_in statements) (marks_in statements) ends.grows (more_and_more (marks_in statements) 0 (marks_in statements) enters.grows goes.grows (omega arith)) (omega arith);
         does = placed;

@@ -60,26 +60,26 @@ module _ {program : TypedProgram} {routine : Routine} where
       let here = mark_stays tests.grows (head + 1) (behind_head z head last) in
       let placed : (flow : Flow) → Has flow new → StatementHasArguments (While at test body) → executes_at program flow routine (labels_in routine flow) (While at test body) head (block_of flow out) (block_of flow again) p q =
       λ flow has args.
-          let in_z = seals.grows.keeps flow has in
-          let in_y = tests.grows.keeps flow in_z in
-          let in_x = way.grows.keeps flow in_y in
-          let executed = way.does flow in_y args.1 (head + 1) here in (
-            block_of flow head,
-            subst (λ s. Joins program flow s (block_of flow head)) (sym jump) (jumps there),
+      let in_z = seals.grows.keeps flow has in
+      let in_y = tests.grows.keeps flow in_z in
+      let in_x = way.grows.keeps flow in_y in
+      let executed = way.does flow in_y args.1 (head + 1) here in (
+        block_of flow head,
+        subst (λ s. Joins program flow s (block_of flow head)) (sym jump) (jumps there),
+        (
+          r,
+          seals.is flow has head last,
+          (
+            one,
+            end,
+            tests.does flow in_z args.0,
             (
-              r,
-              seals.is flow has head last,
-              (
-                one,
-                end,
-                tests.does flow in_z args.0,
-                (
-                  (jump_to head, subst (λ s. executes_at program flow routine (labels_in routine flow) body (head + 1) s (block_of flow head) (block_of flow one) (jump_to head)) (ends.is flow in_x) executed, jumps there),
-                  block_joins program flow end q (ends.is flow in_x),
-                ),
-              ),
+              (jump_to head, subst (λ s. executes_at program flow routine (labels_in routine flow) body (head + 1) s (block_of flow head) (block_of flow one) (jump_to head)) (ends.is flow in_x) executed, jumps there),
+              block_joins program flow end q (ends.is flow in_x),
             ),
-          ) in
+          ),
+        ),
+      ) in
       record {
         grows = more_and_more (marks body) 1 (1 + marks body) inside seals.grows (omega arith);
         does = λ flow has args mark e.
@@ -106,23 +106,23 @@ module _ {program : TypedProgram} {routine : Routine} where
       let here = behind_head w head last in
       let placed : (flow : Flow) → Has flow new → StatementHasArguments (Do at body test) → executes_at program flow routine (labels_in routine flow) (Do at body test) head (block_of flow out) (block_of flow again) p q =
       λ flow has args.
-          let in_w = seals.grows.keeps flow has in
-          let in_z = way.grows.keeps flow in_w in
-          let in_y = tested.grows.keeps flow in_z in
-          let in_x = tests.grows.keeps flow in_y in
-          let executed = way.does flow in_w args.0 (head + 1) here in
-          let At : Point → Point → Point → Type 0 = λ o a t. executes_at program flow routine (labels_in routine flow) body (head + 1) o a v t in
-          let turned = subst (λ o. At o r (jump_to behind)) (ends.is flow in_x) (subst (λ a. At (block_of flow end) a (jump_to behind)) (tested.is flow in_z) (subst (λ t. At (block_of flow end) (block_of flow behind) t) leads executed)) in (
-            block_of flow head,
-            r,
-            subst (λ t. Joins program flow t (block_of flow head)) (sym jump) (jumps there),
-            (
-              v,
-              seals.is flow has head last,
-              (jump_to behind, turned, jump_joins program flow behind r (tested.is flow in_z)),
-              (head, end, tests.does flow in_y args.1, (there, block_joins program flow end q (ends.is flow in_x))),
-            ),
-          ) in
+      let in_w = seals.grows.keeps flow has in
+      let in_z = way.grows.keeps flow in_w in
+      let in_y = tested.grows.keeps flow in_z in
+      let in_x = tests.grows.keeps flow in_y in
+      let executed = way.does flow in_w args.0 (head + 1) here in
+      let At : Point → Point → Point → Type 0 = λ o a t. executes_at program flow routine (labels_in routine flow) body (head + 1) o a v t in
+      let turned = subst (λ o. At o r (jump_to behind)) (ends.is flow in_x) (subst (λ a. At (block_of flow end) a (jump_to behind)) (tested.is flow in_z) (subst (λ t. At (block_of flow end) (block_of flow behind) t) leads executed)) in (
+        block_of flow head,
+        r,
+        subst (λ t. Joins program flow t (block_of flow head)) (sym jump) (jumps there),
+        (
+          v,
+          seals.is flow has head last,
+          (jump_to behind, turned, jump_joins program flow behind r (tested.is flow in_z)),
+          (head, end, tests.does flow in_y args.1, (there, block_joins program flow end q (ends.is flow in_x))),
+        ),
+      ) in
       record {
         grows = more_and_more (marks body) 1 (1 + marks body) inside seals.grows (omega arith);
         does = λ flow has args mark e.

@@ -28,7 +28,7 @@ use Rattle.cs_cfg.proofs.Meeting.{point_meets, same_meets}
 use Rattle.cs_cfg.proofs.ReadOff.{aims, reads_off}
 use Rattle.cs_cfg.proofs.Returned.{is_lowered}
 use Rattle.cs_lower.specs.Allocations.{StatementHasArguments, AllocationsHaveArguments}
-use Rattle.cs_lower.specs.Building.{Built, blocks, Has, Grows}
+use Rattle.cs_lower.specs.Building.{Built, blocks, Has}
 use Rattle.cs_lower.specs.Sealing.{Seals}
 use Rattle.cs_lower.specs.Statements.{labels_in, Aims, Executes}
 use Rattle.cs_lower.specs.Functions.{BeginsBody, IsGraphOf, HasGraph}
@@ -49,18 +49,18 @@ module _ {program : TypedProgram} {routine : Routine} where
       let first : length new.heads ≡ new.marks → 0 + length y.heads ≡ y.marks = λ all. omega arith in
       let lowers : (flow : Flow) → Has flow new → StatementHasArguments body → length new.heads ≡ new.marks → flow.entry ≡ entry → flow.marks ≡ marks body → LowersBody program routine body flow =
       λ flow has args all starts counts.
-          let At : Point → Point → Type 0 = λ o a. executes_at program flow routine (labels_in routine flow) body 0 o a inside behind in
-          record {
-            labels = labels_in routine flow;
-            inside = inside;
-            behind = behind;
-            nothing = nothing;
-            begins = ap (block_of flow) starts ∙ (begins.is flow has ∙ enters);
-            executes = subst (λ o. At o finishing) (finish_at flow has) (subst (λ a. At (block_of flow finish) a) (finish_at flow has) (executes.does flow (in_y flow has) args 0 (first all)));
-            ends = subst (λ p. Joins program flow behind p) closes there;
-            gives = gives;
-            counts = counts;
-          } in
+      let At : Point → Point → Type 0 = λ o a. executes_at program flow routine (labels_in routine flow) body 0 o a inside behind in
+      record {
+        labels = labels_in routine flow;
+        inside = inside;
+        behind = behind;
+        nothing = nothing;
+        begins = ap (block_of flow) starts ∙ (begins.is flow has ∙ enters);
+        executes = subst (λ o. At o finishing) (finish_at flow has) (subst (λ a. At (block_of flow finish) a) (finish_at flow has) (executes.does flow (in_y flow has) args 0 (first all)));
+        ends = subst (λ p. Joins program flow behind p) closes there;
+        gives = gives;
+        counts = counts;
+      } in
       record {
         grows = more_and_more 0 (marks body) (marks body) finishes.grows (more_and_more (marks body) 0 (marks body) executes.grows begins.grows (omega arith)) (omega arith);
         does = lowers;

@@ -1,11 +1,10 @@
 -- What the lowering of statements ensures: in every graph that has what was built, the point executes the statement, and behind it
 -- stands the other one; and of the blocks that were there before, the other point first, those that are there now were made, the point
 -- first, which brings in no control points but those of the statement.
-use Rattle.std.specs.Prelude.{◌≡◌, ℕ, suc, ◌+◌, List, [], ◌∷◌, ◌++◌, length, Option, unwrap_or, slice_get}
+use Rattle.std.specs.Prelude.{◌≡◌, ℕ, ◌+◌, List, [], ◌∷◌, ◌++◌, length, Option, unwrap_or, slice_get}
 use Rattle.cs_ast.specs.declared.place.Place.{Place}
 use Rattle.cs_ast.specs.TypedTree.{Typed, Initial, Statement, Declare, Return, Statements}
 use Rattle.cs_ast.specs.TypedProgram.{TypedProgram, Routine}
-use Rattle.cs_runs.specs.declared.point.PointKind.TheVariants as point
 use Rattle.cs_plain.specs.Initials.{Piece}
 use Rattle.cs_plain.specs.Jumps.{landing}
 use Rattle.cs_plain.specs.Machine.{body_of}
@@ -13,11 +12,10 @@ use Rattle.cs_plain.specs.Marks.{marks, marks_in}
 use Rattle.cs_plain.specs.Statements.{count_of}
 use Rattle.cs_cfg.specs.ControlPoints.{Next, points_some, Targets, for_tested, for_points, at_label, flows, flows_in}
 use Rattle.cs_cfg.specs.Fitting.{Brings}
-use Rattle.cs_cfg.specs.Graph.{Point, Flow, Reach, block_of}
+use Rattle.cs_cfg.specs.Graph.{Point, Flow, block_of}
 use Rattle.cs_cfg.specs.GraphPoints.{MeetsNext}
 use Rattle.cs_cfg.specs.PiecePoints.{points_pieces}
-use Rattle.cs_cfg.specs.Placing.{does}
-use Rattle.cs_cfg.specs.Executing.{goes_to, for_loop, executes_at, all_at, from_at, for_test_at, last_at, returns_at, declares_at, stores_at}
+use Rattle.cs_cfg.specs.Executing.{goes_to, executes_at, all_at, from_at, for_test_at, last_at, returns_at, declares_at, stores_at}
 use Rattle.cs_lower.specs.Allocations.{OptionHasArguments, OptionInitialHasArguments, PiecesHaveArguments, StatementHasArguments, StatementsHaveArguments}
 use Rattle.cs_lower.specs.Labels.{marked_label}
 use Rattle.cs_lower.specs.Building.{jump_to, Built, blocks, Has, Grows}

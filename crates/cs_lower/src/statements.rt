@@ -67,7 +67,15 @@ impl Lowering<'_> {
                 self.lower_for(graph, first, body, s.place, test, last, exits.again, behind)
             }
             StmtKind::Switch(value, cases, statements) => {
-                self.lower_switch(graph, statements, s.place, value, cases, exits.again, behind)
+                self.lower_switch(
+                    graph,
+                    statements,
+                    s.place,
+                    value,
+                    cases,
+                    exits.again,
+                    behind,
+                )
             }
             StmtKind::Goto(label) => self.lower_goto(graph, *label, behind),
             StmtKind::Label(_, body) => self.lower_label(graph, body, s.place, exits, behind),

@@ -1,5 +1,5 @@
 -- The functions before the index have their graphs.
-use Rattle.std.proofs.Common.{◌≡◌, map}
+use Rattle.std.proofs.Common.{map}
 use Rattle.std.specs.Prelude.{option_map}
 use Rattle.cs_ast.specs.TypedProgram.{typed_program}
 use Rattle.cs_cfg.specs.GraphView as view

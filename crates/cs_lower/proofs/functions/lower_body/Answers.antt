@@ -1,4 +1,4 @@
-use Rattle.std.proofs.Common.{◌≡◌, None, sym, ap, ◌∙◌, arith}
+use Rattle.std.proofs.Common.{sym, ap, ◌∙◌, arith}
 use Rattle.std.specs.Prelude.{unwrap_or}
 use Rattle.std.specs.Option.{option_or}
 use Rattle.std.specs.Map.{lookup}

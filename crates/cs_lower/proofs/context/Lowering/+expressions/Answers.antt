@@ -87,9 +87,9 @@ lower_expression-returns-in-Assign t c =
 pub lower_expression-returns-in-Number : goal.lower_expression-returns-in-Number
 lower_expression-returns-in-Number t c =
     elim c.in-Number.is [
-      inl h ↦ forms.alone (ap form h.1) (λ flow. refl) (λ behind. refl) c.in_ok-behind.ensures
+      | inl h ↦ forms.alone (ap form h.1) (λ flow. refl) (λ behind. refl) c.in_ok-behind.ensures
       | inr rest ↦ elim rest [
-        inl h ↦ forms.alone (ap form h) (λ flow. refl) (λ behind. refl) c.in_ok-behind.ensures
+        | inl h ↦ forms.alone (ap form h) (λ flow. refl) (λ behind. refl) c.in_ok-behind.ensures
         | inr h ↦ forms.alone (ap form h.1) (λ flow. refl) (λ behind. refl) c.in_ok-behind.ensures
       ]
     ]
@@ -97,7 +97,7 @@ lower_expression-returns-in-Number t c =
 pub lower_expression-returns-in-Local : goal.lower_expression-returns-in-Local
 lower_expression-returns-in-Local t c =
     elim c.in-Local.is [
-      inl h ↦ forms.alone (ap form h.1) (λ flow. refl) (λ behind. refl) c.in_ok-behind.ensures
+      | inl h ↦ forms.alone (ap form h.1) (λ flow. refl) (λ behind. refl) c.in_ok-behind.ensures
       | inr h ↦ forms.alone (ap form h.1) (λ flow. refl) (λ behind. refl) c.in_ok-behind.ensures
     ]
 

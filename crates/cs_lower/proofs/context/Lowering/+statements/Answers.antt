@@ -1,20 +1,21 @@
-use Rattle.std.proofs.Common.{◌≡◌, ℕ, ◌+◌, List, ◌∷◌, [], length, drop, reverse, rules, sym, ap, subst, ◌∙◌, arith}
+use Rattle.std.proofs.Common.{◌≡◌, ℕ, List, ◌∷◌, [], length, drop, reverse, rules, sym, ap, subst, ◌∙◌, arith}
 use Rattle.std.proofs.lemmas.List.{reverse-append}
 use Rattle.std.specs.Prelude.{option_map, option_copied}
 use Rattle.cs_ast.specs.declared.typed.statement.Stmt.{Stmt}
+use Rattle.cs_ast.specs.declared.typed.statement.StmtKind.TheViews.{sized-For, size-StmtKind, size_is-Stmt}
 use Rattle.cs_ast.specs.TypedTree.{Block, Declare, Run, If, IfElse, While, Do, For, Switch, Goto, Label, Break, Continue, Return}
 use Rattle.cs_ast.specs.TypedProgram.{typed_program, routine}
 use Rattle.cs_ast.specs.TypedView.{typed, some_typed, initial, statement, statement_at, statement_list}
-use Rattle.cs_plain.specs.Marks.{marks, marks_in}
 use Rattle.cs_lower.specs.Building.{built_of, point_of}
 use Rattle.cs_lower.specs.Statements.{block_at, ExecutesAll, EntersAll}
 use Rattle.cs_lower.proofs.Executing as made
 use Rattle.cs_lower.proofs.Executing.{as_statement, executes_none, executes_further, executes_in}
+use Rattle.cs_lower.proofs.ForLoops.{for_turned, for_made}
 use Rattle.cs_lower.proofs.Forms.{if_made}
 use Rattle.cs_lower.proofs.Leaving as leave
 use Rattle.cs_lower.proofs.StatementForms.{block_is, for_is, switch_is}
 use Rattle.cs_lower.proofs.Switching.{enters_none, enters_further, switch_made, dropped}
-use Rattle.cs_lower.proofs.TurningLoops.{while_made, do_made, for_turned, for_made}
+use Rattle.cs_lower.proofs.TurningLoops.{while_made, do_made}
 use Rattle.cs_lower.proofs.context.Lowering.+statements.Goals as goal
 
 pub lower_statement-returns-in-Block : goal.lower_statement-returns-in-Block
@@ -55,7 +56,10 @@ lower_statement-returns-in-Do t c =
     if_made c.lower_do.result (λ strip h. as_statement is (h c.args.exits.out c.args.exits.again)) c.lower_do.ensures
 
 pub lower_statement-lower_for-requires : goal.lower_statement-lower_for-requires
-lower_statement-lower_for-requires t c = (search rules, c.requires)
+lower_statement-lower_for-requires t c =
+    let deeper = size_is-Stmt c.args.s.now in
+    let parts = ap size-StmtKind c.in-For.is ∙ sized-For c.in-For.first c.in-For.test c.in-For.last c.in-For.body in
+    (grind arith, c.requires)
 
 pub lower_statement-returns-in-For : goal.lower_statement-returns-in-For
 lower_statement-returns-in-For t c =
