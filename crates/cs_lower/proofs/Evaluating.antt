@@ -1,0 +1,188 @@
+-- What is built of expressions, one after another: for the contracts of the functions that `lower_expression` calls.
+use Rattle.std.proofs.Common.{◌≡◌, ℕ, suc, ◌+◌, ◌-◌, ◌≤◌, pos, List, ◌∷◌, length, drop, get_or, drop-cons, refl, sym, ap, subst, ◌∙◌, arith}
+use Rattle.cs_types.specs.Shape.{Shape, void}
+use Rattle.cs_ast.specs.declared.place.Place.{Place}
+use Rattle.cs_ast.specs.declared.typed.expression.Expr.{Expr}
+use Rattle.cs_ast.specs.TypedView.{typed, typed_list}
+use Rattle.cs_ast.specs.TypedTree.{Typed, Of, And, Or, Choice, NoMore}
+use Rattle.cs_ast.specs.TypedProgram.{TypedProgram}
+use Rattle.cs_runs.specs.declared.point.PointKind.TheVariants as point
+use Rattle.cs_cfg.specs.ControlPoints.{met, ControlPoint, first, first_in, points_in}
+use Rattle.cs_cfg.specs.Fitting.{Brings}
+use Rattle.cs_cfg.specs.Graph as graph
+use Rattle.cs_cfg.specs.Graph.{Point, Flow, block_of}
+use Rattle.cs_cfg.specs.Placing.{does, split, used_then, Joins, there, jumps, evaluates, evaluates_form, used, used_all, joined, judged}
+use Rattle.cs_cfg.proofs.Choosing.{brings_use, and_brings, or_brings, choice_brings}
+use Rattle.cs_cfg.proofs.Fitting.{brings_both, brings_past, then_nothing}
+use Rattle.cs_cfg.proofs.Meeting.{joins_meet, does_meets, split_meets, same_meets, use_meets, used_meets, all_meet}
+use Rattle.cs_lower.specs.Allocations.{HasArguments, AllHaveArguments}
+use Rattle.cs_lower.specs.Building.{jump_to, Built, blocks, Has}
+use Rattle.cs_lower.specs.Sealing.{Seals}
+use Rattle.cs_lower.specs.Expressions.{Evaluates, Uses, UsesBoth, UsesAll, UsesIn, Ands, Ors, Chooses, Commas}
+use Rattle.cs_lower.proofs.Built.{nothing_more, grows_on, brings_nothing}
+
+module _ {flow : Flow} {some : List ControlPoint} where
+  -- the point behind code may be seen as another that it is, and so may the point before it
+  pub same_behind : {old new : List Point} {s t : Point} → s ≡ t → Brings flow some (s ∷ old) new → Brings flow some (t ∷ old) new
+  same_behind {old = old} {new = new} is brings = subst (λ r. Brings flow some (r ∷ old) new) is brings
+
+  pub same_before : {old new : List Point} {p t : Point} → p ≡ t → Brings flow some old (t ∷ new) → Brings flow some old (p ∷ new)
+  same_before {old = old} {new = new} is brings = subst (λ r. Brings flow some old (r ∷ new)) (sym is) brings
+
+module _ (program : TypedProgram) (flow : Flow) where
+  -- a jump to a block that is a point
+  pub jump_joins : (end : ℕ) (q : Point) → block_of flow end ≡ q → Joins program flow (jump_to end) q
+  jump_joins end q is = jumps (subst (λ p. Joins program flow p q) (sym is) there)
+
+  used_is : (e : Typed) (number : ℕ) (p q : Point) → evaluates program flow e number p (used_then e number q) → used program flow e number p q
+  used_is (Of at ty form) number p q h = h
+
+  joined_is : (e : Typed) (number : ℕ) (p r q : Point) → used program flow e number p r → Joins program flow r q → joined program flow e number p q
+  joined_is (Of at ty form) number p r q h j = (r, h, j)
+
+  judged_is : (at : Place) (e : Typed) (number : ℕ) (p r q : Point) → used program flow e number p (does at number graph.Judge r) → Joins program flow r q → judged program flow at e number p q
+  judged_is place (Of at ty form) number p r q h j = (r, h, j)
+
+module _ {program : TypedProgram} where
+  -- an expression whose value is used
+  pub uses : {e : Typed} {number : ℕ} {old new : Built} {p s q : Point} → s ≡ used_then e number q → Evaluates program e number old new p s → Uses program e number old new p q
+  uses {e = e} {number = number} {p = p} {q = q} is h = record {
+    grows = h.grows;
+    does = λ flow has args. used_is program flow e number p q (subst (λ s. evaluates program flow e number p s) is (h.does flow has args));
+    brings = λ flow has args behind m. brings_use e number q (same_behind is (h.brings flow has args behind (same_meets is (use_meets e number q m))));
+  }
+
+  -- an expression at the beginning of a block
+  pub uses_in : {e : Typed} {number block : ℕ} {old mid new : Built} {p q : Point} → Uses program e number old mid p q → Seals mid new block p → UsesIn program e number old new block q
+  uses_in {e = e} {number = number} {q = q} h seals = record {
+    grows = grows_on h.grows seals.grows;
+    does = λ flow has args. subst (λ p. used program flow e number p q) (sym (seals.is flow has)) (h.does flow (seals.grows.keeps flow has) args);
+    brings = λ flow has args behind m. then_nothing (h.brings flow (seals.grows.keeps flow has) args behind m) (seals.brings flow);
+  }
+
+  -- two expressions
+  pub uses_both : {one other : Typed} {number next : ℕ} {old mid new : Built} {p r q : Point} → next ≡ 1 + number → Uses program other next old mid r q → Uses program one number mid new p r → UsesBoth program one other number old new p q
+  uses_both {other = other} {number = number} {next = next} {r = r} {q = q} above last before =
+      let is : next ≡ suc number = omega arith in
+      record {
+        grows = grows_on last.grows before.grows;
+        does = λ flow has a b. (r, before.does flow has a, subst (λ (n : ℕ). used program flow other n r q) is (last.does flow (before.grows.keeps flow has) b));
+        brings = λ flow has a b behind m.
+            let in_mid = before.grows.keeps flow has in
+            brings_both (last.brings flow in_mid b behind m) (before.brings flow has a (first other behind) (used_meets program flow other next r q (last.does flow in_mid b) m));
+      }
+
+  -- expressions in a row
+  pub uses_none : (number : ℕ) (built : Built) (p : Point) → UsesAll program NoMore number built built p p
+  uses_none number built p = record { grows = nothing_more built; does = λ flow has args. refl; brings = λ flow has args behind m. brings_nothing }
+
+  -- one more of a row that is lowered from its end
+  pub uses_further : {here : ℕ} {old mid new : Built} {p r q : Point} (row : List Expr) (left number : ℕ) (e : Expr) → 1 ≤ left → left ≤ length row → e ≡ get_or row (left - 1) e → here ≡ left - 1 + number
+      → UsesAll program (typed_list (drop left row)) (left + number) old mid r q → Uses program (typed e) here mid new p r → UsesAll program (typed_list (drop (left - 1) row)) (left - 1 + number) old new p q
+  uses_further {old = old} {new = new} {p = p} {r = r} {q = q} row left number e some within is at last one =
+      let next : left ≡ suc (left - 1) = omega arith in
+      let above : left + number ≡ suc (left - 1 + number) = omega arith in
+      let cut : drop (left - 1) row ≡ e ∷ drop left row =
+      drop-cons row (left - 1) e (omega arith) ∙ (ap (λ x. x ∷ drop (suc (left - 1)) row) (sym is) ∙ ap (λ (n : ℕ). e ∷ drop n row) (sym next)) in
+      record {
+        grows = grows_on last.grows one.grows;
+        does = λ flow has args.
+            let both = subst (λ l. AllHaveArguments (typed_list l)) cut args in
+            subst (λ l. used_all program flow (typed_list l) (left - 1 + number) p q) (sym cut) (
+              r,
+              subst (λ (n : ℕ). used program flow (typed e) n p r) at (one.does flow has both.0),
+              subst (λ (n : ℕ). used_all program flow (typed_list (drop left row)) n r q) above (last.does flow (one.grows.keeps flow has) both.1),
+            );
+        brings = λ flow has args behind m.
+            let both = subst (λ l. AllHaveArguments (typed_list l)) cut args in
+            let rest = typed_list (drop left row) in
+            let in_mid = one.grows.keeps flow has in
+            let meets = all_meet program flow rest (left + number) r q (last.does flow in_mid both.1) m in
+            subst (λ l. Brings flow (points_in (typed_list l) behind) (q ∷ blocks old) (p ∷ blocks new)) (sym cut)
+            (brings_both (last.brings flow in_mid both.1 behind m) (one.brings flow has both.0 (first_in rest behind) meets));
+      }
+
+  -- the comma
+  pub commas : {at : Place} {a b : Typed} {number : ℕ} {old mid new : Built} {p s r q : Point} → Uses program b number old mid r q → s ≡ does at number graph.Drop r → Evaluates program a number mid new p s → Commas program at a b number old new p q
+  commas {at = at} {a = a} {b = b} {number = number} {p = p} {r = r} {q = q} last is one = record {
+    grows = grows_on last.grows one.grows;
+    does = λ flow has in_a in_b ty. (r, subst (λ s. evaluates program flow a number p s) is (one.does flow has in_a), last.does flow (one.grows.keeps flow has) in_b);
+    brings = λ flow has in_a in_b behind m.
+        let in_mid = one.grows.keeps flow has in
+        let dropped = does_meets at number graph.Drop r refl (used_meets program flow b number r q (last.does flow in_mid in_b) m) in
+        brings_both (last.brings flow in_mid in_b behind m) (brings_past at number graph.Drop r refl (same_behind is (one.brings flow has in_a (first b behind) (same_meets is dropped))));
+  }
+
+  -- the ways of a branch, each of which ends with a jump to one block
+  pub ands : {at : Place} {a b : Typed} {number end one other : ℕ} {old x y z new : Built} {p q s t : Point} → Seals old x end q → s ≡ does at number graph.Judge (jump_to end) → UsesIn program b number x y one s → Seals y z other (does at number (graph.Number (pos 0)) (jump_to end)) → t ≡ split at number one other → Uses program a number z new p t → Ands program at a b number old new p q
+  ands {at = at} {a = a} {b = b} {number = number} {end = end} {one = one} {other = other} {z = z} {new = new} {p = p} {q = q} ends judges way knows tests test =
+      let joins : (flow : Flow) → Has flow z → Joins program flow (jump_to end) q = λ flow in_z. jump_joins program flow end q (ends.is flow (way.grows.keeps flow (knows.grows.keeps flow in_z))) in
+      let placed : (flow : Flow) → Has flow new → HasArguments a → HasArguments b → (ty : Shape) → evaluates_form program flow at ty (And a b) number p q = λ flow has in_a in_b ty.
+      let in_z = test.grows.keeps flow has in
+      let in_y = knows.grows.keeps flow in_z in (
+        one,
+        other,
+        subst (λ r. used program flow a number p r) tests (test.does flow has in_a),
+        judged_is program flow at b number (block_of flow one) (jump_to end) q (subst (λ r. used program flow b number (block_of flow one) r) judges (way.does flow in_y in_b)) (joins flow in_z),
+        (jump_to end, knows.is flow in_z, joins flow in_z),
+      ) in
+      record {
+        grows = grows_on ends.grows (grows_on way.grows (grows_on knows.grows test.grows));
+        does = placed;
+        brings = λ flow has in_a in_b behind m.
+            let in_z = test.grows.keeps flow has in
+            let in_y = knows.grows.keeps flow in_z in
+            let truth = does_meets at number graph.Judge (jump_to end) refl (joins_meet (joins flow in_z) m) in
+            let right = same_behind judges (way.brings flow in_y in_b behind (same_meets judges truth)) in
+            let left = same_behind tests (test.brings flow has in_a (met point.Branch at) (same_meets tests (split_meets at number one other))) in
+            and_brings program flow at void number end behind p q m a b (placed flow has in_a in_b void) (ends.brings flow) right (knows.brings flow) left;
+      }
+
+  pub ors : {at : Place} {a b : Typed} {number end one other : ℕ} {old x y z new : Built} {p q s t : Point} → Seals old x end q → s ≡ does at number graph.Judge (jump_to end) → UsesIn program b number x y other s → Seals y z one (does at number (graph.Number (pos 1)) (jump_to end)) → t ≡ split at number one other → Uses program a number z new p t → Ors program at a b number old new p q
+  ors {at = at} {a = a} {b = b} {number = number} {end = end} {one = one} {other = other} {z = z} {new = new} {p = p} {q = q} ends judges way knows tests test =
+      let joins : (flow : Flow) → Has flow z → Joins program flow (jump_to end) q = λ flow in_z. jump_joins program flow end q (ends.is flow (way.grows.keeps flow (knows.grows.keeps flow in_z))) in
+      let placed : (flow : Flow) → Has flow new → HasArguments a → HasArguments b → (ty : Shape) → evaluates_form program flow at ty (Or a b) number p q = λ flow has in_a in_b ty.
+      let in_z = test.grows.keeps flow has in
+      let in_y = knows.grows.keeps flow in_z in (
+        one,
+        other,
+        subst (λ r. used program flow a number p r) tests (test.does flow has in_a),
+        (jump_to end, knows.is flow in_z, joins flow in_z),
+        judged_is program flow at b number (block_of flow other) (jump_to end) q (subst (λ r. used program flow b number (block_of flow other) r) judges (way.does flow in_y in_b)) (joins flow in_z),
+      ) in
+      record {
+        grows = grows_on ends.grows (grows_on way.grows (grows_on knows.grows test.grows));
+        does = placed;
+        brings = λ flow has in_a in_b behind m.
+            let in_z = test.grows.keeps flow has in
+            let in_y = knows.grows.keeps flow in_z in
+            let truth = does_meets at number graph.Judge (jump_to end) refl (joins_meet (joins flow in_z) m) in
+            let right = same_behind judges (way.brings flow in_y in_b behind (same_meets judges truth)) in
+            let left = same_behind tests (test.brings flow has in_a (met point.Branch at) (same_meets tests (split_meets at number one other))) in
+            or_brings program flow at void number end behind p q m a b (placed flow has in_a in_b void) (ends.brings flow) right (knows.brings flow) left;
+      }
+
+  pub chooses : {at : Place} {a b c : Typed} {number end one other : ℕ} {old x y z new : Built} {p q t u v : Point} → Seals old x end q → u ≡ jump_to end → UsesIn program b number x y one u → v ≡ jump_to end → UsesIn program c number y z other v → t ≡ split at number one other → Uses program a number z new p t → Chooses program at a b c number old new p q
+  chooses {at = at} {a = a} {b = b} {c = c} {number = number} {end = end} {one = one} {other = other} {y = y} {new = new} {p = p} {q = q} ends jump_one way_one jump_other way_other tests test =
+      let joins : (flow : Flow) → Has flow y → Joins program flow (jump_to end) q = λ flow in_y. jump_joins program flow end q (ends.is flow (way_one.grows.keeps flow in_y)) in
+      let placed : (flow : Flow) → Has flow new → HasArguments a → HasArguments b → HasArguments c → (ty : Shape) → evaluates_form program flow at ty (Choice a b c) number p q = λ flow has in_a in_b in_c ty.
+      let in_z = test.grows.keeps flow has in
+      let in_y = way_other.grows.keeps flow in_z in (
+        one,
+        other,
+        subst (λ r. used program flow a number p r) tests (test.does flow has in_a),
+        joined_is program flow b number (block_of flow one) (jump_to end) q (subst (λ r. used program flow b number (block_of flow one) r) jump_one (way_one.does flow in_y in_b)) (joins flow in_y),
+        joined_is program flow c number (block_of flow other) (jump_to end) q (subst (λ r. used program flow c number (block_of flow other) r) jump_other (way_other.does flow in_z in_c)) (joins flow in_y),
+      ) in
+      record {
+        grows = grows_on ends.grows (grows_on way_one.grows (grows_on way_other.grows test.grows));
+        does = placed;
+        brings = λ flow has in_a in_b in_c behind m.
+            let in_z = test.grows.keeps flow has in
+            let in_y = way_other.grows.keeps flow in_z in
+            let on = joins_meet (joins flow in_y) m in
+            let second = same_behind jump_one (way_one.brings flow in_y in_b behind (same_meets jump_one on)) in
+            let third = same_behind jump_other (way_other.brings flow in_z in_c behind (same_meets jump_other on)) in
+            let left = same_behind tests (test.brings flow has in_a (met point.Branch at) (same_meets tests (split_meets at number one other))) in
+            choice_brings program flow at void number end behind p q m a b c (placed flow has in_a in_b in_c void) (ends.brings flow) second third left;
+      }

@@ -1,0 +1,16 @@
+pub mod Aiming
+pub mod Bringing
+pub mod Built
+pub mod Declaring
+pub mod Evaluating
+pub mod Executing
+pub mod ForLoops
+pub mod Forms
+pub mod Keeping
+pub mod LabelMarks
+pub mod Leaving
+pub mod LoopParts
+pub mod StatementForms
+pub mod Switching
+pub mod TurningLoops
+pub mod WholeBodies

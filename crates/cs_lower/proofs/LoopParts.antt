@@ -1,0 +1,102 @@
+-- What is built of the test of a `for` and of its last part, either of which may be left out, and of a `return`: for the contracts of
+-- `lower_for_test`, `lower_last` and `lower_return`.
+use Rattle.std.proofs.Common.{◌≡◌, ℕ, List, ◌∷◌, Option, Some, None, refl, sym, subst}
+use Rattle.cs_ast.specs.declared.place.Place.{Place}
+use Rattle.cs_ast.specs.TypedTree.{Typed, Return}
+use Rattle.cs_ast.specs.TypedProgram.{TypedProgram, Routine}
+use Rattle.cs_runs.specs.declared.point.PointKind.TheVariants as point
+use Rattle.cs_cfg.specs.ControlPoints.{Next, met, points_some, Targets, flows}
+use Rattle.cs_cfg.specs.Executing.{leaving}
+use Rattle.cs_cfg.specs.Fitting.{Brings}
+use Rattle.cs_cfg.specs.Graph as graph
+use Rattle.cs_cfg.specs.Graph.{Point, Flow, block_of}
+use Rattle.cs_cfg.specs.GraphPoints.{past_jump}
+use Rattle.cs_cfg.specs.Placing.{does, split, Joins, there, jumps, used}
+use Rattle.cs_cfg.proofs.Bringing.{for_test_brings, return_brings}
+use Rattle.cs_cfg.proofs.Fitting.{brings_among, brings_jump, brings_past, brings_silent, nothing_then, then_nothing}
+use Rattle.cs_cfg.proofs.Meeting.{does_meets, point_meets, same_meets, split_meets}
+use Rattle.cs_lower.specs.Building.{jump_to, Built, blocks}
+use Rattle.cs_lower.specs.Sealing.{Seals}
+use Rattle.cs_lower.specs.Expressions.{Uses}
+use Rattle.cs_lower.specs.Statements.{TestsFor, EndsFor, Returns}
+use Rattle.cs_lower.proofs.Built.{nothing_more, grows_on, brings_nothing, among_rest}
+use Rattle.cs_lower.proofs.Evaluating.{same_behind, same_before}
+
+module _ (program : TypedProgram) (flow : Flow) where
+  -- a block leads to what it is, and what it is leads to the block
+  block_joins : (block : ℕ) (q : Point) → block_of flow block ≡ q → Joins program flow (block_of flow block) q
+  block_joins block q is = subst (λ r. Joins program flow r q) (sym is) there
+
+  joins_block : (block : ℕ) (q : Point) → block_of flow block ≡ q → Joins program flow q (block_of flow block)
+  joins_block block q is = subst (λ r. Joins program flow r (block_of flow block)) is there
+
+-- a `return` brings in its own control point and those of its value
+return_alone : {flow : Flow} {at : Place} {some new : List Point} (value : Option Typed) (to : Targets) (behind : Next) → Brings flow (points_some value (met point.Return at)) (does at 1 (graph.Meet point.Return) leaving ∷ some) new
+    → Brings flow (flows to (Return at value) behind) some new
+return_alone {at = at} {some = some} value to behind values =
+    nothing_then (brings_jump 0) (return_brings at value to (jump_to 0) behind (brings_among (jump_to 0 ∷ some) some (among_rest (jump_to 0) some)) values)
+
+module _ {program : TypedProgram} where
+  -- the test of a `for`
+  pub no_test : {at : Place} {built : Built} {p : Point} {end : ℕ} → TestsFor program at None built built p p end
+  no_test {built = built} {end = end} = record {
+    grows = nothing_more built;
+    does = λ flow q has args is. (refl, (end, joins_block program flow end q is));
+    brings = λ flow has args inside behind m m'. brings_nothing;
+  }
+
+  pub tests_for : {at : Place} {test : Typed} {one end : ℕ} {old x new : Built} {p body : Point} → Seals old x one body → Uses program test 0 x new p (split at 0 one end) → TestsFor program at (Some test) old new p body end
+  tests_for {at = at} {test = test} {one = one} {end = end} seals tests = record {
+    grows = grows_on seals.grows tests.grows;
+    does = λ flow q has args is. (one, end, tests.does flow has args, (seals.is flow (tests.grows.keeps flow has), block_joins program flow end q is));
+    brings = λ flow has args inside behind m m'.
+        let way = same_meets (seals.is flow (tests.grows.keeps flow has)) m in
+        nothing_then (seals.brings flow) (for_test_brings at test one end way m' (tests.brings flow has args (met point.Branch at) (split_meets at 0 one end)));
+  }
+
+  -- the last part of a `for`
+  pub no_last : {built : Built} {head : ℕ} → EndsFor program None built built head head
+  no_last {built = built} {head = head} = record {
+    grows = nothing_more built;
+    does = λ flow has args. there;
+    brings = λ flow has args behind m. brings_among (jump_to head ∷ blocks built) (blocks built) (among_rest (jump_to head) (blocks built));
+  }
+
+  pub ends_for : {at : Place} {last : Typed} {block head : ℕ} {old x new : Built} {p s : Point} → s ≡ does at 0 graph.Drop (jump_to head) → Uses program last 0 old x p s → Seals x new block p → EndsFor program (Some last) old new block head
+  ends_for {at = at} {last = last} {head = head} {p = p} is one seals = record {
+    grows = grows_on one.grows seals.grows;
+    does = λ flow has args. (
+      at,
+      jump_to head,
+      subst (λ r. used program flow last 0 r (does at 0 graph.Drop (jump_to head))) (sym (seals.is flow has))
+          (subst (λ s. used program flow last 0 p s) is (one.does flow (seals.grows.keeps flow has) args)),
+      jumps there,
+    );
+    brings = λ flow has args behind m.
+        let dropped = does_meets at 0 graph.Drop (jump_to head) refl (past_jump m) in
+        let part = one.brings flow (seals.grows.keeps flow has) args behind (same_meets is dropped) in
+        then_nothing (brings_past at 0 graph.Drop (jump_to head) refl (same_behind is part)) (seals.brings flow);
+  }
+
+  -- a `return` without a value, and with one
+  module _ {routine : Routine} where
+    pub returns_nothing : {at : Place} {built : Built} {p s l : Point} → l ≡ leaving → s ≡ does at 1 (graph.Meet point.Return) l → p ≡ does at 0 graph.Nothing s → Returns program routine at None built built p
+    returns_nothing {at = at} {built = built} {p = p} {s = s} {l = l} left meets is =
+        let returned : s ≡ does at 1 (graph.Meet point.Return) leaving = subst (λ r. s ≡ does at 1 (graph.Meet point.Return) r) left meets in
+        let whole : p ≡ does at 0 graph.Nothing (does at 1 (graph.Meet point.Return) leaving) = subst (λ r. p ≡ does at 0 graph.Nothing r) returned is in
+        record {
+          grows = nothing_more built;
+          does = λ flow has args. whole;
+          brings = λ flow has args to behind. return_alone None to behind (same_before whole (brings_silent at 0 graph.Nothing (does at 1 (graph.Meet point.Return) leaving) refl));
+        }
+
+    pub returns_value : {at : Place} {e : Typed} {old new : Built} {p s l : Point} → l ≡ leaving → s ≡ does at 1 (graph.Meet point.Return) l → Uses program e 0 old new p s → Returns program routine at (Some e) old new p
+    returns_value {at = at} {e = e} {old = old} {p = p} {s = s} left meets h =
+        let returned : s ≡ does at 1 (graph.Meet point.Return) leaving = subst (λ r. s ≡ does at 1 (graph.Meet point.Return) r) left meets in
+        record {
+          grows = h.grows;
+          does = λ flow has args. subst (λ r. used program flow e 0 p r) returned (h.does flow has args);
+          brings = λ flow has args to behind.
+              let value = h.brings flow has args (met point.Return at) (same_meets returned (point_meets at 1 (graph.Meet point.Return) leaving refl)) in
+              return_alone (Some e) to behind (same_behind returned value);
+        }

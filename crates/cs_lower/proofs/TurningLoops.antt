@@ -1,0 +1,142 @@
+-- What is built of loops that have a test: for the contracts of `lower_while` and `lower_do`.
+use Rattle.std.proofs.Common.{◌≡◌, ℕ, suc, ◌+◌, length, refl, sym, subst, arith}
+use Rattle.cs_ast.specs.declared.place.Place.{Place}
+use Rattle.cs_ast.specs.TypedTree.{Typed, Statement, While, Do}
+use Rattle.cs_ast.specs.TypedProgram.{TypedProgram, Routine}
+use Rattle.cs_runs.specs.declared.point.PointKind.TheVariants as point
+use Rattle.cs_plain.specs.Marks.{marks}
+use Rattle.cs_cfg.specs.ControlPoints.{met, first, in_loop}
+use Rattle.cs_cfg.specs.Graph as graph
+use Rattle.cs_cfg.specs.Graph.{Point, Flow, block_of}
+use Rattle.cs_cfg.specs.GraphPoints.{past_jump}
+use Rattle.cs_cfg.specs.Placing.{split, Joins, there, jumps}
+use Rattle.cs_cfg.specs.Executing.{executes_at}
+use Rattle.cs_cfg.proofs.Bringing.{while_brings, do_brings}
+use Rattle.cs_cfg.proofs.Fitting.{then_nothing}
+use Rattle.cs_cfg.proofs.Meeting.{point_meets, split_meets, same_meets, used_meets}
+use Rattle.cs_lower.specs.Allocations.{StatementHasArguments}
+use Rattle.cs_lower.specs.Building.{jump_to, Built, Has, Grows}
+use Rattle.cs_lower.specs.Sealing.{Seals, SealsMark}
+use Rattle.cs_lower.specs.Expressions.{Uses}
+use Rattle.cs_lower.specs.Statements.{labels_in, Executes, ExecutesIn}
+use Rattle.cs_lower.proofs.Aiming.{aims_of, aims_in_loop}
+use Rattle.cs_lower.proofs.Built.{more_and_more}
+use Rattle.cs_lower.proofs.Evaluating.{jump_joins, same_behind, same_before}
+use Rattle.cs_lower.proofs.Executing.{mark_stays}
+
+-- the head of a loop has the number that was told before its body
+pub is_head : {old y new : Built} {count head inner mark : ℕ} → Grows count old y → Grows 1 y new → head + suc (inner + length old.heads) ≡ old.marks → inner ≡ count → mark + length new.heads ≡ new.marks → head ≡ mark
+is_head inside seals before counts e =
+    let a = inside.counts in
+    let b = seals.counts in
+    let c = inside.same in
+    let d = seals.same in
+    omega arith
+
+-- and is the last mark that had no block
+pub is_last : {old y : Built} {count inner : ℕ} (head : ℕ) → Grows count old y → head + suc (inner + length old.heads) ≡ old.marks → inner ≡ count → head + suc (length y.heads) ≡ y.marks
+is_last head inside before counts =
+    let a = inside.counts in
+    let c = inside.same in
+    omega arith
+
+-- the mark behind the head
+pub behind_head : (built : Built) (head : ℕ) → head + suc (length built.heads) ≡ built.marks → head + 1 + length built.heads ≡ built.marks
+behind_head built head e = omega arith
+
+module _ (program : TypedProgram) (flow : Flow) where
+  -- a block leads to what it is
+  pub block_joins : (block : ℕ) (q : Point) → block_of flow block ≡ q → Joins program flow (block_of flow block) q
+  block_joins block q is = subst (λ r. Joins program flow r q) (sym is) there
+
+module _ {program : TypedProgram} {routine : Routine} where
+  -- a `while`
+  pub while_made : {at : Place} {test : Typed} {body : Statement} {out again inner head end one : ℕ} {old x y z new : Built} {p r q : Point} → head + suc (inner + length old.heads) ≡ old.marks → inner ≡ marks body
+      → Seals old x end q → ExecutesIn program routine body end head x y one head → Uses program test 0 y z r (split at 0 one end) → SealsMark z new point.Head at r → p ≡ jump_to head
+      → Executes program routine (While at test body) out again old new p q
+  while_made {at = at} {test = test} {body = body} {out = out} {again = again} {head = head} {end = end} {one = one} {z = z} {new = new} {p = p} {r = r} {q = q} before counts ends way tests seals jump =
+      let inside = more_and_more 0 (marks body) (marks body) ends.grows (more_and_more (marks body) 0 (marks body) way.grows tests.grows (omega arith)) (omega arith) in
+      let last = is_last head inside before counts in
+      let here = mark_stays tests.grows (head + 1) (behind_head z head last) in
+      let placed : (flow : Flow) → Has flow new → StatementHasArguments (While at test body) → executes_at program flow routine (labels_in routine flow) (While at test body) head (block_of flow out) (block_of flow again) p q =
+      λ flow has args.
+      let in_z = seals.grows.keeps flow has in
+      let in_y = tests.grows.keeps flow in_z in
+      let in_x = way.grows.keeps flow in_y in
+      let executed = way.does flow in_y args.1 (head + 1) here in (
+        block_of flow head,
+        subst (λ s. Joins program flow s (block_of flow head)) (sym jump) (jumps there),
+        (
+          r,
+          seals.is flow has head last,
+          (
+            one,
+            end,
+            tests.does flow in_z args.0,
+            (
+              (jump_to head, subst (λ s. executes_at program flow routine (labels_in routine flow) body (head + 1) s (block_of flow head) (block_of flow one) (jump_to head)) (ends.is flow in_x) executed, jumps there),
+              block_joins program flow end q (ends.is flow in_x),
+            ),
+          ),
+        ),
+      ) in
+      record {
+        grows = more_and_more (marks body) 1 (1 + marks body) inside seals.grows (omega arith);
+        does = λ flow has args mark e.
+            subst (λ (m : ℕ). executes_at program flow routine (labels_in routine flow) (While at test body) m (block_of flow out) (block_of flow again) p q) (is_head inside seals.grows before counts e) (placed flow has args);
+        brings = λ flow has args mark e to aims behind m.
+            let in_z = seals.grows.keeps flow has in
+            let in_y = tests.grows.keeps flow in_z in
+            let in_x = way.grows.keeps flow in_y in
+            let turns = same_meets (seals.is flow has head last) (point_meets at 0 (graph.Reach point.Head head) r refl) in
+            let inner_aims = aims_in_loop (block_of flow end) (block_of flow head) aims (same_meets (ends.is flow in_x) m) turns in
+            same_before jump
+            (while_brings program flow routine (labels_in routine flow) head (block_of flow out) (block_of flow again) p q (aims_of aims) m (ends.brings flow) at test body head (placed flow has args)
+            (way.brings flow in_y args.1 (head + 1) here (in_loop to behind (met point.Head at)) inner_aims (met point.Head at) turns)
+            (tests.brings flow in_z args.0 (met point.Branch at) (split_meets at 0 one end)) (seals.brings flow head last));
+      }
+
+  -- a `do`
+  pub do_made : {at : Place} {test : Typed} {body : Statement} {out again inner head end behind : ℕ} {old x y z w new : Built} {p v r q s : Point} → head + suc (inner + length old.heads) ≡ old.marks → inner ≡ marks body
+      → Seals old x end q → Uses program test 0 x y r (split at 0 head end) → Seals y z behind r → s ≡ jump_to behind → Executes program routine body end behind z w v s → SealsMark w new point.Head at v → p ≡ jump_to head
+      → Executes program routine (Do at body test) out again old new p q
+  do_made {at = at} {test = test} {body = body} {out = out} {again = again} {head = head} {end = end} {behind = behind} {w = w} {new = new} {p = p} {v = v} {r = r} {q = q} {s = s} before counts ends tests tested leads way seals jump =
+      let inside = more_and_more 0 (marks body) (marks body) ends.grows (more_and_more 0 (marks body) (marks body) tests.grows (more_and_more 0 (marks body) (marks body) tested.grows way.grows (omega arith)) (omega arith)) (omega arith) in
+      let last = is_last head inside before counts in
+      let here = behind_head w head last in
+      let placed : (flow : Flow) → Has flow new → StatementHasArguments (Do at body test) → executes_at program flow routine (labels_in routine flow) (Do at body test) head (block_of flow out) (block_of flow again) p q =
+      λ flow has args.
+      let in_w = seals.grows.keeps flow has in
+      let in_z = way.grows.keeps flow in_w in
+      let in_y = tested.grows.keeps flow in_z in
+      let in_x = tests.grows.keeps flow in_y in
+      let executed = way.does flow in_w args.0 (head + 1) here in
+      let At : Point → Point → Point → Type 0 = λ o a t. executes_at program flow routine (labels_in routine flow) body (head + 1) o a v t in
+      let turned = subst (λ o. At o r (jump_to behind)) (ends.is flow in_x) (subst (λ a. At (block_of flow end) a (jump_to behind)) (tested.is flow in_z) (subst (λ t. At (block_of flow end) (block_of flow behind) t) leads executed)) in (
+        block_of flow head,
+        r,
+        subst (λ t. Joins program flow t (block_of flow head)) (sym jump) (jumps there),
+        (
+          v,
+          seals.is flow has head last,
+          (jump_to behind, turned, jump_joins program flow behind r (tested.is flow in_z)),
+          (head, end, tests.does flow in_y args.1, (there, block_joins program flow end q (ends.is flow in_x))),
+        ),
+      ) in
+      record {
+        grows = more_and_more (marks body) 1 (1 + marks body) inside seals.grows (omega arith);
+        does = λ flow has args mark e.
+            subst (λ (m : ℕ). executes_at program flow routine (labels_in routine flow) (Do at body test) m (block_of flow out) (block_of flow again) p q) (is_head inside seals.grows before counts e) (placed flow has args);
+        brings = λ flow has args mark e to aims next m.
+            let in_w = seals.grows.keeps flow has in
+            let in_z = way.grows.keeps flow in_w in
+            let in_y = tested.grows.keeps flow in_z in
+            let in_x = tests.grows.keeps flow in_y in
+            let again_next = first test (met point.Branch at) in
+            let again_met = same_meets (tested.is flow in_z) (used_meets program flow test 0 r (split at 0 head end) (tests.does flow in_y args.1) (split_meets at 0 head end)) in
+            let inner_aims = aims_in_loop (block_of flow end) (block_of flow behind) aims (same_meets (ends.is flow in_x) m) again_met in
+            same_before jump
+            (do_brings program flow routine (labels_in routine flow) head (block_of flow out) (block_of flow again) p q (aims_of aims) m (ends.brings flow) at body test head behind (placed flow has args)
+            (then_nothing (tests.brings flow in_y args.1 (met point.Branch at) (split_meets at 0 head end)) (tested.brings flow))
+            (same_behind leads (way.brings flow in_w args.0 (head + 1) here (in_loop to next again_next) inner_aims again_next (same_meets leads (past_jump again_met)))) (seals.brings flow head last));
+      }

@@ -1,0 +1,10 @@
+use Rattle.std.proofs.Common.{List, map, ap, ◌∙◌}
+use Rattle.cs_cfg.specs.Graph.{Operation, Point}
+use Rattle.cs_cfg.specs.GraphView as view
+use Rattle.cs_lower.proofs.Built.{map_reverse}
+use Rattle.cs_lower.proofs.strips.Strip.into_block.Goals as goal
+
+pub returns : goal.returns
+returns c =
+    let block : List Operation → Point = λ l. record { operations = view.marked c.args.mark l; end = view.block_end c.args.self.end } in
+    ap block (ap (map view.operation) c.reverse.ensures.items ∙ map_reverse view.operation c.args.self.operations.items)

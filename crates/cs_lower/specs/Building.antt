@@ -1,0 +1,38 @@
+-- What has been built of a graph, seen as plain data.
+use Rattle.std.specs.Prelude.{◌≡◌, ℕ, suc, ◌+◌, List, [], ◌++◌, map, reverse, length, Some, slice_get}
+use Rattle.cs_cfg.specs.Graph.{Point, Jump, Flow, block_of}
+use Rattle.cs_cfg.specs.GraphView as view
+use Rattle.cs_lower.specs.declared.strips.Strip.{Strip}
+use Rattle.cs_lower.specs.declared.building.GraphBuilder.{GraphBuilder}
+
+-- a strip is the point at its beginning
+abbrev pub point_of : Strip → Point
+point_of strip = record { operations = reverse (map view.operation strip.operations.items); end = view.block_end strip.end }
+
+-- a jump to a block, and nothing before it
+abbrev pub jump_to : ℕ → Point
+jump_to block = record { operations = []; end = Jump block }
+
+-- what was built: the blocks of the last marks, the last mark first, and the other blocks
+pub record Built : Type 0 where
+  pub marks : ℕ
+  pub heads : List Point
+  pub others : List Point
+
+-- all of these blocks
+abbrev pub blocks : Built → List Point
+blocks built = built.heads ++ built.others
+
+abbrev pub built_of : GraphBuilder → Built
+built_of graph = record { marks = graph.marks; heads = map view.block graph.heads.items; others = map view.block graph.others.items }
+
+-- a graph has what was built: a mark's block is the one with the mark's number, and the other blocks stand behind those of all marks
+pub record Has (flow : Flow) (built : Built) : Type 0 where
+  pub heads : (n mark : ℕ) (p : Point) → slice_get built.heads n ≡ Some p → mark + suc n ≡ built.marks → block_of flow mark ≡ p
+  pub others : (n : ℕ) (p : Point) → slice_get built.others n ≡ Some p → block_of flow (built.marks + n) ≡ p
+
+-- more was built, the blocks of so many marks among it
+pub record Grows (marks : ℕ) (old new : Built) : Type 0 where
+  pub same : new.marks ≡ old.marks
+  pub counts : length new.heads ≡ marks + length old.heads
+  pub keeps : (flow : Flow) → Has flow new → Has flow old

@@ -1,0 +1,13 @@
+-- What is known of a function that is lowered.
+use Rattle.std.specs.Prelude.{◌≡◌, ℕ}
+use Rattle.std.specs.BTreeMap.{get}
+use Rattle.std.specs.Ordering.{nat_cmp}
+use Rattle.cs_types.specs.Layout.{IsLaidOut}
+use Rattle.cs_ast.specs.TypedProgram.{routine}
+use Rattle.cs_lower.specs.declared.context.Lowering.{Lowering}
+use Rattle.cs_lower.specs.Labels.{marked_label}
+
+-- the program's structs are laid out, and each label of the function has its mark
+pub record IsReady (lowering : Lowering) : Type 0 where
+  pub laid_out : IsLaidOut lowering.program.now.model lowering.program.now.table.list
+  pub labels : (label : ℕ) → get nat_cmp lowering.labels label ≡ marked_label (routine lowering.function.now) label

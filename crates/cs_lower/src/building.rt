@@ -1,0 +1,110 @@
+//! What has been built of a function's graph.
+ghost use Rattle.std.specs.Prelude.{◌≡◌, ◌+◌, suc, [], length, All, Contains, IfOk, OnOk};
+ghost use Rattle.cs_cfg.specs.GraphView as view;
+ghost use Rattle.cs_lower.specs.Building.{point_of, built_of, blocks, Has};
+ghost use Rattle.cs_lower.specs.Keeping.{Keeps};
+ghost use Rattle.cs_lower.specs.Sealing.{Seals, SealsMark};
+
+use crate::strips::Strip;
+use cs_ast::Place;
+use cs_cfg::{Block, Flow, Mark};
+use cs_runs::PointKind;
+use std::alloc::{AllocError, Global};
+
+/// The blocks that were built of the graph of a function. The block of a mark has the mark's number, and the others come behind.
+#[derive(Drop)]
+pub struct GraphBuilder {
+    /// How many loop heads and labels the function has.
+    pub marks: u32,
+    /// The blocks of the last marks, the last mark first: code is built from its end.
+    pub heads: Vec<Block>,
+    pub others: Vec<Block>,
+}
+
+impl GraphBuilder {
+    /// Nothing is built yet.
+    pub fn new(alloc: Global, marks: u32) -> GraphBuilder
+        ensures { built_of result ≡ record { marks = marks; heads = []; others = [] } }
+    {
+        GraphBuilder {
+            marks,
+            heads: Vec::new(alloc),
+            others: Vec::new(alloc),
+        }
+    }
+
+    /// Makes a block of a strip, and gives the block's number.
+    pub fn seal(&mut self, strip: Strip) -> Result<u32, AllocError>
+        ensures { IfOk result (λ block. Seals (built_of self.old) (built_of self.new) block (point_of strip)) }
+    {
+        let block = self.next_block()?;
+        self.others.push(strip.into_block(None))?;
+        Ok(block)
+    }
+
+    /// Keeps code to which nothing leads: in a block of its own, unless it is a jump to a block.
+    pub fn keep(&mut self, strip: Strip) -> Result<(), AllocError>
+        ensures { OnOk result (Keeps (built_of self.old) (built_of self.new) (point_of strip)) }
+    {
+        match strip.target() {
+            Some(_) => Ok(()),
+            None => {
+                self.seal(strip)?;
+                Ok(())
+            }
+        }
+    }
+
+    // The number of the next block that isn't that of a mark.
+    fn next_block(&self) -> Result<u32, AllocError>
+        ensures { IfOk result (λ block. block ≡ self.now.marks + length (built_of self.now).others) }
+    {
+        let behind = u32::try_from(self.others.len()).map_err(|_| AllocError)?;
+        self.marks.checked_add(behind).ok_or(AllocError)
+    }
+
+    /// The number of the mark before so many others that have no block yet.
+    pub fn mark_before(&self, others: u32) -> Result<u32, AllocError>
+        ensures { IfOk result (λ mark. mark + suc (others + length (built_of self.now).heads) ≡ self.now.marks) }
+    {
+        let built = u32::try_from(self.heads.len()).map_err(|_| AllocError)?;
+        let left = self.marks.checked_sub(built).ok_or(AllocError)?;
+        let left = left.checked_sub(others).ok_or(AllocError)?;
+        left.checked_sub(1).ok_or(AllocError)
+    }
+
+    /// Makes the block of the last mark that has none yet.
+    pub fn seal_mark(
+        &mut self,
+        kind: PointKind,
+        place: Place,
+        strip: Strip,
+    ) -> Result<(), AllocError>
+        ensures { OnOk result (SealsMark (built_of self.old) (built_of self.new) kind place (point_of strip)) }
+    {
+        let number = self.mark_before(0)?;
+        let mark = Mark {
+            kind,
+            place,
+            number,
+        };
+        self.heads.push(strip.into_block(Some(mark)))?;
+        Ok(())
+    }
+
+    /// The graph, once each mark has its block.
+    pub fn finish(mut self, entry: u32) -> Result<Flow, AllocError>
+        ensures entry { IfOk result (λ flow. flow.entry ≡ entry) }
+        ensures marks { IfOk result (λ flow. flow.marks ≡ self.marks) }
+        ensures whole { IfOk result (λ flow. length (built_of self).heads ≡ self.marks → Has (view.flow flow) (built_of self)) }
+        ensures no_other { IfOk result (λ flow. All (Contains (blocks (built_of self))) (view.flow flow).blocks) }
+    {
+        self.heads.reverse();
+        self.heads.append(&mut self.others)?;
+        Ok(Flow {
+            blocks: self.heads,
+            entry,
+            marks: self.marks,
+        })
+    }
+}

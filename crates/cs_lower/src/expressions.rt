@@ -1,0 +1,297 @@
+//! The lowering of expressions (C11 6.5).
+ghost use Rattle.std.specs.Prelude.{◌≡◌, ◌+◌, IfOk};
+ghost use Rattle.cs_types.specs.Layout.{IsLaidOut};
+ghost use Rattle.cs_ast.specs.TypedProgram.{typed_program};
+ghost use Rattle.cs_ast.specs.TypedView.{typed, typed_list};
+ghost use Rattle.cs_lower.specs.Building.{point_of, built_of};
+ghost use Rattle.cs_cfg.specs.Graph.{Number, Judge};
+ghost use Rattle.cs_cfg.specs.Placing.{does, used_then};
+ghost use Rattle.cs_lower.specs.Building.{jump_to};
+ghost use Rattle.cs_lower.specs.Sealing.{Seals};
+ghost use Rattle.cs_lower.specs.Expressions.{Evaluates, Uses, UsesBoth, UsesAll, UsesIn, Ands, Ors, Chooses, Commas};
+
+use crate::building::GraphBuilder;
+use crate::context::Lowering;
+use crate::strips::Strip;
+use cs_ast::Place;
+use cs_ast::typed::expression::{Expr, ExprKind};
+use cs_ast::typed::operator::Order;
+use cs_cfg::Work;
+use cs_types::CType;
+use std::alloc::AllocError;
+
+impl Lowering<'_> {
+    /// Evaluates an expression into a temporary, and then goes on with a strip.
+    #[cycle(expressions)]
+    pub fn lower_expression(
+        &self,
+        graph: &mut GraphBuilder,
+        e: &Expr,
+        number: u32,
+        behind: Strip,
+    ) -> Result<Strip, AllocError>
+        requires { IsLaidOut self.now.program.now.model self.now.program.now.table.list }
+        ensures { IfOk result (λ made. Evaluates (typed_program self.now.program.now) (typed e.now) number (built_of graph.old) (built_of graph.new) (point_of made) (point_of behind)) }
+    {
+        let place = e.place;
+        let behind = self.act(e, number, behind)?;
+        match &e.kind {
+            ExprKind::Number(_) | ExprKind::Null | ExprKind::Text(_) => Ok(behind),
+            ExprKind::Local(_) | ExprKind::Global(_) => Ok(behind),
+            ExprKind::Through(a) => self.lower_used(graph, a, number, behind),
+            ExprKind::Member(a, _) => self.lower_used(graph, a, number, behind),
+            ExprKind::Arrow(a, _) => self.lower_used(graph, a, number, behind),
+            ExprKind::Load(a) => self.lower_used(graph, a, number, behind),
+            ExprKind::Address(a) => self.lower_used(graph, a, number, behind),
+            ExprKind::Decay(a) => self.lower_used(graph, a, number, behind),
+            ExprKind::Convert(a) => match e.ty {
+                CType::Void => self.lower_expression(graph, a, number, behind),
+                _ => self.lower_used(graph, a, number, behind),
+            },
+            ExprKind::Unary(_, a) => self.lower_used(graph, a, number, behind),
+            ExprKind::Not(a) => self.lower_used(graph, a, number, behind),
+            ExprKind::Free(a) => self.lower_used(graph, a, number, behind),
+            ExprKind::Index(a, b, order) => match order {
+                Order::PointerFirst => self.lower_pair(graph, a, b, number, behind),
+                Order::AmountFirst => self.lower_pair(graph, b, a, number, behind),
+            },
+            ExprKind::Sum(a, b, _, order) => match order {
+                Order::PointerFirst => self.lower_pair(graph, a, b, number, behind),
+                Order::AmountFirst => self.lower_pair(graph, b, a, number, behind),
+            },
+            ExprKind::Binary(_, a, b) => self.lower_pair(graph, a, b, number, behind),
+            ExprKind::Compare(_, a, b) => self.lower_pair(graph, a, b, number, behind),
+            ExprKind::Difference(a, b) => self.lower_pair(graph, a, b, number, behind),
+            ExprKind::Assign(a, b) => self.lower_pair(graph, a, b, number, behind),
+            ExprKind::And(a, b) => self.lower_and(graph, a, b, place, number, behind),
+            ExprKind::Or(a, b) => self.lower_or(graph, a, b, place, number, behind),
+            ExprKind::Choice(a, b, c) => self.lower_choice(graph, a, b, c, place, number, behind),
+            ExprKind::Comma(a, b) => self.lower_comma(graph, a, b, place, number, behind),
+            ExprKind::Update(_, a, b, _, _) => {
+                let made = self.lower_used(graph, b, above(number, 3)?, behind)?;
+                let fetched = self.fetch(e, number, made)?;
+                self.lower_used(graph, a, number, fetched)
+            }
+            ExprKind::Move(a, b, _, _) => {
+                let made = self.lower_used(graph, b, above(number, 2)?, behind)?;
+                let fetched = self.fetch(e, number, made)?;
+                self.lower_used(graph, a, number, fetched)
+            }
+            ExprKind::Call(_, arguments) => self.lower_row(graph, arguments, number, behind),
+            ExprKind::Allocate(_, arguments, _) => self.lower_row(graph, arguments, number, behind),
+        }
+    }
+
+    /// The same where the expression's value is used.
+    #[cycle(expressions)]
+    pub fn lower_used(
+        &self,
+        graph: &mut GraphBuilder,
+        e: &Expr,
+        number: u32,
+        behind: Strip,
+    ) -> Result<Strip, AllocError>
+        requires { IsLaidOut self.now.program.now.model self.now.program.now.table.list }
+        ensures { IfOk result (λ made. Uses (typed_program self.now.program.now) (typed e.now) number (built_of graph.old) (built_of graph.new) (point_of made) (point_of behind)) }
+    {
+        let behind = used_before(e, number, behind)?;
+        let made = self.lower_expression(graph, e, number, behind)?;
+        Ok(made)
+    }
+
+    // A way of a branch: an expression whose value is used, and then a strip.
+    #[cycle(expressions)]
+    fn lower_way(
+        &self,
+        graph: &mut GraphBuilder,
+        e: &Expr,
+        number: u32,
+        behind: Strip,
+    ) -> Result<u32, AllocError>
+        requires { IsLaidOut self.now.program.now.model self.now.program.now.table.list }
+        ensures { IfOk result (λ made. UsesIn (typed_program self.now.program.now) (typed e.now) number (built_of graph.old) (built_of graph.new) made (point_of behind)) }
+    {
+        let made = self.lower_used(graph, e, number, behind)?;
+        let block = graph.seal(made)?;
+        Ok(block)
+    }
+
+    // Two expressions whose values are used, one after the other.
+    #[cycle(expressions)]
+    fn lower_pair(
+        &self,
+        graph: &mut GraphBuilder,
+        first: &Expr,
+        second: &Expr,
+        number: u32,
+        behind: Strip,
+    ) -> Result<Strip, AllocError>
+        requires { IsLaidOut self.now.program.now.model self.now.program.now.table.list }
+        ensures { IfOk result (λ made. UsesBoth (typed_program self.now.program.now) (typed first.now) (typed second.now) number (built_of graph.old) (built_of graph.new) (point_of made) (point_of behind)) }
+    {
+        let made = self.lower_used(graph, second, above(number, 1)?, behind)?;
+        let made = self.lower_used(graph, first, number, made)?;
+        Ok(made)
+    }
+
+    // Expressions in a row whose values are used.
+    #[cycle(expressions)]
+    fn lower_row(
+        &self,
+        graph: &mut GraphBuilder,
+        row: &[Expr],
+        number: u32,
+        behind: Strip,
+    ) -> Result<Strip, AllocError>
+        requires { IsLaidOut self.now.program.now.model self.now.program.now.table.list }
+        ensures { IfOk result (λ made. UsesAll (typed_program self.now.program.now) (typed_list row.now) number (built_of graph.old) (built_of graph.new) (point_of made) (point_of behind)) }
+    {
+        let mut made = behind;
+        let mut left = row.len();
+        while left > 0 {
+            left -= 1;
+            made = self.lower_used(graph, &row[left], above(number, left)?, made)?;
+        }
+        Ok(made)
+    }
+
+    // `&&` (C11 6.5.13).
+    #[cycle(expressions)]
+    fn lower_and(
+        &self,
+        graph: &mut GraphBuilder,
+        left: &Expr,
+        right: &Expr,
+        place: Place,
+        number: u32,
+        behind: Strip,
+    ) -> Result<Strip, AllocError>
+        requires { IsLaidOut self.now.program.now.model self.now.program.now.table.list }
+        ensures { IfOk result (λ made. Ands (typed_program self.now.program.now) place (typed left.now) (typed right.now) number (built_of graph.old) (built_of graph.new) (point_of made) (point_of behind)) }
+    {
+        let end = graph.seal(behind)?;
+        let judged = self.judged(place, number, end)?;
+        let one = self.lower_way(graph, right, number, judged)?;
+        let other = self.known_way(graph, place, number, 0, end)?;
+        let test = self.branch(place, number, one, other);
+        let made = self.lower_used(graph, left, number, test)?;
+        Ok(made)
+    }
+
+    // `||` (C11 6.5.14).
+    #[cycle(expressions)]
+    fn lower_or(
+        &self,
+        graph: &mut GraphBuilder,
+        left: &Expr,
+        right: &Expr,
+        place: Place,
+        number: u32,
+        behind: Strip,
+    ) -> Result<Strip, AllocError>
+        requires { IsLaidOut self.now.program.now.model self.now.program.now.table.list }
+        ensures { IfOk result (λ made. Ors (typed_program self.now.program.now) place (typed left.now) (typed right.now) number (built_of graph.old) (built_of graph.new) (point_of made) (point_of behind)) }
+    {
+        let end = graph.seal(behind)?;
+        let judged = self.judged(place, number, end)?;
+        let other = self.lower_way(graph, right, number, judged)?;
+        let one = self.known_way(graph, place, number, 1, end)?;
+        let test = self.branch(place, number, one, other);
+        let made = self.lower_used(graph, left, number, test)?;
+        Ok(made)
+    }
+
+    // `?:` (C11 6.5.15).
+    #[cycle(expressions)]
+    fn lower_choice(
+        &self,
+        graph: &mut GraphBuilder,
+        test: &Expr,
+        first: &Expr,
+        second: &Expr,
+        place: Place,
+        number: u32,
+        behind: Strip,
+    ) -> Result<Strip, AllocError>
+        requires { IsLaidOut self.now.program.now.model self.now.program.now.table.list }
+        ensures { IfOk result (λ made. Chooses (typed_program self.now.program.now) place (typed test.now) (typed first.now) (typed second.now) number (built_of graph.old) (built_of graph.new) (point_of made) (point_of behind)) }
+    {
+        let end = graph.seal(behind)?;
+        let one = self.lower_way(graph, first, number, self.jump(end))?;
+        let other = self.lower_way(graph, second, number, self.jump(end))?;
+        let test_of = self.branch(place, number, one, other);
+        let made = self.lower_used(graph, test, number, test_of)?;
+        Ok(made)
+    }
+
+    // The comma (C11 6.5.17).
+    #[cycle(expressions)]
+    fn lower_comma(
+        &self,
+        graph: &mut GraphBuilder,
+        first: &Expr,
+        second: &Expr,
+        place: Place,
+        number: u32,
+        behind: Strip,
+    ) -> Result<Strip, AllocError>
+        requires { IsLaidOut self.now.program.now.model self.now.program.now.table.list }
+        ensures { IfOk result (λ made. Commas (typed_program self.now.program.now) place (typed first.now) (typed second.now) number (built_of graph.old) (built_of graph.new) (point_of made) (point_of behind)) }
+    {
+        let made = self.lower_used(graph, second, number, behind)?;
+        let dropped = made.behind(place, number, Work::Drop)?;
+        let made = self.lower_expression(graph, first, number, dropped)?;
+        Ok(made)
+    }
+
+    // The way of a branch on which the value is known: a number, and then a jump.
+    fn known_way(
+        &self,
+        graph: &mut GraphBuilder,
+        place: Place,
+        number: u32,
+        value: i128,
+        end: u32,
+    ) -> Result<u32, AllocError>
+        ensures { IfOk result (λ block. Seals (built_of graph.old) (built_of graph.new) block (does place number (Number value) (jump_to end))) }
+    {
+        let made = self.jump(end).behind(place, number, Work::Number(value))?;
+        let block = graph.seal(made)?;
+        Ok(block)
+    }
+
+    // What comes behind the right part of `&&` or `||`: it is made a truth, and then comes a jump.
+    fn judged(&self, place: Place, number: u32, end: u32) -> Result<Strip, AllocError>
+        ensures { IfOk result (λ made. point_of made ≡ does place number Judge (jump_to end)) }
+    {
+        self.jump(end).behind(place, number, Work::Judge)
+    }
+}
+
+// The number of the temporary so many above another.
+fn above(number: u32, more: usize) -> Result<u32, AllocError>
+    ensures { IfOk result (λ above. above ≡ more + number) }
+{
+    let more = u32::try_from(more).map_err(|_| AllocError)?;
+    number.checked_add(more).ok_or(AllocError)
+}
+
+// What comes before a strip where the value of an expression is used: the result of a call is looked at.
+fn used_before(e: &Expr, number: u32, behind: Strip) -> Result<Strip, AllocError>
+    ensures { IfOk result (λ made. point_of made ≡ used_then (typed e.now) number (point_of behind)) }
+{
+    match &e.kind {
+        ExprKind::Call(_, _) => behind.behind(e.place, number, Work::Use),
+        ExprKind::Number(_) | ExprKind::Null | ExprKind::Text(_) => Ok(behind),
+        ExprKind::Local(_) | ExprKind::Global(_) | ExprKind::Through(_) => Ok(behind),
+        ExprKind::Index(_, _, _) | ExprKind::Member(_, _) | ExprKind::Arrow(_, _) => Ok(behind),
+        ExprKind::Load(_) | ExprKind::Address(_) | ExprKind::Decay(_) => Ok(behind),
+        ExprKind::Convert(_) | ExprKind::Unary(_, _) | ExprKind::Not(_) => Ok(behind),
+        ExprKind::Binary(_, _, _) | ExprKind::Compare(_, _, _) => Ok(behind),
+        ExprKind::Sum(_, _, _, _) | ExprKind::Difference(_, _) => Ok(behind),
+        ExprKind::And(_, _) | ExprKind::Or(_, _) | ExprKind::Choice(_, _, _) => Ok(behind),
+        ExprKind::Comma(_, _) | ExprKind::Assign(_, _) => Ok(behind),
+        ExprKind::Update(_, _, _, _, _) | ExprKind::Move(_, _, _, _) => Ok(behind),
+        ExprKind::Allocate(_, _, _) | ExprKind::Free(_) => Ok(behind),
+    }
+}

@@ -1,0 +1,120 @@
+//! The lowering of functions, and of the whole program.
+ghost use Rattle.std.specs.Prelude.{◌≡◌, IfOk, Some, option_map};
+ghost use Rattle.cs_types.specs.Layout.{IsLaidOut};
+ghost use Rattle.cs_types.specs.Shape.{shape_of};
+ghost use Rattle.cs_ast.specs.TypedProgram.{typed_program, routine};
+ghost use Rattle.cs_ast.specs.TypedView.{statement};
+ghost use Rattle.cs_plain.specs.Calls.{falls_off};
+ghost use Rattle.cs_cfg.specs.GraphView as view;
+ghost use Rattle.cs_cfg.specs.Working.{closed_with};
+ghost use Rattle.cs_cfg.specs.Lowered.{IsLowered};
+ghost use Rattle.cs_cfg.specs.Placed.{IsPlaced};
+ghost use Rattle.cs_lower.specs.Allocations.{StatementHasArguments, AllocationsHaveArguments};
+ghost use Rattle.cs_lower.specs.Building.{built_of};
+ghost use Rattle.cs_lower.specs.Functions.{BeginsBody, IsGraphOf, HasGraph};
+ghost use Rattle.cs_lower.specs.Ready.{IsReady};
+
+use crate::building::GraphBuilder;
+use crate::context::Lowering;
+use crate::labels::add_labels;
+use crate::statements::Exits;
+use crate::strips::Strip;
+use cs_ast::typed::program::{Function, Program};
+use cs_ast::typed::statement::Stmt;
+use cs_cfg::{BlockEnd, Code, Flow, Work};
+use cs_runs::PointKind;
+use cs_types::CType;
+use std::alloc::{AllocError, Global};
+use std::collections::BTreeMap;
+
+/// The code of a program: each function with a body has a flow graph that executes it, and has just its control points, where each
+/// allocation has the arguments that its function takes (C11 7.22.3). Its only error is want of memory.
+pub fn lower(alloc: Global, program: &Program) -> Result<Code, AllocError>
+    requires { IsLaidOut program.now.model program.now.table.list }
+    ensures placed { IfOk result (λ code. AllocationsHaveArguments (typed_program program.now) → IsPlaced (view.code code) (typed_program program.now)) }
+    ensures lowered { IfOk result (λ code. AllocationsHaveArguments (typed_program program.now) → IsLowered (view.code code) (typed_program program.now)) }
+{
+    let mut flows = Vec::new(alloc);
+    for function in &program.functions {
+        let flow = lower_function(alloc, program, function)?;
+        flows.push(flow)?;
+    }
+    Ok(Code { flows })
+}
+
+// The graph of a function, if it has a body.
+fn lower_function(
+    alloc: Global,
+    program: &Program,
+    function: &Function,
+) -> Result<Option<Flow>, AllocError>
+    requires { IsLaidOut program.now.model program.now.table.list }
+    ensures { IfOk result (λ made. HasGraph (typed_program program.now) (routine function.now) (option_map view.flow made)) }
+{
+    match &function.body {
+        None => Ok(None),
+        Some(body) => {
+            let flow = lower_body(alloc, program, function, body)?;
+            Ok(Some(flow))
+        }
+    }
+}
+
+// The graph that executes the body of a function.
+fn lower_body(
+    alloc: Global,
+    program: &Program,
+    function: &Function,
+    body: &Stmt,
+) -> Result<Flow, AllocError>
+    requires laid_out { IsLaidOut program.now.model program.now.table.list }
+    requires own { (routine function.now).body ≡ Some (statement body.now) }
+    ensures { IfOk result (λ flow. StatementHasArguments (statement body.now) → IsGraphOf (typed_program program.now) (routine function.now) (statement body.now) (view.flow flow)) }
+{
+    let mut labels = BTreeMap::new(alloc);
+    let marks = add_labels(&mut labels, body, 0)?;
+    let lowering = Lowering {
+        alloc,
+        program,
+        function,
+        labels,
+    };
+    let mut graph = GraphBuilder::new(alloc, marks);
+    let entry = lowering.lower_whole(&mut graph, body)?;
+    let flow = graph.finish(entry)?;
+    Ok(flow)
+}
+
+impl Lowering<'_> {
+    // The body of a function between its beginning and its end. Gives the block in which a call begins.
+    fn lower_whole(&self, graph: &mut GraphBuilder, body: &Stmt) -> Result<u32, AllocError>
+        requires { IsReady self.now }
+        ensures { IfOk result (λ entry. BeginsBody (typed_program self.now.program.now) (routine self.now.function.now) (statement body.now) (built_of graph.old) (built_of graph.new) entry) }
+    {
+        let function = self.function;
+        let finish = Strip::ending(self.alloc, BlockEnd::Finish);
+        let finishing = graph.seal(finish)?;
+        let exits = Exits {
+            out: finishing,
+            again: finishing,
+        };
+        let nothing = gives_nothing(&function.result);
+        let leaving = Strip::ending(self.alloc, BlockEnd::Return(0));
+        let behind = leaving.behind(function.end, 0, Work::Close(nothing))?;
+        let inside = self.lower_statement(graph, body, exits, behind)?;
+        let enter = Work::Meet(PointKind::Enter);
+        let entry = inside.behind(function.place, 0, enter)?;
+        let block = graph.seal(entry)?;
+        Ok(block)
+    }
+}
+
+// Whether the end of the body of a function with this result gives nothing, and not a value that was never set.
+fn gives_nothing(ty: &CType) -> bool
+    ensures { closed_with result ≡ falls_off (shape_of ty.now) }
+{
+    match ty {
+        CType::Void => true,
+        CType::Int(_) | CType::Pointer(_) | CType::Array(_, _) | CType::Struct(_) => false,
+    }
+}

@@ -1,0 +1,180 @@
+//! The lowering of declarations (C11 6.7.9).
+ghost use Rattle.std.specs.Prelude.{◌≡◌, ◌∷◌, [], map, IfOk, Some, option_map, option_copied};
+ghost use Rattle.cs_types.specs.Layout.{IsLaidOut};
+ghost use Rattle.cs_ast.specs.TypedProgram.{typed_program, routine};
+ghost use Rattle.cs_ast.specs.TypedView.{typed, initial};
+ghost use Rattle.cs_plain.specs.Initials as initials;
+ghost use Rattle.cs_plain.specs.Types as types;
+ghost use Rattle.cs_cfg.specs.Executing.{type_in};
+ghost use Rattle.cs_interpreter.specs.MemoryView.{type_of, piece_of};
+ghost use Rattle.cs_lower.specs.Building.{point_of, built_of};
+ghost use Rattle.cs_lower.specs.Statements.{Declares, StoresPieces};
+
+use crate::building::GraphBuilder;
+use crate::context::Lowering;
+use crate::strips::Strip;
+use cs_ast::Place;
+use cs_ast::typed::expression::Expr;
+use cs_ast::typed::statement::Initial;
+use cs_cfg::Work;
+use cs_interpreter::access::is_scalar;
+use cs_interpreter::blocks::{BlockType, Piece};
+use cs_interpreter::pieces::pieces;
+use cs_names::Bytes;
+use std::alloc::AllocError;
+
+impl Lowering<'_> {
+    /// A declaration is reached: the object becomes unset, or takes a value, or becomes zero before its pieces are stored.
+    pub fn lower_declaration(
+        &self,
+        graph: &mut GraphBuilder,
+        place: Place,
+        declaration: u32,
+        first: Option<&Initial>,
+        behind: Strip,
+    ) -> Result<Strip, AllocError>
+        requires { IsLaidOut self.now.program.now.model self.now.program.now.table.list }
+        ensures { IfOk result (λ made. Declares (typed_program self.now.program.now) (routine self.now.function.now) place declaration (option_map initial (option_copied first.entry)) (built_of graph.old) (built_of graph.new) (point_of made) (point_of behind)) }
+    {
+        match first {
+            None => {
+                let scalar = self.is_scalar_local(declaration);
+                behind.behind(place, 0, Work::Clear(declaration, scalar))
+            }
+            Some(first) => {
+                let made = self.lower_initial(graph, place, declaration, first, behind)?;
+                Ok(made)
+            }
+        }
+    }
+
+    // An object takes what an initializer gives.
+    fn lower_initial(
+        &self,
+        graph: &mut GraphBuilder,
+        place: Place,
+        declaration: u32,
+        first: &Initial,
+        behind: Strip,
+    ) -> Result<Strip, AllocError>
+        requires { IsLaidOut self.now.program.now.model self.now.program.now.table.list }
+        ensures { IfOk result (λ made. Declares (typed_program self.now.program.now) (routine self.now.function.now) place declaration (Some (initial first.now)) (built_of graph.old) (built_of graph.new) (point_of made) (point_of behind)) }
+    {
+        match first {
+            Initial::Value(value) => {
+                let made = self.lower_store(graph, place, declaration, 0, value, behind)?;
+                Ok(made)
+            }
+            Initial::List(_) => {
+                let stored = self.lower_parts(graph, place, declaration, first, behind)?;
+                stored.behind(place, 0, Work::Zero(declaration))
+            }
+            Initial::Text(_) => {
+                let stored = self.lower_parts(graph, place, declaration, first, behind)?;
+                stored.behind(place, 0, Work::Zero(declaration))
+            }
+        }
+    }
+
+    // The pieces of an initializer of an object are stored.
+    fn lower_parts(
+        &self,
+        graph: &mut GraphBuilder,
+        place: Place,
+        declaration: u32,
+        first: &Initial,
+        behind: Strip,
+    ) -> Result<Strip, AllocError>
+        requires { IsLaidOut self.now.program.now.model self.now.program.now.table.list }
+        ensures { IfOk result (λ made. StoresPieces (typed_program self.now.program.now) (routine self.now.function.now) place declaration (initials.pieces (typed_program self.now.program.now) (type_in (routine self.now.function.now) declaration) 0 (initial first.now)) (built_of graph.old) (built_of graph.new) (point_of made) (point_of behind)) }
+    {
+        let ty = self.local_type(declaration);
+        let pieces = pieces(self.alloc, self.program, ty, first)?;
+        let made = self.lower_pieces(graph, place, declaration, &pieces, behind)?;
+        Ok(made)
+    }
+
+    // Pieces are stored, one after another.
+    fn lower_pieces(
+        &self,
+        graph: &mut GraphBuilder,
+        place: Place,
+        declaration: u32,
+        pieces: &[Piece],
+        behind: Strip,
+    ) -> Result<Strip, AllocError>
+        requires { IsLaidOut self.now.program.now.model self.now.program.now.table.list }
+        ensures { IfOk result (λ made. StoresPieces (typed_program self.now.program.now) (routine self.now.function.now) place declaration (map piece_of pieces.now) (built_of graph.old) (built_of graph.new) (point_of made) (point_of behind)) }
+    {
+        let mut made = behind;
+        let mut left = pieces.len();
+        while left > 0 {
+            left -= 1;
+            made = self.lower_piece(graph, place, declaration, pieces[left], made)?;
+        }
+        Ok(made)
+    }
+
+    // A piece is stored.
+    fn lower_piece(
+        &self,
+        graph: &mut GraphBuilder,
+        place: Place,
+        declaration: u32,
+        piece: Piece,
+        behind: Strip,
+    ) -> Result<Strip, AllocError>
+        requires { IsLaidOut self.now.program.now.model self.now.program.now.table.list }
+        ensures { IfOk result (λ made. StoresPieces (typed_program self.now.program.now) (routine self.now.function.now) place declaration (piece_of piece.entry ∷ []) (built_of graph.old) (built_of graph.new) (point_of made) (point_of behind)) }
+    {
+        match piece {
+            Piece::Value(offset, value) => {
+                self.lower_store(graph, place, declaration, offset, value, behind)
+            }
+            Piece::Text(offset, bytes) => {
+                let bytes = Bytes::from_slice(self.alloc, bytes)?;
+                behind.behind(place, 0, Work::Spell(declaration, offset, bytes))
+            }
+        }
+    }
+
+    // The value of an expression is stored in a local, at an offset.
+    fn lower_store(
+        &self,
+        graph: &mut GraphBuilder,
+        place: Place,
+        declaration: u32,
+        offset: u64,
+        value: &Expr,
+        behind: Strip,
+    ) -> Result<Strip, AllocError>
+        requires { IsLaidOut self.now.program.now.model self.now.program.now.table.list }
+        ensures { IfOk result (λ made. StoresPieces (typed_program self.now.program.now) (routine self.now.function.now) place declaration (initials.Evaluated offset (typed value.now) ∷ []) (built_of graph.old) (built_of graph.new) (point_of made) (point_of behind)) }
+    {
+        let ty = value.ty.copy(self.alloc)?;
+        let scalar = self.is_scalar_local(declaration);
+        let work = Work::StoreLocal(declaration, offset, ty, scalar);
+        let behind = behind.behind(place, 0, work)?;
+        self.lower_used(graph, value, 0, behind)
+    }
+
+    // Whether a local is a scalar.
+    fn is_scalar_local(&self, declaration: u32) -> bool
+        ensures { result ≡ types.is_scalar (type_in (routine self.now.function.now) declaration) }
+    {
+        match self.function.locals.get(declaration as usize) {
+            Some(local) => is_scalar(&local.ty),
+            None => false,
+        }
+    }
+
+    // The type of a local.
+    fn local_type(&self, declaration: u32) -> BlockType<'_>
+        ensures { type_of result ≡ type_in (routine self.now.function.now) declaration }
+    {
+        match self.function.locals.get(declaration as usize) {
+            Some(local) => BlockType::Of(&local.ty),
+            None => BlockType::Void,
+        }
+    }
+}

@@ -1,0 +1,17 @@
+//! Lowering: for each function of a typed program with a body the flow graph that executes it.
+#![tactic(auto)]
+
+mod building;
+mod context;
+mod expressions;
+mod functions;
+mod initializers;
+mod labels;
+mod loops;
+mod marks;
+mod statements;
+mod strips;
+mod switches;
+mod works;
+
+pub use functions::lower;

@@ -1,0 +1,171 @@
+//! The lowering of loops (C11 6.8.5).
+ghost use Rattle.std.specs.Prelude.{ℕ, IfOk, option_map, option_copied};
+ghost use Rattle.cs_types.specs.Layout.{IsLaidOut};
+ghost use Rattle.cs_ast.specs.TypedTree.{While, Do, For};
+ghost use Rattle.cs_ast.specs.TypedProgram.{typed_program, routine};
+ghost use Rattle.cs_ast.specs.TypedView.{typed, some_typed, statement, statement_list};
+ghost use Rattle.cs_cfg.specs.Placing.{split};
+ghost use Rattle.cs_lower.specs.Building.{point_of, built_of};
+ghost use Rattle.cs_lower.specs.Expressions.{Uses};
+ghost use Rattle.cs_lower.specs.Ready.{IsReady};
+ghost use Rattle.cs_lower.specs.Statements.{Executes, TestsFor, EndsFor};
+
+use crate::building::GraphBuilder;
+use crate::context::Lowering;
+use crate::marks::{marks, marks_in, together};
+use crate::statements::Exits;
+use crate::strips::Strip;
+use cs_ast::Place;
+use cs_ast::typed::expression::Expr;
+use cs_ast::typed::statement::Stmt;
+use cs_cfg::Work;
+use cs_runs::PointKind;
+use std::alloc::AllocError;
+
+impl Lowering<'_> {
+    /// A `while` (C11 6.8.5.1).
+    #[cycle(statements)]
+    pub fn lower_while(
+        &self,
+        graph: &mut GraphBuilder,
+        body: &Stmt,
+        place: Place,
+        test: &Expr,
+        behind: Strip,
+    ) -> Result<Strip, AllocError>
+        requires { IsReady self.now }
+        ensures { IfOk result (λ made. (out again : ℕ) → Executes (typed_program self.now.program.now) (routine self.now.function.now) (While place (typed test.now) (statement body.now)) out again (built_of graph.old) (built_of graph.new) (point_of made) (point_of behind)) }
+    {
+        let inner = marks(body)?;
+        let head = graph.mark_before(inner)?;
+        let end = graph.seal(behind)?;
+        let exits = Exits {
+            out: end,
+            again: head,
+        };
+        let one = self.lower_way_out(graph, body, exits, head)?;
+        let turned = self.lower_test(graph, place, test, one, end)?;
+        graph.seal_mark(PointKind::Head, place, turned)?;
+        Ok(self.jump(head))
+    }
+
+    /// A `do` (C11 6.8.5.2).
+    #[cycle(statements)]
+    pub fn lower_do(
+        &self,
+        graph: &mut GraphBuilder,
+        body: &Stmt,
+        place: Place,
+        test: &Expr,
+        behind: Strip,
+    ) -> Result<Strip, AllocError>
+        requires { IsReady self.now }
+        ensures { IfOk result (λ made. (out again : ℕ) → Executes (typed_program self.now.program.now) (routine self.now.function.now) (Do place (statement body.now) (typed test.now)) out again (built_of graph.old) (built_of graph.new) (point_of made) (point_of behind)) }
+    {
+        let inner = marks(body)?;
+        let start = graph.mark_before(inner)?;
+        let end = graph.seal(behind)?;
+        let tested = self.lower_test(graph, place, test, start, end)?;
+        let again = graph.seal(tested)?;
+        let exits = Exits { out: end, again };
+        let turned = self.lower_statement(graph, body, exits, self.jump(again))?;
+        graph.seal_mark(PointKind::Head, place, turned)?;
+        Ok(self.jump(start))
+    }
+
+    /// A `for` (C11 6.8.5.3). In its first part `continue` leads out of it, to a block.
+    #[cycle(statements)]
+    pub fn lower_for(
+        &self,
+        graph: &mut GraphBuilder,
+        first: &[Stmt],
+        body: &Stmt,
+        place: Place,
+        test: &Option<Expr>,
+        last: &Option<Expr>,
+        around: u32,
+        behind: Strip,
+    ) -> Result<Strip, AllocError>
+        requires { IsReady self.now }
+        ensures { IfOk result (λ made. (out : ℕ) → Executes (typed_program self.now.program.now) (routine self.now.function.now) (For place (statement_list first.now) (some_typed test.now) (some_typed last.now) (statement body.now)) out around (built_of graph.old) (built_of graph.new) (point_of made) (point_of behind)) }
+    {
+        let before = marks_in(first)?;
+        let inside = marks(body)?;
+        let inner = together(before, inside)?;
+        let head = graph.mark_before(inner)?;
+        let end = graph.seal(behind)?;
+        let last = last.as_ref();
+        let turn = self.lower_last(graph, place, last, head)?;
+        let exits = Exits {
+            out: end,
+            again: turn,
+        };
+        let made = self.lower_statement(graph, body, exits, self.jump(turn))?;
+        let test = test.as_ref();
+        let strip = self.lower_for_test(graph, place, test, made, end)?;
+        let outer = Exits {
+            out: end,
+            again: around,
+        };
+        let entry = self.lower_all(graph, first, outer, self.jump(head))?;
+        graph.seal_mark(PointKind::Head, place, strip)?;
+        Ok(entry)
+    }
+
+    /// A test of no other temporary, and then one of two blocks.
+    pub fn lower_test(
+        &self,
+        graph: &mut GraphBuilder,
+        place: Place,
+        test: &Expr,
+        one: u32,
+        other: u32,
+    ) -> Result<Strip, AllocError>
+        requires { IsLaidOut self.now.program.now.model self.now.program.now.table.list }
+        ensures { IfOk result (λ made. Uses (typed_program self.now.program.now) (typed test.now) 0 (built_of graph.old) (built_of graph.new) (point_of made) (split place 0 one other)) }
+    {
+        self.lower_used(graph, test, 0, self.branch(place, 0, one, other))
+    }
+
+    /// The test of a `for`, if it has one, before its body.
+    pub fn lower_for_test(
+        &self,
+        graph: &mut GraphBuilder,
+        place: Place,
+        test: Option<&Expr>,
+        body: Strip,
+        end: u32,
+    ) -> Result<Strip, AllocError>
+        requires { IsLaidOut self.now.program.now.model self.now.program.now.table.list }
+        ensures { IfOk result (λ made. TestsFor (typed_program self.now.program.now) place (option_map typed (option_copied test.entry)) (built_of graph.old) (built_of graph.new) (point_of made) (point_of body) end) }
+    {
+        match test {
+            None => Ok(body),
+            Some(test) => {
+                let one = graph.seal(body)?;
+                self.lower_test(graph, place, test, one, end)
+            }
+        }
+    }
+
+    /// The last part of a `for`, if it has one, which leads to its head. Gives the block that comes behind the body.
+    pub fn lower_last(
+        &self,
+        graph: &mut GraphBuilder,
+        place: Place,
+        last: Option<&Expr>,
+        head: u32,
+    ) -> Result<u32, AllocError>
+        requires { IsLaidOut self.now.program.now.model self.now.program.now.table.list }
+        ensures { IfOk result (λ made. EndsFor (typed_program self.now.program.now) (option_map typed (option_copied last.entry)) (built_of graph.old) (built_of graph.new) made head) }
+    {
+        match last {
+            None => Ok(head),
+            Some(last) => {
+                let behind = self.jump(head).behind(place, 0, Work::Drop)?;
+                let made = self.lower_used(graph, last, 0, behind)?;
+                graph.seal(made)
+            }
+        }
+    }
+}

@@ -1,0 +1,219 @@
+//! The lowering of statements (C11 6.8).
+ghost use Rattle.std.specs.Prelude.{ℕ, IfOk, option_map, option_copied};
+ghost use Rattle.cs_types.specs.Layout.{IsLaidOut};
+ghost use Rattle.cs_ast.specs.declared.place.Place.{Place};
+ghost use Rattle.cs_ast.specs.TypedTree.{Goto, Label};
+ghost use Rattle.cs_ast.specs.TypedProgram.{typed_program, routine};
+ghost use Rattle.cs_ast.specs.TypedView.{typed, statement, statement_list};
+ghost use Rattle.cs_lower.specs.Building.{point_of, built_of};
+ghost use Rattle.cs_lower.specs.Keeping.{LeadsOff};
+ghost use Rattle.cs_lower.specs.Ready.{IsReady};
+ghost use Rattle.cs_lower.specs.Statements.{Executes, ExecutesAll, ExecutesIn, EntersAll, Returns};
+
+use crate::building::GraphBuilder;
+use crate::context::Lowering;
+use crate::marks::marks;
+use crate::strips::Strip;
+use cs_ast::Place;
+use cs_ast::typed::expression::Expr;
+use cs_ast::typed::statement::{Stmt, StmtKind};
+use cs_cfg::{BlockEnd, Work};
+use cs_runs::PointKind;
+use std::alloc::AllocError;
+
+/// The blocks to which `break` and `continue` lead.
+#[derive(Clone, Copy)]
+pub struct Exits {
+    pub out: u32,
+    pub again: u32,
+}
+
+impl Lowering<'_> {
+    /// Executes a statement, and then goes on with a strip.
+    #[cycle(statements)]
+    pub fn lower_statement(
+        &self,
+        graph: &mut GraphBuilder,
+        s: &Stmt,
+        exits: Exits,
+        behind: Strip,
+    ) -> Result<Strip, AllocError>
+        requires { IsReady self.now }
+        ensures { IfOk result (λ made. Executes (typed_program self.now.program.now) (routine self.now.function.now) (statement s.now) exits.out exits.again (built_of graph.old) (built_of graph.new) (point_of made) (point_of behind)) }
+    {
+        match &s.kind {
+            StmtKind::Block(statements) => self.lower_all(graph, statements, exits, behind),
+            StmtKind::Declare(declaration, first) => {
+                self.lower_declaration(graph, s.place, *declaration, first.as_ref(), behind)
+            }
+            StmtKind::Run(e) => {
+                let behind = behind.behind(s.place, 0, Work::Drop)?;
+                self.lower_expression(graph, e, 0, behind)
+            }
+            StmtKind::If(test, body) => {
+                let end = graph.seal(behind)?;
+                let one = self.lower_way_out(graph, body, exits, end)?;
+                self.lower_test(graph, s.place, test, one, end)
+            }
+            StmtKind::IfElse(test, body, other) => {
+                let end = graph.seal(behind)?;
+                let other = self.lower_way_out(graph, other, exits, end)?;
+                let one = self.lower_way_out(graph, body, exits, end)?;
+                self.lower_test(graph, s.place, test, one, other)
+            }
+            StmtKind::While(test, body) => self.lower_while(graph, body, s.place, test, behind),
+            StmtKind::Do(body, test) => self.lower_do(graph, body, s.place, test, behind),
+            StmtKind::For(first, test, last, body) => {
+                self.lower_for(graph, first, body, s.place, test, last, exits.again, behind)
+            }
+            StmtKind::Switch(value, cases, statements) => {
+                self.lower_switch(
+                    graph,
+                    statements,
+                    s.place,
+                    value,
+                    cases,
+                    exits.again,
+                    behind,
+                )
+            }
+            StmtKind::Goto(label) => self.lower_goto(graph, *label, behind),
+            StmtKind::Label(_, body) => self.lower_label(graph, body, s.place, exits, behind),
+            StmtKind::Break => self.lower_jump(graph, exits.out, behind),
+            StmtKind::Continue => self.lower_jump(graph, exits.again, behind),
+            StmtKind::Return(value) => {
+                graph.keep(behind)?;
+                self.lower_return(graph, s.place, value.as_ref())
+            }
+        }
+    }
+
+    /// Statements one after another, and then a strip.
+    #[cycle(statements)]
+    pub fn lower_all(
+        &self,
+        graph: &mut GraphBuilder,
+        statements: &[Stmt],
+        exits: Exits,
+        behind: Strip,
+    ) -> Result<Strip, AllocError>
+        requires { IsReady self.now }
+        ensures { IfOk result (λ made. ExecutesAll (typed_program self.now.program.now) (routine self.now.function.now) (statement_list statements.now) exits.out exits.again (built_of graph.old) (built_of graph.new) (point_of made) (point_of behind)) }
+    {
+        let mut made = behind;
+        let mut left = statements.len();
+        while left > 0 {
+            left -= 1;
+            made = self.lower_statement(graph, &statements[left], exits, made)?;
+        }
+        Ok(made)
+    }
+
+    /// The statements of a `switch`, each in a block of its own, and then a block. Gives their blocks.
+    #[cycle(statements)]
+    pub fn lower_entries(
+        &self,
+        graph: &mut GraphBuilder,
+        statements: &[Stmt],
+        exits: Exits,
+        end: u32,
+    ) -> Result<Vec<u32>, AllocError>
+        requires { IsReady self.now }
+        ensures { IfOk result (λ made. EntersAll (typed_program self.now.program.now) (routine self.now.function.now) (statement_list statements.now) exits.out exits.again (built_of graph.old) (built_of graph.new) made.items end) }
+    {
+        let mut entries = Vec::new(self.alloc);
+        let mut next = end;
+        let mut left = statements.len();
+        while left > 0 {
+            left -= 1;
+            next = self.lower_way_out(graph, &statements[left], exits, next)?;
+            entries.push(next)?;
+        }
+        entries.reverse();
+        Ok(entries)
+    }
+
+    /// A way of a branch: a statement, and then a jump.
+    #[cycle(statements)]
+    pub fn lower_way_out(
+        &self,
+        graph: &mut GraphBuilder,
+        s: &Stmt,
+        exits: Exits,
+        end: u32,
+    ) -> Result<u32, AllocError>
+        requires { IsReady self.now }
+        ensures { IfOk result (λ made. ExecutesIn (typed_program self.now.program.now) (routine self.now.function.now) (statement s.now) exits.out exits.again (built_of graph.old) (built_of graph.new) made end) }
+    {
+        let made = self.lower_statement(graph, s, exits, self.jump(end))?;
+        let block = graph.seal(made)?;
+        Ok(block)
+    }
+
+    // A label (C11 6.8.1), whose mark is the one before those of its statement.
+    #[cycle(statements)]
+    fn lower_label(
+        &self,
+        graph: &mut GraphBuilder,
+        body: &Stmt,
+        place: Place,
+        exits: Exits,
+        behind: Strip,
+    ) -> Result<Strip, AllocError>
+        requires { IsReady self.now }
+        ensures { IfOk result (λ made. (label : ℕ) → Executes (typed_program self.now.program.now) (routine self.now.function.now) (Label place label (statement body.now)) exits.out exits.again (built_of graph.old) (built_of graph.new) (point_of made) (point_of behind)) }
+    {
+        let inner = marks(body)?;
+        let mark = graph.mark_before(inner)?;
+        let made = self.lower_statement(graph, body, exits, behind)?;
+        graph.seal_mark(PointKind::Label, place, made)?;
+        Ok(self.jump(mark))
+    }
+
+    // A jump, and behind it code to which nothing leads.
+    fn lower_jump(
+        &self,
+        graph: &mut GraphBuilder,
+        block: u32,
+        behind: Strip,
+    ) -> Result<Strip, AllocError>
+        ensures { IfOk result (λ made. LeadsOff (built_of graph.old) (built_of graph.new) block (point_of made) (point_of behind)) }
+    {
+        graph.keep(behind)?;
+        Ok(self.jump(block))
+    }
+
+    // A `goto` leads to its label; one whose label isn't there leads on (C11 6.8.6.1).
+    fn lower_goto(
+        &self,
+        graph: &mut GraphBuilder,
+        label: u32,
+        behind: Strip,
+    ) -> Result<Strip, AllocError>
+        requires { IsReady self.now }
+        ensures { IfOk result (λ made. (place : Place) (out again : ℕ) → Executes (typed_program self.now.program.now) (routine self.now.function.now) (Goto place label) out again (built_of graph.old) (built_of graph.new) (point_of made) (point_of behind)) }
+    {
+        match self.labels.get(&label) {
+            Some(mark) => self.lower_jump(graph, *mark, behind),
+            None => Ok(behind),
+        }
+    }
+
+    // A `return` (C11 6.8.6.4).
+    fn lower_return(
+        &self,
+        graph: &mut GraphBuilder,
+        place: Place,
+        value: Option<&Expr>,
+    ) -> Result<Strip, AllocError>
+        requires { IsLaidOut self.now.program.now.model self.now.program.now.table.list }
+        ensures { IfOk result (λ made. Returns (typed_program self.now.program.now) (routine self.now.function.now) place (option_map typed (option_copied value.entry)) (built_of graph.old) (built_of graph.new) (point_of made)) }
+    {
+        let leaving = Strip::ending(self.alloc, BlockEnd::Return(0));
+        let leaving = leaving.behind(place, 1, Work::Meet(PointKind::Return))?;
+        match value {
+            None => leaving.behind(place, 0, Work::Nothing),
+            Some(value) => self.lower_used(graph, value, 0, leaving),
+        }
+    }
+}

@@ -1,0 +1,66 @@
+//! Strips: code that has no number yet. It is built from its end.
+ghost use Rattle.std.specs.Prelude.{◌≡◌, ℕ, [], IfOk, Some};
+ghost use Rattle.cs_cfg.specs.GraphView as view;
+ghost use Rattle.cs_cfg.specs.Placing.{does};
+ghost use Rattle.cs_lower.specs.Building.{point_of, jump_to};
+
+use cs_ast::Place;
+use cs_cfg::{Block, BlockEnd, Mark, Operation, Work};
+use std::alloc::{AllocError, Global};
+
+/// Operations with the last one first, and the end behind them.
+#[derive(Drop)]
+pub struct Strip {
+    pub operations: Vec<Operation>,
+    pub end: BlockEnd,
+}
+
+impl Strip {
+    /// An end, and nothing before it.
+    pub fn ending(alloc: Global, end: BlockEnd) -> Strip
+        ensures { point_of result ≡ record { operations = []; end = view.block_end end } }
+    {
+        Strip {
+            operations: Vec::new(alloc),
+            end,
+        }
+    }
+
+    /// An operation on the temporaries from a number on, and then the strip.
+    pub fn behind(mut self, place: Place, temporary: u32, work: Work) -> Result<Strip, AllocError>
+        ensures { IfOk result (λ made. point_of made ≡ does place temporary (view.work work) (point_of self)) }
+    {
+        self.operations.push(Operation {
+            place,
+            temporary,
+            work,
+        })?;
+        Ok(self)
+    }
+
+    /// The block to which the strip jumps at once, if it is a jump and nothing before it.
+    pub fn target(&self) -> Option<u32>
+        ensures { (block : ℕ) → result ≡ Some block → point_of self.now ≡ jump_to block }
+    {
+        if !self.operations.is_empty() {
+            return None;
+        }
+        match self.end {
+            BlockEnd::Jump(block) => Some(block),
+            BlockEnd::Branch(_, _, _, _) | BlockEnd::Switch(_, _, _, _) => None,
+            BlockEnd::Return(_) | BlockEnd::Finish => None,
+        }
+    }
+
+    /// The block that the strip is, which may be that of a mark.
+    pub fn into_block(mut self, mark: Option<Mark>) -> Block
+        ensures { view.block result ≡ record { operations = view.marked mark (point_of self).operations; end = (point_of self).end } }
+    {
+        self.operations.reverse();
+        Block {
+            mark,
+            operations: self.operations,
+            end: self.end,
+        }
+    }
+}
