@@ -2,14 +2,6 @@ mod Performs
 mod Told
 mod Lengths
 mod PlacedRuns
-mod MachineStates
-mod Overwriting
-mod Stacks
-mod Locals
-mod Rows
-mod Statics
-mod Writing
-mod Calling
 mod Blocks
 mod Cutting
 mod Stepping

@@ -1,5 +1,5 @@
 -- What an operation does to the state of a run of the code, by what it does to that of the plain machine: for the contracts of steps.
-use Rattle.std.proofs.Common.{◌≡◌, ℕ, ◌+◌, ℤ, pos, Bool, true, false, List, [], ◌∷◌, Option, Some, None, refl}
+use Rattle.std.proofs.Common.{◌≡◌, ℕ, ◌+◌, ℤ, pos, Bool, true, false, List, [], ◌∷◌, Option, Some, None, refl, sym, subst}
 use Rattle.std.specs.Ordering.{int_eq}
 use Rattle.cs_types.specs.Shape.{Shape, void, integer, pointer, array, struct, shape_of}
 use Rattle.cs_inputs.specs.declared.path.Path.{Path}
@@ -10,7 +10,8 @@ use Rattle.cs_ast.specs.declared.place.Place.{Place}
 use Rattle.cs_ast.specs.declared.typed.operator.Allocator.{Allocator}
 use Rattle.cs_ast.specs.declared.typed.operator.Allocator.TheVariants.{Malloc, Calloc}
 use Rattle.cs_ast.specs.declared.typed.operator.BinOp.TheVariants.{Mul}
-use Rattle.cs_ast.specs.TypedProgram.{TypedProgram}
+use Rattle.cs_ast.specs.TypedTree.{Statement}
+use Rattle.cs_ast.specs.TypedProgram.{TypedProgram, Routine}
 use Rattle.cs_model.specs.declared.standing.Standing.{Standing}
 use Rattle.cs_model.specs.declared.standing.Standing.TheVariants.{Live, Freed, Ended}
 use Rattle.cs_runs.specs.declared.outcome.RunBudgets.{RunBudgets}
@@ -25,17 +26,16 @@ use Rattle.cs_plain.specs.Initials.{number_in, truth_cell, directed}
 use Rattle.cs_plain.specs.Memory.{Block, Memory, Fill, UnsetFill, ZeroFill, Unknown}
 use Rattle.cs_plain.specs.Access.{Access, shows_then}
 use Rattle.cs_plain.specs.Operators.{branch}
-use Rattle.cs_plain.specs.Machine.{Operand, Scalar, Whole, Nothing, CallFrame, Running, State, push, push_cell, pop, pop_many, with_memory, cell_of, operand_at, cell_at}
+use Rattle.cs_plain.specs.Machine.{Operand, Scalar, Whole, Nothing, CallFrame, Running, State, push, push_cell, pop, pop_many, with_memory, cell_of, operand_at, cell_at, newest, routine_of}
 use Rattle.cs_plain.specs.Marks.{reached_again, reach_mark}
-use Rattle.cs_plain.specs.Calls.{result_path, write_through, write_arguments, outside_result, allocated, allocate, release, release_block, release_known, release_object}
+use Rattle.cs_plain.specs.Calls.{result_path, write_through, write_arguments, outside_result, call_outside, call_routine, call, allocated, allocate, release, release_block, release_known, release_object}
 use Rattle.cs_plain.specs.Expressions.{pointer_age, amount_age, given, number_at, stores_to, judge, use_result}
 use Rattle.cs_cfg.specs.declared.operation.Work as w
 use Rattle.cs_cfg.specs.declared.operation.Work.TheVariants as of
-use Rattle.cs_cfg.specs.Graph.{Work, Reach, Point, Code}
+use Rattle.cs_cfg.specs.Graph.{Work, Reach, Call, Point, Flow, Code, flow_of}
 use Rattle.cs_cfg.specs.GraphView.{work, access}
-use Rattle.cs_cfg.specs.Working.{CodeState, if_local, do_work}
+use Rattle.cs_cfg.specs.Working.{CodeState, if_local, call_flow, do_work}
 use Rattle.cs_cfg.proofs.Alike.{Told as ToldOfOne, ToldOfTwo, tells_receive, tells_branch, tells_if, tells_shows, tells_touches, tells_set, tells_load, tells_store, tells_truth, tells_operate, tells_convert_number, tells_convert, tells_sum, tells_compare, tells_difference, tells_arrow}
-use Rattle.cs_replay.specs.Calling.{call_returning}
 use Rattle.cs_replay.specs.Works.{works}
 use Rattle.cs_replay.specs.CodeStates.{code_state}
 use Rattle.cs_replay.proofs.Performs.{Seen}
@@ -169,12 +169,21 @@ module _ {S T : Type 0} (R : S → T → Type 0) where
   tells_result program (struct tag) call memory h = tells_receive R program memory (Unknown (result_path call) (struct tag)) (λ after cell. h after (Scalar cell))
 
 -- a call of a function without a body
-pub outside_told : (p : ℕ → Point) (callers : List (CallFrame Point)) (program : TypedProgram) (at : Place) (callee : ℕ) (returns : Shape) (written : List Bool) (arguments : List Operand) (m : State) → Told p callers (call_returning program at callee returns written arguments m) (call_returning program at callee returns written arguments (code_state p callers m))
-outside_told p callers program at callee returns written arguments m =
+outside_told : (p : ℕ → Point) (callers : List (CallFrame Point)) (program : TypedProgram) (at : Place) (callee : ℕ) (routine : Routine) (arguments : List Operand) (m : State) → Told p callers (call_outside program at callee routine arguments m) (call_outside program at callee routine arguments (code_state p callers m))
+outside_told p callers program at callee routine arguments m =
     let R = Seen (code_state p callers) in
-    tells_shows R at _ (tells_result R program returns (m.calls + 1) m.memory (λ memory result.
-    tells_arguments R program at (m.calls + 1) 0 written arguments memory (λ after.
+    tells_shows R at _ (tells_result R program routine.returns (m.calls + 1) m.memory (λ memory result.
+    tells_arguments R program at (m.calls + 1) 0 routine.written arguments memory (λ after.
     both_go {s = push result (record m { memory = after; calls = m.calls + 1 })} {t = push result (record (code_state p callers m) { memory = after; calls = m.calls + 1 })} refl)))
+
+-- a call of a function without a graph, which has no body
+pub call_told : (p : ℕ → Point) (callers : List (CallFrame Point)) (code : Code) (program : TypedProgram) (budgets : RunBudgets) (at : Place) (callee count : ℕ) (m : State) → flow_of code callee ≡ None → (routine_of program callee).body ≡ None → Told p callers (call program budgets at callee count m) (do_work code program budgets at (Call callee count) (code_state p callers m))
+call_told p callers code program budgets at callee count m none outside =
+    let routine = routine_of program callee in
+    let left = pop_many count m in
+    subst (λ (flow : Option Flow). Told p callers (call program budgets at callee count m) (call_flow program budgets at callee routine flow (newest count m) (pop_many count (code_state p callers m)))) (sym none)
+    (subst (λ (body : Option Statement). Told p callers (call_routine program budgets at callee routine body (newest count m) left) (call_outside program at callee routine (newest count m) (pop_many count (code_state p callers m)))) (sym outside)
+    (outside_told p callers program at callee routine (newest count m) left))
 
 -- what shows is the same, whatever the run goes on in
 pub shown_told : (at : Place) (what : Label) (m : State) (t : CodeState) → Tells (Seen (λ (s : State). t)) (shows_then at what (Goes m)) (shows_then at what (Goes t))

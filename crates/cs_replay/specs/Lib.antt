@@ -1,13 +1,8 @@
 pub mod Works
 pub mod CodeStates
-pub mod WorkerView
 pub mod Points
 pub mod ReplayerView
 pub mod Nexts
 pub mod Ways
-pub mod Calling
 pub mod FrameChanges
-pub mod Callee
-pub mod Beginnings
 pub mod RunLengths
-pub mod Replays

@@ -10,16 +10,17 @@ use Rattle.cs_interpreter.specs.declared.logs.Stop.{Stop}
 use Rattle.cs_interpreter.specs.declared.logs.Stop.TheVariants as stop
 use Rattle.cs_interpreter.specs.View.{setting_of, log_of}
 use Rattle.cs_interpreter.specs.MachineView.{frame_of}
+use Rattle.cs_steps.specs.RunnerView as runner
 use Rattle.cs_cfg.specs.declared.code.Code.{Code}
 use Rattle.cs_cfg.specs.Graph as graph
 use Rattle.cs_cfg.specs.Graph.{Point}
 use Rattle.cs_cfg.specs.GraphView.{code}
+use Rattle.cs_cfg.specs.Lowered.{HasGraphs}
 use Rattle.cs_cfg.specs.Working.{CodeState}
 use Rattle.cs_replay.specs.declared.replayer.Caller.{Caller}
 use Rattle.cs_replay.specs.declared.replayer.Replayer.{Replayer}
 use Rattle.cs_replay.specs.CodeStates.{at_point, code_state}
 use Rattle.cs_replay.specs.Points.{point_of}
-use Rattle.cs_replay.specs.WorkerView as worker
 
 -- a frame that waits
 abbrev pub caller_of : Code → Caller → CallFrame Point
@@ -34,18 +35,19 @@ abbrev pub code_of : Replayer → graph.Code
 code_of run = code run.code.now
 
 abbrev pub program_of : Replayer → TypedProgram
-program_of run = worker.program_of run.worker
+program_of run = runner.program_of run.runner
 
 abbrev pub budgets_of : Replayer → RunBudgets
-budgets_of run = worker.budgets_of run.worker
+budgets_of run = runner.budgets_of run.runner
 
 -- the state
 abbrev pub state_in : Replayer → CodeState
-state_in run = code_state (point_of run.code.now run.position) (callers_of run.code.now run.callers.items) (worker.state_in run.worker)
+state_in run = code_state (point_of run.code.now run.position) (callers_of run.code.now run.callers.items) (runner.state_in run.runner)
 
--- the program's structs are laid out
-abbrev pub IsReady : Replayer → Type 0
-IsReady run = worker.IsReady run.worker
+-- the program's structs are laid out, and its functions with a body are those that have a graph
+pub record IsReady (run : Replayer) : Type 0 where
+  pub laid_out : runner.IsReady run.runner
+  pub graphs : HasGraphs (code_of run) (program_of run)
 
 -- how a run has ended with a log; where memory was short nothing is said, and what it would have come to stands for it
 abbrev pub ended : Stop → runs.Log → Performed CodeState → Performed CodeState
@@ -55,13 +57,13 @@ ended stop.Memory log otherwise = otherwise
 module _ (old new : Replayer) where
   -- an act leads the run on
   abbrev pub LeadsOn : Act CodeState → Type 0
-  LeadsOn act = perform (setting_of old.worker.setting.now) (log_of old.worker.log) act ≡ Continues (state_in new) (log_of new.worker.log)
+  LeadsOn act = perform (setting_of old.runner.setting.now) (log_of old.runner.log) act ≡ Continues (state_in new) (log_of new.runner.log)
 
   -- an act ends the run
   abbrev pub Ends : Act CodeState → Stop → Type 0
-  Ends act stop = perform (setting_of old.worker.setting.now) (log_of old.worker.log) act ≡ ended stop (log_of new.worker.log) (perform (setting_of old.worker.setting.now) (log_of old.worker.log) act)
+  Ends act stop = perform (setting_of old.runner.setting.now) (log_of old.runner.log) act ≡ ended stop (log_of new.runner.log) (perform (setting_of old.runner.setting.now) (log_of old.runner.log) act)
 
   -- the same program, inputs, guesses, budgets and code
   pub record KeepsSetting : Type 0 where
-    pub setting : new.worker.setting ≡ old.worker.setting
+    pub setting : new.runner.setting ≡ old.runner.setting
     pub code : new.code ≡ old.code

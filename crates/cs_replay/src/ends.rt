@@ -40,7 +40,7 @@ impl<'a> Replayer<'a> {
     // The run goes on with a block of the function that runs.
     fn enter_block(&mut self, block: u32)
         ensures state { state_in self.new ≡ steps.enters (code_of self.old) block (state_in self.old) }
-        ensures log { self.new.worker.log ≡ self.old.worker.log }
+        ensures log { self.new.runner.log ≡ self.old.runner.log }
         ensures kept { KeepsSetting self.old self.new }
     {
         self.position = Position { block, done: 0 };
@@ -52,10 +52,10 @@ impl<'a> Replayer<'a> {
         ensures err { IfErr result (Ends self.old self.new (steps.do_end (code_of self.old) (graph.Branch place temporary one other) (state_in self.old))) }
         ensures kept { OnOk result (KeepsSetting self.old self.new) }
     {
-        cut(&mut self.worker.machine, u64::from(temporary) + 1);
-        let worker = &mut self.worker;
-        let setting = worker.setting;
-        let holds = worker.machine.test(&mut worker.log, setting, place)?;
+        cut(&mut self.runner.machine, u64::from(temporary) + 1);
+        let runner = &mut self.runner;
+        let setting = runner.setting;
+        let holds = runner.machine.test(&mut runner.log, setting, place)?;
         self.enter_block(chosen(holds, one, other));
         Ok(())
     }
@@ -72,11 +72,11 @@ impl<'a> Replayer<'a> {
         ensures err { IfErr result (Ends self.old self.new (steps.do_end (code_of self.old) (graph.Switch place temporary (map view.switch_case cases.now) otherwise) (state_in self.old))) }
         ensures kept { OnOk result (KeepsSetting self.old self.new) }
     {
-        cut(&mut self.worker.machine, u64::from(temporary) + 1);
-        let number = self.worker.machine.pop_cell().number();
+        cut(&mut self.runner.machine, u64::from(temporary) + 1);
+        let number = self.runner.machine.pop_cell().number();
         let way = way_of(cases, otherwise, number)?;
-        let setting = self.worker.setting;
-        let log = &mut self.worker.log;
+        let setting = self.runner.setting;
+        let log = &mut self.runner.log;
         log.touch(Touch::Meets(PointKind::Switch, place))?;
         log.show(setting, place, Label::Case(way.number))?;
         self.enter_block(way.block);
@@ -89,8 +89,8 @@ impl<'a> Replayer<'a> {
         ensures err { IfErr result (Ends self.old self.new (steps.do_end (code_of self.old) (graph.Return temporary) (state_in self.old))) }
         ensures kept { OnOk result (KeepsSetting self.old self.new) }
     {
-        cut(&mut self.worker.machine, u64::from(temporary) + 1);
-        let value = self.worker.machine.pop();
+        cut(&mut self.runner.machine, u64::from(temporary) + 1);
+        let value = self.runner.machine.pop();
         self.leave(value)
     }
 }

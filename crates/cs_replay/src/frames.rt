@@ -1,18 +1,9 @@
 //! New frames (C11 6.2.4, 6.9.1).
-ghost use Rattle.std.specs.Prelude.{◌≡◌, ℕ, IfOk, map, option_map, option_copied, replicate, slice_get};
-ghost use Rattle.cs_types.specs.Layout.{IsLaidOut};
-ghost use Rattle.cs_ast.specs.TypedProgram.{typed_program, variable};
-ghost use Rattle.cs_plain.specs.Calls as calls;
-ghost use Rattle.cs_interpreter.specs.View.{operand_of};
-ghost use Rattle.cs_interpreter.specs.MemoryView.{block_of, block_at};
+ghost use Rattle.std.specs.Prelude.{◌≡◌, IfOk, replicate};
 ghost use Rattle.cs_interpreter.specs.MachineView.{frame_of};
 ghost use Rattle.cs_replay.specs.CodeStates.{begun};
 
-use cs_ast::typed::program::{Local, Program};
-use cs_interpreter::Operand;
-use cs_interpreter::blocks::{Block, BlockType, Change, Fill};
 use cs_interpreter::machine::Frame;
-use cs_interpreter::types::size_of;
 use std::alloc::{AllocError, Global};
 
 /// A frame in which the graph of a function begins.
@@ -42,42 +33,4 @@ fn zeros(alloc: Global, count: u64) -> Result<Vec<u32>, AllocError>
         made.push(0)?;
     }
     Ok(made)
-}
-
-/// The locals of a new frame with these arguments: nothing of them is set, but a parameter holds its argument (C11 6.2.4, paragraph 6).
-pub fn local_blocks<'a>(
-    alloc: Global,
-    program: &Program,
-    locals: &'a [Local],
-    arguments: &[Operand],
-) -> Result<Vec<Block<'a>>, AllocError>
-    requires { IsLaidOut program.now.model program.now.table.list }
-    ensures { IfOk result (λ made. (n : ℕ) → block_at made.items n ≡ option_map (calls.local_block (typed_program program.now) (slice_get (map operand_of arguments.now) n)) (slice_get (map variable locals.now) n)) }
-{
-    let mut made = Vec::new(alloc);
-    for (number, local) in locals.iter().enumerate() {
-        let block = local_block(alloc, program, local, arguments.get(number))?;
-        made.push(block)?;
-    }
-    Ok(made)
-}
-
-// A local of a new frame, with its argument if it is a parameter.
-#[tactic(auto, using(crate::proofs::Locals::locals))]
-fn local_block<'a>(
-    alloc: Global,
-    program: &Program,
-    local: &'a Local,
-    argument: Option<&Operand>,
-) -> Result<Block<'a>, AllocError>
-    requires { IsLaidOut program.now.model program.now.table.list }
-    ensures { IfOk result (λ made. block_of made ≡ calls.local_block (typed_program program.now) (option_map operand_of (option_copied argument.entry)) (variable local.now)) }
-{
-    let size = size_of(program, &local.ty)?;
-    let mut block = Block::new(alloc, BlockType::Of(&local.ty), size, Fill::Unset);
-    if let Some(argument) = argument {
-        let cell = argument.copy()?.into_cell();
-        block.change(Change::Write(0, cell))?;
-    }
-    Ok(block)
 }

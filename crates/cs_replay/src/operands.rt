@@ -21,7 +21,7 @@ pub fn cut(state: &mut Machine, number: u64)
 }
 
 /// Takes so many of the newest operands, the oldest of them first.
-#[tactic(auto, using(crate::proofs::Stacks::stacks), unfolding(cs_interpreter::specs::MachineView::state_of))]
+#[tactic(auto, using(cs_steps::proofs::Stacks::stacks), unfolding(cs_interpreter::specs::MachineView::state_of))]
 pub fn pop_newest(state: &mut Machine, count: usize) -> Result<Vec<Operand>, AllocError>
     ensures operands { IfOk result (λ taken. map operand_of taken.items ≡ machine.newest count (state_of state.old)) }
     ensures state { IfOk result (λ _. state_of state.new ≡ machine.pop_many count (state_of state.old)) }

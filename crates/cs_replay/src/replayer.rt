@@ -1,9 +1,9 @@
 //! A run of code on its way.
 
 use crate::positions::Position;
-use crate::worker::Worker;
 use cs_cfg::Code;
 use cs_interpreter::machine::Frame;
+use cs_steps::runner::Runner;
 
 /// A frame that waits for the value of a call, and how far it has come.
 #[derive(Drop)]
@@ -16,7 +16,7 @@ pub struct Caller<'a> {
 /// called it, the nearest last.
 #[derive(Drop)]
 pub struct Replayer<'a> {
-    pub worker: Worker<'a>,
+    pub runner: Runner<'a>,
     pub code: &'a Code,
     pub position: Position,
     pub callers: Vec<Caller<'a>>,

@@ -3,16 +3,13 @@ ghost use Rattle.std.specs.Prelude.{◌≡◌, ◌+◌, OnOk, IfErr};
 ghost use Rattle.cs_cfg.specs.CodeSteps as steps;
 ghost use Rattle.cs_cfg.specs.GraphView as view;
 ghost use Rattle.cs_cfg.specs.Working as working;
-ghost use Rattle.cs_plain.specs.Calls as calls;
-ghost use Rattle.cs_plain.specs.Machine.{Scalar};
-ghost use Rattle.cs_runs.specs.Objects.{UnsetCell};
 ghost use Rattle.cs_replay.specs.Nexts.{reaching};
 ghost use Rattle.cs_replay.specs.ReplayerView.{program_of, budgets_of, code_of, state_in, IsReady, LeadsOn, Ends, KeepsSetting};
 
 use crate::nexts::{Next, next_at};
 use crate::operands::cut;
 use crate::replayer::Replayer;
-use crate::working::takes;
+use crate::working::{takes, work};
 use cs_ast::Place;
 use cs_cfg::{Mark, Operation, Work};
 use cs_interpreter::{Cell, Operand, Stop};
@@ -26,7 +23,7 @@ impl<'a> Replayer<'a> {
         ensures err { IfErr result (Ends self.old self.new (steps.code_step (code_of self.old) (program_of self.old) (budgets_of self.old) (state_in self.old))) }
         ensures kept { OnOk result (KeepsSetting self.old self.new) }
     {
-        let function = self.worker.machine.frame.function;
+        let function = self.runner.machine.frame.function;
         match next_at(self.code, function, self.position) {
             Next::Mark(mark) => {
                 self.advance()?;
@@ -55,8 +52,8 @@ impl<'a> Replayer<'a> {
         ensures err { IfErr result (Ends self.old self.new (steps.do_operation (code_of self.old) (program_of self.old) (budgets_of self.old) (reaching mark.now) (state_in self.old))) }
         ensures kept { OnOk result (KeepsSetting self.old self.new) }
     {
-        cut(&mut self.worker.machine, 0);
-        self.worker
+        cut(&mut self.runner.machine, 0);
+        self.runner
             .reach_mark(mark.place, mark.kind, u64::from(mark.number))?;
         Ok(())
     }
@@ -69,7 +66,7 @@ impl<'a> Replayer<'a> {
         ensures kept { OnOk result (KeepsSetting self.old self.new) }
     {
         let needed = u64::from(operation.temporary) + u64::from(takes(&operation.work));
-        cut(&mut self.worker.machine, needed);
+        cut(&mut self.runner.machine, needed);
         self.work(operation.place, &operation.work)
     }
 
@@ -83,7 +80,7 @@ impl<'a> Replayer<'a> {
         match one {
             Work::Call(function, count) => self.call(place, *function, *count),
             one => {
-                self.worker.work(place, one)?;
+                work(&mut self.runner, place, one)?;
                 Ok(())
             }
         }

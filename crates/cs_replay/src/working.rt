@@ -1,96 +1,109 @@
 //! What an operation does with its operands, which are the newest temporaries.
 ghost use Rattle.std.specs.Prelude.{◌≡◌, OnOk, IfErr};
-ghost use Rattle.cs_runs.specs.Acts.{Goes};
 ghost use Rattle.cs_cfg.specs.Graph as graph;
 ghost use Rattle.cs_cfg.specs.GraphView as view;
 ghost use Rattle.cs_cfg.specs.Working as working;
 ghost use Rattle.cs_interpreter.specs.View.{operand_of};
-ghost use Rattle.cs_replay.specs.WorkerView.{program_of, budgets_of, state_in, IsReady, LeadsOn, Ends};
+ghost use Rattle.cs_steps.specs.RunnerView.{program_of, budgets_of, state_in, IsReady, LeadsOn, Ends};
 ghost use Rattle.cs_replay.specs.Works.{works};
 
-use crate::worker::Worker;
+use crate::accesses::{assign, fetch_number, fetch_pointer, load, move_pointer, update};
+use crate::declared::{clear, spell, store_local, zero};
+use crate::values::{
+    arrow, binary, compare, convert, difference, give, give_nothing, local_place, member, not, sum,
+    unary,
+};
 use cs_ast::Place;
 use cs_ast::typed::operator::Allocator;
 use cs_cfg::Work;
 use cs_interpreter::{Cell, Object, Operand, Stop, Touch};
 use cs_runs::PointKind;
+use cs_steps::runner::Runner;
 
-impl<'a> Worker<'a> {
-    /// Does what an operation does that is no call; a call goes on in another frame, and here does nothing.
-    pub fn work(&mut self, place: Place, one: &'a Work) -> Result<(), Stop>
-        requires { IsReady self.old }
-        ensures ok { OnOk result (LeadsOn self.old self.new (works (program_of self.old) (budgets_of self.old) place (view.work one.now) (state_in self.old))) }
-        ensures err { IfErr result (Ends self.old self.new (works (program_of self.old) (budgets_of self.old) place (view.work one.now) (state_in self.old))) }
-        ensures kept { OnOk result (self.new.setting ≡ self.old.setting) }
-    {
-        match one {
-            Work::Number(number) => self.give(Cell::Number(*number)),
-            Work::Null => self.give(Cell::Null),
-            Work::Text(literal) => self.give(Cell::Pointer(Object::Literal(*literal), 0)),
-            Work::Local(declaration) => self.local_place(place, *declaration),
-            Work::Global(global) => self.give(Cell::Pointer(Object::Global(*global), 0)),
-            Work::Nothing => self.give_nothing(place),
-            Work::Sum(bytes, direction, order) => self.sum(place, *bytes, *direction, *order),
-            Work::Member(offset) => self.member(place, *offset),
-            Work::Arrow(offset) => self.arrow(place, *offset),
-            Work::Load(object) => self.load(place, object),
-            Work::Convert(from, to) => self.convert(place, from, to),
-            Work::Unary(operator, ty) => self.unary(place, *operator, *ty),
-            Work::Not => self.not(place),
-            Work::Binary(operator, ty) => self.binary(place, *operator, *ty),
-            Work::Compare(operator) => self.compare(place, *operator),
-            Work::Difference(bytes) => self.difference(place, *bytes),
-            Work::Judge => self.machine.judge(&mut self.log, self.setting, place),
-            Work::Store(object) => self.assign(place, object),
-            Work::FetchNumber(object, works_in) => self.fetch_number(place, object, *works_in),
-            Work::Update(operator, object, works_in, gives) => {
-                self.update(place, *operator, object, *works_in, *gives)
-            }
-            Work::FetchPointer(object) => self.fetch_pointer(place, object),
-            Work::Move(object, bytes, direction, gives) => {
-                self.move_pointer(place, object, *bytes, *direction, *gives)
-            }
-            Work::Call(_, _) => Ok(()),
-            Work::Allocate(allocator, element) => self.allocate(place, *allocator, element),
-            Work::Free => self.free(place),
-            Work::Use => self.machine.use_result(&self.log, self.setting, place),
-            Work::Drop => {
-                self.machine.pop();
-                Ok(())
-            }
-            Work::Clear(declaration, scalar) => self.clear(place, *declaration, *scalar),
-            Work::Zero(declaration) => self.zero(place, *declaration),
-            Work::StoreLocal(declaration, offset, ty, scalar) => {
-                self.store_local(place, *declaration, *offset, ty, *scalar)
-            }
-            Work::Spell(declaration, offset, bytes) => {
-                self.spell(place, *declaration, *offset, bytes.as_bytes())
-            }
-            Work::Meet(kind) => self.meet(place, *kind),
-            Work::Close(nothing) => self.close(place, *nothing),
+/// Does what an operation does that is no call; a call goes on in another frame, and here does nothing.
+pub fn work<'a>(run: &mut Runner<'a>, place: Place, one: &'a Work) -> Result<(), Stop>
+    requires { IsReady run.old }
+    ensures ok { OnOk result (LeadsOn run.old run.new (works (program_of run.old) (budgets_of run.old) place (view.work one.now) (state_in run.old))) }
+    ensures err { IfErr result (Ends run.old run.new (works (program_of run.old) (budgets_of run.old) place (view.work one.now) (state_in run.old))) }
+    ensures kept { OnOk result (run.new.setting ≡ run.old.setting) }
+{
+    match one {
+        Work::Number(number) => give(run, Cell::Number(*number)),
+        Work::Null => give(run, Cell::Null),
+        Work::Text(literal) => give(run, Cell::Pointer(Object::Literal(*literal), 0)),
+        Work::Local(declaration) => local_place(run, place, *declaration),
+        Work::Global(global) => give(run, Cell::Pointer(Object::Global(*global), 0)),
+        Work::Nothing => give_nothing(run, place),
+        Work::Sum(bytes, direction, order) => sum(run, place, *bytes, *direction, *order),
+        Work::Member(offset) => member(run, place, *offset),
+        Work::Arrow(offset) => arrow(run, place, *offset),
+        Work::Load(object) => load(run, place, object),
+        Work::Convert(from, to) => convert(run, place, from, to),
+        Work::Unary(operator, ty) => unary(run, place, *operator, *ty),
+        Work::Not => not(run, place),
+        Work::Binary(operator, ty) => binary(run, place, *operator, *ty),
+        Work::Compare(operator) => compare(run, place, *operator),
+        Work::Difference(bytes) => difference(run, place, *bytes),
+        Work::Judge => run.machine.judge(&mut run.log, run.setting, place),
+        Work::Store(object) => assign(run, place, object),
+        Work::FetchNumber(object, works_in) => fetch_number(run, place, object, *works_in),
+        Work::Update(operator, object, works_in, gives) => {
+            update(run, place, *operator, object, *works_in, *gives)
         }
+        Work::FetchPointer(object) => fetch_pointer(run, place, object),
+        Work::Move(object, bytes, direction, gives) => {
+            move_pointer(run, place, object, *bytes, *direction, *gives)
+        }
+        Work::Call(_, _) => Ok(()),
+        Work::Allocate(allocator, element) => run.allocate(place, *allocator, element),
+        Work::Free => free(run, place),
+        Work::Use => run.machine.use_result(&run.log, run.setting, place),
+        Work::Drop => {
+            run.machine.pop();
+            Ok(())
+        }
+        Work::Clear(declaration, scalar) => clear(run, place, *declaration, *scalar),
+        Work::Zero(declaration) => zero(run, place, *declaration),
+        Work::StoreLocal(declaration, offset, ty, scalar) => {
+            store_local(run, place, *declaration, *offset, ty, *scalar)
+        }
+        Work::Spell(declaration, offset, bytes) => {
+            spell(run, place, *declaration, *offset, bytes.as_bytes())
+        }
+        Work::Meet(kind) => meet(run, place, *kind),
+        Work::Close(nothing) => close(run, place, *nothing),
     }
+}
 
-    // The run meets a control point.
-    fn meet(&mut self, place: Place, kind: PointKind) -> Result<(), Stop>
-        ensures ok { OnOk result (LeadsOn self.old self.new (works (program_of self.old) (budgets_of self.old) place (graph.Meet kind) (state_in self.old))) }
-        ensures err { IfErr result (Ends self.old self.new (works (program_of self.old) (budgets_of self.old) place (graph.Meet kind) (state_in self.old))) }
-        ensures kept { OnOk result (self.new.setting ≡ self.old.setting) }
-    {
-        self.log.touch(Touch::Meets(kind, place))?;
-        Ok(())
-    }
+// A call of `free`, whose argument is the newest temporary (C11 7.22.3.3).
+fn free(run: &mut Runner, place: Place) -> Result<(), Stop>
+    ensures ok { OnOk result (LeadsOn run.old run.new (works (program_of run.old) (budgets_of run.old) place graph.Free (state_in run.old))) }
+    ensures err { IfErr result (Ends run.old run.new (works (program_of run.old) (budgets_of run.old) place graph.Free (state_in run.old))) }
+    ensures kept { OnOk result (run.new.setting ≡ run.old.setting) }
+{
+    let pointer = run.machine.pop_cell();
+    run.release(place, pointer)
+}
 
-    // The run meets the end of a function's body.
-    fn close(&mut self, place: Place, nothing: bool) -> Result<(), Stop>
-        ensures ok { OnOk result (LeadsOn self.old self.new (works (program_of self.old) (budgets_of self.old) place (graph.Close nothing) (state_in self.old))) }
-        ensures err { IfErr result (Ends self.old self.new (works (program_of self.old) (budgets_of self.old) place (graph.Close nothing) (state_in self.old))) }
-        ensures kept { OnOk result (self.new.setting ≡ self.old.setting) }
-    {
-        self.log.touch(Touch::Meets(PointKind::End, place))?;
-        self.machine.push(closed_with(nothing))?;
-        Ok(())
-    }
+// The run meets a control point.
+fn meet(run: &mut Runner, place: Place, kind: PointKind) -> Result<(), Stop>
+    ensures ok { OnOk result (LeadsOn run.old run.new (works (program_of run.old) (budgets_of run.old) place (graph.Meet kind) (state_in run.old))) }
+    ensures err { IfErr result (Ends run.old run.new (works (program_of run.old) (budgets_of run.old) place (graph.Meet kind) (state_in run.old))) }
+    ensures kept { OnOk result (run.new.setting ≡ run.old.setting) }
+{
+    run.log.touch(Touch::Meets(kind, place))?;
+    Ok(())
+}
+
+// The run meets the end of a function's body.
+fn close(run: &mut Runner, place: Place, nothing: bool) -> Result<(), Stop>
+    ensures ok { OnOk result (LeadsOn run.old run.new (works (program_of run.old) (budgets_of run.old) place (graph.Close nothing) (state_in run.old))) }
+    ensures err { IfErr result (Ends run.old run.new (works (program_of run.old) (budgets_of run.old) place (graph.Close nothing) (state_in run.old))) }
+    ensures kept { OnOk result (run.new.setting ≡ run.old.setting) }
+{
+    run.log.touch(Touch::Meets(PointKind::End, place))?;
+    run.machine.push(closed_with(nothing))?;
+    Ok(())
 }
 
 // What the end of a function's body gives: nothing, or a value that was never set (C11 6.9.1, paragraph 12).

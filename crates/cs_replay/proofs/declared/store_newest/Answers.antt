@@ -7,7 +7,7 @@ use Rattle.cs_plain.specs.Machine.{Operand, State, with_memory, operand_at}
 use Rattle.cs_plain.specs.Memory.{changed}
 use Rattle.cs_interpreter.specs.MemoryView.{memory_of}
 use Rattle.cs_interpreter.specs.MachineView.{state_of}
-use Rattle.cs_replay.proofs.MachineStates.{state_with}
+use Rattle.cs_steps.proofs.MachineStates.{state_with}
 use Rattle.cs_replay.proofs.declared.store_newest.Goals as goal
 
 pub returns : goal.returns

@@ -1,7 +1,7 @@
 use Rattle.std.proofs.Common.{ap, ◌∙◌}
 use Rattle.cs_plain.specs.Machine.{State, pop_many}
 use Rattle.cs_interpreter.specs.MachineView.{state_of}
-use Rattle.cs_replay.proofs.Stacks.{pop-many}
+use Rattle.cs_steps.proofs.Stacks.{pop-many}
 use Rattle.cs_replay.proofs.operands.pop_moved.Goals as goal
 
 pub returns-clause-state : goal.returns-clause-state

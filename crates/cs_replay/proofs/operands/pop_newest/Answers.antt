@@ -4,7 +4,7 @@ use Rattle.cs_plain.specs.Machine.{with_stack}
 use Rattle.cs_interpreter.specs.declared.objects.Operand.{Operand}
 use Rattle.cs_interpreter.specs.View.{operand_of}
 use Rattle.cs_interpreter.specs.MachineView.{state_of}
-use Rattle.cs_replay.proofs.Stacks.{older_of}
+use Rattle.cs_steps.proofs.Stacks.{older_of}
 use Rattle.cs_replay.proofs.operands.pop_newest.Goals as goal
 
 pub returns-clause-state : goal.returns-clause-state

@@ -1,6 +1,6 @@
 use Rattle.cs_ast.specs.TypedProgram.{typed_program}
 use Rattle.cs_cfg.specs.GraphView as view
-use Rattle.cs_replay.specs.Replays.{run_of}
+use Rattle.cs_steps.specs.RunView.{run_of}
 use Rattle.cs_replay.proofs.PlacedRuns.{placed_ends}
 use Rattle.cs_replay.proofs.replays.replay.Goals as goal
 

@@ -9,7 +9,7 @@ use Rattle.cs_replay.proofs.replayer.Replayer.end_block.Goals as goal
 pub returns-in-Jump-clause-ok : goal.returns-in-Jump-clause-ok
 returns-in-Jump-clause-ok c =
     let run = c.args.self.now in
-    let setting = setting_of run.worker.setting.now in
-    let log = log_of run.worker.log in
+    let setting = setting_of run.runner.setting.now in
+    let log = log_of run.runner.log in
     let target = enters (code_of run) c.in-Jump.block (state_in run) in
-    arrives setting log (Goes target) target (state_in c.enter_block.new.self) log (log_of c.enter_block.new.self.worker.log) (goes_so setting log target) c.enter_block.ensures.state (ap log_of c.enter_block.ensures.log)
+    arrives setting log (Goes target) target (state_in c.enter_block.new.self) log (log_of c.enter_block.new.self.runner.log) (goes_so setting log target) c.enter_block.ensures.state (ap log_of c.enter_block.ensures.log)

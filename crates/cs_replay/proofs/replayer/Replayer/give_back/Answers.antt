@@ -16,7 +16,7 @@ use Rattle.cs_replay.proofs.replayer.Replayer.give_back.Goals as goal
 pub returns-clause-err : goal.returns-clause-err
 returns-clause-err c =
     let run = c.args.self.now in
-    let machine = state_of run.worker.machine in
+    let machine = state_of run.runner.machine in
     let points = point_of run.code.now run.position in
     let callers = callers_of run.code.now run.callers.items in
     let cut = rw c.from.ensures at c.cut.ensures in

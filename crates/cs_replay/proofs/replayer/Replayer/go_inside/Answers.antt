@@ -14,7 +14,7 @@ unfolding state_of
 returns-clause-state c =
     let run = c.args.self.now in
     let code = run.code.now in
-    let machine = run.worker.machine in
+    let machine = run.runner.machine in
     let waiting : Frame → Caller = λ frame. record { frame = frame; position = run.position } in
     let start : Position = record { block = c.args.block; done = 0 } in
     let called : c.push.new.self.items ≡ run.callers.items ++ waiting machine.frame ∷ [] = c.in_ok-push.ensures.items ∙ ap (λ (frame : Frame). run.callers.items ++ waiting frame ∷ []) c.replace.ensures.value in

@@ -15,7 +15,7 @@ pub returns-clause-ok : goal.returns-clause-ok
 returns-clause-ok c =
     let run = c.args.self.now in
     let operation = c.args.operation.now in
-    let cut : state_of c.cut.new.state ≡ cut_to (operation.temporary + takes (view.work operation.work)) (state_of run.worker.machine) = rw (c.from.ensures, c.from-2.ensures, c.takes.ensures) at c.cut.ensures in
+    let cut : state_of c.cut.new.state ≡ cut_to (operation.temporary + takes (view.work operation.work)) (state_of run.runner.machine) = rw (c.from.ensures, c.from-2.ensures, c.takes.ensures) at c.cut.ensures in
     let same = ap (λ (m : State). do_work (code_of run) (program_of run) (budgets_of run) operation.place (view.work operation.work) (code_state (point_of run.code.now run.position) (callers_of run.code.now run.callers.items) m)) cut in
     subst (λ (act : Act CodeState). OnOk c.work.result (LeadsOn run c.work.new.self act)) same c.work.ensures.ok
 
@@ -23,6 +23,6 @@ pub returns-clause-err : goal.returns-clause-err
 returns-clause-err c =
     let run = c.args.self.now in
     let operation = c.args.operation.now in
-    let cut : state_of c.cut.new.state ≡ cut_to (operation.temporary + takes (view.work operation.work)) (state_of run.worker.machine) = rw (c.from.ensures, c.from-2.ensures, c.takes.ensures) at c.cut.ensures in
+    let cut : state_of c.cut.new.state ≡ cut_to (operation.temporary + takes (view.work operation.work)) (state_of run.runner.machine) = rw (c.from.ensures, c.from-2.ensures, c.takes.ensures) at c.cut.ensures in
     let same = ap (λ (m : State). do_work (code_of run) (program_of run) (budgets_of run) operation.place (view.work operation.work) (code_state (point_of run.code.now run.position) (callers_of run.code.now run.callers.items) m)) cut in
     subst (λ (act : Act CodeState). IfErr c.work.result (Ends run c.work.new.self act)) same c.work.ensures.err
