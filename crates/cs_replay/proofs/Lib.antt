@@ -4,6 +4,7 @@ mod Lengths
 mod PlacedRuns
 mod Blocks
 mod Cutting
+mod Loading
 mod Stepping
 mod Leading
 mod Entering

@@ -16,6 +16,7 @@ use crate::nexts::flow_at;
 use crate::positions::Position;
 use crate::replayer::Replayer;
 use cs_cfg::{Code, Flow};
+use cs_interpreter::machine::{Frame, Machine};
 use cs_interpreter::{Log, Setting};
 use cs_steps::runner::Runner;
 use cs_steps::starting::start;
@@ -35,7 +36,8 @@ pub fn begin<'a>(
 {
     let (block, marks) = beginning(flow_at(code, entry));
     let mut machine = start(alloc, setting, entry)?;
-    machine.frame = new_frame(alloc, entry, 0, marks)?;
+    let frame = new_frame(alloc, entry, 0, marks)?;
+    put_in(&mut machine, frame);
     let log = Log::new(alloc);
     let callers = Vec::new(alloc);
     Ok(Replayer {
@@ -59,4 +61,11 @@ fn beginning(flow: Option<&Flow>) -> (u32, u32)
         Some(flow) => (flow.entry, flow.marks),
         None => (0, 0),
     }
+}
+
+// Another frame runs.
+fn put_in<'a>(state: &mut Machine<'a>, frame: Frame<'a>)
+    ensures { state.new ≡ record state.old { frame = frame.entry } }
+{
+    state.frame = frame;
 }
