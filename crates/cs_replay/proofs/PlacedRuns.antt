@@ -21,7 +21,7 @@ use Rattle.cs_replay.specs.RunLengths.{HasLeft, HasLength}
 use Rattle.cs_replay.proofs.Lengths.{has_length}
 
 -- a body is there where a graph is
-pub has_body : (flow : Option Flow) (body : Option Statement) (found : Flow) → is_there flow ≡ is_there body → flow ≡ Some found → (b : Statement) × (body ≡ Some b)
+has_body : (flow : Option Flow) (body : Option Statement) (found : Flow) → is_there flow ≡ is_there body → flow ≡ Some found → (b : Statement) × (body ≡ Some b)
 has_body None body found same there = cc
 has_body (Some flow) None found same there = cc
 has_body (Some flow) (Some b) found same there = (b, refl)

@@ -57,7 +57,9 @@ module _ (old moved new : Replayer) (operation : Operation) (is : moved ≡ reco
       subst (λ (act : Act CodeState). Ends old new act stop) (sym works_next) ended_so
 
   pub kept_after : KeepsSetting moved new → KeepsSetting old new
-  kept_after kept = subst (λ (run : Replayer). KeepsSetting run new) is kept
+  kept_after kept =
+      let same = subst (λ (run : Replayer). KeepsSetting run new) is kept in
+      record { setting = same.setting; code = same.code }
 
   pub ready_after : IsReady old → IsReady moved
   ready_after ready = subst (λ (run : Replayer). IsReady run) (sym is) (record { laid_out = ready.laid_out; graphs = ready.graphs })

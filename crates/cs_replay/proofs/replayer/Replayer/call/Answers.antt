@@ -17,8 +17,8 @@ use Rattle.cs_replay.proofs.Performs.{leads_so}
 use Rattle.cs_replay.proofs.Told.{call_told}
 use Rattle.cs_replay.proofs.replayer.Replayer.call.Goals as goal
 
-pub returns-in-Some-clause-err : goal.returns-in-Some-clause-err
-returns-in-Some-clause-err c =
+pub returns-in_ok-arguments-in-Some-clause-err : goal.returns-in-Some-clause-err
+returns-in_ok-arguments-in-Some-clause-err c =
     let run = c.args.self.now in
     let points = point_of run.code.now run.position in
     let callers = callers_of run.code.now run.callers.items in

@@ -1,4 +1,4 @@
-use Rattle.std.proofs.Common.{◌≡◌, Err, absurd, rules}
+use Rattle.std.proofs.Common.{◌≡◌, Err, rules}
 use Rattle.cs_interpreter.specs.View.{setting_of, log_of}
 use Rattle.cs_interpreter.specs.MachineView.{state_of}
 use Rattle.cs_cfg.specs.GraphView as view
@@ -20,7 +20,7 @@ returns-in_err-work-in_default-clause-err c =
     let m = state_of run.runner.machine in
     let one = c.args.one.now in
     let stop = c.in_err-work-in_default.field-0.0 in
-    let there : c.from_residual-in_err-work-in_default.result ≡ Err stop = search rules in
+    let there : c.from_residual.result ≡ Err stop = search rules in
     let told = work_told points callers (code_of run) (program_of run) (budgets_of run) c.args.place one m (λ callee count is. c.in_default.not-Call callee count is) in
     rw there (ends_so (setting_of run.runner.setting.now) (log_of run.runner.log) (log_of c.work.new.run.log) (code_state points callers) (works (program_of run) (budgets_of run) c.args.place (view.work one) m) (do_work (code_of run) (program_of run) (budgets_of run) c.args.place (view.work one) (state_in run)) stop told c.in_err-work-in_default.ensures.err)
 
