@@ -1,5 +1,5 @@
 -- A run on its way from the beginning of a course, and how many steps it has left: for the loop of `follow`.
-use Rattle.std.proofs.Common.{◌≡◌, ℕ, suc, ◌≤◌, ◌<◌, refl, sym, ap, ◌∙◌, subst, arith}
+use Rattle.std.proofs.Common.{◌≡◌, ℕ, ◌≤◌, ◌<◌, refl, sym, ap, ◌∙◌, subst, arith}
 use Rattle.cs_types.specs.Layout.{IsLaidOut}
 use Rattle.cs_ast.specs.TypedProgram.{typed_program}
 use Rattle.cs_runs.specs.declared.outcome.Outcome.{Outcome}

@@ -5,11 +5,9 @@ use Rattle.cs_ast.specs.declared.place.Place.{Place}
 use Rattle.cs_ast.specs.TypedTree.{Statement}
 use Rattle.cs_ast.specs.TypedProgram.{TypedProgram, Routine}
 use Rattle.cs_runs.specs.declared.outcome.RunBudgets.{RunBudgets}
-use Rattle.cs_runs.specs.Acts.{Act}
 use Rattle.cs_plain.specs.Memory.{Block, Memory}
 use Rattle.cs_plain.specs.Machine.{Operand, Frame, newest, pop_many}
 use Rattle.cs_plain.specs.Calls.{local_block, inside, enter_as}
-use Rattle.cs_interpreter.specs.MemoryView.{with_frame}
 use Rattle.cs_cfg.specs.Graph.{Flow, Code, no_flow, flow_of, block_of, block_in}
 use Rattle.cs_cfg.specs.Lowered.{is_there}
 use Rattle.cs_cfg.specs.Working.{CodeState, code_frame, call_flow}

@@ -1,5 +1,5 @@
 -- How many steps the run of placed code has, and how many it has left on its way: for the loop of `follow`.
-use Rattle.std.proofs.Common.{◌≡◌, ℕ, zero, suc, ◌≤◌, ◌<◌, refl, sym, ap, ◌∙◌, subst, arith}
+use Rattle.std.proofs.Common.{◌≡◌, ℕ, zero, suc, ◌≤◌, refl, sym, ap, ◌∙◌, subst, arith}
 use Rattle.cs_runs.specs.Acts.{Act}
 use Rattle.cs_runs.specs.Runs.{Setting, Log, Performed, Continues, Finishes, perform, Leads, stays, goes, EndsFrom}
 use Rattle.cs_runs.specs.declared.outcome.Outcome.{Outcome}

@@ -1,11 +1,11 @@
 -- The step of the code at a point: for the contract of `step`.
-use Rattle.std.proofs.Common.{◌≡◌, ℕ, ◌+◌, List, [], Result, Ok, Err, OnOk, refl, sym, ap, ◌∙◌, subst}
+use Rattle.std.proofs.Common.{◌≡◌, ◌+◌, [], Result, Ok, Err, OnOk, refl, sym, ap, ◌∙◌, subst}
 use Rattle.cs_ast.specs.TypedProgram.{TypedProgram}
 use Rattle.cs_runs.specs.declared.outcome.RunBudgets.{RunBudgets}
 use Rattle.cs_runs.specs.Objects.{UnsetCell}
 use Rattle.cs_runs.specs.Acts.{Act}
 use Rattle.cs_runs.specs.Runs.{perform}
-use Rattle.cs_plain.specs.Machine.{CallFrame, State, Scalar, to_do}
+use Rattle.cs_plain.specs.Machine.{Scalar, to_do}
 use Rattle.cs_plain.specs.Calls.{leave}
 use Rattle.cs_interpreter.specs.declared.logs.Stop.{Stop}
 use Rattle.cs_interpreter.specs.View.{setting_of, log_of}

@@ -26,13 +26,13 @@ use Rattle.cs_plain.specs.Initials.{number_in, truth_cell, directed}
 use Rattle.cs_plain.specs.Memory.{Block, Memory, Fill, UnsetFill, ZeroFill, Unknown}
 use Rattle.cs_plain.specs.Access.{Access, shows_then}
 use Rattle.cs_plain.specs.Operators.{branch}
-use Rattle.cs_plain.specs.Machine.{Operand, Scalar, Whole, Nothing, CallFrame, Running, State, push, push_cell, pop, pop_many, with_memory, cell_of, operand_at, cell_at, newest, routine_of}
-use Rattle.cs_plain.specs.Marks.{reached_again, reach_mark}
+use Rattle.cs_plain.specs.Machine.{Operand, Scalar, Whole, Nothing, CallFrame, State, push, push_cell, pop, pop_many, with_memory, cell_of, operand_at, cell_at, newest, routine_of}
+use Rattle.cs_plain.specs.Marks.{reached_again}
 use Rattle.cs_plain.specs.Calls.{result_path, write_through, write_arguments, outside_result, call_outside, call_routine, call, allocated, allocate, release, release_block, release_known, release_object}
-use Rattle.cs_plain.specs.Expressions.{pointer_age, amount_age, given, number_at, stores_to, judge, use_result}
+use Rattle.cs_plain.specs.Expressions.{pointer_age, amount_age, given, number_at, stores_to, use_result}
 use Rattle.cs_cfg.specs.declared.operation.Work as w
 use Rattle.cs_cfg.specs.declared.operation.Work.TheVariants as of
-use Rattle.cs_cfg.specs.Graph.{Work, Reach, Call, Point, Flow, Code, flow_of}
+use Rattle.cs_cfg.specs.Graph.{Reach, Call, Point, Flow, Code, flow_of}
 use Rattle.cs_cfg.specs.GraphView.{work, access}
 use Rattle.cs_cfg.specs.Working.{CodeState, if_local, call_flow, do_work}
 use Rattle.cs_cfg.proofs.Alike.{Told as ToldOfOne, ToldOfTwo, tells_receive, tells_branch, tells_if, tells_shows, tells_touches, tells_set, tells_load, tells_store, tells_truth, tells_operate, tells_convert_number, tells_convert, tells_sum, tells_compare, tells_difference, tells_arrow}

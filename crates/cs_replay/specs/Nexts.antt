@@ -1,5 +1,5 @@
 -- What comes next at a point.
-use Rattle.std.specs.Prelude.{◌≡◌, [], Option, Some, None, map, option_map}
+use Rattle.std.specs.Prelude.{◌≡◌, [], Option, Some, None, map}
 use Rattle.std.specs.Borrow.{Bor}
 use Rattle.cs_cfg.specs.declared.code.Block as b
 use Rattle.cs_cfg.specs.declared.code.Flow as f

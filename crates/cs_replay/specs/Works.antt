@@ -1,5 +1,5 @@
 -- What an operation of the code does, told of every machine, whatever that has still to do: all operations but calls.
-use Rattle.std.specs.Prelude.{ℕ, pos, Bool, true, false, not, Option, Some, None}
+use Rattle.std.specs.Prelude.{ℕ, pos, not}
 use Rattle.cs_types.specs.Shape.{integer}
 use Rattle.cs_ast.specs.declared.place.Place.{Place}
 use Rattle.cs_ast.specs.TypedProgram.{TypedProgram}

@@ -1,7 +1,7 @@
 use Rattle.std.proofs.Common.{◌≡◌, List, Some, sym, ap, ◌∙◌}
 use Rattle.std.specs.Prelude.{slice_get}
 use Rattle.cs_cfg.specs.declared.operation.Operation as o
-use Rattle.cs_cfg.specs.Graph.{Operation, Point}
+use Rattle.cs_cfg.specs.Graph.{Operation}
 use Rattle.cs_cfg.specs.GraphView as view
 use Rattle.cs_replay.proofs.Blocks.{behind_one, lent_is}
 use Rattle.cs_replay.proofs.nexts.operation_at.Goals as goal

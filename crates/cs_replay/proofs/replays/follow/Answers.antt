@@ -1,4 +1,3 @@
-use Rattle.std.proofs.Common.{ap}
 use Rattle.cs_interpreter.specs.View.{log_of}
 use Rattle.cs_replay.proofs.Courses.{begins, ready, goes_on, fewer_left, gives}
 use Rattle.cs_replay.proofs.replays.follow.Goals as goal

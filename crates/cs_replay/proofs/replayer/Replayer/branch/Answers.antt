@@ -1,6 +1,5 @@
-use Rattle.std.proofs.Common.{◌≡◌, Err, ◌+◌, Bool, if◌then◌else◌, refl, ap, ◌∙◌, rules}
+use Rattle.std.proofs.Common.{◌≡◌, Err, ◌+◌, Bool, if◌then◌else◌, ap, ◌∙◌, rules}
 use Rattle.cs_plain.specs.Machine.{State, cell_at, pop}
-use Rattle.cs_runs.specs.Acts.{Act}
 use Rattle.cs_interpreter.specs.View.{setting_of, log_of}
 use Rattle.cs_interpreter.specs.MachineView.{state_of}
 use Rattle.cs_cfg.specs.CodeSteps.{do_end, enters}

@@ -1,7 +1,7 @@
-use Rattle.std.proofs.Common.{◌≡◌, Err, IfErr, Some, None, map, sym, ap, subst, ◌∙◌, rules}
+use Rattle.std.proofs.Common.{◌≡◌, Err, IfErr, map, sym, ap, subst, rules}
 use Rattle.cs_runs.specs.Acts.{Act}
 use Rattle.cs_plain.specs.Calls as calls
-use Rattle.cs_plain.specs.Machine.{State, newest, pop_many, routine_of}
+use Rattle.cs_plain.specs.Machine.{State, pop_many, routine_of}
 use Rattle.cs_interpreter.specs.View.{operand_of, setting_of, log_of}
 use Rattle.cs_interpreter.specs.MachineView.{state_of}
 use Rattle.cs_cfg.specs.Graph as graph
@@ -17,7 +17,7 @@ use Rattle.cs_replay.proofs.Performs.{leads_so}
 use Rattle.cs_replay.proofs.Told.{call_told}
 use Rattle.cs_replay.proofs.replayer.Replayer.call.Goals as goal
 
-pub returns-in_ok-arguments-in-Some-clause-err : goal.returns-in-Some-clause-err
+pub returns-in_ok-arguments-in-Some-clause-err : goal.returns-in_ok-arguments-in-Some-clause-err
 returns-in_ok-arguments-in-Some-clause-err c =
     let run = c.args.self.now in
     let points = point_of run.code.now run.position in

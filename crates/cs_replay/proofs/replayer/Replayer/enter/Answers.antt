@@ -7,7 +7,7 @@ use Rattle.cs_runs.specs.declared.outcome.Budget.TheVariants.{Depth}
 use Rattle.cs_runs.specs.Acts.{Goes}
 use Rattle.cs_plain.specs.Access.{shows_then}
 use Rattle.cs_plain.specs.Calls.{inside}
-use Rattle.cs_plain.specs.Machine.{Frame, routine_of}
+use Rattle.cs_plain.specs.Machine.{routine_of}
 use Rattle.cs_interpreter.specs.View.{operand_of, setting_of, log_of}
 use Rattle.cs_interpreter.specs.MemoryView.{block_at}
 use Rattle.cs_interpreter.specs.MachineView.{frame_of, state_of}

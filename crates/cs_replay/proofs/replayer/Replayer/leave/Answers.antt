@@ -1,4 +1,4 @@
-use Rattle.std.proofs.Common.{◌≡◌, List, [], sym, ap, ◌∙◌}
+use Rattle.std.proofs.Common.{◌≡◌, List, sym, ap, ◌∙◌}
 use Rattle.std.specs.Borrow.{Bor}
 use Rattle.cs_runs.specs.declared.outcome.Outcome.TheVariants.{Done}
 use Rattle.cs_runs.specs.declared.outcome.Returned.{Returned}
@@ -10,7 +10,7 @@ use Rattle.cs_cfg.specs.declared.code.Code.{Code}
 use Rattle.cs_cfg.specs.Graph.{Point}
 use Rattle.cs_cfg.specs.Working.{CodeState}
 use Rattle.cs_steps.specs.declared.runner.Runner.{Runner}
-use Rattle.cs_replay.specs.FrameChanges.{called_by, back_in}
+use Rattle.cs_replay.specs.FrameChanges.{back_in}
 use Rattle.cs_replay.specs.ReplayerView.{caller_of, state_in}
 use Rattle.cs_replay.proofs.Leading.{arrives, goes_so, stops_so}
 use Rattle.cs_replay.proofs.replayer.Replayer.leave.Goals as goal

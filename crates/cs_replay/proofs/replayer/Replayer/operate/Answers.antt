@@ -2,12 +2,11 @@ use Rattle.std.proofs.Common.{◌≡◌, ◌+◌, OnOk, IfErr, ap, subst}
 use Rattle.cs_runs.specs.Acts.{Act}
 use Rattle.cs_plain.specs.Machine.{State}
 use Rattle.cs_interpreter.specs.MachineView.{state_of}
-use Rattle.cs_cfg.specs.CodeSteps.{do_operation}
 use Rattle.cs_cfg.specs.GraphView as view
 use Rattle.cs_cfg.specs.Working.{CodeState, takes, do_work}
 use Rattle.cs_replay.specs.CodeStates.{code_state}
 use Rattle.cs_replay.specs.Points.{point_of}
-use Rattle.cs_replay.specs.ReplayerView.{program_of, budgets_of, code_of, callers_of, state_in, LeadsOn, Ends}
+use Rattle.cs_replay.specs.ReplayerView.{program_of, budgets_of, code_of, callers_of, LeadsOn, Ends}
 use Rattle.cs_replay.specs.Works.{cut_to}
 use Rattle.cs_replay.proofs.replayer.Replayer.operate.Goals as goal
 

@@ -12,8 +12,7 @@ use Rattle.cs_plain.specs.Machine.{State, cell_at, pop}
 use Rattle.cs_interpreter.specs.View.{setting_of, log_of}
 use Rattle.cs_interpreter.specs.MachineView.{state_of}
 use Rattle.cs_interpreter.proofs.Chains.{ends_behind}
-use Rattle.cs_cfg.specs.CodeSteps.{Way, way_of, do_end, enters, goes_way}
-use Rattle.cs_cfg.specs.Graph as graph
+use Rattle.cs_cfg.specs.CodeSteps.{Way, way_of, enters, goes_way}
 use Rattle.cs_cfg.specs.GraphView as view
 use Rattle.cs_cfg.specs.Working as working
 use Rattle.cs_cfg.specs.Working.{CodeState}
