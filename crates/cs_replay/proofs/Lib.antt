@@ -1,0 +1,13 @@
+mod Performs
+mod Told
+mod Lengths
+mod PlacedRuns
+mod Blocks
+mod Cutting
+mod Loading
+mod Stepping
+mod Leading
+mod Entering
+mod FrameStates
+mod Courses
+mod Beginning

@@ -1,0 +1,48 @@
+use Rattle.std.proofs.Common.{◌≡◌, Err, sym, ap, ◌∙◌, rules}
+use Rattle.cs_ast.specs.TypedProgram.{typed_program}
+use Rattle.cs_runs.specs.Acts.{Act, Goes}
+use Rattle.cs_runs.specs.Objects.{Cell}
+use Rattle.cs_runs.specs.Runs.{Continues}
+use Rattle.cs_plain.specs.Machine.{State, Scalar, cell_of, push, pop_many, with_memory, operand_at}
+use Rattle.cs_plain.specs.Machine as machine
+use Rattle.cs_plain.specs.Memory.{Memory}
+use Rattle.cs_plain.specs.Expressions.{given, stores_to}
+use Rattle.cs_interpreter.specs.View as view
+use Rattle.cs_interpreter.specs.View.{log_of}
+use Rattle.cs_interpreter.specs.MachineView.{state_of}
+use Rattle.cs_interpreter.proofs.Chains.{ends_behind}
+use Rattle.cs_interpreter.proofs.Performing.{perform-Goes}
+use Rattle.cs_cfg.specs.GraphView.{access}
+use Rattle.cs_replay.proofs.accesses.move_pointer.Goals as goal
+
+pub returns-in_err-moved-clause-err : goal.returns-in_err-moved-clause-err
+returns-in_err-moved-clause-err c =
+    let m = state_of c.args.run.now.machine in
+    let onward : Cell → Act State = λ cell. stores_to (typed_program c.args.run.now.setting.now.program.now) c.args.place (access c.args.object.now) 2 (Scalar cell) 3 (given c.args.gives (operand_at m 1) (Scalar cell)) m in
+    let there : c.from_residual-in_err-moved.result ≡ Err c.in_err-moved.field-0.0 = search rules in
+    let pointer = c.into_cell-pointer.ensures ∙ ap (λ (o : machine.Operand). cell_of o) (c.in_ok-copy.ensures ∙ c.pop_moved-target.ensures.before) in
+    let one = rw (pointer, c.in_ok-stride.ensures.amount, c.in_ok-stride.ensures.size, c.pop_moved-target.ensures.amount) at c.in_err-moved.ensures.err in
+    rw there (one onward)
+
+pub returns-in_err-store-clause-err : goal.returns-in_err-store-clause-err
+returns-in_err-store-clause-err c =
+    let m = state_of c.args.run.now.machine in
+    let onward : Cell → Act State = λ cell. stores_to (typed_program c.args.run.now.setting.now.program.now) c.args.place (access c.args.object.now) 2 (Scalar cell) 3 (given c.args.gives (operand_at m 1) (Scalar cell)) m in
+    let last : Memory → Act State = λ memory. Goes (push (given c.args.gives (operand_at m 1) (Scalar (view.cell_of c.in_ok-moved.moved))) (with_memory memory (pop_many 3 m))) in
+    let there : c.from_residual-in_err-store.result ≡ Err c.in_err-store.field-0.0 = search rules in
+    let pointer = c.into_cell-pointer.ensures ∙ ap (λ (o : machine.Operand). cell_of o) (c.in_ok-copy.ensures ∙ c.pop_moved-target.ensures.before) in
+    let one = rw (pointer, c.in_ok-stride.ensures.amount, c.in_ok-stride.ensures.size, c.pop_moved-target.ensures.amount) at c.in_ok-moved.ensures.ok in
+    let two = rw (c.pop_moved-target.ensures.state, c.pop_moved-target.ensures.target) at c.in_err-store.ensures.err in
+    rw there (ends_behind _ _ (one onward) (two last))
+
+pub returns-clause-ok : goal.returns-clause-ok
+returns-clause-ok c =
+    let m = state_of c.args.run.now.machine in
+    let onward : Cell → Act State = λ cell. stores_to (typed_program c.args.run.now.setting.now.program.now) c.args.place (access c.args.object.now) 2 (Scalar cell) 3 (given c.args.gives (operand_at m 1) (Scalar cell)) m in
+    let last : Memory → Act State = λ memory. Goes (push (given c.args.gives (operand_at m 1) (Scalar (view.cell_of c.in_ok-moved.moved))) (with_memory memory (pop_many 3 m))) in
+    let pointer = c.into_cell-pointer.ensures ∙ ap (λ (o : machine.Operand). cell_of o) (c.in_ok-copy.ensures ∙ c.pop_moved-target.ensures.before) in
+    let one = rw (pointer, c.in_ok-stride.ensures.amount, c.in_ok-stride.ensures.size, c.pop_moved-target.ensures.amount) at c.in_ok-moved.ensures.ok in
+    let two = rw (c.pop_moved-target.ensures.state, c.pop_moved-target.ensures.target) at c.in_ok-store.ensures.ok in
+    let left = given c.args.gives (operand_at m 1) (Scalar (view.cell_of c.in_ok-moved.moved)) in
+    let state : state_of c.push.new.self ≡ push left (with_memory (state_of c.store.new.run.machine).memory (pop_many 3 m)) = rw (c.in_ok-push.ensures, c.given-left.ensures, c.pop_moved-target.ensures.before, c.in_ok-copy-2.ensures) (ap (λ (n : State). push left n) (c.in_ok-store.ensures.state ∙ ap (λ (n : State). with_memory (state_of c.store.new.run.machine).memory n) c.pop_moved-target.ensures.state)) in
+    one onward ∙ (two last ∙ (perform-Goes _ _ _ ∙ ap (λ (n : State). Continues n (log_of c.store.new.run.log)) (sym state)))

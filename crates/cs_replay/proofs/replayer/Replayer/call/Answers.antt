@@ -1,0 +1,51 @@
+use Rattle.std.proofs.Common.{◌≡◌, Err, IfErr, map, sym, ap, subst, rules}
+use Rattle.cs_runs.specs.Acts.{Act}
+use Rattle.cs_plain.specs.Calls as calls
+use Rattle.cs_plain.specs.Machine.{State, pop_many, routine_of}
+use Rattle.cs_interpreter.specs.View.{operand_of, setting_of, log_of}
+use Rattle.cs_interpreter.specs.MachineView.{state_of}
+use Rattle.cs_cfg.specs.Graph as graph
+use Rattle.cs_cfg.specs.Graph.{flow_of}
+use Rattle.cs_cfg.specs.GraphView as view
+use Rattle.cs_cfg.specs.Working.{CodeState, do_work}
+use Rattle.cs_replay.specs.CodeStates.{code_state}
+use Rattle.cs_replay.specs.Points.{point_of}
+use Rattle.cs_replay.specs.ReplayerView.{program_of, budgets_of, code_of, callers_of, state_in, Ends}
+use Rattle.cs_replay.proofs.Entering.{enters_is, no_body}
+use Rattle.cs_replay.proofs.Leading.{ends_so}
+use Rattle.cs_replay.proofs.Performs.{leads_so}
+use Rattle.cs_replay.proofs.Told.{call_told}
+use Rattle.cs_replay.proofs.replayer.Replayer.call.Goals as goal
+
+pub returns-in_ok-arguments-in-Some-clause-err : goal.returns-in_ok-arguments-in-Some-clause-err
+returns-in_ok-arguments-in-Some-clause-err c =
+    let run = c.args.self.now in
+    let points = point_of run.code.now run.position in
+    let callers = callers_of run.code.now run.callers.items in
+    let given = map operand_of c.in_ok-arguments-in-Some.arguments.items in
+    let left = code_state points callers (state_of c.pop_newest.new.state) in
+    let is : left ≡ pop_many c.args.count (state_in run) = ap (λ (m : State). code_state points callers m) c.in_ok-arguments-in-Some.ensures.state in
+    let same = enters_is (program_of run) (budgets_of run) c.args.place c.args.function c.args.count (routine_of (program_of run) c.args.function) (flow_of (code_of run) c.args.function) (state_in run) left given (view.flow c.in-Some.flow.now) c.in-Some.ensures c.in_ok-arguments-in-Some.ensures.operands is in
+    subst (λ (act : Act CodeState). IfErr c.enter.result (Ends run c.enter.new.self act)) (sym same) c.enter.ensures.err
+
+pub returns-in_err-call-in-None-clause-err : goal.returns-in_err-call-in-None-clause-err
+returns-in_err-call-in-None-clause-err c =
+    let run = c.args.self.now in
+    let points = point_of run.code.now run.position in
+    let callers = callers_of run.code.now run.callers.items in
+    let m = state_of run.runner.machine in
+    let stop = c.in_err-call-in-None.field-0.0 in
+    let body = no_body (flow_of (code_of run) c.args.function) (routine_of (program_of run) c.args.function).body (c.requires.graphs c.args.function) c.in-None.ensures in
+    let told = call_told points callers (code_of run) (program_of run) (budgets_of run) c.args.place c.args.function c.args.count m c.in-None.ensures body in
+    let there : c.from_residual-in_err-call-in-None.result ≡ Err stop = search rules in
+    rw there (ends_so (setting_of run.runner.setting.now) (log_of run.runner.log) (log_of c.call.new.self.log) (code_state points callers) (calls.call (program_of run) (budgets_of run) c.args.place c.args.function c.args.count m) (do_work (code_of run) (program_of run) (budgets_of run) c.args.place (graph.Call c.args.function c.args.count) (state_in run)) stop told c.in_err-call-in-None.ensures.err)
+
+pub returns-in_ok-call-in-None-clause-ok : goal.returns-in_ok-call-in-None-clause-ok
+returns-in_ok-call-in-None-clause-ok c =
+    let run = c.args.self.now in
+    let points = point_of run.code.now run.position in
+    let callers = callers_of run.code.now run.callers.items in
+    let m = state_of run.runner.machine in
+    let body = no_body (flow_of (code_of run) c.args.function) (routine_of (program_of run) c.args.function).body (c.requires.graphs c.args.function) c.in-None.ensures in
+    let told = call_told points callers (code_of run) (program_of run) (budgets_of run) c.args.place c.args.function c.args.count m c.in-None.ensures body in
+    leads_so (code_state points callers) (setting_of run.runner.setting.now) (log_of run.runner.log) (log_of c.call.new.self.log) (calls.call (program_of run) (budgets_of run) c.args.place c.args.function c.args.count m) (do_work (code_of run) (program_of run) (budgets_of run) c.args.place (graph.Call c.args.function c.args.count) (state_in run)) (state_of c.call.new.self.machine) told c.in_ok-call-in-None.ensures.ok

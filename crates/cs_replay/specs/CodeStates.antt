@@ -1,0 +1,17 @@
+-- A state of the code's run, told by a state of the plain machine that has nothing to do: the points are told beside it.
+use Rattle.std.specs.Prelude.{ℕ, List, [], replicate}
+use Rattle.cs_plain.specs.Machine.{CallFrame, Frame, State}
+use Rattle.cs_cfg.specs.Graph.{Point}
+use Rattle.cs_cfg.specs.Working.{CodeState}
+
+-- a frame that has come to a point
+abbrev pub at_point : Point → Frame → CallFrame Point
+at_point p frame = record { function = frame.function; number = frame.number; todo = p; stack = frame.stack; visits = frame.visits }
+
+-- a state whose frame has come to a point of its function, with these callers
+abbrev pub code_state : (ℕ → Point) → List (CallFrame Point) → State → CodeState
+code_state p callers m = record { frame = at_point (p m.frame.function) m.frame; callers = callers; memory = m.memory; frames = m.frames; allocations = m.allocations; calls = m.calls }
+
+-- a frame with nothing to do, in which no mark was reached of so many
+abbrev pub begun : ℕ → ℕ → ℕ → Frame
+begun function number marks = record { function = function; number = number; todo = []; stack = []; visits = replicate marks 0 }

@@ -1,0 +1,35 @@
+-- What comes next at a point.
+use Rattle.std.specs.Prelude.{◌≡◌, [], Option, Some, None, map}
+use Rattle.std.specs.Borrow.{Bor}
+use Rattle.cs_cfg.specs.declared.code.Block as b
+use Rattle.cs_cfg.specs.declared.code.Flow as f
+use Rattle.cs_cfg.specs.declared.code.Mark.{Mark}
+use Rattle.cs_cfg.specs.Graph.{Operation, Reach, Point, Flow, before, no_point}
+use Rattle.cs_cfg.specs.GraphView as view
+use Rattle.cs_replay.specs.declared.nexts.Next.{Next}
+use Rattle.cs_replay.specs.declared.nexts.Next.TheVariants as next
+
+-- a graph that was found
+abbrev pub flow_found : Option (Bor f.Flow) → Option Flow
+flow_found None = None
+flow_found (Some flow) = Some (view.flow flow.now)
+
+-- a block that was found, or one that isn't there
+abbrev pub found_block : Option (Bor b.Block) → Point
+found_block None = no_point
+found_block (Some block) = view.block block.now
+
+-- a block without its mark
+abbrev pub unmarked : b.Block → Point
+unmarked block = record { operations = map view.operation block.operations.items; end = view.block_end block.end }
+
+-- the operation by which a mark is reached
+abbrev pub reaching : Mark → Operation
+reaching mark = record { at = mark.place; temporary = 0; work = Reach mark.kind mark.number }
+
+-- this comes next at a point, and behind it the other point
+abbrev pub IsNext : Next → Point → Point → Type 0
+IsNext (next.Mark mark) here behind = here ≡ before (reaching mark.now) behind
+IsNext (next.Operation operation) here behind = here ≡ before (view.operation operation.now) behind
+IsNext (next.End end) here behind = here ≡ record { operations = []; end = view.block_end end.now }
+IsNext next.Nowhere here behind = here ≡ no_point

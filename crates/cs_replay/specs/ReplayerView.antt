@@ -1,0 +1,69 @@
+-- A run of code on its way, seen as the run of the code that its definition speaks of: its state, and what an act does to it.
+use Rattle.std.specs.Prelude.{◌≡◌, List, map, reverse}
+use Rattle.cs_ast.specs.TypedProgram.{TypedProgram}
+use Rattle.cs_runs.specs.declared.outcome.RunBudgets.{RunBudgets}
+use Rattle.cs_runs.specs.Acts.{Act}
+use Rattle.cs_runs.specs.Runs as runs
+use Rattle.cs_runs.specs.Runs.{Performed, Continues, Finishes, perform}
+use Rattle.cs_plain.specs.Machine.{CallFrame}
+use Rattle.cs_interpreter.specs.declared.logs.Stop.{Stop}
+use Rattle.cs_interpreter.specs.declared.logs.Stop.TheVariants as stop
+use Rattle.cs_interpreter.specs.View.{setting_of, log_of}
+use Rattle.cs_interpreter.specs.MachineView.{frame_of}
+use Rattle.cs_steps.specs.RunnerView as runner
+use Rattle.cs_cfg.specs.declared.code.Code.{Code}
+use Rattle.cs_cfg.specs.Graph as graph
+use Rattle.cs_cfg.specs.Graph.{Point}
+use Rattle.cs_cfg.specs.GraphView.{code}
+use Rattle.cs_cfg.specs.Lowered.{HasGraphs}
+use Rattle.cs_cfg.specs.Working.{CodeState}
+use Rattle.cs_replay.specs.declared.replayer.Caller.{Caller}
+use Rattle.cs_replay.specs.declared.replayer.Replayer.{Replayer}
+use Rattle.cs_replay.specs.CodeStates.{at_point, code_state}
+use Rattle.cs_replay.specs.Points.{point_of}
+
+-- a frame that waits
+abbrev pub caller_of : Code → Caller → CallFrame Point
+caller_of graphs caller = at_point (point_of graphs caller.position caller.frame.function) (frame_of caller.frame)
+
+-- those that wait, the nearest first
+abbrev pub callers_of : Code → List Caller → List (CallFrame Point)
+callers_of graphs callers = reverse (map (caller_of graphs) callers)
+
+-- the code, the program that it stands for, and how far the run goes
+abbrev pub code_of : Replayer → graph.Code
+code_of run = code run.code.now
+
+abbrev pub program_of : Replayer → TypedProgram
+program_of run = runner.program_of run.runner
+
+abbrev pub budgets_of : Replayer → RunBudgets
+budgets_of run = runner.budgets_of run.runner
+
+-- the state
+abbrev pub state_in : Replayer → CodeState
+state_in run = code_state (point_of run.code.now run.position) (callers_of run.code.now run.callers.items) (runner.state_in run.runner)
+
+-- the program's structs are laid out, and its functions with a body are those that have a graph
+pub record IsReady (run : Replayer) : Type 0 where
+  pub laid_out : runner.IsReady run.runner
+  pub graphs : HasGraphs (code_of run) (program_of run)
+
+-- how a run has ended with a log; where memory was short nothing is said, and what it would have come to stands for it
+abbrev pub ended : Stop → runs.Log → Performed CodeState → Performed CodeState
+ended (stop.Outcome outcome) log otherwise = Finishes outcome log
+ended stop.Memory log otherwise = otherwise
+
+module _ (old new : Replayer) where
+  -- an act leads the run on
+  abbrev pub LeadsOn : Act CodeState → Type 0
+  LeadsOn act = perform (setting_of old.runner.setting.now) (log_of old.runner.log) act ≡ Continues (state_in new) (log_of new.runner.log)
+
+  -- an act ends the run
+  abbrev pub Ends : Act CodeState → Stop → Type 0
+  Ends act stop = perform (setting_of old.runner.setting.now) (log_of old.runner.log) act ≡ ended stop (log_of new.runner.log) (perform (setting_of old.runner.setting.now) (log_of old.runner.log) act)
+
+  -- the same program, inputs, guesses, budgets and code
+  pub record KeepsSetting : Type 0 where
+    pub setting : new.runner.setting ≡ old.runner.setting
+    pub code : new.code ≡ old.code

@@ -1,0 +1,163 @@
+//! Calls, and frames that are left (C11 6.5.2.2, 6.8.6.4).
+ghost use Rattle.std.specs.Prelude.{◌≡◌, [], Some, OnOk, IfErr, IfSome, IfNone, map};
+ghost use Rattle.cs_ast.specs.TypedProgram.{typed_program, variable};
+ghost use Rattle.cs_cfg.specs.Graph as graph;
+ghost use Rattle.cs_cfg.specs.GraphView as view;
+ghost use Rattle.cs_cfg.specs.Working as working;
+ghost use Rattle.cs_plain.specs.Calls as calls;
+ghost use Rattle.cs_plain.specs.Machine as machine;
+ghost use Rattle.cs_interpreter.specs.View.{operand_of};
+ghost use Rattle.cs_interpreter.specs.MemoryView.{block_at};
+ghost use Rattle.cs_interpreter.specs.MachineView.{state_of, frame_of};
+ghost use Rattle.cs_replay.specs.FrameChanges.{inside_with, called_by, back_in};
+ghost use Rattle.cs_replay.specs.ReplayerView.{program_of, budgets_of, code_of, caller_of, state_in, IsReady, LeadsOn, Ends, KeepsSetting};
+
+use crate::frames::new_frame;
+use crate::nexts::flow_at;
+use crate::operands::pop_newest;
+use crate::positions::Position;
+use crate::replayer::{Caller, Replayer};
+use cs_ast::Place;
+use cs_ast::typed::program::{Local, Program};
+use cs_cfg::Flow;
+use cs_interpreter::blocks::Block;
+use cs_interpreter::machine::{Frame, Machine};
+use cs_interpreter::{Operand, Stop};
+use cs_runs::{Budget, Label, Outcome};
+use cs_steps::frames::local_blocks;
+use std::alloc::AllocError;
+
+impl<'a> Replayer<'a> {
+    /// A call with so many arguments, which are the newest temporaries. A function without a graph has no body.
+    pub fn call(&mut self, place: Place, function: u32, count: u32) -> Result<(), Stop>
+        requires { IsReady self.old }
+        ensures ok { OnOk result (LeadsOn self.old self.new (working.call_flow (program_of self.old) (budgets_of self.old) place function (machine.routine_of (program_of self.old) function) (graph.flow_of (code_of self.old) function) (machine.newest count (state_in self.old)) (machine.pop_many count (state_in self.old)))) }
+        ensures err { IfErr result (Ends self.old self.new (working.call_flow (program_of self.old) (budgets_of self.old) place function (machine.routine_of (program_of self.old) function) (graph.flow_of (code_of self.old) function) (machine.newest count (state_in self.old)) (machine.pop_many count (state_in self.old)))) }
+        ensures kept { OnOk result (KeepsSetting self.old self.new) }
+    {
+        match flow_at(self.code, function) {
+            Some(flow) => {
+                let arguments = pop_newest(&mut self.runner.machine, count as usize)?;
+                self.enter(place, function, flow, arguments)
+            }
+            None => {
+                self.runner.call(place, function, count as usize)?;
+                Ok(())
+            }
+        }
+    }
+
+    // A call of a function with a graph: it shows, unless there are as many frames as there may be.
+    fn enter(
+        &mut self,
+        place: Place,
+        function: u32,
+        flow: &Flow,
+        arguments: Vec<Operand>,
+    ) -> Result<(), Stop>
+        requires ready { IsReady self.old }
+        requires graph { graph.flow_of (code_of self.old) function ≡ Some (view.flow flow.now) }
+        ensures ok { OnOk result (LeadsOn self.old self.new (calls.enter_as (program_of self.old) (budgets_of self.old) (working.code_frame function (view.flow flow.now)) place function (machine.routine_of (program_of self.old) function) (map operand_of arguments.items) (state_in self.old))) }
+        ensures err { IfErr result (Ends self.old self.new (calls.enter_as (program_of self.old) (budgets_of self.old) (working.code_frame function (view.flow flow.now)) place function (machine.routine_of (program_of self.old) function) (map operand_of arguments.items) (state_in self.old))) }
+        ensures kept { OnOk result (KeepsSetting self.old self.new) }
+    {
+        let setting = self.runner.setting;
+        if self.callers.len() as u64 >= u64::from(setting.budgets.depth.saturating_sub(1)) {
+            return Err(Stop::Outcome(Outcome::Over(Budget::Depth, place)));
+        }
+        self.runner
+            .log
+            .show(setting, place, Label::Callee(function))?;
+        let alloc = *self.callers.allocator();
+        let number = frames_of(&self.runner.machine);
+        let frame = new_frame(alloc, function, number, flow.marks)?;
+        let variables = locals_of(setting.program, function);
+        let locals = local_blocks(alloc, setting.program, variables, &arguments)?;
+        self.go_inside(frame, locals, flow.entry)?;
+        Ok(())
+    }
+
+    // Goes into a new frame, which has these locals, at the beginning of a block.
+    #[tactic(auto, using(cs_interpreter::proofs::States::states), unfolding(cs_interpreter::specs::MachineView::state_of))]
+    fn go_inside(
+        &mut self,
+        frame: Frame<'a>,
+        locals: Vec<Block<'a>>,
+        block: u32,
+    ) -> Result<(), AllocError>
+        ensures state { OnOk result (state_in self.new ≡ inside_with (graph.block_in (code_of self.old) frame.entry.function block) (frame_of frame.entry) (block_at locals.entry.items) (state_in self.old)) }
+        ensures log { self.new.runner.log ≡ self.old.runner.log }
+        ensures kept { OnOk result (KeepsSetting self.old self.new) }
+    {
+        self.runner.machine.memory.add_frame(locals)?;
+        let caller = Caller {
+            frame: std::mem::replace(&mut self.runner.machine.frame, frame),
+            position: self.position,
+        };
+        self.callers.push(caller)?;
+        self.position = Position { block, done: 0 };
+        Ok(())
+    }
+
+    /// The frame that runs ends, and gives a value to the one that called it; the run is done where none did.
+    pub fn leave(&mut self, value: Operand) -> Result<(), Stop>
+        ensures ok { OnOk result (LeadsOn self.old self.new (calls.leave (operand_of value) (state_in self.old))) }
+        ensures err { IfErr result (Ends self.old self.new (calls.leave (operand_of value) (state_in self.old))) }
+        ensures kept { OnOk result (KeepsSetting self.old self.new) }
+    {
+        match self.pop_caller() {
+            Some(caller) => {
+                self.come_back(caller, value)?;
+                Ok(())
+            }
+            None => Err(Stop::Outcome(Outcome::Done(value.returned()))),
+        }
+    }
+
+    // Takes the nearest of the frames that called the one that runs.
+    #[tactic(auto, using(cs_interpreter::proofs::States::states))]
+    fn pop_caller(&mut self) -> Option<Caller<'a>>
+        ensures some { IfSome result (λ caller. state_in self.old ≡ called_by (caller_of self.old.code.now caller) (state_in self.new)) }
+        ensures none { IfNone result ((state_in self.old).callers ≡ []) }
+        ensures log { self.new.runner ≡ self.old.runner }
+        ensures kept { KeepsSetting self.old self.new }
+    {
+        match self.callers.pop() {
+            Some(caller) => Some(caller),
+            None => None,
+        }
+    }
+
+    // The frame that runs has ended, and gives a value to this one, which runs on.
+    #[tactic(auto, using(cs_interpreter::proofs::States::states), unfolding(cs_interpreter::specs::MachineView::state_of))]
+    fn come_back(&mut self, caller: Caller<'a>, value: Operand) -> Result<(), AllocError>
+        ensures state { OnOk result (state_in self.new ≡ back_in (caller_of self.old.code.now caller.entry) (operand_of value) (state_in self.old)) }
+        ensures log { self.new.runner.log ≡ self.old.runner.log }
+        ensures kept { OnOk result (KeepsSetting self.old self.new) }
+    {
+        let machine = &mut self.runner.machine;
+        machine.memory.end_frame(machine.frame.number);
+        machine.frame = caller.frame;
+        machine.push(value)?;
+        self.position = caller.position;
+        Ok(())
+    }
+}
+
+// The locals of a function, the parameters first; one that isn't there has none.
+fn locals_of(program: &Program, function: u32) -> &[Local]
+    ensures { map variable result.now ≡ (machine.routine_of (typed_program program.now) function).variables }
+{
+    match program.functions.get(function as usize) {
+        Some(function) => &function.locals,
+        None => &[],
+    }
+}
+
+// How many frames there were.
+#[tactic(auto, unfolding(cs_interpreter::specs::MachineView::state_of))]
+fn frames_of(state: &Machine) -> u64
+    ensures { result ≡ (state_of state.now).frames }
+{
+    state.memory.frames.len() as u64
+}

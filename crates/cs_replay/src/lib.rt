@@ -1,0 +1,22 @@
+//! The replayer: it runs the code of a program from given inputs, operation by operation.
+#![tactic(auto, using(cs_interpreter::proofs::Performing::silent))]
+
+mod accesses;
+mod calls;
+mod declared;
+mod ends;
+mod frames;
+mod nexts;
+mod operands;
+mod positions;
+mod refusal;
+mod replayer;
+mod replays;
+mod starting;
+mod steps;
+mod values;
+mod ways;
+mod working;
+
+pub use refusal::ReplayRefusal;
+pub use replays::{Replayed, replay};

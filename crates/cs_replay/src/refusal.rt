@@ -1,0 +1,25 @@
+//! Why there is no replay.
+ghost use Rattle.std.specs.Prelude.{◌≡◌};
+ghost use Rattle.cs_replay.specs.declared.refusal.ReplayRefusal.TheVariants.{Memory};
+
+use std::alloc::AllocError;
+use thiserror::Error;
+
+/// Why there is no replay.
+#[derive(Clone, Copy, PartialEq, Eq, Debug, Error)]
+pub enum ReplayRefusal {
+    /// The entry is no function with a body.
+    #[error("the entry is no function with a body")]
+    NoEntry,
+    /// Memory ran out.
+    #[error("out of memory")]
+    Memory,
+}
+
+impl From<AllocError> for ReplayRefusal {
+    ghost from_gives = { λ _ refusal. refusal ≡ Memory };
+
+    fn from(_error: AllocError) -> ReplayRefusal {
+        ReplayRefusal::Memory
+    }
+}

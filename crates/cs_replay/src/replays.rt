@@ -1,0 +1,85 @@
+//! Whole runs of code.
+ghost use Rattle.std.specs.Prelude.{◌≡◌, ◌↔◌, Err, None, IfOk};
+ghost use Rattle.cs_types.specs.Layout.{IsLaidOut};
+ghost use Rattle.cs_ast.specs.TypedProgram.{typed_program};
+ghost use Rattle.cs_runs.specs.Runs.{empty};
+ghost use Rattle.cs_plain.specs.Machine.{routine_of};
+ghost use Rattle.cs_plain.specs.PlainRuns as plain;
+ghost use Rattle.cs_cfg.specs.CodeSteps.{code_step, code_start, CodeGives};
+ghost use Rattle.cs_cfg.specs.GraphView as view;
+ghost use Rattle.cs_cfg.specs.Lowered.{HasGraphs};
+ghost use Rattle.cs_cfg.specs.Placed.{IsPlaced};
+ghost use Rattle.cs_interpreter.specs.View.{log_of};
+ghost use Rattle.cs_steps.specs.RunView.{run_of};
+ghost use Rattle.cs_replay.specs.RunLengths.{HasLength, HasLength-prop};
+
+use crate::nexts::flow_at;
+use crate::refusal::ReplayRefusal;
+use crate::starting::begin;
+use cs_cfg::Code;
+use cs_interpreter::{Log, Setting, Stop};
+use cs_runs::Outcome;
+use std::alloc::{AllocError, Global};
+
+/// A replay that has ended: how, and what the run has shown, read and touched.
+#[derive(Debug, Drop)]
+pub struct Replayed {
+    pub outcome: Outcome,
+    pub log: Log,
+}
+
+// A run that is to be followed, which ends.
+#[derive(Drop)]
+struct Course<'a> {
+    setting: &'a Setting<'a>,
+    code: &'a Code,
+    entry: u32,
+    ghost ends: { HasLength (code_step (view.code code.now) (typed_program setting.now.program.now) setting.now.budgets) (plain.setting_of (typed_program setting.now.program.now) (run_of setting.now) setting.now.budgets) (code_start (view.code code.now) (typed_program setting.now.program.now) entry (run_of setting.now)) empty } by { HasLength-prop (code_step (view.code code.now) (typed_program setting.now.program.now) setting.now.budgets) (plain.setting_of (typed_program setting.now.program.now) (run_of setting.now) setting.now.budgets) (code_start (view.code code.now) (typed_program setting.now.program.now) entry (run_of setting.now)) empty },
+}
+
+/// Runs the code of a function of a program until the run ends: as the plain machine's run of the function does, with the same log.
+pub fn replay(
+    alloc: Global,
+    setting: &Setting,
+    code: &Code,
+    entry: u32,
+) -> Result<Replayed, ReplayRefusal>
+    requires laid_out { IsLaidOut setting.now.program.now.model setting.now.program.now.table.list }
+    requires placed { IsPlaced (view.code code.now) (typed_program setting.now.program.now) }
+    ensures gives { IfOk result (λ replayed. plain.RunGives (typed_program setting.now.program.now) entry (run_of setting.now) setting.now.budgets replayed.outcome (log_of replayed.log)) }
+    ensures no_entry { (result ≡ Err ReplayRefusal.NoEntry) ↔ ((routine_of (typed_program setting.now.program.now) entry).body ≡ None) }
+{
+    match flow_at(code, entry) {
+        Some(_) => {
+            let replayed = follow(
+                alloc,
+                &Course {
+                    setting,
+                    code,
+                    entry,
+                },
+            )?;
+            Ok(replayed)
+        }
+        None => Err(ReplayRefusal::NoEntry),
+    }
+}
+
+// Follows a run to its end.
+fn follow(alloc: Global, course: &Course) -> Result<Replayed, AllocError>
+    requires laid_out { IsLaidOut course.now.setting.now.program.now.model course.now.setting.now.program.now.table.list }
+    requires graphs { HasGraphs (view.code course.now.code.now) (typed_program course.now.setting.now.program.now) }
+    ensures { IfOk result (λ replayed. CodeGives (view.code course.now.code.now) (typed_program course.now.setting.now.program.now) course.now.entry (run_of course.now.setting.now) course.now.setting.now.budgets replayed.outcome (log_of replayed.log)) }
+{
+    let mut replayer = begin(alloc, course.setting, course.code, course.entry)?;
+    loop {
+        match replayer.step() {
+            Ok(()) => {}
+            Err(Stop::Outcome(outcome)) => {
+                let log = replayer.runner.log;
+                return Ok(Replayed { outcome, log });
+            }
+            Err(Stop::Memory) => return Err(AllocError),
+        }
+    }
+}

@@ -1,0 +1,71 @@
+//! How a run begins: the static objects, and the first frame.
+ghost use Rattle.std.specs.Prelude.{◌≡◌, IfOk, unwrap_or};
+ghost use Rattle.cs_types.specs.Layout.{IsLaidOut};
+ghost use Rattle.cs_ast.specs.TypedProgram.{typed_program};
+ghost use Rattle.cs_runs.specs.Runs.{empty};
+ghost use Rattle.cs_cfg.specs.CodeSteps.{code_start};
+ghost use Rattle.cs_cfg.specs.Graph.{no_flow};
+ghost use Rattle.cs_cfg.specs.GraphView as view;
+ghost use Rattle.cs_interpreter.specs.View.{log_of};
+ghost use Rattle.cs_steps.specs.RunView.{run_of};
+ghost use Rattle.cs_replay.specs.Nexts.{flow_found};
+ghost use Rattle.cs_replay.specs.ReplayerView.{state_in};
+
+use crate::frames::new_frame;
+use crate::nexts::flow_at;
+use crate::positions::Position;
+use crate::replayer::Replayer;
+use cs_cfg::{Code, Flow};
+use cs_interpreter::machine::{Frame, Machine};
+use cs_interpreter::{Log, Setting};
+use cs_steps::runner::Runner;
+use cs_steps::starting::start;
+use std::alloc::{AllocError, Global};
+
+/// A run in the first frame of an entry, whose parameters hold the values of their paths. An entry without a graph has nothing to do.
+pub fn begin<'a>(
+    alloc: Global,
+    setting: &'a Setting<'a>,
+    code: &'a Code,
+    entry: u32,
+) -> Result<Replayer<'a>, AllocError>
+    requires { IsLaidOut setting.now.program.now.model setting.now.program.now.table.list }
+    ensures state { IfOk result (λ run. state_in run ≡ code_start (view.code code.now) (typed_program setting.now.program.now) entry (run_of setting.now)) }
+    ensures log { IfOk result (λ run. log_of run.runner.log ≡ empty) }
+    ensures kept { IfOk result (λ run. (run.runner.setting.now ≡ setting.now) × (run.code.now ≡ code.now)) }
+{
+    let (block, marks) = beginning(flow_at(code, entry));
+    let mut machine = start(alloc, setting, entry)?;
+    let frame = new_frame(alloc, entry, 0, marks)?;
+    put_in(&mut machine, frame);
+    let log = Log::new(alloc);
+    let callers = Vec::new(alloc);
+    Ok(Replayer {
+        runner: Runner {
+            machine,
+            log,
+            setting,
+        },
+        code,
+        position: Position { block, done: 0 },
+        callers,
+    })
+}
+
+// The block in which a graph begins, and how many marks it has.
+fn beginning(flow: Option<&Flow>) -> (u32, u32)
+    ensures entry { result.0 ≡ (unwrap_or (flow_found flow.entry) no_flow).entry }
+    ensures marks { result.1 ≡ (unwrap_or (flow_found flow.entry) no_flow).marks }
+{
+    match flow {
+        Some(flow) => (flow.entry, flow.marks),
+        None => (0, 0),
+    }
+}
+
+// Another frame runs.
+fn put_in<'a>(state: &mut Machine<'a>, frame: Frame<'a>)
+    ensures { state.new ≡ record state.old { frame = frame.entry } }
+{
+    state.frame = frame;
+}

@@ -1,0 +1,88 @@
+//! The steps of a run of code.
+ghost use Rattle.std.specs.Prelude.{◌≡◌, ◌+◌, OnOk, IfErr};
+ghost use Rattle.cs_cfg.specs.CodeSteps as steps;
+ghost use Rattle.cs_cfg.specs.GraphView as view;
+ghost use Rattle.cs_cfg.specs.Working as working;
+ghost use Rattle.cs_replay.specs.Nexts.{reaching};
+ghost use Rattle.cs_replay.specs.ReplayerView.{program_of, budgets_of, code_of, state_in, IsReady, LeadsOn, Ends, KeepsSetting};
+
+use crate::nexts::{Next, next_at};
+use crate::operands::cut;
+use crate::replayer::Replayer;
+use crate::working::{takes, work};
+use cs_ast::Place;
+use cs_cfg::{Mark, Operation, Work};
+use cs_interpreter::{Cell, Operand, Stop};
+use std::alloc::AllocError;
+
+impl<'a> Replayer<'a> {
+    /// One step: the next operation of the block, or its end.
+    pub fn step(&mut self) -> Result<(), Stop>
+        requires { IsReady self.old }
+        ensures ok { OnOk result (LeadsOn self.old self.new (steps.code_step (code_of self.old) (program_of self.old) (budgets_of self.old) (state_in self.old))) }
+        ensures err { IfErr result (Ends self.old self.new (steps.code_step (code_of self.old) (program_of self.old) (budgets_of self.old) (state_in self.old))) }
+        ensures kept { OnOk result (KeepsSetting self.old self.new) }
+    {
+        let function = self.runner.machine.frame.function;
+        match next_at(self.code, function, self.position) {
+            Next::Mark(mark) => {
+                self.advance()?;
+                self.reach(mark)
+            }
+            Next::Operation(operation) => {
+                self.advance()?;
+                self.operate(operation)
+            }
+            Next::End(end) => self.end_block(end),
+            Next::Nowhere => self.leave(Operand::Scalar(Cell::Unset)),
+        }
+    }
+
+    // One more of the things that the block does is done.
+    fn advance(&mut self) -> Result<(), AllocError>
+        ensures { OnOk result (self.new ≡ record self.old { position = record self.old.position { done = self.old.position.done + 1 } }) }
+    {
+        self.position.done = self.position.done.checked_add(1).ok_or(AllocError)?;
+        Ok(())
+    }
+
+    // A loop head or a label is reached.
+    fn reach(&mut self, mark: &Mark) -> Result<(), Stop>
+        ensures ok { OnOk result (LeadsOn self.old self.new (steps.do_operation (code_of self.old) (program_of self.old) (budgets_of self.old) (reaching mark.now) (state_in self.old))) }
+        ensures err { IfErr result (Ends self.old self.new (steps.do_operation (code_of self.old) (program_of self.old) (budgets_of self.old) (reaching mark.now) (state_in self.old))) }
+        ensures kept { OnOk result (KeepsSetting self.old self.new) }
+    {
+        cut(&mut self.runner.machine, 0);
+        self.runner
+            .reach_mark(mark.place, mark.kind, u64::from(mark.number))?;
+        Ok(())
+    }
+
+    // An operation works on the temporaries from its number on; those behind its operands are dropped.
+    fn operate(&mut self, operation: &'a Operation) -> Result<(), Stop>
+        requires { IsReady self.old }
+        ensures ok { OnOk result (LeadsOn self.old self.new (steps.do_operation (code_of self.old) (program_of self.old) (budgets_of self.old) (view.operation operation.now) (state_in self.old))) }
+        ensures err { IfErr result (Ends self.old self.new (steps.do_operation (code_of self.old) (program_of self.old) (budgets_of self.old) (view.operation operation.now) (state_in self.old))) }
+        ensures kept { OnOk result (KeepsSetting self.old self.new) }
+    {
+        let needed = u64::from(operation.temporary) + u64::from(takes(&operation.work));
+        cut(&mut self.runner.machine, needed);
+        self.work(operation.place, &operation.work)
+    }
+
+    // An operation works, whose operands are the newest temporaries.
+    fn work(&mut self, place: Place, one: &'a Work) -> Result<(), Stop>
+        requires { IsReady self.old }
+        ensures ok { OnOk result (LeadsOn self.old self.new (working.do_work (code_of self.old) (program_of self.old) (budgets_of self.old) place (view.work one.now) (state_in self.old))) }
+        ensures err { IfErr result (Ends self.old self.new (working.do_work (code_of self.old) (program_of self.old) (budgets_of self.old) place (view.work one.now) (state_in self.old))) }
+        ensures kept { OnOk result (KeepsSetting self.old self.new) }
+    {
+        match one {
+            Work::Call(function, count) => self.call(place, *function, *count),
+            one => {
+                work(&mut self.runner, place, one)?;
+                Ok(())
+            }
+        }
+    }
+}

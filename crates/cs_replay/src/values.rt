@@ -1,0 +1,171 @@
+//! What operations do with values (C11 6.3, 6.5).
+ghost use Rattle.std.specs.Prelude.{◌≡◌, OnOk, IfErr};
+ghost use Rattle.cs_types.specs.Shape.{shape_of};
+ghost use Rattle.cs_plain.specs.Machine as machine;
+ghost use Rattle.cs_runs.specs.Acts.{Goes};
+ghost use Rattle.cs_interpreter.specs.View.{cell_of};
+ghost use Rattle.cs_cfg.specs.Graph as graph;
+ghost use Rattle.cs_steps.specs.RunnerView.{program_of, budgets_of, state_in, LeadsOn, Ends};
+ghost use Rattle.cs_replay.specs.Works.{works};
+
+use cs_ast::Place;
+use cs_ast::typed::operator::{BinOp, CmpOp, Direction, Order, UnOp};
+use cs_interpreter::constants::{truth_cell, unary_operation};
+use cs_interpreter::{Cell, Object, Operand, Stop, stride_of};
+use cs_runs::Label;
+use cs_steps::frames::number_of;
+use cs_steps::runner::Runner;
+use cs_types::{CType, IntType};
+
+/// A scalar is left.
+pub fn give(run: &mut Runner, cell: Cell) -> Result<(), Stop>
+    ensures ok { OnOk result (LeadsOn run.old run.new (Goes (machine.push_cell (cell_of cell) (state_in run.old)))) }
+    ensures err { IfErr result (Ends run.old run.new (Goes (machine.push_cell (cell_of cell) (state_in run.old)))) }
+    ensures kept { OnOk result (run.new.setting ≡ run.old.setting) }
+{
+    run.machine.push_cell(cell)?;
+    Ok(())
+}
+
+/// The place of a local of the frame is left.
+pub fn local_place(run: &mut Runner, place: Place, declaration: u32) -> Result<(), Stop>
+    ensures ok { OnOk result (LeadsOn run.old run.new (works (program_of run.old) (budgets_of run.old) place (graph.Local declaration) (state_in run.old))) }
+    ensures err { IfErr result (Ends run.old run.new (works (program_of run.old) (budgets_of run.old) place (graph.Local declaration) (state_in run.old))) }
+    ensures kept { OnOk result (run.new.setting ≡ run.old.setting) }
+{
+    let object = Object::Local(number_of(&run.machine), declaration);
+    run.machine.push_cell(Cell::Pointer(object, 0))?;
+    Ok(())
+}
+
+/// No value is left.
+pub fn give_nothing(run: &mut Runner, place: Place) -> Result<(), Stop>
+    ensures ok { OnOk result (LeadsOn run.old run.new (works (program_of run.old) (budgets_of run.old) place graph.Nothing (state_in run.old))) }
+    ensures err { IfErr result (Ends run.old run.new (works (program_of run.old) (budgets_of run.old) place graph.Nothing (state_in run.old))) }
+    ensures kept { OnOk result (run.new.setting ≡ run.old.setting) }
+{
+    run.machine.push(Operand::Nothing)?;
+    Ok(())
+}
+
+/// A pointer that is moved by an amount of elements of so many bytes (C11 6.5.2.1, 6.5.6).
+pub fn sum(
+    run: &mut Runner,
+    place: Place,
+    bytes: u64,
+    direction: Direction,
+    order: Order,
+) -> Result<(), Stop>
+    ensures ok { OnOk result (LeadsOn run.old run.new (works (program_of run.old) (budgets_of run.old) place (graph.Sum bytes direction order) (state_in run.old))) }
+    ensures err { IfErr result (Ends run.old run.new (works (program_of run.old) (budgets_of run.old) place (graph.Sum bytes direction order) (state_in run.old))) }
+    ensures kept { OnOk result (run.new.setting ≡ run.old.setting) }
+{
+    let (pointer, amount) = run.machine.pop_both(order);
+    let stride = stride_of(&amount, direction, bytes)?;
+    let moved = run.log.sum(run.setting, place, pointer, stride)?;
+    run.machine.push_cell(moved)?;
+    Ok(())
+}
+
+/// The place of a member (C11 6.5.2.3).
+pub fn member(run: &mut Runner, place: Place, offset: u64) -> Result<(), Stop>
+    ensures ok { OnOk result (LeadsOn run.old run.new (works (program_of run.old) (budgets_of run.old) place (graph.Member offset) (state_in run.old))) }
+    ensures err { IfErr result (Ends run.old run.new (works (program_of run.old) (budgets_of run.old) place (graph.Member offset) (state_in run.old))) }
+    ensures kept { OnOk result (run.new.setting ≡ run.old.setting) }
+{
+    let member = run.machine.pop_cell().further(offset)?;
+    run.machine.push_cell(member)?;
+    Ok(())
+}
+
+/// The member of what a pointer points to (C11 6.5.2.3).
+pub fn arrow(run: &mut Runner, place: Place, offset: u64) -> Result<(), Stop>
+    ensures ok { OnOk result (LeadsOn run.old run.new (works (program_of run.old) (budgets_of run.old) place (graph.Arrow offset) (state_in run.old))) }
+    ensures err { IfErr result (Ends run.old run.new (works (program_of run.old) (budgets_of run.old) place (graph.Arrow offset) (state_in run.old))) }
+    ensures kept { OnOk result (run.new.setting ≡ run.old.setting) }
+{
+    let pointer = run.machine.pop_cell();
+    let member = run.log.arrow(run.setting, place, pointer, offset)?;
+    run.machine.push_cell(member)?;
+    Ok(())
+}
+
+/// A conversion (C11 6.3).
+pub fn convert(run: &mut Runner, place: Place, from: &CType, to: &CType) -> Result<(), Stop>
+    ensures ok { OnOk result (LeadsOn run.old run.new (works (program_of run.old) (budgets_of run.old) place (graph.Convert (shape_of from.now) (shape_of to.now)) (state_in run.old))) }
+    ensures err { IfErr result (Ends run.old run.new (works (program_of run.old) (budgets_of run.old) place (graph.Convert (shape_of from.now) (shape_of to.now)) (state_in run.old))) }
+    ensures kept { OnOk result (run.new.setting ≡ run.old.setting) }
+{
+    let operand = run.machine.pop();
+    let made = run.log.convert(run.setting, place, from, to, operand)?;
+    run.machine.push(made)?;
+    Ok(())
+}
+
+/// An operator of one integer (C11 6.5.3.3).
+pub fn unary(run: &mut Runner, place: Place, operator: UnOp, ty: IntType) -> Result<(), Stop>
+    ensures ok { OnOk result (LeadsOn run.old run.new (works (program_of run.old) (budgets_of run.old) place (graph.Unary operator ty) (state_in run.old))) }
+    ensures err { IfErr result (Ends run.old run.new (works (program_of run.old) (budgets_of run.old) place (graph.Unary operator ty) (state_in run.old))) }
+    ensures kept { OnOk result (run.new.setting ≡ run.old.setting) }
+{
+    let operand = run.machine.pop_cell();
+    let operation = unary_operation(operator, ty, &operand);
+    let number = run.log.ask(run.setting, place, operation)?;
+    run.machine.push_cell(Cell::Number(number))?;
+    Ok(())
+}
+
+/// Whether an operand doesn't hold (C11 6.5.3.3).
+pub fn not(run: &mut Runner, place: Place) -> Result<(), Stop>
+    ensures ok { OnOk result (LeadsOn run.old run.new (works (program_of run.old) (budgets_of run.old) place graph.Not (state_in run.old))) }
+    ensures err { IfErr result (Ends run.old run.new (works (program_of run.old) (budgets_of run.old) place graph.Not (state_in run.old))) }
+    ensures kept { OnOk result (run.new.setting ≡ run.old.setting) }
+{
+    let operand = run.machine.pop_cell();
+    let holds = run.log.truth(run.setting, place, &operand)?;
+    run.log.show(run.setting, place, Label::Truth(!holds))?;
+    run.machine.push_cell(truth_cell(!holds))?;
+    Ok(())
+}
+
+/// An operator of two integers (C11 6.5.5 to 6.5.7, 6.5.10 to 6.5.12).
+pub fn binary(run: &mut Runner, place: Place, operator: BinOp, ty: IntType) -> Result<(), Stop>
+    ensures ok { OnOk result (LeadsOn run.old run.new (works (program_of run.old) (budgets_of run.old) place (graph.Binary operator ty) (state_in run.old))) }
+    ensures err { IfErr result (Ends run.old run.new (works (program_of run.old) (budgets_of run.old) place (graph.Binary operator ty) (state_in run.old))) }
+    ensures kept { OnOk result (run.new.setting ≡ run.old.setting) }
+{
+    let (left, right) = run.machine.pop_two();
+    let number = run
+        .log
+        .operate(run.setting, place, operator, ty, &left, &right)?;
+    run.machine.push_cell(Cell::Number(number))?;
+    Ok(())
+}
+
+/// A comparison (C11 6.5.8, 6.5.9).
+pub fn compare(run: &mut Runner, place: Place, operator: CmpOp) -> Result<(), Stop>
+    ensures ok { OnOk result (LeadsOn run.old run.new (works (program_of run.old) (budgets_of run.old) place (graph.Compare operator) (state_in run.old))) }
+    ensures err { IfErr result (Ends run.old run.new (works (program_of run.old) (budgets_of run.old) place (graph.Compare operator) (state_in run.old))) }
+    ensures kept { OnOk result (run.new.setting ≡ run.old.setting) }
+{
+    let (left, right) = run.machine.pop_two();
+    let number = run
+        .log
+        .compare(run.setting, place, operator, &left, &right)?;
+    run.machine.push_cell(Cell::Number(number))?;
+    Ok(())
+}
+
+/// How many elements of so many bytes lie between two pointers (C11 6.5.6).
+pub fn difference(run: &mut Runner, place: Place, bytes: u64) -> Result<(), Stop>
+    ensures ok { OnOk result (LeadsOn run.old run.new (works (program_of run.old) (budgets_of run.old) place (graph.Difference bytes) (state_in run.old))) }
+    ensures err { IfErr result (Ends run.old run.new (works (program_of run.old) (budgets_of run.old) place (graph.Difference bytes) (state_in run.old))) }
+    ensures kept { OnOk result (run.new.setting ≡ run.old.setting) }
+{
+    let (left, right) = run.machine.pop_two();
+    let number = run
+        .log
+        .difference(run.setting, place, &left, &right, bytes)?;
+    run.machine.push_cell(Cell::Number(number))?;
+    Ok(())
+}
