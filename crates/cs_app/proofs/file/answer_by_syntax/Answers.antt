@@ -1,5 +1,11 @@
 use Rattle.cs_app.proofs.AnswerLemmas.{refuses_syntax}
+use Rattle.cs_app.proofs.HeldFiles.{tree_held}
 use Rattle.cs_app.proofs.file.answer_by_syntax.Goals as goal
+
+pub answer_by_type-requires : goal.answer_by_type-requires
+answer_by_type-requires c =
+    let taken = rw c.as_slice.ensures.value at c.in-Ok.ensures.taken in
+    rw c.deref.ensures.value (tree_held c.args.lexed.now.list.items c.in-Ok.tree.externals.items c.requires.held taken)
 
 pub returns-in_ok-answer-in-Ok : goal.returns-in_ok-answer-in-Ok
 returns-in_ok-answer-in-Ok c =

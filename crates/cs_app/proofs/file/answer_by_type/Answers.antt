@@ -6,6 +6,9 @@ use Rattle.cs_app.proofs.TypingLemmas.{same_typing}
 use Rattle.cs_app.proofs.AnswerLemmas.{answers_program, refuses_type}
 use Rattle.cs_app.proofs.file.answer_by_type.Goals as goal
 
+pub answer_of-requires : goal.answer_of-requires
+answer_of-requires c = c.in-Ok.ensures.well_formed c.requires
+
 pub returns-in_ok-answer-in-Ok : goal.returns-in_ok-answer-in-Ok
 returns-in_ok-answer-in-Ok c =
     let answer = c.in_ok-answer-in-Ok.answer in
