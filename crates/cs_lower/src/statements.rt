@@ -41,49 +41,42 @@ impl Lowering<'_> {
         requires { IsReady self.now }
         ensures { IfOk result (λ made. Executes (typed_program self.now.program.now) (routine self.now.function.now) (statement s.now) exits.out exits.again (built_of graph.old) (built_of graph.new) (point_of made) (point_of behind)) }
     {
+        let place = s.place;
         match &s.kind {
             StmtKind::Block(statements) => self.lower_all(graph, statements, exits, behind),
             StmtKind::Declare(declaration, first) => {
-                self.lower_declaration(graph, s.place, *declaration, first.as_ref(), behind)
+                self.lower_declaration(graph, place, *declaration, first.as_ref(), behind)
             }
             StmtKind::Run(e) => {
-                let behind = behind.behind(s.place, 0, Work::Drop)?;
+                let behind = behind.behind(place, 0, Work::Drop)?;
                 self.lower_expression(graph, e, 0, behind)
             }
             StmtKind::If(test, body) => {
                 let end = graph.seal(behind)?;
                 let one = self.lower_way_out(graph, body, exits, end)?;
-                self.lower_test(graph, s.place, test, one, end)
+                self.lower_test(graph, place, test, one, end)
             }
             StmtKind::IfElse(test, body, other) => {
                 let end = graph.seal(behind)?;
                 let other = self.lower_way_out(graph, other, exits, end)?;
                 let one = self.lower_way_out(graph, body, exits, end)?;
-                self.lower_test(graph, s.place, test, one, other)
+                self.lower_test(graph, place, test, one, other)
             }
-            StmtKind::While(test, body) => self.lower_while(graph, body, s.place, test, behind),
-            StmtKind::Do(body, test) => self.lower_do(graph, body, s.place, test, behind),
+            StmtKind::While(test, body) => self.lower_while(graph, body, place, test, behind),
+            StmtKind::Do(body, test) => self.lower_do(graph, body, place, test, behind),
             StmtKind::For(first, test, last, body) => {
-                self.lower_for(graph, first, body, s.place, test, last, exits.again, behind)
+                self.lower_for(graph, first, body, place, test, last, exits.again, behind)
             }
             StmtKind::Switch(value, cases, statements) => {
-                self.lower_switch(
-                    graph,
-                    statements,
-                    s.place,
-                    value,
-                    cases,
-                    exits.again,
-                    behind,
-                )
+                self.lower_switch(graph, statements, place, value, cases, exits.again, behind)
             }
             StmtKind::Goto(label) => self.lower_goto(graph, *label, behind),
-            StmtKind::Label(_, body) => self.lower_label(graph, body, s.place, exits, behind),
+            StmtKind::Label(_, body) => self.lower_label(graph, body, place, exits, behind),
             StmtKind::Break => self.lower_jump(graph, exits.out, behind),
             StmtKind::Continue => self.lower_jump(graph, exits.again, behind),
             StmtKind::Return(value) => {
                 graph.keep(behind)?;
-                self.lower_return(graph, s.place, value.as_ref())
+                self.lower_return(graph, place, value.as_ref())
             }
         }
     }
