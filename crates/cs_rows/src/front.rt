@@ -2,12 +2,13 @@
 ghost use Rattle.std.specs.Prelude.{IfSome};
 ghost use Rattle.cs_ast.specs.TypedProgram.{typed_program};
 ghost use Rattle.cs_well_formed.specs.Programs.{IsWellFormed};
+ghost use Rattle.cs_app.specs.Trees.{AreHeld};
 
 use cs_ast::raw::external::Tree;
 use cs_ast::typed::program::Program;
 use cs_decl_parser::parse;
 use cs_grammar::SyntaxRefusal;
-use cs_lexer::tokens;
+use cs_lexer::{Lexed, tokens};
 use cs_types::DataModel;
 use cs_typing::typed;
 use std::alloc::Global;
@@ -50,11 +51,23 @@ pub fn program(alloc: Global, model: DataModel, text: &str) -> Option<Program>
     if bytes.len() > 4_194_304 {
         return None;
     }
-    let lexed = tokens(alloc, bytes).ok()?;
+    match tokens(alloc, bytes) {
+        Ok(lexed) => program_of(alloc, model, &lexed),
+        Err(_) => None,
+    }
+}
+
+/// The program that the tokens of a text are.
+fn program_of(alloc: Global, model: DataModel, lexed: &Lexed) -> Option<Program>
+    requires { AreHeld lexed.now.list.items }
+    ensures { IfSome result (λ program. IsWellFormed (typed_program program)) }
+{
     let list = lexed.list.as_slice();
     if list.len() > 400_000 {
         return None;
     }
-    let tree = parse(alloc, list, lexed.end).ok()?;
-    typed(alloc, model, &lexed.files, list, &tree.externals).ok()
+    match parse(alloc, list, lexed.end) {
+        Ok(tree) => typed(alloc, model, &lexed.files, list, &tree.externals).ok(),
+        Err(_) => None,
+    }
 }
