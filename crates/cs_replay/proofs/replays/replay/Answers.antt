@@ -12,13 +12,13 @@ use Rattle.cs_replay.proofs.replays.replay.Goals as goal
 pub invariant_of-follow : goal.invariant_of-follow
 invariant_of-follow c =
     let setting = c.args.setting.now in
-    record { ends = placed_ends (view.code c.args.code.now) (typed_program setting.program.now) c.args.entry (run_of setting) setting.budgets c.requires.placed }
+    record { ends = placed_ends (view.code c.args.code.now) (typed_program setting.program.now) c.args.entry (run_of setting) setting.budgets (view.flow c.in-Some.field-0.now) c.requires.placed c.in-Some.ensures }
 
 pub returns-in_ok-replayed-in-Some-clause-gives : goal.returns-in_ok-replayed-in-Some-clause-gives
 returns-in_ok-replayed-in-Some-clause-gives c =
     let setting = c.args.setting.now in
     let replayed = c.in_ok-replayed-in-Some.replayed in
-    replays_so (view.code c.args.code.now) (typed_program setting.program.now) c.args.entry (run_of setting) setting.budgets replayed.outcome (log_of replayed.log) (view.flow c.in-Some.field-0.now) c.requires.placed c.in-Some.ensures c.in_ok-replayed-in-Some.ensures
+    replays_so (view.code c.args.code.now) (typed_program setting.program.now) c.args.entry (run_of setting) setting.budgets (view.flow c.in-Some.field-0.now) c.requires.placed c.in-Some.ensures replayed.outcome (log_of replayed.log) c.in_ok-replayed-in-Some.ensures
 
 pub returns-in-None-clause-no_entry : goal.returns-in-None-clause-no_entry
 returns-in-None-clause-no_entry c =
