@@ -32,8 +32,8 @@ use Rattle.cs_expr_parser.specs.declared.stop.Stop.{Stop}
 use Rattle.cs_expr_parser.specs.declared.stop.Stop.TheVariants as stop
 use Rattle.cs_decl_parser.specs.declared.stop.Taken.{Taken}
 use Rattle.cs_decl_parser.specs.Answers.{Stops, IsExactly}
-use Rattle.cs_decl_parser.specs.Files.{parts_of, is_left_out_by_place, IsTheFile, IsFileRefusedAt, IsRefusalHere, IsFileRefusal}
-use Rattle.cs_decl_parser.specs.FileStops.{is_left_out_behind, FileStops}
+use Rattle.cs_decl_parser.specs.Files.{parts_of, IsTheFile, IsFileRefusedAt, IsRefusalHere, IsFileRefusal}
+use Rattle.cs_decl_parser.specs.FileStops.{IsPartRefusedAt, FileStops}
 use Rattle.cs_decl_parser.specs.declared.externals.Parts.{Parts}
 use Rattle.cs_decl_parser.specs.ReadParts.{StandsAmidst}
 use Rattle.cs_left_out.specs.LastParts.{BeginsWith, EndInPart}
@@ -74,21 +74,23 @@ parts_more names later tokens done all next taken s t n e =
     subst (λ (m : Names). PartsSoFar m tokens (parts_of all) taken.next) (sym n) (subst (λ (x : List External). PartsSoFar (names_behind names (external taken.tree)) tokens x taken.next) (sym list) more)
 
 -- a part of the file was refused
-part_refused : (names : Names) (tokens : List Token) (done : List External) (next at : ℕ) (reason : Reason) → next < length tokens → PartsSoFar names tokens done next → IsRefused (Externals names) 200 tokens next at reason → IsApt scope.File (kind_or_end tokens at) reason → IsFileRefusedAt is_left_out_behind tokens at reason
+part_refused : (names : Names) (tokens : List Token) (done : List External) (next at : ℕ) (reason : Reason) → next < length tokens → PartsSoFar names tokens done next → IsRefused (Externals names) 200 tokens next at reason → IsApt scope.File (kind_or_end tokens at) reason → IsPartRefusedAt tokens at reason
 part_refused names tokens done next at reason some s r apt =
     let f = file_refused names 200 done s.so_far r.front (kind_or_end tokens at) (is_deep reason) r.refused in
     let sp : Spells tokens 0 at (λ rest. (externals_text done [] ++ r.front) ++ rest) =
     spells_as tokens 0 at (λ rest. externals_text done (r.front ++ rest)) (λ rest. (externals_text done [] ++ r.front) ++ rest) (spells_more tokens 0 next at (externals_text done) (λ rest. r.front ++ rest) s.spelled r.spelled)
     (λ rest. sym (externals_append done [] (r.front ++ rest)) ∙ sym (append_assoc (externals_text done []) r.front rest)) in
     record {
-      front = externals_text done [] ++ r.front;
-      spelled = sp;
-      begun = f.begun;
-      furthest = λ within. f.never;
-      deep = λ within. f.further;
-      flat = λ within. f.nothing;
-      unfinished = λ ends file is same.
-          file_unfinished names 200 done s.so_far r.front (kind_or_end tokens at) (is_deep reason) (λ none. let n = refused_number tokens next at r.front r.spelled in let l : length r.front ≡ 0 = ap length none in omega (arith, n, l, ends, some)) r.refused file is same;
+      stopped = record {
+        front = externals_text done [] ++ r.front;
+        spelled = sp;
+        begun = f.begun;
+        furthest = λ within. f.never;
+        deep = λ within. f.further;
+        flat = λ within. f.nothing;
+        unfinished = λ ends file is same.
+            file_unfinished names 200 done s.so_far r.front (kind_or_end tokens at) (is_deep reason) (λ none. let n = refused_number tokens next at r.front r.spelled in let l : length r.front ≡ 0 = ap length none in omega (arith, n, l, ends, some)) r.refused file is same;
+      };
       why = λ within e. reason_of_kind (externals_text done [] ++ r.front) (kind_or_end tokens at) reason f.further f.nothing apt e;
     }
 
@@ -167,7 +169,7 @@ for_here tokens end at LeftOut (refusal.TooDeep place) f = absurd f
 for_here tokens end at TooDeep (refusal.Syntax place) f = absurd f
 for_here tokens end at TooDeep (refusal.LeftOut place word) f = absurd f
 
-with_stop : (tokens : List Token) (end : Place) (at : ℕ) (reason : Reason) (r : SyntaxRefusal) → IsRefusalHere tokens end at reason r → IsFileRefusedAt is_left_out_by_place tokens at reason → IsFileRefusal tokens end r
+with_stop : (tokens : List Token) (end : Place) (at : ℕ) (reason : Reason) (r : SyntaxRefusal) → IsRefusalHere tokens end at reason r → IsFileRefusedAt tokens at reason → IsFileRefusal tokens end r
 with_stop tokens end at reason refusal.Memory h s = tt
 with_stop tokens end at reason (refusal.Syntax place) h s = (at, reason, h, s)
 with_stop tokens end at reason (refusal.LeftOut place word) h s = (at, reason, h, s)
@@ -181,7 +183,7 @@ there tokens end at reason (refusal.LeftOut place word) None e f = absurd f
 there tokens end at reason (refusal.TooDeep place) None e f = absurd f
 
 -- the refusal of a token, or of the end of input
-pub token_refusal : (tokens : List Token) (end : Place) (at : ℕ) (reason : Reason) (r : SyntaxRefusal) → IsRefusalFor tokens end at (reason_there (kind_at tokens at) reason) r → IsFileRefusedAt is_left_out_by_place tokens at reason → IsFileRefusal tokens end r
+pub token_refusal : (tokens : List Token) (end : Place) (at : ℕ) (reason : Reason) (r : SyntaxRefusal) → IsRefusalFor tokens end at (reason_there (kind_at tokens at) reason) r → IsFileRefusedAt tokens at reason → IsFileRefusal tokens end r
 token_refusal tokens end at reason r f s = with_stop tokens end at reason r (there tokens end at reason r (slice_get tokens at) refl f) s
 
 -- the names of a typedef, one behind another

@@ -12,8 +12,7 @@ use Rattle.cs_grammar.specs.Text.{Kinds}
 use Rattle.cs_grammar.specs.FilePhrases.{BeginsFile, BeginsLowFile}
 use Rattle.cs_expr_parser.specs.Positions.{kinds, first_kind, kind_or_end}
 use Rattle.cs_expr_parser.specs.Parts.{is_deep}
-use Rattle.cs_decl_parser.specs.Files.{IsTheFile, IsFileRefusedAt}
-use Rattle.cs_decl_parser.specs.FileStops.{is_left_out_behind}
+use Rattle.cs_decl_parser.specs.Files.{IsTheFile, IsStoppedAt}
 
 kinds_behind : (before : List Token) (next : Token) → kinds (before ++ next ∷ []) ≡ kinds before ++ next.kind ∷ []
 kinds_behind before next = map-append (λ (t : Token). t.kind) before (next ∷ [])
@@ -33,7 +32,7 @@ drop_behind (suc at) [] next less = absurd (omega (arith, less))
 drop_behind (suc at) (t ∷ before) next less = drop_behind at before next (omega (arith, less))
 
 -- the tokens before the one that is refused
-front_is : (before : List Token) (next : Token) (at : ℕ) (reason : Reason) (r : IsFileRefusedAt is_left_out_behind (before ++ next ∷ []) at reason) → at ≤ length before → kinds before ≡ r.front ++ kinds (drop at before)
+front_is : (before : List Token) (next : Token) (at : ℕ) (reason : Reason) (r : IsStoppedAt (before ++ next ∷ []) at reason) → at ≤ length before → kinds before ≡ r.front ++ kinds (drop at before)
 front_is before next at reason r less =
     append_cancel_right (kinds before) (r.front ++ kinds (drop at before)) (next.kind ∷ [])
     (sym (kinds_behind before next) ∙ r.spelled.spelled ∙ ap (λ (x : List Token). r.front ++ kinds x) (drop_behind at before next less) ∙ ap (λ (x : Kinds). r.front ++ x) (kinds_behind (drop at before) next)
@@ -52,7 +51,7 @@ count [] next = refl
 count (t ∷ before) next = let c = count before next in omega (arith, c)
 
 -- none of the tokens before is refused, where a file that is low enough begins with them
-not_before : (before : List Token) (next : Token) (at : ℕ) (reason : Reason) → IsFileRefusedAt is_left_out_behind (before ++ next ∷ []) at reason → BeginsLowFile 200 (kinds before) → at < length before → ⊥
+not_before : (before : List Token) (next : Token) (at : ℕ) (reason : Reason) → IsStoppedAt (before ++ next ∷ []) at reason → BeginsLowFile 200 (kinds before) → at < length before → ⊥
 not_before before next at reason r b less =
     let n = count before next in
     let some : 1 ≤ length (drop at before) = omega (arith, less, length-drop at before) in
@@ -74,7 +73,7 @@ any_height : (front : Kinds) → BeginsLowFile 200 front → BeginsFile front
 any_height front b = record { file = b.file; more = b.more; is_file = b.is_file; spelled = b.spelled }
 
 -- the end of input is refused behind them all
-at_the_end : (before : List Token) (next : Token) (at : ℕ) (reason : Reason) → IsFileRefusedAt is_left_out_behind (before ++ next ∷ []) at reason → length before < at → BeginsFile (kinds before ++ next.kind ∷ [])
+at_the_end : (before : List Token) (next : Token) (at : ℕ) (reason : Reason) → IsStoppedAt (before ++ next ∷ []) at reason → length before < at → BeginsFile (kinds before ++ next.kind ∷ [])
 at_the_end before next at reason r less =
     let n = count before next in
     let all : length (before ++ next ∷ []) ≤ at = omega (arith, less, n) in
@@ -86,7 +85,7 @@ last_kind [] next = refl
 last_kind (t ∷ before) next = last_kind before next
 
 -- the last one is refused
-last_front : (before : List Token) (next : Token) (at : ℕ) (reason : Reason) (r : IsFileRefusedAt is_left_out_behind (before ++ next ∷ []) at reason) → at ≡ length before → r.front ++ kind_or_end (before ++ next ∷ []) at ∷ [] ≡ kinds before ++ next.kind ∷ []
+last_front : (before : List Token) (next : Token) (at : ℕ) (reason : Reason) (r : IsStoppedAt (before ++ next ∷ []) at reason) → at ≡ length before → r.front ++ kind_or_end (before ++ next ∷ []) at ∷ [] ≡ kinds before ++ next.kind ∷ []
 last_front before next at reason r same =
     let all : length before ≤ at = omega (arith, same) in
     let front : kinds before ≡ r.front = front_is before next at reason r (omega (arith, same)) ∙ ap (λ (x : List Token). r.front ++ kinds x) (drop_of_length-le before all) ∙ append-nil r.front in
@@ -97,7 +96,7 @@ told_deep : (b : Bool) → (b ≡ false → ⊥) → IsTrue b
 told_deep true none = refl
 told_deep false none = absurd (none refl)
 
-deep_or_end : (before : List Token) (next : Token) (at : ℕ) (reason : Reason) → IsFileRefusedAt is_left_out_behind (before ++ next ∷ []) at reason → at ≡ length before → IsTrue (is_deep reason) ↔ BeginsFile (kinds before ++ next.kind ∷ [])
+deep_or_end : (before : List Token) (next : Token) (at : ℕ) (reason : Reason) → IsStoppedAt (before ++ next ∷ []) at reason → at ≡ length before → IsTrue (is_deep reason) ↔ BeginsFile (kinds before ++ next.kind ∷ [])
 deep_or_end before next at reason r same =
     let n = count before next in
     let within : at < length (before ++ next ∷ []) = omega (arith, same, n) in
@@ -105,7 +104,7 @@ deep_or_end before next at reason r same =
     (λ d. subst BeginsFile e (r.deep within d), λ b. told_deep (is_deep reason) (λ f. r.flat within f (subst BeginsFile (sym e) b)))
 
 -- a token is refused: the last one as too deep, or the end of input
-pub goes_on_behind : (before : List Token) (next : Token) (at : ℕ) (reason : Reason) (on : Bool) → (IsTrue on ↔ ((length before < at) ⊎ (is_deep reason ≡ true))) → IsFileRefusedAt is_left_out_behind (before ++ next ∷ []) at reason → BeginsLowFile 200 (kinds before) → IsTrue on ↔ BeginsFile (kinds before ++ next.kind ∷ [])
+pub goes_on_behind : (before : List Token) (next : Token) (at : ℕ) (reason : Reason) (on : Bool) → (IsTrue on ↔ ((length before < at) ⊎ (is_deep reason ≡ true))) → IsStoppedAt (before ++ next ∷ []) at reason → BeginsLowFile 200 (kinds before) → IsTrue on ↔ BeginsFile (kinds before ++ next.kind ∷ [])
 goes_on_behind before next at reason on is r b =
     elim (cases_lt at (length before)) [
       | inl less ↦ absurd (not_before before next at reason r b less)

@@ -12,12 +12,12 @@ use Rattle.cs_grammar.specs.declared.refusal.Reason.TheVariants.{Syntax, LeftOut
 use Rattle.cs_grammar.specs.Text.{Kinds}
 use Rattle.cs_grammar.specs.FilePhrases.{BeginsFile, BeginsLowFile}
 use Rattle.cs_grammar.specs.FileRefusals.{MayHave, IsInside, IsLeftOutOfFile, IsFileReason}
-use Rattle.cs_grammar.specs.Roles.{behind_member, opens_list}
+use Rattle.cs_grammar.specs.Roles.{declared_name, behind_member, opens_list}
 use Rattle.cs_expr_parser.specs.Positions.{kinds, kind_or_end}
 use Rattle.cs_expr_parser.specs.Parts.{is_deep}
 use Rattle.cs_decl_parser.specs.DeclarationAnswers.{is_designator}
-use Rattle.cs_decl_parser.specs.Files.{is_left_out_by_place, IsFileRefusedAt}
-use Rattle.cs_decl_parser.specs.FileStops.{is_file_word, is_left_out_behind, left_out_if}
+use Rattle.cs_decl_parser.specs.Files.{IsStoppedAt, IsFileRefusedAt}
+use Rattle.cs_decl_parser.specs.FileStops.{is_file_word, is_left_out_behind, left_out_if, IsPartRefusedAt}
 
 abbrev brace : TokenKind
 brace = token.Mark mark.OpenBrace
@@ -25,27 +25,22 @@ brace = token.Mark mark.OpenBrace
 abbrev colon : TokenKind
 colon = token.Mark mark.Colon
 
-other_behind : (next : TokenKind) → (next ≡ colon → ⊥) → is_file_word next ≡ false → (is_designator next ≡ true → ⊥) → (next ≡ brace → ⊥) → is_left_out_by_place next ≡ false → is_left_out_behind next ≡ false
-other_behind (token.Mark mark.Colon) other w d o e = absurd (other refl)
-other_behind (token.Mark mark.Dot) other w d o e = absurd (d refl)
-other_behind (token.Mark mark.OpenBracket) other w d o e = absurd (d refl)
-other_behind (token.Mark mark.OpenBrace) other w d o e = absurd (o refl)
-other_behind (token.Mark _) other w d o e = e
-other_behind (token.Keyword _) other w d o e = w
-other_behind _ other w d o e = w
+abbrev opening : TokenKind
+opening = token.Mark mark.OpenParenthesis
+
+other_behind : (next : TokenKind) → (next ≡ colon → ⊥) → is_file_word next ≡ false → (is_designator next ≡ true → ⊥) → (next ≡ brace → ⊥) → (next ≡ opening → ⊥) → is_left_out_behind next ≡ false
+other_behind (token.Mark mark.Colon) other w d o p = absurd (other refl)
+other_behind (token.Mark mark.Dot) other w d o p = absurd (d refl)
+other_behind (token.Mark mark.OpenBracket) other w d o p = absurd (d refl)
+other_behind (token.Mark mark.OpenBrace) other w d o p = absurd (o refl)
+other_behind (token.Mark mark.OpenParenthesis) other w d o p = absurd (p refl)
+other_behind (token.Mark _) other w d o p = w
+other_behind (token.Keyword _) other w d o p = w
+other_behind _ other w d o p = w
 
 -- another token is refused
-pub told_of_others : (tokens : List Token) (at : ℕ) (reason : Reason) → (kind_or_end tokens at ≡ colon → ⊥) → is_file_word (kind_or_end tokens at) ≡ false → (is_designator (kind_or_end tokens at) ≡ true → ⊥) → (kind_or_end tokens at ≡ brace → ⊥) → IsFileRefusedAt is_left_out_behind tokens at reason → IsFileRefusedAt is_left_out_by_place tokens at reason
-told_of_others tokens at reason other w d o r = record {
-  front = r.front;
-  spelled = r.spelled;
-  begun = r.begun;
-  furthest = r.furthest;
-  deep = r.deep;
-  flat = r.flat;
-  unfinished = r.unfinished;
-  why = λ within e. r.why within (other_behind (kind_or_end tokens at) other w d o e);
-}
+pub told_of_others : (tokens : List Token) (at : ℕ) (reason : Reason) → (kind_or_end tokens at ≡ colon → ⊥) → is_file_word (kind_or_end tokens at) ≡ false → (is_designator (kind_or_end tokens at) ≡ true → ⊥) → (kind_or_end tokens at ≡ brace → ⊥) → (kind_or_end tokens at ≡ opening → ⊥) → IsPartRefusedAt tokens at reason → IsFileRefusedAt tokens at reason
+told_of_others tokens at reason other w d o p r = record { stopped = r.stopped; why = λ within. r.why within (other_behind (kind_or_end tokens at) other w d o p) }
 
 deep_why : (front : Kinds) (next : TokenKind) (reason : Reason) → is_deep reason ≡ true → BeginsFile (front ++ next ∷ []) → IsFileReason front (Some next) reason
 deep_why front next TooDeep d b = b
@@ -53,20 +48,11 @@ deep_why front next LeftOut d b = absurd (false≢true d)
 deep_why front next Syntax d b = absurd (false≢true d)
 
 -- a token is refused as too deep
-pub told_of_deep : (tokens : List Token) (at : ℕ) (reason : Reason) → is_deep reason ≡ true → IsFileRefusedAt is_left_out_behind tokens at reason → IsFileRefusedAt is_left_out_by_place tokens at reason
-told_of_deep tokens at reason d r = record {
-  front = r.front;
-  spelled = r.spelled;
-  begun = r.begun;
-  furthest = r.furthest;
-  deep = r.deep;
-  flat = r.flat;
-  unfinished = r.unfinished;
-  why = λ within e. deep_why r.front (kind_or_end tokens at) reason d (r.deep within d);
-}
+pub told_of_deep : (tokens : List Token) (at : ℕ) (reason : Reason) → is_deep reason ≡ true → IsPartRefusedAt tokens at reason → IsFileRefusedAt tokens at reason
+told_of_deep tokens at reason d r = record { stopped = r.stopped; why = λ within. deep_why r.stopped.front (kind_or_end tokens at) reason d (r.stopped.deep within d) }
 
 -- the tokens before the one that is refused
-before : (tokens : List Token) (at : ℕ) (reason : Reason) (r : IsFileRefusedAt is_left_out_behind tokens at reason) → r.front ≡ kinds (take at tokens)
+before : (tokens : List Token) (at : ℕ) (reason : Reason) (r : IsStoppedAt tokens at reason) → r.front ≡ kinds (take at tokens)
 before tokens at reason r =
     append_cancel_right r.front (kinds (take at tokens)) (kinds (drop at tokens))
     (sym r.spelled.spelled ∙ ap kinds (sym (take-append-drop at tokens)) ∙ map-append (λ (t : Token). t.kind) (take at tokens) (drop at tokens))
@@ -82,25 +68,31 @@ either_why : (front : Kinds) (next : TokenKind) (out : Bool) → (BeginsFile (fr
 either_why front next true none is = (none, is.0 refl)
 either_why front next false none is = (none, λ left. false≢true (is.1 left))
 
--- the tokens before it tell whether it is left out
-pub told_behind : (tokens : List Token) (at : ℕ) (reason : Reason) (out : Bool) → is_deep reason ≡ false → (BeginsLowFile 200 (kinds (take at tokens)) → IsTrue out ↔ IsLeftOutOfFile (kinds (take at tokens)) (kind_or_end tokens at)) → IsFileRefusedAt is_left_out_behind tokens at reason → IsFileRefusedAt is_left_out_by_place tokens at (left_out_if out)
-told_behind tokens at reason out flat is r =
-    let told = subst (λ (x : Kinds). IsTrue out ↔ IsLeftOutOfFile x (kind_or_end tokens at)) (sym (before tokens at reason r)) (is (subst (BeginsLowFile 200) (before tokens at reason r) r.begun)) in
+-- the tokens before it tell whether it is left out, where no file goes on with it
+told_behind : (tokens : List Token) (at : ℕ) (reason : Reason) (out : Bool) → is_deep reason ≡ false → (BeginsLowFile 200 (kinds (take at tokens)) → (BeginsFile (kinds (take at tokens) ++ kind_or_end tokens at ∷ []) → ⊥) → IsTrue out ↔ IsLeftOutOfFile (kinds (take at tokens)) (kind_or_end tokens at)) → IsPartRefusedAt tokens at reason → IsFileRefusedAt tokens at (left_out_if out)
+told_behind tokens at reason out flat is part =
+    let r = part.stopped in
+    let same = before tokens at reason r in
+    let next = kind_or_end tokens at in
+    let told = λ (none : BeginsFile (r.front ++ next ∷ []) → ⊥).
+    subst (λ (x : Kinds). IsTrue out ↔ IsLeftOutOfFile x next) (sym same) (is (subst (BeginsLowFile 200) same r.begun) (subst (λ (x : Kinds). BeginsFile (x ++ next ∷ []) → ⊥) same none)) in
     record {
-      front = r.front;
-      spelled = r.spelled;
-      begun = r.begun;
-      furthest = r.furthest;
-      deep = λ within d. absurd (false≢true (sym (either_flat out) ∙ d));
-      flat = λ within f. r.flat within flat;
-      unfinished = r.unfinished;
-      why = λ within e. either_why r.front (kind_or_end tokens at) out (r.flat within flat) told;
+      stopped = record {
+        front = r.front;
+        spelled = r.spelled;
+        begun = r.begun;
+        furthest = r.furthest;
+        deep = λ within d. absurd (false≢true (sym (either_flat out) ∙ d));
+        flat = λ within f. r.flat within flat;
+        unfinished = r.unfinished;
+      };
+      why = λ within. let none = r.flat within flat in either_why r.front next out none (told none);
     }
 
 -- a colon is left out behind a member's declarator
-pub told_colon : (tokens : List Token) (at : ℕ) (reason : Reason) (out : Bool) → is_deep reason ≡ false → kind_or_end tokens at ≡ colon → (BeginsFile (kinds (take at tokens)) → IsTrue out ↔ MayHave (kinds (take at tokens)) behind_member) → IsFileRefusedAt is_left_out_behind tokens at reason → IsFileRefusedAt is_left_out_by_place tokens at (left_out_if out)
+pub told_colon : (tokens : List Token) (at : ℕ) (reason : Reason) (out : Bool) → is_deep reason ≡ false → kind_or_end tokens at ≡ colon → (BeginsFile (kinds (take at tokens)) → IsTrue out ↔ MayHave (kinds (take at tokens)) behind_member) → IsPartRefusedAt tokens at reason → IsFileRefusedAt tokens at (left_out_if out)
 told_colon tokens at reason out flat k is r =
-    told_behind tokens at reason out flat (λ b. subst (λ (x : TokenKind). IsTrue out ↔ IsLeftOutOfFile (kinds (take at tokens)) x) (sym k) (is (any_height (kinds (take at tokens)) b))) r
+    told_behind tokens at reason out flat (λ b none. subst (λ (x : TokenKind). IsTrue out ↔ IsLeftOutOfFile (kinds (take at tokens)) x) (sym k) (is (any_height (kinds (take at tokens)) b))) r
 
 inside_word : (front : Kinds) (out : Bool) (next : TokenKind) → is_file_word next ≡ true → (BeginsFile front → IsTrue out ↔ IsInside front) → BeginsFile front → IsTrue out ↔ IsLeftOutOfFile front next
 inside_word front out (token.Keyword keyword.Static) w is = is
@@ -109,8 +101,8 @@ inside_word front out (token.Keyword _) w is = absurd (false≢true w)
 inside_word front out _ w is = absurd (false≢true w)
 
 -- `static` and `typedef` are left out inside a block or an expression
-pub told_word : (tokens : List Token) (at : ℕ) (reason : Reason) (out : Bool) → is_deep reason ≡ false → is_file_word (kind_or_end tokens at) ≡ true → (BeginsFile (kinds (take at tokens)) → IsTrue out ↔ IsInside (kinds (take at tokens))) → IsFileRefusedAt is_left_out_behind tokens at reason → IsFileRefusedAt is_left_out_by_place tokens at (left_out_if out)
-told_word tokens at reason out flat w is r = told_behind tokens at reason out flat (λ b. inside_word (kinds (take at tokens)) out (kind_or_end tokens at) w is (any_height (kinds (take at tokens)) b)) r
+pub told_word : (tokens : List Token) (at : ℕ) (reason : Reason) (out : Bool) → is_deep reason ≡ false → is_file_word (kind_or_end tokens at) ≡ true → (BeginsFile (kinds (take at tokens)) → IsTrue out ↔ IsInside (kinds (take at tokens))) → IsPartRefusedAt tokens at reason → IsFileRefusedAt tokens at (left_out_if out)
+told_word tokens at reason out flat w is r = told_behind tokens at reason out flat (λ b none. inside_word (kinds (take at tokens)) out (kind_or_end tokens at) w is (any_height (kinds (take at tokens)) b)) r
 
 list_mark : (front : Kinds) (out : Bool) (next : TokenKind) → is_designator next ≡ true → (IsTrue out ↔ MayHave front opens_list) → IsTrue out ↔ IsLeftOutOfFile front next
 list_mark front out (token.Mark mark.Dot) d is = is
@@ -119,8 +111,8 @@ list_mark front out (token.Mark _) d is = absurd (false≢true d)
 list_mark front out _ d is = absurd (false≢true d)
 
 -- a dot and an opening bracket are left out where a list of initial values may open
-pub told_list : (tokens : List Token) (at : ℕ) (reason : Reason) (out : Bool) → is_deep reason ≡ false → is_designator (kind_or_end tokens at) ≡ true → (BeginsLowFile 200 (kinds (take at tokens)) → IsTrue out ↔ MayHave (kinds (take at tokens)) opens_list) → IsFileRefusedAt is_left_out_behind tokens at reason → IsFileRefusedAt is_left_out_by_place tokens at (left_out_if out)
-told_list tokens at reason out flat d is r = told_behind tokens at reason out flat (λ b. list_mark (kinds (take at tokens)) out (kind_or_end tokens at) d (is b)) r
+pub told_list : (tokens : List Token) (at : ℕ) (reason : Reason) (out : Bool) → is_deep reason ≡ false → is_designator (kind_or_end tokens at) ≡ true → (BeginsLowFile 200 (kinds (take at tokens)) → IsTrue out ↔ MayHave (kinds (take at tokens)) opens_list) → IsPartRefusedAt tokens at reason → IsFileRefusedAt tokens at (left_out_if out)
+told_list tokens at reason out flat d is r = told_behind tokens at reason out flat (λ b none. list_mark (kinds (take at tokens)) out (kind_or_end tokens at) d (is b)) r
 
 -- a list may open where a value is awaited, and a file goes on with a brace
 pub list_told : (front : Kinds) (awaits : Bool) → (MayHave front opens_list ↔ (IsTrue awaits × BeginsFile (front ++ token.Mark mark.OpenBrace ∷ []))) → (out : Bool) → (awaits ≡ false → out ≡ false) → (awaits ≡ true → IsTrue out ↔ BeginsFile (front ++ token.Mark mark.OpenBrace ∷ [])) → IsTrue out ↔ MayHave front opens_list
@@ -128,6 +120,12 @@ list_told front true is out never on = (λ o. is.1 (refl, (on refl).0 o), λ m. 
 list_told front false is out never on = (λ o. absurd (false≢true (sym (never refl) ∙ o)), λ m. absurd (false≢true (is.0 m).0))
 
 -- a brace is left out behind a tag inside a block or an expression, and behind a type
-pub told_brace : (tokens : List Token) (at : ℕ) (reason : Reason) (out : Bool) → is_deep reason ≡ false → kind_or_end tokens at ≡ brace → (BeginsFile (kinds (take at tokens)) → IsTrue out ↔ IsLeftOutOfFile (kinds (take at tokens)) brace) → IsFileRefusedAt is_left_out_behind tokens at reason → IsFileRefusedAt is_left_out_by_place tokens at (left_out_if out)
+pub told_brace : (tokens : List Token) (at : ℕ) (reason : Reason) (out : Bool) → is_deep reason ≡ false → kind_or_end tokens at ≡ brace → (BeginsFile (kinds (take at tokens)) → IsTrue out ↔ IsLeftOutOfFile (kinds (take at tokens)) brace) → IsPartRefusedAt tokens at reason → IsFileRefusedAt tokens at (left_out_if out)
 told_brace tokens at reason out flat k is r =
-    told_behind tokens at reason out flat (λ b. subst (λ (x : TokenKind). IsTrue out ↔ IsLeftOutOfFile (kinds (take at tokens)) x) (sym k) (is (any_height (kinds (take at tokens)) b))) r
+    told_behind tokens at reason out flat (λ b none. subst (λ (x : TokenKind). IsTrue out ↔ IsLeftOutOfFile (kinds (take at tokens)) x) (sym k) (is (any_height (kinds (take at tokens)) b))) r
+
+-- a parenthesis is left out where a declarator's name may stand
+pub told_parenthesis : (tokens : List Token) (at : ℕ) (reason : Reason) (out : Bool) → is_deep reason ≡ false → kind_or_end tokens at ≡ opening → (BeginsLowFile 200 (kinds (take at tokens)) → (BeginsFile (kinds (take at tokens) ++ opening ∷ []) → ⊥) → IsTrue out ↔ MayHave (kinds (take at tokens)) declared_name) → IsPartRefusedAt tokens at reason → IsFileRefusedAt tokens at (left_out_if out)
+told_parenthesis tokens at reason out flat k is r =
+    told_behind tokens at reason out flat
+    (λ b none. subst (λ (x : TokenKind). IsTrue out ↔ IsLeftOutOfFile (kinds (take at tokens)) x) (sym k) (is b (subst (λ (x : TokenKind). BeginsFile (kinds (take at tokens) ++ x ∷ []) → ⊥) k none))) r

@@ -11,13 +11,13 @@ use Rattle.cs_grammar.specs.declared.refusal.SyntaxRefusal.TheVariants as refusa
 use Rattle.cs_grammar.specs.Text.{Kinds}
 use Rattle.cs_grammar.specs.FileText.{file_text}
 use Rattle.cs_expr_parser.specs.Positions.{kinds, first_kind}
-use Rattle.cs_decl_parser.specs.Files.{is_left_out_by_place, IsTheFile, IsFileRefusedAt, IsFileRefusal}
+use Rattle.cs_decl_parser.specs.Files.{IsTheFile, IsStoppedAt, IsFileRefusal}
 
 with_first : (front : Kinds) (rest : List Token) → 1 ≤ length rest → front ++ kinds rest ≡ (front ++ first_kind rest ∷ []) ++ kinds (drop 1 rest)
 with_first front [] some = absurd (omega (arith, some))
 with_first front (token ∷ rest) some = sym (append_assoc front (token.kind ∷ []) (kinds rest))
 
-not_refused : (tokens : List Token) (file : List External) (at : ℕ) (reason : Reason) → IsTheFile tokens file → IsFileRefusedAt is_left_out_by_place tokens at reason → ⊥
+not_refused : (tokens : List Token) (file : List External) (at : ℕ) (reason : Reason) → IsTheFile tokens file → IsStoppedAt tokens at reason → ⊥
 not_refused tokens file at reason h r =
     let spelled : file_text file ≡ r.front ++ kinds (drop at tokens) = sym h.spelled ∙ r.spelled.spelled in
     elim (cases_lt at (length tokens)) [
@@ -34,6 +34,6 @@ not_refused tokens file at reason h r =
 
 pub file_or_refused : (tokens : List Token) (end : Place) (file : List External) (r : SyntaxRefusal) → IsTheFile tokens file → IsFileRefusal tokens end r → r ≡ refusal.Memory
 file_or_refused tokens end file refusal.Memory h i = refl
-file_or_refused tokens end file (refusal.Syntax place) h i = absurd (not_refused tokens file i.0 i.1 h i.3)
-file_or_refused tokens end file (refusal.LeftOut place word) h i = absurd (not_refused tokens file i.0 i.1 h i.3)
-file_or_refused tokens end file (refusal.TooDeep place) h i = absurd (not_refused tokens file i.0 i.1 h i.3)
+file_or_refused tokens end file (refusal.Syntax place) h i = absurd (not_refused tokens file i.0 i.1 h i.3.stopped)
+file_or_refused tokens end file (refusal.LeftOut place word) h i = absurd (not_refused tokens file i.0 i.1 h i.3.stopped)
+file_or_refused tokens end file (refusal.TooDeep place) h i = absurd (not_refused tokens file i.0 i.1 h i.3.stopped)

@@ -1,5 +1,5 @@
 -- What the parts of the parser of files answer to one another.
-use Rattle.std.specs.Prelude.{Bool, true, false, if◌then◌else◌, List}
+use Rattle.std.specs.Prelude.{◌≡◌, ℕ, ◌<◌, Bool, true, false, if◌then◌else◌, List, Some, length}
 use Rattle.cs_ast.specs.declared.token.Token.{Token}
 use Rattle.cs_ast.specs.declared.token.TokenKind.{TokenKind}
 use Rattle.cs_ast.specs.declared.token.TokenKind.TheVariants as token
@@ -9,7 +9,9 @@ use Rattle.cs_grammar.specs.declared.refusal.Reason.{Reason}
 use Rattle.cs_grammar.specs.declared.refusal.Reason.TheVariants.{Syntax, LeftOut}
 use Rattle.cs_expr_parser.specs.declared.stop.Stop.{Stop}
 use Rattle.cs_expr_parser.specs.declared.stop.Stop.TheVariants as stop
-use Rattle.cs_decl_parser.specs.Files.{is_left_out_by_place, IsFileRefusedAt}
+use Rattle.cs_grammar.specs.FileRefusals.{IsFileReason}
+use Rattle.cs_expr_parser.specs.Positions.{kind_or_end}
+use Rattle.cs_decl_parser.specs.Files.{IsStoppedAt}
 
 -- `static` and `typedef`, which no block has and no expression
 abbrev pub is_file_word : TokenKind → Bool
@@ -18,20 +20,25 @@ is_file_word (token.Keyword keyword.Typedef) = true
 is_file_word other = false
 
 -- whether the token is left out isn't told by the parts of the parser: the tokens before it tell it of a colon, of `static`, of
--- `typedef`, of a dot, of an opening bracket and of an opening brace
+-- `typedef`, of a dot, and of an opening bracket, brace and parenthesis
 abbrev pub is_left_out_behind : TokenKind → Bool
 is_left_out_behind (token.Mark mark.Colon) = true
 is_left_out_behind (token.Mark mark.Dot) = true
 is_left_out_behind (token.Mark mark.OpenBracket) = true
 is_left_out_behind (token.Mark mark.OpenBrace) = true
-is_left_out_behind (token.Mark other) = is_left_out_by_place (token.Mark other)
+is_left_out_behind (token.Mark mark.OpenParenthesis) = true
 is_left_out_behind other = is_file_word other
 
 -- the reason, where it is told whether the token is left out
 abbrev pub left_out_if : Bool → Reason
 left_out_if out = if out then LeftOut else Syntax
 
+-- a part refuses a token, or the end of input: for the right reason, if the parts tell whether the token is left out
+pub record IsPartRefusedAt (tokens : List Token) (at : ℕ) (reason : Reason) : Type 0 where
+  pub stopped : IsStoppedAt tokens at reason
+  pub why : at < length tokens → is_left_out_behind (kind_or_end tokens at) ≡ false → IsFileReason stopped.front (Some (kind_or_end tokens at)) reason
+
 -- want of memory, or a token is refused
 abbrev pub FileStops : List Token → Stop → Type 0
 FileStops tokens stop.Memory = Unit {0}
-FileStops tokens (stop.Refused at reason) = IsFileRefusedAt is_left_out_behind tokens at reason
+FileStops tokens (stop.Refused at reason) = IsPartRefusedAt tokens at reason

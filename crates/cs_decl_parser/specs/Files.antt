@@ -1,10 +1,7 @@
 -- What the parser of files answers.
-use Rattle.std.specs.Prelude.{◌≡◌, ℕ, ◌<◌, Bool, true, false, List, [], ◌∷◌, ◌++◌, Some, map, length}
+use Rattle.std.specs.Prelude.{◌≡◌, ℕ, ◌<◌, true, false, List, [], ◌∷◌, ◌++◌, Some, map, length}
 use Rattle.cs_ast.specs.declared.place.Place.{Place}
 use Rattle.cs_ast.specs.declared.token.Token.{Token}
-use Rattle.cs_ast.specs.declared.token.TokenKind.{TokenKind}
-use Rattle.cs_ast.specs.declared.token.TokenKind.TheVariants as token
-use Rattle.cs_ast.specs.declared.token.Mark.TheVariants as mark
 use Rattle.cs_ast.specs.declared.raw.external.RawExternal.{RawExternal}
 use Rattle.cs_ast.specs.RawStatements.{External}
 use Rattle.cs_ast.specs.RawStatementView.{external}
@@ -32,15 +29,9 @@ pub record IsTheFile (tokens : List Token) (file : List External) : Type 0 where
   pub spelled : kinds tokens ≡ file_text file
   pub only : (other : List External) → IsFile [] other → file_text other ≡ file_text file → other ≡ file
 
--- the token is left out at some places, and not at others, of which the parser doesn't tell in each case
-abbrev pub is_left_out_by_place : TokenKind → Bool
-is_left_out_by_place (token.Mark mark.OpenParenthesis) = true
-is_left_out_by_place other = false
-
--- a token, or the end of input, is refused: a file that is low enough begins with the tokens before it, and none with the token
--- too; a higher one does exactly where it is too deep; at the end of input the tokens are no file. `why` says for each token but
--- those that are untold that its reason is the right one behind these tokens
-pub record IsFileRefusedAt (untold : TokenKind → Bool) (tokens : List Token) (at : ℕ) (reason : Reason) : Type 0 where
+-- a token, or the end of input, is the first that is refused: a file that is low enough begins with the tokens before it, and none with
+-- the token too; a higher one does exactly where it is too deep; at the end of input the tokens are no file
+pub record IsStoppedAt (tokens : List Token) (at : ℕ) (reason : Reason) : Type 0 where
   pub front : Kinds
   pub spelled : Spells tokens 0 at (λ rest. front ++ rest)
   pub begun : BeginsLowFile 200 front
@@ -48,7 +39,11 @@ pub record IsFileRefusedAt (untold : TokenKind → Bool) (tokens : List Token) (
   pub deep : at < length tokens → is_deep reason ≡ true → BeginsFile (front ++ kind_or_end tokens at ∷ [])
   pub flat : at < length tokens → is_deep reason ≡ false → BeginsFile (front ++ kind_or_end tokens at ∷ []) → ⊥
   pub unfinished : at ≡ length tokens → (file : List External) → IsFile [] file → file_text file ≡ front → ⊥
-  pub why : at < length tokens → untold (kind_or_end tokens at) ≡ false → IsFileReason front (Some (kind_or_end tokens at)) reason
+
+-- and if it is a token, the reason is the right one behind those before it
+pub record IsFileRefusedAt (tokens : List Token) (at : ℕ) (reason : Reason) : Type 0 where
+  pub stopped : IsStoppedAt tokens at reason
+  pub why : at < length tokens → IsFileReason stopped.front (Some (kind_or_end tokens at)) reason
 
 -- a refusal of the token with this number, for this reason, or want of memory; the end of input is refused as syntax
 abbrev pub IsRefusalHere : List Token → Place → ℕ → Reason → SyntaxRefusal → Type 0
@@ -61,4 +56,4 @@ IsRefusalHere tokens end at reason refusal.Memory = Unit {0}
 -- want of memory, or the refusal of the first token with which no file that is low enough goes on
 abbrev pub IsFileRefusal : List Token → Place → SyntaxRefusal → Type 0
 IsFileRefusal tokens end refusal.Memory = Unit {0}
-IsFileRefusal tokens end other = (at : ℕ) × (reason : Reason) × IsRefusalHere tokens end at reason other × IsFileRefusedAt is_left_out_by_place tokens at reason
+IsFileRefusal tokens end other = (at : ℕ) × (reason : Reason) × IsRefusalHere tokens end at reason other × IsFileRefusedAt tokens at reason

@@ -7,23 +7,25 @@ ghost use Rattle.cs_grammar.specs.FileRefusals.{MayHave, IsLeftOutOfFile};
 ghost use Rattle.cs_expr_parser.specs.declared.stop.Stop.TheVariants as stop;
 ghost use Rattle.cs_left_out.specs.LastParts.{EndInPart};
 ghost use Rattle.cs_decl_parser.specs.ReadParts.{StandsAmidst};
-ghost use Rattle.cs_grammar.specs.Roles.{opens_list};
+ghost use Rattle.cs_grammar.specs.Roles.{declared_name, opens_list};
 ghost use Rattle.cs_expr_parser.specs.Parts.{is_deep};
 ghost use Rattle.cs_expr_parser.specs.Positions.{kinds, kind_or_end};
 ghost use Rattle.cs_decl_parser.specs.DeclarationAnswers.{is_designator};
-ghost use Rattle.cs_decl_parser.specs.Files.{is_left_out_by_place, IsFileRefusedAt};
-ghost use Rattle.cs_decl_parser.specs.FileStops.{is_file_word as file_word, is_left_out_behind, left_out_if as out_if};
+ghost use Rattle.cs_decl_parser.specs.Files.{IsFileRefusedAt};
+ghost use Rattle.cs_decl_parser.specs.FileStops.{is_file_word as file_word, left_out_if as out_if, IsPartRefusedAt};
 
 use crate::externals::Parts;
 use crate::stop::Stop;
 use cs_ast::{Keyword, Mark, Token, TokenKind};
 use cs_expr_parser::{is_mark, keyword_at, mark_at};
 use cs_grammar::Reason;
-use cs_left_out::{awaits_list, is_behind_member, is_behind_type, is_inside, is_tag_inside};
+use cs_left_out::{
+    awaits_list, is_behind_member, is_behind_type, is_inside, is_tag_inside, token_for_name,
+};
 use std::alloc::{AllocError, Global};
 
-/// Why the token at a number is refused: the tokens before it tell whether a colon, `static`, `typedef`, a dot, an opening
-/// bracket or an opening brace is left out.
+/// Why the token at a number is refused: the tokens before it tell whether a colon, `static`, `typedef`, a dot, or an opening
+/// bracket, brace or parenthesis is left out.
 pub fn reason_told(
     alloc: Global,
     tokens: &[Token],
@@ -33,7 +35,7 @@ pub fn reason_told(
 ) -> Result<Reason, AllocError>
     requires few { length tokens.now < 2 ^ 32 }
     requires amidst { StandsAmidst tokens.now parts.now (stop.Refused at reason) }
-    ensures { IfOk result (λ told. IsFileRefusedAt is_left_out_behind tokens.now at reason → IsFileRefusedAt is_left_out_by_place tokens.now at told) }
+    ensures { IfOk result (λ told. IsPartRefusedAt tokens.now at reason → IsFileRefusedAt tokens.now at told) }
 {
     if is_too_deep(reason) {
         return Ok(reason);
@@ -52,6 +54,10 @@ pub fn reason_told(
     }
     if is_mark(tokens, at, Mark::OpenBrace) {
         let out = is_brace_out(alloc, tokens, at, parts)?;
+        return Ok(left_out_if(out));
+    }
+    if is_mark(tokens, at, Mark::OpenParenthesis) {
+        let out = may_name_declarator(alloc, tokens, at)?;
         return Ok(left_out_if(out));
     }
     Ok(reason)
@@ -100,6 +106,25 @@ fn may_open_list(alloc: Global, tokens: &[Token], at: usize) -> Result<bool, All
         place: tokens[at].place,
     };
     let on = file_goes_on(alloc, before, brace)?;
+    Ok(on)
+}
+
+/// Whether a declarator's name may stand in place of the token with this number, where some file that is low enough begins with the
+/// tokens before it, and none of any height goes on with an opening parenthesis.
+fn may_name_declarator(alloc: Global, tokens: &[Token], at: usize) -> Result<bool, AllocError>
+    requires within { at < length tokens.now }
+    requires few { length tokens.now < 2 ^ 32 }
+    ensures { IfOk result (λ may. BeginsLowFile 200 (kinds (take at tokens.now)) → (BeginsFile (kinds (take at tokens.now) ++ token.Mark mark.OpenParenthesis ∷ []) → ⊥) → (IsTrue may ↔ MayHave (kinds (take at tokens.now)) declared_name)) }
+{
+    let before = &tokens[..at];
+    let Some(kind) = token_for_name(alloc, before)? else {
+        return Ok(false);
+    };
+    let asked = Token {
+        kind,
+        place: tokens[at].place,
+    };
+    let on = file_goes_on(alloc, before, asked)?;
     Ok(on)
 }
 

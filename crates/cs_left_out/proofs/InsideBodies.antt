@@ -24,16 +24,16 @@ use Rattle.cs_left_out.specs.Sites.{tag_behind}
 use Rattle.cs_left_out.proofs.InsideTraces.{Telling, Calm, pointers_calm, word_calm, expression_calm}
 
 -- no word is `static` or has a body
-abbrev ArePlain : Specs → Type 0
+abbrev pub ArePlain : Specs → Type 0
 ArePlain NoSpec = Unit {0}
 ArePlain (MoreSpecs (Plain w) others) = ArePlain others
 ArePlain (MoreSpecs other others) = ⊥
 
-once_more : {A B : Type 0} (f : A → B) (x : Option A) (P : B → Type 0) → MatchOption (option_map f x) ⊥ P → MatchOption x ⊥ (λ a. P (f a))
+pub once_more : {A B : Type 0} (f : A → B) (x : Option A) (P : B → Type 0) → MatchOption (option_map f x) ⊥ P → MatchOption x ⊥ (λ a. P (f a))
 once_more f None P h = h
 once_more f (Some a) P h = h
 
-plain_specs : (specs : Specs) (P : List TypeWord → Type 0) → MatchOption (plain_words specs) ⊥ P → ArePlain specs
+pub plain_specs : (specs : Specs) (P : List TypeWord → Type 0) → MatchOption (plain_words specs) ⊥ P → ArePlain specs
 plain_specs NoSpec P h = tt
 plain_specs (MoreSpecs (Plain w) others) P h = plain_specs others (λ ws. P (w ∷ ws)) (once_more (λ ws. w ∷ ws) (plain_words others) P h)
 plain_specs (MoreSpecs Static others) P h = h

@@ -27,7 +27,7 @@ none_there : (i : ℕ) → slice_get none i ≡ None
 none_there zero = refl
 none_there (suc i) = refl
 
-get_behind : (n i : ℕ) (rs : Roles) → slice_get rs (n + i) ≡ slice_get (drop n rs) i
+pub get_behind : (n i : ℕ) (rs : Roles) → slice_get rs (n + i) ≡ slice_get (drop n rs) i
 get_behind zero i rs =
     let e : 0 + i ≡ i = omega arith in
     ap (slice_get rs) e

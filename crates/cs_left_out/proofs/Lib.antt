@@ -13,3 +13,8 @@ pub mod TypeTraces
 pub mod TypeFiles
 pub mod Tags
 pub mod LastParts
+pub mod NameTraces
+pub mod NameDeclarations
+pub mod NewNames
+pub mod NameStatements
+pub mod NameFiles

@@ -100,7 +100,7 @@ rest_true : (a b : Bool) → a && b ≡ true → b ≡ true
 rest_true true b e = e
 rest_true false b e = absurd (false≢true e)
 
-alone : (names : Names) (w : TypeWord) (ws : List TypeWord) → is_integer_word w ≡ false → IsTrue (names_type names (w ∷ ws)) → list_all is_integer_word ws ≡ true
+pub alone : (names : Names) (w : TypeWord) (ws : List TypeWord) → is_integer_word w ≡ false → IsTrue (names_type names (w ∷ ws)) → list_all is_integer_word ws ≡ true
 alone names w [] foreign is = refl
 alone names word.Const (v ∷ ws) foreign is = absurd (false≢true is)
 alone names (word.Integer k) (v ∷ ws) foreign is = absurd (false≢true (sym foreign))
@@ -109,7 +109,7 @@ alone names (word.Typedef n) (v ∷ ws) foreign is = absurd (false≢true is)
 alone names (word.Struct n) (v ∷ ws) foreign is = absurd (false≢true is)
 alone names (word.Enum n) (v ∷ ws) foreign is = absurd (false≢true is)
 
-among_integers : (names : Names) (k : IntegerWord) (ws : List TypeWord) → IsTrue (names_type names (word.Integer k ∷ ws)) → list_all is_integer_word ws ≡ true
+pub among_integers : (names : Names) (k : IntegerWord) (ws : List TypeWord) → IsTrue (names_type names (word.Integer k ∷ ws)) → list_all is_integer_word ws ≡ true
 among_integers names k ws is = both_true (list_all is_integer_word ws) (fit_together (word.Integer k ∷ ws)) is
 
 integer_typed : (W : Kinds → Type 0) (s : List Phase) (k : IntegerWord) (ts : Kinds) (rs : Roles) (b : Last) → Trace W (spot Typed last.Other s) ts rs → Trace W (step (integer_word_text k) (spot Typed b s)) ts rs

@@ -177,7 +177,7 @@ words_calm names E h s (word.Enum n ∷ ws) ps ts rs t =
       there_word names E b Other true h s (token.Name n ∷ words_text ws (pointers_text ps ts)) (in_expression ∷ type_roles ws ps rs) o (refl, words_calm names E h s ws ps ts rs t Name refl),
     )
 
-among_alone : (names : Names) (n : List ℕ) (ws : List TypeWord) → IsTrue (names_type names (word.Typedef n ∷ ws)) → is_among names n ≡ true
+pub among_alone : (names : Names) (n : List ℕ) (ws : List TypeWord) → IsTrue (names_type names (word.Typedef n ∷ ws)) → is_among names n ≡ true
 among_alone names n [] is = is
 among_alone names n (w ∷ ws) is = absurd (false≢true is)
 

@@ -4,3 +4,4 @@ pub mod Awaiting
 pub mod Spots
 pub mod Readings
 pub mod Sites
+pub mod Declarators

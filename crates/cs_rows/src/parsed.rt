@@ -7,7 +7,7 @@ use std::str::from_utf8;
 use std::test::Fail;
 
 /// Files with what the front end says of them.
-const FILES: [(&str, &str); 41] = [
+const FILES: [(&str, &str); 53] = [
     ("", "0 parts"),
     ("int f(int x){return 1/x;}", "1 parts"),
     ("typedef int T;T x;", "2 parts"),
@@ -33,6 +33,18 @@ const FILES: [(&str, &str); 41] = [
     ("int f(int a,...);", "left out ... 1:13"),
     ("int f(int (", "left out ( 1:11"),
     ("int (*f);", "left out ( 1:5"),
+    ("int*const(", "left out ( 1:10"),
+    ("struct S(", "left out ( 1:9"),
+    ("struct(", "syntax 1:7"),
+    ("struct S{int a,(", "left out ( 1:16"),
+    ("enum{(", "syntax 1:6"),
+    ("enum{A,(", "syntax 1:8"),
+    ("int x=(int(", "syntax 1:11"),
+    ("int x=sizeof(int)(", "syntax 1:18"),
+    ("int f(int[](", "syntax 1:12"),
+    ("int f(void){goto(", "syntax 1:17"),
+    ("typedef int T;int f(void){T(", "left out ( 1:28"),
+    ("typedef int T;int f(int x){if(x)T(", "syntax 1:34"),
     ("struct S{int a:3;};", "left out : 1:15"),
     ("int a[2]={[0]=1};", "left out [ 1:11"),
     ("struct S{int a;}s={.a=1};", "left out . 1:20"),

@@ -1,9 +1,9 @@
--- The tokens before a colon, `static`, `typedef`, a dot, an opening bracket or an opening brace tell whether it is left out.
+-- The tokens before a colon, `static`, `typedef`, a dot, or an opening bracket, brace or parenthesis tell whether it is left out.
 use Rattle.std.proofs.Common.{refl, sym, subst, ◌∙◌}
 use Rattle.std.proofs.lemmas.Bool.{false≢true}
 use Rattle.cs_grammar.specs.declared.refusal.Reason.{Reason}
-use Rattle.cs_decl_parser.specs.Files.{is_left_out_by_place, IsFileRefusedAt}
-use Rattle.cs_decl_parser.proofs.ToldReasons.{told_of_deep, told_of_others, told_colon, told_word, told_list, told_brace}
+use Rattle.cs_decl_parser.specs.Files.{IsFileRefusedAt}
+use Rattle.cs_decl_parser.proofs.ToldReasons.{told_of_deep, told_of_others, told_colon, told_word, told_list, told_brace, told_parenthesis}
 use Rattle.cs_decl_parser.proofs.reason.reason_told.Goals as goal
 
 pub returns-then-is_too_deep : goal.returns-then-is_too_deep
@@ -11,27 +11,32 @@ returns-then-is_too_deep c = told_of_deep c.args.tokens.now c.args.at c.args.rea
 
 pub returns-then-is_mark : goal.returns-then-is_mark
 returns-then-is_mark c = λ r.
-    subst (λ (told : Reason). IsFileRefusedAt is_left_out_by_place c.args.tokens.now c.args.at told) (sym c.left_out_if.ensures)
+    subst (λ (told : Reason). IsFileRefusedAt c.args.tokens.now c.args.at told) (sym c.left_out_if.ensures)
     (told_colon c.args.tokens.now c.args.at c.args.reason c.in_ok-out.out (sym c.is_too_deep.ensures ∙ c.if-is_too_deep.false) (c.if-is_mark.ensures.mark.0 refl) c.in_ok-out.ensures r)
 
 pub returns-then-is_file_word : goal.returns-then-is_file_word
 returns-then-is_file_word c = λ r.
-    subst (λ (told : Reason). IsFileRefusedAt is_left_out_by_place c.args.tokens.now c.args.at told) (sym c.left_out_if-then-is_file_word.ensures)
+    subst (λ (told : Reason). IsFileRefusedAt c.args.tokens.now c.args.at told) (sym c.left_out_if-then-is_file_word.ensures)
     (told_word c.args.tokens.now c.args.at c.args.reason c.in_ok-out-2.out (sym c.is_too_deep.ensures ∙ c.if-is_too_deep.false) (sym c.is_file_word.ensures.word ∙ c.if-is_file_word.true)
     c.in_ok-out-2.ensures r)
 
 pub returns-then-begins_designator : goal.returns-then-begins_designator
 returns-then-begins_designator c = λ r.
-    subst (λ (told : Reason). IsFileRefusedAt is_left_out_by_place c.args.tokens.now c.args.at told) (sym c.left_out_if-then-begins_designator.ensures)
+    subst (λ (told : Reason). IsFileRefusedAt c.args.tokens.now c.args.at told) (sym c.left_out_if-then-begins_designator.ensures)
     (told_list c.args.tokens.now c.args.at c.args.reason c.in_ok-out-3.out (sym c.is_too_deep.ensures ∙ c.if-is_too_deep.false) (c.begins_designator.ensures.begins.0 c.if-begins_designator.true) c.in_ok-out-3.ensures r)
 
 pub returns-then-is_mark-2 : goal.returns-then-is_mark-2
 returns-then-is_mark-2 c = λ r.
     let flat = sym c.is_too_deep.ensures ∙ c.if-is_too_deep.false in
-    subst (λ (told : Reason). IsFileRefusedAt is_left_out_by_place c.args.tokens.now c.args.at told) (sym c.left_out_if-then-is_mark-2.ensures)
+    subst (λ (told : Reason). IsFileRefusedAt c.args.tokens.now c.args.at told) (sym c.left_out_if-then-is_mark-2.ensures)
     (told_brace c.args.tokens.now c.args.at c.args.reason c.in_ok-out-4.out flat (c.if-is_mark-2.ensures.mark.0 refl) (λ b. c.in_ok-out-4.ensures b (c.requires.amidst.1 flat)) r)
+
+pub returns-then-is_mark-3 : goal.returns-then-is_mark-3
+returns-then-is_mark-3 c = λ r.
+    subst (λ (told : Reason). IsFileRefusedAt c.args.tokens.now c.args.at told) (sym c.left_out_if-then-is_mark-3.ensures)
+    (told_parenthesis c.args.tokens.now c.args.at c.args.reason c.in_ok-out-5.out (sym c.is_too_deep.ensures ∙ c.if-is_too_deep.false) (c.if-is_mark-3.ensures.mark.0 refl) c.in_ok-out-5.ensures r)
 
 pub returns : goal.returns
 returns c =
     told_of_others c.args.tokens.now c.args.at c.args.reason (λ k. false≢true (c.if-is_mark.ensures.mark.1 k)) (sym c.is_file_word.ensures.word ∙ c.if-is_file_word.false)
-    (λ d. false≢true (sym c.if-begins_designator.false ∙ c.begins_designator.ensures.begins.1 d)) (λ k. false≢true (c.if-is_mark-2.ensures.mark.1 k))
+    (λ d. false≢true (sym c.if-begins_designator.false ∙ c.begins_designator.ensures.begins.1 d)) (λ k. false≢true (c.if-is_mark-2.ensures.mark.1 k)) (λ k. false≢true (c.if-is_mark-3.ensures.mark.1 k))
