@@ -39,7 +39,7 @@ mutual
   form-allocates s ty (Local number) h = tt
   form-allocates s ty (Global number) h = tt
   form-allocates s ty (Through a) h = well-allocates s a h.0
-  form-allocates s ty (Index a i order) h = (well-allocates s a h.0, well-allocates s i h.1.0)
+  form-allocates s ty (Index a i order) h = (well-allocates s a h.0, well-allocates s i h.1)
   form-allocates s ty (Member a offset) h = well-allocates s a h.0
   form-allocates s ty (Arrow a offset) h = well-allocates s a h.0
   form-allocates s ty (Load a) h = well-allocates s a h.0
@@ -48,19 +48,19 @@ mutual
   form-allocates s ty (Convert a) h = well-allocates s a h.0
   form-allocates s ty (Unary op a) h = well-allocates s a h.0
   form-allocates s ty (Not a) h = well-allocates s a h.0
-  form-allocates s ty (Binary op a b) h = (well-allocates s a h.0, well-allocates s b h.1.0)
-  form-allocates s ty (Compare op a b) h = (well-allocates s a h.0, well-allocates s b h.1.0)
-  form-allocates s ty (Sum a n direction order) h = (well-allocates s a h.0, well-allocates s n h.1.0)
-  form-allocates s ty (Difference a b) h = (well-allocates s a h.0, well-allocates s b h.1.0)
-  form-allocates s ty (And a b) h = (well-allocates s a h.0, well-allocates s b h.1.0)
-  form-allocates s ty (Or a b) h = (well-allocates s a h.0, well-allocates s b h.1.0)
-  form-allocates s ty (Choice a b c) h = (well-allocates s a h.0, (well-allocates s b h.1.0, well-allocates s c h.1.1.0))
-  form-allocates s ty (Comma a b) h = (well-allocates s a h.0, well-allocates s b h.1.0)
-  form-allocates s ty (Assign a b) h = (well-allocates s a h.0, well-allocates s b h.1.0)
-  form-allocates s ty (Update op a b works_in gives) h = (well-allocates s a h.0, well-allocates s b h.1.0)
-  form-allocates s ty (Move a n direction gives) h = (well-allocates s a h.0, well-allocates s n h.1.0)
+  form-allocates s ty (Binary op a b) h = (well-allocates s a h.0, well-allocates s b h.1)
+  form-allocates s ty (Compare op a b) h = (well-allocates s a h.0, well-allocates s b h.1)
+  form-allocates s ty (Sum a n direction order) h = (well-allocates s a h.0, well-allocates s n h.1)
+  form-allocates s ty (Difference a b) h = (well-allocates s a h.0, well-allocates s b h.1)
+  form-allocates s ty (And a b) h = (well-allocates s a h.0, well-allocates s b h.1)
+  form-allocates s ty (Or a b) h = (well-allocates s a h.0, well-allocates s b h.1)
+  form-allocates s ty (Choice a b c) h = (well-allocates s a h.0, well-allocates s b h.1, well-allocates s c h.2)
+  form-allocates s ty (Comma a b) h = (well-allocates s a h.0, well-allocates s b h.1)
+  form-allocates s ty (Assign a b) h = (well-allocates s a h.0, well-allocates s b h.1)
+  form-allocates s ty (Update op a b works_in gives) h = (well-allocates s a h.0, well-allocates s b h.1)
+  form-allocates s ty (Move a n direction gives) h = (well-allocates s a h.0, well-allocates s n h.1)
   form-allocates s ty (Call function arguments) h = all-allocate s arguments h.0
-  form-allocates s ty (Allocate allocator arguments element) h = (sizes-counted s.program.model allocator arguments h.1.0, all-allocate s arguments h.0)
+  form-allocates s ty (Allocate allocator arguments element) h = (sizes-counted s.program.model allocator arguments h.1, all-allocate s arguments h.0)
   form-allocates s ty (Free a) h = well-allocates s a h.0
 
   all-allocate : (s : Setting) (row : TypedList) → AreWell s row → AllHaveArguments row
@@ -71,7 +71,7 @@ mutual
   initial-allocates : (s : Setting) (ty : Shape) (i : Initial) → IsWellInitial s ty i → InitialHasArguments i
   initial-allocates s ty (Value v) h = well-allocates s v h.0
   initial-allocates s ty (Bytes bytes) h = tt
-  initial-allocates s ty (Parts parts) h = parts-allocate s h.0 parts h.1.1
+  initial-allocates s ty (Parts parts) h = parts-allocate s h.0 parts h.2
 
   parts-allocate : (s : Setting) (types : List Shape) (parts : Initials) → AreWellParts s types parts → InitialsHaveArguments parts
   parts-allocate s types NoPart h = tt
@@ -97,15 +97,15 @@ first-allocates s ty (Some i) h = initial-allocates s ty i h
 mutual
   statement-allocates : (s : Setting) (statement : Statement) → IsWellStatement s statement → StatementHasArguments statement
   statement-allocates s (Block at statements) h = statements-allocate s statements h
-  statement-allocates s (Declare at number first) h = first-allocates s h.0.ty first h.1.1
+  statement-allocates s (Declare at number first) h = first-allocates s h.0.ty first h.2
   statement-allocates s (Run at e) h = well-allocates s e h.0
-  statement-allocates s (If at test body) h = (well-allocates s test h.0, statement-allocates s body h.1.1)
-  statement-allocates s (IfElse at test body other) h = (well-allocates s test h.0, (statement-allocates s body h.1.1.0, statement-allocates s other h.1.1.1))
-  statement-allocates s (While at test body) h = (well-allocates s test h.0, statement-allocates s body h.1.1)
-  statement-allocates s (Do at body test) h = (statement-allocates s body h.1.1, well-allocates s test h.0)
+  statement-allocates s (If at test body) h = (well-allocates s test h.0, statement-allocates s body h.2)
+  statement-allocates s (IfElse at test body other) h = (well-allocates s test h.0, statement-allocates s body h.2, statement-allocates s other h.3)
+  statement-allocates s (While at test body) h = (well-allocates s test h.0, statement-allocates s body h.2)
+  statement-allocates s (Do at body test) h = (statement-allocates s body h.2, well-allocates s test h.0)
   statement-allocates s (For at first test last body) h =
-      (statements-allocate s first h.0, (test-allocates s test h.1.0, (dropped-allocates s last h.1.1.0, statement-allocates s body h.1.1.1)))
-  statement-allocates s (Switch at value cases statements) h = (well-allocates s value h.0, statements-allocate s statements h.1.1.1)
+      (statements-allocate s first h.0, test-allocates s test h.1, dropped-allocates s last h.2, statement-allocates s body h.3)
+  statement-allocates s (Switch at value cases statements) h = (well-allocates s value h.0, statements-allocate s statements h.3)
   statement-allocates s (Goto at label) h = tt
   statement-allocates s (Label at label body) h = statement-allocates s body h.1
   statement-allocates s (Break at) h = tt
@@ -119,7 +119,7 @@ mutual
 -- a function with a number, among well-formed ones
 routine-allocates : (p : TypedProgram) (routines : List Routine) → AllByRecursion (IsWellRoutine p) routines → (function : ℕ) (body : Statement) →
     (unwrap_or (slice_get routines function) (no_routine NOWHERE)).body ≡ Some body → StatementHasArguments body
-routine-allocates p [] h function body is = absurd is
+routine-allocates p [] h function body is = absurd cc
 routine-allocates p (r ∷ routines) h zero body is =
     let well : IsWellBody p r body = subst (λ b. IfSome b (IsWellBody p r)) is h.0.body in
     statement-allocates (setting_of p r body) body well.statement

@@ -70,7 +70,7 @@ replay_is files program words entry number guesses outcome log status text same 
 pub entry_has_body : (program : TypedProgram) (name : List ℕ) (entry : ℕ) → entry_of name program ≡ Some entry → (routine_of program entry).body ≡ None → ⊥
 entry_has_body program name entry found none =
     let nowhere = no_routine NOWHERE in
-    let is = (position-Some (is_entry name) program.routines entry nowhere found).1.0 in
+    let is = (position-Some (is_entry name) program.routines entry nowhere found).1 in
     let has = right (pointwise nat_eq (routine_of program entry).name name) (is_some (routine_of program entry).body) (ap (is_entry name) (unwrap_or-slice_get program.routines entry nowhere) ∙ is) in
     lacks (ap is_some none ∙ refl) has
   where

@@ -7,21 +7,29 @@ use crate::replays::{ENDS, PROGRAMS, words_of};
 use cs_ast::typed::program::Program;
 use cs_interpreter::Setting;
 use cs_lower::lower;
-use cs_replay::replay;
+use cs_replay::{Replayed, replay};
 use cs_steps::run;
 use cs_words::{Command, ReplayWords};
 use std::alloc::{AllocError, Global};
 use std::test::Fail;
+
+/// The run of a function's code, if it has a body and memory is found.
+fn coded(alloc: Global, setting: &Setting, entry: u32) -> Option<Replayed>
+    requires { IsWellFormed (typed_program setting.now.program.now) }
+{
+    match lower(alloc, setting.program) {
+        Ok(code) => replay(alloc, setting, &code, entry).ok(),
+        Err(_) => None,
+    }
+}
 
 /// Whether the run of the words' entry over the code ends as the plain machine's does, and shows, reads and touches the same. Nothing
 /// where the program has no such function, or memory is short.
 fn agree(alloc: Global, words: &ReplayWords, program: &Program) -> Option<bool>
     requires { IsWellFormed (typed_program program.now) }
 {
-    let entry = program
-        .functions
-        .iter()
-        .position(|function| function.name == words.entry && function.body.is_some())?;
+    let entry = program.functions.iter().position(|function| function.name == words.entry
+        && function.body.is_some())?;
     let entry = u32::try_from(entry).ok()?;
     let guesses = Vec::new(alloc);
     let setting = Setting {
@@ -31,8 +39,7 @@ fn agree(alloc: Global, words: &ReplayWords, program: &Program) -> Option<bool>
         budgets: words.budgets,
     };
     let plain = run(alloc, &setting, entry).ok()?;
-    let code = lower(alloc, program).ok()?;
-    let coded = replay(alloc, &setting, &code, entry).ok()?;
+    let coded = coded(alloc, &setting, entry)?;
     let shown = plain.log.events == coded.log.events && plain.log.read == coded.log.read;
     Some(plain.outcome == coded.outcome && shown && plain.log.touches == coded.log.touches)
 }

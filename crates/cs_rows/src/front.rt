@@ -1,10 +1,14 @@
 //! The front end on a text.
-ghost use Rattle.std.specs.Prelude.{IfSome};
+ghost use Rattle.std.specs.Prelude.{◌≤◌, length, IfSome};
+ghost use Rattle.std.specs.List.{All};
+ghost use Rattle.cs_ast.specs.HeldTokens.{IsHeldToken};
 ghost use Rattle.cs_ast.specs.TypedProgram.{typed_program};
+ghost use Rattle.cs_grammar.specs.FileText.{file_text};
+ghost use Rattle.cs_decl_parser.specs.Files.{parts_of};
 ghost use Rattle.cs_well_formed.specs.Programs.{IsWellFormed};
 ghost use Rattle.cs_app.specs.Trees.{AreHeld};
 
-use cs_ast::raw::external::Tree;
+use cs_ast::raw::external::{RawExternal, Tree};
 use cs_ast::typed::program::Program;
 use cs_decl_parser::parse;
 use cs_grammar::SyntaxRefusal;
@@ -59,15 +63,23 @@ pub fn program(alloc: Global, model: DataModel, text: &str) -> Option<Program>
 
 /// The program that the tokens of a text are.
 fn program_of(alloc: Global, model: DataModel, lexed: &Lexed) -> Option<Program>
-    requires { AreHeld lexed.now.list.items }
+    requires few { length lexed.now.list.items ≤ 400000 }
+    requires held { AreHeld lexed.now.list.items }
     ensures { IfSome result (λ program. IsWellFormed (typed_program program)) }
 {
-    let list = lexed.list.as_slice();
-    if list.len() > 400_000 {
-        return None;
+    match parse(alloc, lexed.list.as_slice(), lexed.end) {
+        Ok(tree) => typed_as(alloc, model, lexed, &tree.externals),
+        Err(_) => None,
     }
-    match parse(alloc, list, lexed.end) {
-        Ok(tree) => typed(alloc, model, &lexed.files, list, &tree.externals).ok(),
+}
+
+/// The program that the tree of a text is.
+fn typed_as(alloc: Global, model: DataModel, lexed: &Lexed, tree: &[RawExternal]) -> Option<Program>
+    requires { All IsHeldToken (file_text (parts_of tree.now)) }
+    ensures { IfSome result (λ program. IsWellFormed (typed_program program)) }
+{
+    match typed(alloc, model, &lexed.files, &lexed.list, tree) {
+        Ok(program) => Some(program),
         Err(_) => None,
     }
 }

@@ -3,6 +3,9 @@ use Rattle.cs_ast.specs.TypedProgram.{typed_program}
 use Rattle.cs_app.proofs.ReplayLemmas.{entry_among, answers_replay, refuses_entry}
 use Rattle.cs_app.proofs.replay.replayed.Goals as goal
 
+pub run_of-requires-clause-found : goal.run_of-requires-clause-found
+run_of-requires-clause-found c = entry_among c.args.program.now.functions.items c.args.words.now.entry ∙ sym (rw c.deref.ensures.value at c.in-Some.ensures)
+
 pub returns-in_ok-answer-in-Some : goal.returns-in_ok-answer-in-Some
 returns-in_ok-answer-in-Some c =
     let answer = c.in_ok-answer-in-Some.answer in

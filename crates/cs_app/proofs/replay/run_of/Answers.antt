@@ -1,4 +1,4 @@
-use Rattle.std.proofs.Common.{◌∙◌, refl}
+use Rattle.std.proofs.Common.{Err, ap, ◌∙◌}
 use Rattle.cs_ast.specs.TypedProgram.{typed_program}
 use Rattle.cs_interpreter.specs.View.{log_of}
 use Rattle.cs_app.proofs.AllocatedWell.{well_formed_allocates}
@@ -14,15 +14,15 @@ replay-requires-clause-laid_out c = c.requires.well_formed.laid_out
 pub replay-requires-clause-placed : goal.replay-requires-clause-placed
 replay-requires-clause-placed c = c.in_ok-code.ensures.placed (well_formed_allocates (typed_program c.args.program.now) c.requires.well_formed)
 
-pub returns-in_ok-answer-in-Ok : goal.returns-in_ok-answer-in-Ok
-returns-in_ok-answer-in-Ok c =
+pub returns-in-Ok : goal.returns-in-Ok
+returns-in-Ok c =
     let answer = c.in_ok-answer-in-Ok.answer in
     let replayed = c.in-Ok.replayed in
     let none = c.deref.ensures.value ∙ c.new-guesses.ensures.items in
     replay_is c.args.files.now (typed_program c.args.program.now) c.args.words.now c.args.entry c.in_ok-number.number c.deref.result.now replayed.outcome (log_of replayed.log) answer.status answer.text.items c.in_ok-number.ensures none c.in-Ok.ensures.gives c.in_ok-answer-in-Ok.ensures.text c.in_ok-answer-in-Ok.ensures.status
 
-pub returns-in_ok-answer-in-Err-NoEntry : goal.returns-in_ok-answer-in-Err-NoEntry
-returns-in_ok-answer-in-Err-NoEntry c =
+pub returns-in-Err-NoEntry : goal.returns-in-Err-NoEntry
+returns-in-Err-NoEntry c =
     let program = typed_program c.args.program.now in
-    let none = rw c.in_ok-number.ensures at (c.in-Err-NoEntry.ensures.no_entry.0 refl) in
+    let none = rw c.in_ok-number.ensures at (c.in-Err-NoEntry.ensures.no_entry.0 (ap Err c.in-Err-NoEntry.field-0-is)) in
     absurd (entry_has_body program c.args.words.now.entry c.args.entry c.requires.found none)
