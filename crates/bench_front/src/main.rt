@@ -65,6 +65,7 @@ fn parsed(rt: &HostRuntime, lexed: &Lexed) -> io::Result<()> {
 }
 
 // The last stage that is timed.
+#[derive(Clone, Copy)]
 enum Stage {
     Parse,
     Type,
