@@ -5,8 +5,9 @@ ghost use Rattle.cs_well_formed.specs.Programs.{IsWellFormed};
 use crate::front::program;
 use crate::replays::{ENDS, PROGRAMS, words_of};
 use cs_ast::typed::program::Program;
-use cs_interpreter::Setting;
+use cs_interpreter::{Log, Setting};
 use cs_lower::lower;
+use cs_names::Name;
 use cs_replay::{Replayed, replay};
 use cs_steps::run;
 use cs_words::{Command, ReplayWords};
@@ -23,14 +24,38 @@ fn coded(alloc: Global, setting: &Setting, entry: u32) -> Option<Replayed>
     }
 }
 
-/// Whether the run of the words' entry over the code ends as the plain machine's does, and shows, reads and touches the same. Nothing
-/// where the program has no such function, or memory is short.
+/// The number of the first function with this name and a body, if there is one.
+fn entry_of(program: &Program, name: &Name) -> Option<u32> {
+    let mut number: u32 = 0;
+    for function in &program.functions {
+        if function.name == *name && function.body.is_some() {
+            return Some(number);
+        }
+        number = number.checked_add(1)?;
+    }
+    None
+}
+
+/// Whether two runs have shown, read and touched the same.
+fn same_logs(one: &Log, other: &Log) -> bool {
+    one.events == other.events && one.read == other.read && one.touches == other.touches
+}
+
+/// Whether the run of a function's code ends as the plain machine's run, and shows, reads and touches the same. Nothing where memory is
+/// short.
+fn runs_agree(alloc: Global, setting: &Setting, entry: u32) -> Option<bool>
+    requires { IsWellFormed (typed_program setting.now.program.now) }
+{
+    let plain = run(alloc, setting, entry).ok()?;
+    let coded = coded(alloc, setting, entry)?;
+    Some(plain.outcome == coded.outcome && same_logs(&plain.log, &coded.log))
+}
+
+/// The same of the run that the words ask for. Nothing where the program has no such function.
 fn agree(alloc: Global, words: &ReplayWords, program: &Program) -> Option<bool>
     requires { IsWellFormed (typed_program program.now) }
 {
-    let entry = program.functions.iter().position(|function| function.name == words.entry
-        && function.body.is_some())?;
-    let entry = u32::try_from(entry).ok()?;
+    let entry = entry_of(program, &words.entry)?;
     let guesses = Vec::new(alloc);
     let setting = Setting {
         program,
@@ -38,10 +63,7 @@ fn agree(alloc: Global, words: &ReplayWords, program: &Program) -> Option<bool>
         guesses: &guesses,
         budgets: words.budgets,
     };
-    let plain = run(alloc, &setting, entry).ok()?;
-    let coded = coded(alloc, &setting, entry)?;
-    let shown = plain.log.events == coded.log.events && plain.log.read == coded.log.read;
-    Some(plain.outcome == coded.outcome && shown && plain.log.touches == coded.log.touches)
+    runs_agree(alloc, &setting, entry)
 }
 
 /// Whether both runs agree that these words ask for of a file; nothing where they ask for none.
@@ -69,10 +91,15 @@ fn differing(alloc: Global, table: &[(&str, &str, &str)]) -> Result<(String, u32
 }
 
 #[test]
-fn code_runs_as_the_plain_machine_does(rt: HostRuntime) -> Result<(), Fail> {
+fn code_runs_programs_as_the_plain_machine_does(rt: HostRuntime) -> Result<(), Fail> {
     let (found, runs) = differing(rt.alloc(), &PROGRAMS)?;
     assert_eq!(rt; found.as_str(), "");
     assert_eq!(rt; runs, 74);
+    Ok(())
+}
+
+#[test]
+fn code_ends_as_the_plain_machine_does(rt: HostRuntime) -> Result<(), Fail> {
     let (found, runs) = differing(rt.alloc(), &ENDS)?;
     assert_eq!(rt; found.as_str(), "");
     assert_eq!(rt; runs, 56);

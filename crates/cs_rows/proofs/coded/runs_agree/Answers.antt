@@ -1,4 +1,4 @@
-use Rattle.cs_rows.proofs.coded.agree.Goals as goal
+use Rattle.cs_rows.proofs.coded.runs_agree.Goals as goal
 
 pub run-requires : goal.run-requires
 run-requires c = c.requires.laid_out
