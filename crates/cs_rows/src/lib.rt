@@ -4,8 +4,6 @@
 #[cfg(test)]
 mod analyzed;
 #[cfg(test)]
-mod coded;
-#[cfg(test)]
 mod edited;
 #[cfg(test)]
 mod flows;

@@ -8,7 +8,7 @@ use std::test::Fail;
 
 /// Words and a file of which a function returns what gcc 12 (-fwrapv) says that it does: integer types, updates, arrays, pointers,
 /// structs, statements, jumps, calls, constant objects, the heap.
-pub const PROGRAMS: [(&str, &str, &str); 74] = [
+const PROGRAMS: [(&str, &str, &str); 74] = [
     (
         "replay --visits 1000 --events 100000 --depth 60 f",
         "int f(void){signed char c=127;c=c+1;return c;}",
@@ -383,7 +383,7 @@ pub const PROGRAMS: [(&str, &str, &str); 74] = [
 
 /// Words and a file with the line of how the run ends: each kind of fault, the order of checks at one access, budgets, and what an
 /// entry returns; what a function without a body writes; data models; inputs.
-pub const ENDS: [(&str, &str, &str); 58] = [
+const ENDS: [(&str, &str, &str); 58] = [
     (
         "replay f",
         "int f(int*p){return *p;}",
@@ -645,7 +645,7 @@ pub const ENDS: [(&str, &str, &str); 58] = [
 ];
 
 /// The words of a command line.
-pub fn words_of(alloc: Global, line: &str) -> Result<Vec<String>, AllocError> {
+fn words_of(alloc: Global, line: &str) -> Result<Vec<String>, AllocError> {
     let mut words = Vec::new(alloc);
     for word in line.split_ascii_whitespace() {
         words.push(String::from_str(alloc, word)?)?;
