@@ -1,5 +1,6 @@
 //! What `replay` says of whole files.
 
+use crate::coded;
 use cs_app::{Status, csa};
 use cs_io::{SureSink, SureSource};
 use std::alloc::{AllocError, Global};
@@ -8,7 +9,7 @@ use std::test::Fail;
 
 /// Words and a file of which a function returns what gcc 12 (-fwrapv) says that it does: integer types, updates, arrays, pointers,
 /// structs, statements, jumps, calls, constant objects, the heap.
-pub const PROGRAMS: [(&str, &str, &str); 74] = [
+const PROGRAMS: [(&str, &str, &str); 74] = [
     (
         "replay --visits 1000 --events 100000 --depth 60 f",
         "int f(void){signed char c=127;c=c+1;return c;}",
@@ -383,7 +384,7 @@ pub const PROGRAMS: [(&str, &str, &str); 74] = [
 
 /// Words and a file with the line of how the run ends: each kind of fault, the order of checks at one access, budgets, and what an
 /// entry returns; what a function without a body writes; data models; inputs.
-pub const ENDS: [(&str, &str, &str); 58] = [
+const ENDS: [(&str, &str, &str); 58] = [
     (
         "replay f",
         "int f(int*p){return *p;}",
@@ -699,5 +700,19 @@ fn replays_programs_as_gcc_runs_them(rt: HostRuntime) -> Result<(), Fail> {
 fn replays_end_as_the_plain_machine_does(rt: HostRuntime) -> Result<(), Fail> {
     let found = differing(rt.alloc(), &ENDS)?;
     assert_eq!(rt; found.as_str(), "");
+    Ok(())
+}
+
+#[test]
+fn code_runs_programs_as_the_plain_machine_does(rt: HostRuntime) -> Result<(), Fail> {
+    let found = coded::differing(rt.alloc(), &PROGRAMS)?;
+    assert_eq!(rt; found.as_str(), "");
+    Ok(())
+}
+
+#[test]
+fn code_ends_as_the_plain_machine_does(rt: HostRuntime) -> Result<(), Fail> {
+    let found = coded::differing(rt.alloc(), &ENDS)?;
+    assert_eq!(rt; found.as_str(), "replay greplay g");
     Ok(())
 }
