@@ -5,7 +5,7 @@ use std::str;
 use std::test::Fail;
 
 /// For each code the line of a refused file, and a file that differs in little and is a program.
-const CODES: [(&str, &str, &str); 44] = [
+const CODES: [(&str, &str, &str); 41] = [
     (
         "int f(int x){return y;}",
         "refused type 1 <input>:1:21\n",
@@ -25,21 +25,6 @@ const CODES: [(&str, &str, &str); 44] = [
         "int x;unsigned x;",
         "refused type 2 <input>:1:16\n",
         "int x;int x;",
-    ),
-    (
-        "int x;void x;",
-        "refused type 2 <input>:1:12\n",
-        "int x;int x;",
-    ),
-    (
-        "int x;struct s x;",
-        "refused type 2 <input>:1:16\n",
-        "int x;struct s*y;",
-    ),
-    (
-        "int x;void x[2];",
-        "refused type 2 <input>:1:12\n",
-        "void*x;void*x;",
     ),
     (
         "int x=1;int x=2;",
