@@ -1,7 +1,7 @@
 -- In a well-formed program each allocation has the arguments that its function takes: for the lowering of typed programs.
 use Rattle.std.proofs.Common.{◌≡◌, ℕ, zero, suc, List, [], ◌∷◌, Option, Some, None, refl, subst}
 use Rattle.std.specs.Prelude.{IfSome, slice_get, unwrap_or}
-use Rattle.std.specs.List.{All, AllByRecursion}
+use Rattle.std.specs.List.{AllByRecursion}
 use Rattle.std.proofs.lemmas.List.Elements.{recursion_from_All}
 use Rattle.cs_types.specs.declared.data_model.DataModel.{DataModel}
 use Rattle.cs_types.specs.Shape.{Shape}
@@ -10,7 +10,7 @@ use Rattle.cs_ast.specs.declared.typed.operator.Allocator.TheVariants.{Malloc, C
 use Rattle.cs_ast.specs.TypedTree.{Typed, Of, Form, Number, Null, Text, Local, Global, Through, Index, Member, Arrow, Load, Address, Decay, Convert, Unary, Not, Binary, Compare, Sum, Difference, And, Or, Choice, Comma, Assign, Update, Move, Call, Allocate, Free, TypedList, NoMore, Further, Initial, Value, Parts, Bytes, Initials, NoPart, Part, Statement, Block, Declare, Run, If, IfElse, While, Do, For, Switch, Goto, Label, Break, Continue, Return, Statements, Empty, Then}
 use Rattle.cs_ast.specs.TypedProgram.{TypedProgram, Routine}
 use Rattle.cs_plain.specs.Expressions.{count_all}
-use Rattle.cs_plain.specs.Machine.{NOWHERE, no_routine, routine_of}
+use Rattle.cs_plain.specs.Machine.{NOWHERE, no_routine}
 use Rattle.cs_cfg.specs.Working.{allocator_takes}
 use Rattle.cs_lower.specs.Allocations.{HasArguments, FormHasArguments, AllHaveArguments, OptionHasArguments, InitialHasArguments, InitialsHaveArguments, OptionInitialHasArguments, StatementHasArguments, StatementsHaveArguments, AllocationsHaveArguments}
 use Rattle.cs_well_formed.specs.Expressions.{Setting, IsWell, IsWellForm, AreWell, AreValuesOf, sizes_of}

@@ -1,11 +1,9 @@
 -- The tree of a file, and the program that the tree is.
 use Rattle.std.specs.Prelude.{◌≡◌, ◌≤◌, ◌&&◌, ℕ, nat_eq, is_some, Bool, List, length, Option}
-use Rattle.std.specs.List.{All, position}
+use Rattle.std.specs.List.{position}
 use Rattle.std.specs.Cmp.Lexicographic.{pointwise}
 use Rattle.cs_types.specs.declared.data_model.DataModel.{DataModel}
 use Rattle.cs_ast.specs.declared.raw.external.RawExternal.{RawExternal}
-use Rattle.cs_ast.specs.declared.token.Token.{Token}
-use Rattle.cs_ast.specs.HeldTokens.{IsHeldToken}
 use Rattle.cs_ast.specs.Tree.{Definition}
 use Rattle.cs_ast.specs.TypedProgram.{TypedProgram, Routine}
 use Rattle.cs_lexer.specs.declared.lexer.Lexed.{Lexed}
@@ -20,9 +18,9 @@ use Rattle.cs_small.specs.Reading.{IsOfForm}
 abbrev pub MOST_BYTES : ℕ
 MOST_BYTES = 4194304
 
--- no constant among these tokens is too wide for the types of its list
-abbrev pub AreHeld : List Token → Type 0
-AreHeld tokens = All (λ (t : Token). IsHeldToken t.kind) tokens
+-- these are the tokens of a file that isn't too long
+abbrev pub IsOfFile : Lexed → Type 0
+IsOfFile lexed = (file : List ℕ) × (length file ≤ MOST_BYTES) × Lexes file lexed
 
 -- the file isn't too long, has these tokens, and they are this tree, the only one, of height at most 200, with the places of its tokens
 pub record Parses (file : List ℕ) (lexed : Lexed) (tree : List RawExternal) : Type 0 where

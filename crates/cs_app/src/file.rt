@@ -1,13 +1,10 @@
 //! The answer to a file: its tokens, its tree, its program.
 ghost use Rattle.std.specs.Prelude.{◌≡◌, ◌≤◌, ℕ, List, length, IfOk};
-ghost use Rattle.std.specs.List.{All};
-ghost use Rattle.cs_ast.specs.HeldTokens.{IsHeldToken};
 ghost use Rattle.cs_ast.specs.TypedProgram.{typed_program};
-ghost use Rattle.cs_grammar.specs.FileText.{file_text};
 ghost use Rattle.cs_lexer.specs.Lexing.{Lexes};
-ghost use Rattle.cs_decl_parser.specs.Files.{parts_of};
+ghost use Rattle.cs_well_formed.specs.Files.{IsFileTree};
 ghost use Rattle.cs_well_formed.specs.Programs.{IsWellFormed};
-ghost use Rattle.cs_app.specs.Trees.{MOST_BYTES, AreHeld, Parses};
+ghost use Rattle.cs_app.specs.Trees.{MOST_BYTES, IsOfFile, Parses};
 ghost use Rattle.cs_app.specs.Answers.{IsAnalysisAnswer, IsProgramAnswer, IsAnswer, model_of};
 
 use crate::answer::Answer;
@@ -46,7 +43,7 @@ pub fn answer_to(alloc: Global, command: &Command, file: &[u8]) -> Result<Answer
 /// The answer to a file with these tokens.
 fn answer_by_syntax(alloc: Global, command: &Command, lexed: &Lexed) -> Result<Answer, AllocError>
     requires few { length lexed.now.list.items ≤ 400000 }
-    requires held { AreHeld lexed.now.list.items }
+    requires lexed { IsOfFile lexed.now }
     ensures { IfOk result (λ answer. (file : List ℕ) → length file ≤ MOST_BYTES → Lexes file lexed.now
         → IsAnswer command.now file answer.status answer.text.items) }
 {
@@ -80,7 +77,7 @@ fn answer_by_type(
     lexed: &Lexed,
     tree: &[RawExternal],
 ) -> Result<Answer, AllocError>
-    requires { All IsHeldToken (file_text (parts_of tree.now)) }
+    requires { IsFileTree lexed.now.files.items lexed.now.list.items tree.now }
     ensures { IfOk result (λ answer. (file : List ℕ) → Parses file lexed.now tree.now
         → IsAnswer command.now file answer.status answer.text.items) }
 {

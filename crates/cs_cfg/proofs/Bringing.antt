@@ -3,15 +3,14 @@ use Rattle.std.proofs.Common.{◌≡◌, ℕ, ◌+◌, List, [], ◌∷◌, ◌+
 use Rattle.std.proofs.lemmas.List.Elements.{All-contains_itself}
 use Rattle.cs_ast.specs.declared.place.Place.{Place}
 use Rattle.cs_ast.specs.declared.typed.statement.Case.{Case}
-use Rattle.cs_ast.specs.TypedTree.{Typed, Statement, If, IfElse, While, Do, For, Switch, Label, Return, Statements}
+use Rattle.cs_ast.specs.TypedTree.{Typed, Statement, If, While, Do, Switch, Label, Return, Statements}
 use Rattle.cs_ast.specs.TypedProgram.{TypedProgram, Routine}
 use Rattle.cs_runs.specs.declared.point.PointKind.TheVariants as point
 use Rattle.cs_plain.specs.Machine.{body_of}
-use Rattle.cs_plain.specs.Marks.{marks, marks_in}
 use Rattle.cs_plain.specs.Statements.{default_item, count_of}
 use Rattle.cs_cfg.specs.Graph as graph
 use Rattle.cs_cfg.specs.Graph.{Point, Flow, block_of}
-use Rattle.cs_cfg.specs.ControlPoints.{Next, met, first, first_some, last_point, points, points_some, Targets, for_tested, for_points, flows, flows_in, starts, in_loop, in_switch, end_of, body_targets, control_points}
+use Rattle.cs_cfg.specs.ControlPoints.{Next, met, first, last_point, points, points_some, Targets, for_tested, for_points, flows, flows_in, starts, in_loop, in_switch, end_of, body_targets, control_points}
 use Rattle.cs_cfg.specs.GraphPoints.{MeetsNext}
 use Rattle.cs_cfg.specs.Fitting.{AllFit, Includes, Brings}
 use Rattle.cs_cfg.specs.Placing.{does, split}
@@ -20,8 +19,8 @@ use Rattle.cs_cfg.specs.Placed.{LowersBody}
 use Rattle.cs_cfg.proofs.ReadOff.{body_meets}
 use Rattle.cs_cfg.proofs.Cases.{chooses, fits_switched}
 use Rattle.cs_cfg.proofs.Meeting.{joins_meet, point_meets, split_meets, same_meets, used_meets}
-use Rattle.cs_cfg.proofs.Fitting.{fits_passed, fits_last, block_end, block_choice, fit_more, fit_point, includes_none, includes_first, includes_second, includes_both, includes_one, includes_others, jump_to, fit_jump, fit_split}
-use Rattle.cs_cfg.proofs.Starting.{last_meets, for_test_meets, Aims, aims_in_loop, aims_in_switch, starts_meet, from_start}
+use Rattle.cs_cfg.proofs.Fitting.{fits_passed, fits_last, block_end, block_choice, fit_more, fit_point, includes_none, includes_first, includes_second, includes_one, includes_others, jump_to, fit_jump, fit_split}
+use Rattle.cs_cfg.proofs.Starting.{Aims, aims_in_loop, aims_in_switch, starts_meet, from_start}
 
 module _ (program : TypedProgram) (flow : Flow) (routine : Routine) (labels : ℕ → Point) {to : Targets} (mark : ℕ) (out again p q : Point) {behind : Next} (aims : Aims program flow routine labels to out again) (m : MeetsNext flow q behind)
     {old sealed : List Point} (end : Brings flow [] (q ∷ old) sealed) where
@@ -38,26 +37,6 @@ module _ (program : TypedProgram) (flow : Flow) (routine : Routine) (labels : �
         let made = inside.keeps all (includes_second in_test in_body has) (fit_jump block (end.keeps all includes_none fit)) in
         tests.keeps all (includes_first in_test in_body has)
         (fit_split at 0 it.0 it.1 (includes_one includes) (starts_meet program flow routine labels body mark out again _ way.0 aims way.1 (joins_meet way.2 m)) (joins_meet it.3.1 m) made);
-  }
-
-  -- the same of two ways
-  pub if_else_brings : (at : Place) (test : Typed) (body other : Statement) (block : ℕ) {with_body with_both new : List Point} (it : executes_at program flow routine labels (IfElse at test body other) mark out again p q) →
-      Brings flow (flows to body behind) (jump_to block ∷ sealed) with_body → Brings flow (flows to other behind) (jump_to block ∷ with_body) with_both →
-      Brings flow (points test (met point.Branch at)) (split at 0 it.0 it.1 ∷ with_both) (p ∷ new) → Brings flow (flows to (IfElse at test body other) behind) (q ∷ old) (p ∷ new)
-  if_else_brings at test body other block it inside others tests = record {
-    keeps = λ all includes fit.
-        let in_test = points test (met point.Branch at) in
-        let in_body = flows to body behind in
-        let in_other = flows to other behind in
-        let has = includes_others includes in
-        let first_two = includes_first (in_test ++ in_body) in_other has in
-        let one = it.3.0 in
-        let two = it.3.1 in
-        let made = inside.keeps all (includes_second in_test in_body first_two) (fit_jump block (end.keeps all includes_none fit)) in
-        let both = others.keeps all (includes_second (in_test ++ in_body) in_other has) (fit_jump block made) in
-        tests.keeps all (includes_first in_test in_body first_two)
-        (fit_split at 0 it.0 it.1 (includes_one includes) (starts_meet program flow routine labels body mark out again _ one.0 aims one.1 (joins_meet one.2 m))
-        (starts_meet program flow routine labels other (mark + marks body) out again _ two.0 aims two.1 (joins_meet two.2 m)) both);
   }
 
   -- the body of a loop goes back to the head, which is made a block last
@@ -101,39 +80,6 @@ module _ (program : TypedProgram) (flow : Flow) (routine : Routine) (labels : �
         let made = inside.keeps all (includes_first in_body in_test has) (fit_jump test_block tested_so) in
         let body_meets = starts_meet program flow routine labels body (mark + 1) q it.1 loop.0 way.0 (aims_in_loop program flow routine labels q it.1 aims m test_met) way.1 (joins_meet way.2 test_met) in
         fit_jump block (last.keeps all includes_none (fit_point at 0 work loop.0 (includes_one includes) (fits_passed 0 work loop.0 refl body_meets) made));
-  }
-
-  -- the last part is made a block, to which the body jumps; with a test the body is made one too
-  pub for_brings : (at : Place) (beginning : Statements) (test last : Option Typed) (body : Statement) (block last_block : ℕ) {with_last with_body with_test with_head new : List Point}
-      (it : executes_at program flow routine labels (For at beginning test last body) mark out again p q) → Brings flow (points_some last (met point.Head at)) (jump_to block ∷ sealed) with_last →
-      Brings flow (flows (in_loop to behind (first_some last (met point.Head at))) body (first_some last (met point.Head at))) (jump_to last_block ∷ with_last) with_body →
-      Brings flow (for_tested at test (starts (in_loop to behind (first_some last (met point.Head at))) body (first_some last (met point.Head at))) behind ++ for_points at test) with_body (it.3.0 ∷ with_test) →
-      Brings flow [] (does at 0 (graph.Reach point.Head mark) it.3.0 ∷ with_test) with_head →
-      Brings flow (flows_in (in_switch to behind) beginning (met point.Head at)) (jump_to block ∷ with_head) (p ∷ new) → Brings flow (flows to (For at beginning test last body) behind) (q ∷ old) (p ∷ new)
-  for_brings at beginning test last body block last_block it lasts inside tests heads begins = record {
-    keeps = λ all includes fit.
-        let to_last = first_some last (met point.Head at) in
-        let inner = in_loop to behind to_last in
-        let in_test = for_tested at test (starts inner body to_last) behind in
-        let in_beginning = flows_in (in_switch to behind) beginning (met point.Head at) in
-        let in_last = points_some last (met point.Head at) in
-        let in_body = flows inner body to_last in
-        let has = includes_others includes in
-        let four = includes_first (in_test ++ in_beginning ++ for_points at test ++ in_last) in_body has in
-        let three = includes_first (in_test ++ in_beginning ++ for_points at test) in_last four in
-        let two = includes_first (in_test ++ in_beginning) (for_points at test) three in
-        let has_test = includes_both in_test (for_points at test) (includes_first in_test in_beginning two) (includes_second (in_test ++ in_beginning) (for_points at test) three) in
-        let loop = it.3 in
-        let way = loop.4 in
-        let work = graph.Reach point.Head mark in
-        let turns = same_meets loop.2 (point_meets at 0 work loop.0 refl) in
-        let ends = last_meets program flow routine labels last it.1 it.0 loop.5 turns in
-        let body_meets = starts_meet program flow routine labels body (mark + 1 + marks_in beginning) q it.1 loop.1 way.0 (aims_in_loop program flow routine labels q it.1 aims m ends) way.1 (joins_meet way.2 ends) in
-        let head_fits = fits_passed 0 work loop.0 refl (for_test_meets program flow routine labels at test loop.0 loop.1 q loop.3 body_meets) in
-        let with_part = lasts.keeps all (includes_second (in_test ++ in_beginning ++ for_points at test) in_last four) (fit_jump block (end.keeps all includes_none fit)) in
-        let with_inside = inside.keeps all (includes_second (in_test ++ in_beginning ++ for_points at test ++ in_last) in_body has) (fit_jump last_block with_part) in
-        let with_all = heads.keeps all includes_none (fit_point at 0 work loop.0 (includes_one includes) head_fits (tests.keeps all has_test with_inside)) in
-        begins.keeps all (includes_second in_test in_beginning two) (fit_jump block with_all);
   }
 
   -- each statement with a case is made a block, and the first one too, if nothing leads to it

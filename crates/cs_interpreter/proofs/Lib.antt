@@ -9,3 +9,4 @@ pub mod Rising
 pub mod Nested
 pub mod Reading
 pub mod States
+pub mod StatementForms

@@ -13,6 +13,7 @@ pub mod inputs;
 pub mod items;
 mod logs;
 pub mod machine;
+pub mod marks;
 pub mod memory;
 mod objects;
 mod offsets;

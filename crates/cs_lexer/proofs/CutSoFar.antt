@@ -52,7 +52,7 @@ spot_within spot (b ∷ bytes) =
     let rest = spot_within (step spot b) bytes in
     record { line = omega (arith, first.line, rest.line); column = omega (arith, first.column, rest.column) }
 
-one_file_more : (files : List (List ℕ)) (name : Option (List ℕ)) → length (files_behind files name) ≤ length files + 1
+pub one_file_more : (files : List (List ℕ)) (name : Option (List ℕ)) → length (files_behind files name) ≤ length files + 1
 one_file_more files None = omega arith
 one_file_more files (Some name) = elim (nat_lt (file_number files name) (length files)) as (λ t. length (cond t files (files ++ name ∷ [])) ≤ length files + 1) [ true ↦ omega arith | false ↦ omega (arith, length-append files (name ∷ [])) ]
 

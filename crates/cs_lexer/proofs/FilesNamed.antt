@@ -29,7 +29,7 @@ numbered files name = elim (nat_lt (file_number files name) (length files)) as (
   | false ↦ λ _. omega (arith, length-append files (name ∷ []), within files name)
 ] refl
 
-no_fewer : (files : List (List ℕ)) (name : List ℕ) → length files ≤ length (with_file files name)
+pub no_fewer : (files : List (List ℕ)) (name : List ℕ) → length files ≤ length (with_file files name)
 no_fewer files name = elim (nat_lt (file_number files name) (length files)) as (λ t. length files ≤ length (cond t files (files ++ name ∷ []))) [
   | true ↦ omega arith
   | false ↦ omega (arith, length-append files (name ∷ []))
@@ -42,7 +42,7 @@ marked_file files spot (Some line) None bytes h = h
 marked_file files spot (Some line) (Some name) bytes h = numbered files name
 
 -- where the cutting stands is in a file that the text names
-is_named : (text : List ℕ) (files : List (List ℕ)) (list : List Token) (spot : Spot) (rest : List ℕ) → Reaches text files list spot rest → spot.place.file < length files
+pub is_named : (text : List ℕ) (files : List (List ℕ)) (list : List Token) (spot : Spot) (rest : List ℕ) → Reaches text files list spot rest → spot.place.file < length files
 is_named text _ _ _ _ begins = omega arith
 is_named text _ _ _ _ (gap {files} {list} {spot} {rest} size reaches some is) = omega (arith, is_named text files list spot rest reaches, same_file spot (take size rest))
 is_named text _ _ _ _ (marker {files} {list} {spot} {rest} size next name reaches some is) = marked_file files spot next name (take size rest) (is_named text files list spot rest reaches)

@@ -17,3 +17,5 @@ pub mod OnePiece
 pub mod OneCutting
 pub mod OneLexing
 pub mod HeldTokens
+pub mod TokensInFiles
+pub mod ShortTokens

@@ -16,3 +16,4 @@ pub mod Attributes
 pub mod Texts
 pub mod Lexing
 pub mod Held
+pub mod Extent

@@ -1,6 +1,7 @@
 //! The tokens of a preprocessed C text, with their places.
 #![tactic(auto)]
 
+ghost use Rattle.cs_lexer.specs.Extent.{LexedTokensHaveFiles, LexedFilesAreFew, LexedTokensAreShort};
 ghost use Rattle.cs_lexer.specs.Held.{LexedTokensAreHeld};
 
 mod attributes;
@@ -32,4 +33,11 @@ pub use refusal::LexRefusal;
 /// No token of a lexed text is a constant that is too wide for the types of its list (C11 6.4.4, paragraph 2).
 pub fn lexed_tokens_are_held()
     ensures { LexedTokensAreHeld }
+{}
+
+/// The tokens of a lexed text stand in its files, and neither files nor tokens are more than its bytes allow.
+pub fn lexed_texts_are_bounded()
+    ensures placed { LexedTokensHaveFiles }
+    ensures few { LexedFilesAreFew }
+    ensures short { LexedTokensAreShort }
 {}

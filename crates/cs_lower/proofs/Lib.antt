@@ -10,7 +10,6 @@ pub mod Keeping
 pub mod LabelMarks
 pub mod Leaving
 pub mod LoopParts
-pub mod StatementForms
 pub mod Switching
 pub mod TurningLoops
 pub mod WholeBodies

@@ -64,10 +64,11 @@ impl GraphBuilder {
     }
 
     /// The number of the mark before so many others that have no block yet.
-    pub fn mark_before(&self, others: u32) -> Result<u32, AllocError>
+    pub fn mark_before(&self, others: u64) -> Result<u32, AllocError>
         ensures { IfOk result (λ mark. mark + suc (others + length (built_of self.now).heads) ≡ self.now.marks) }
     {
         let built = u32::try_from(self.heads.len()).map_err(|_| AllocError)?;
+        let others = u32::try_from(others).map_err(|_| AllocError)?;
         let left = self.marks.checked_sub(built).ok_or(AllocError)?;
         let left = left.checked_sub(others).ok_or(AllocError)?;
         left.checked_sub(1).ok_or(AllocError)

@@ -73,6 +73,7 @@ fn lower_body(
 {
     let mut labels = BTreeMap::new(alloc);
     let marks = add_labels(&mut labels, body, 0)?;
+    let marks = narrowed(marks)?;
     let lowering = Lowering {
         alloc,
         program,
@@ -83,6 +84,13 @@ fn lower_body(
     let entry = lowering.lower_whole(&mut graph, body)?;
     let flow = graph.finish(entry)?;
     Ok(flow)
+}
+
+// A count as a graph has it.
+fn narrowed(count: u64) -> Result<u32, AllocError>
+    ensures { IfOk result (λ made. made ≡ count) }
+{
+    u32::try_from(count).map_err(|_| AllocError)
 }
 
 impl Lowering<'_> {

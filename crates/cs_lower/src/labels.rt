@@ -7,15 +7,15 @@ ghost use Rattle.cs_ast.specs.TypedView.{statement, statement_list};
 ghost use Rattle.cs_plain.specs.Marks as plain;
 ghost use Rattle.cs_lower.specs.Labels.{label_in, label_among};
 
-use crate::marks::{marks_in, together};
 use cs_ast::typed::statement::{Stmt, StmtKind};
+use cs_interpreter::marks::{marks_in, together};
 use std::alloc::AllocError;
 use std::collections::BTreeMap;
 
 /// Adds the labels of a statement, the first mark of which has a number, each with its mark, unless the label is there already.
 /// Gives the number behind its marks.
 #[cycle(labels)]
-pub fn add_labels(labels: &mut BTreeMap<u32, u32>, s: &Stmt, mark: u32) -> Result<u32, AllocError>
+pub fn add_labels(labels: &mut BTreeMap<u32, u32>, s: &Stmt, mark: u64) -> Result<u64, AllocError>
     ensures next { IfOk result (λ next. next ≡ mark + plain.marks (statement s.now)) }
     ensures labels { OnOk result ((wanted : ℕ) → get nat_cmp labels.new wanted ≡ option_or (get nat_cmp labels.old wanted) (label_in wanted (statement s.now) mark)) }
 {
@@ -55,8 +55,8 @@ pub fn add_labels(labels: &mut BTreeMap<u32, u32>, s: &Stmt, mark: u32) -> Resul
 fn add_labels_in(
     labels: &mut BTreeMap<u32, u32>,
     statements: &[Stmt],
-    mark: u32,
-) -> Result<u32, AllocError>
+    mark: u64,
+) -> Result<u64, AllocError>
     ensures next { IfOk result (λ next. next ≡ mark + plain.marks_in (statement_list statements.now)) }
     ensures labels { OnOk result ((wanted : ℕ) → get nat_cmp labels.new wanted ≡ option_or (get nat_cmp labels.old wanted) (label_among wanted (statement_list statements.now) mark)) }
 {
@@ -68,12 +68,13 @@ fn add_labels_in(
 }
 
 // Adds a label with its mark, unless it is there already.
-fn add_label(labels: &mut BTreeMap<u32, u32>, label: u32, mark: u32) -> Result<(), AllocError>
+fn add_label(labels: &mut BTreeMap<u32, u32>, label: u32, mark: u64) -> Result<(), AllocError>
     ensures { OnOk result ((wanted : ℕ) → get nat_cmp labels.new wanted ≡ option_or (get nat_cmp labels.old wanted) (if label == wanted then Some mark else None)) }
 {
     if labels.contains_key(&label) {
         return Ok(());
     }
+    let mark = u32::try_from(mark).map_err(|_| AllocError)?;
     match labels.insert(label, mark) {
         Ok(_) => Ok(()),
         Err(_) => Err(AllocError),

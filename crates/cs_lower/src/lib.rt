@@ -8,7 +8,6 @@ mod functions;
 mod initializers;
 mod labels;
 mod loops;
-mod marks;
 mod statements;
 mod strips;
 mod switches;

@@ -12,13 +12,13 @@ ghost use Rattle.cs_lower.specs.Statements.{Executes, TestsFor, EndsFor};
 
 use crate::building::GraphBuilder;
 use crate::context::Lowering;
-use crate::marks::{marks, marks_in, together};
 use crate::statements::Exits;
 use crate::strips::Strip;
 use cs_ast::Place;
 use cs_ast::typed::expression::Expr;
 use cs_ast::typed::statement::Stmt;
 use cs_cfg::Work;
+use cs_interpreter::marks::{marks, marks_in, together};
 use cs_runs::PointKind;
 use std::alloc::AllocError;
 

@@ -12,12 +12,12 @@ ghost use Rattle.cs_lower.specs.Statements.{Executes, ExecutesAll, ExecutesIn, E
 
 use crate::building::GraphBuilder;
 use crate::context::Lowering;
-use crate::marks::marks;
 use crate::strips::Strip;
 use cs_ast::Place;
 use cs_ast::typed::expression::Expr;
 use cs_ast::typed::statement::{Stmt, StmtKind};
 use cs_cfg::{BlockEnd, Work};
+use cs_interpreter::marks::marks;
 use cs_runs::PointKind;
 use std::alloc::AllocError;
 

@@ -153,7 +153,7 @@ impl Lowering<'_> {
 }
 
 // How many arguments there are.
-#[tactic(auto, using(crate::proofs::StatementForms::counted))]
+#[tactic(auto, using(cs_interpreter::proofs::StatementForms::counted))]
 fn count_of(arguments: &[Expr]) -> Result<u32, AllocError>
     ensures { IfOk result (λ count. count ≡ count_all (typed_list arguments.now)) }
 {

@@ -1,7 +1,7 @@
 mod Performs
 mod Told
 mod Lengths
-mod PlacedRuns
+mod LoweredRuns
 mod Blocks
 mod Cutting
 mod Loading

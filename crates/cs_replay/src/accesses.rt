@@ -10,12 +10,12 @@ ghost use Rattle.cs_cfg.specs.GraphView.{access};
 ghost use Rattle.cs_steps.specs.RunnerView.{program_of, budgets_of, state_in, IsReady, LeadsOn, Ends};
 ghost use Rattle.cs_replay.specs.Works.{works};
 
-use crate::operands::{given, given_number, pop_moved, pop_stored, pop_updated};
 use cs_ast::Place;
 use cs_ast::typed::operator::{BinOp, Direction, Gives};
 use cs_cfg::Access;
 use cs_interpreter::constants::integer_of;
 use cs_interpreter::{Cell, Operand, Stop, access, stride_of};
+use cs_steps::operands::{given, given_number, pop_moved, pop_stored, pop_updated};
 use cs_steps::runner::Runner;
 use cs_types::{CType, IntType};
 

@@ -14,7 +14,6 @@ ghost use Rattle.cs_replay.specs.ReplayerView.{program_of, budgets_of, code_of, 
 
 use crate::frames::new_frame;
 use crate::nexts::flow_at;
-use crate::operands::pop_newest;
 use crate::positions::Position;
 use crate::replayer::{Caller, Replayer};
 use cs_ast::Place;
@@ -25,6 +24,7 @@ use cs_interpreter::machine::{Frame, Machine};
 use cs_interpreter::{Operand, Stop};
 use cs_runs::{Budget, Label, Outcome};
 use cs_steps::frames::local_blocks;
+use cs_steps::operands::pop_newest;
 use std::alloc::AllocError;
 
 impl<'a> Replayer<'a> {

@@ -1,9 +1,10 @@
 //! New frames (C11 6.2.4, 6.9.1).
-ghost use Rattle.std.specs.Prelude.{◌≡◌, IfOk, replicate};
+ghost use Rattle.std.specs.Prelude.{◌≡◌, IfOk};
 ghost use Rattle.cs_interpreter.specs.MachineView.{frame_of};
 ghost use Rattle.cs_replay.specs.CodeStates.{begun};
 
 use cs_interpreter::machine::Frame;
+use cs_steps::frames::zeros;
 use std::alloc::{AllocError, Global};
 
 /// A frame in which the graph of a function begins.
@@ -22,15 +23,4 @@ pub fn new_frame<'a>(
         stack: Vec::new(alloc),
         visits: zeros(alloc, u64::from(marks))?,
     })
-}
-
-// So many zeros.
-fn zeros(alloc: Global, count: u64) -> Result<Vec<u32>, AllocError>
-    ensures { IfOk result (λ made. made.items ≡ replicate count 0) }
-{
-    let mut made = Vec::new(alloc);
-    while (made.len() as u64) < count {
-        made.push(0)?;
-    }
-    Ok(made)
 }

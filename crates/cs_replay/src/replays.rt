@@ -7,8 +7,7 @@ ghost use Rattle.cs_plain.specs.Machine.{routine_of};
 ghost use Rattle.cs_plain.specs.PlainRuns as plain;
 ghost use Rattle.cs_cfg.specs.CodeSteps.{code_step, code_start, CodeGives};
 ghost use Rattle.cs_cfg.specs.GraphView as view;
-ghost use Rattle.cs_cfg.specs.Lowered.{HasGraphs};
-ghost use Rattle.cs_cfg.specs.Placed.{IsPlaced};
+ghost use Rattle.cs_cfg.specs.Lowered.{HasGraphs, IsLowered};
 ghost use Rattle.cs_interpreter.specs.View.{log_of};
 ghost use Rattle.cs_steps.specs.RunView.{run_of};
 ghost use Rattle.cs_replay.specs.RunLengths.{HasLength, HasLength-prop};
@@ -45,7 +44,7 @@ pub fn replay(
     entry: u32,
 ) -> Result<Replayed, ReplayRefusal>
     requires laid_out { IsLaidOut setting.now.program.now.model setting.now.program.now.table.list }
-    requires placed { IsPlaced (view.code code.now) (typed_program setting.now.program.now) }
+    requires lowered { IsLowered (view.code code.now) (typed_program setting.now.program.now) }
     ensures gives { IfOk result (λ replayed. plain.RunGives (typed_program setting.now.program.now) entry (run_of setting.now) setting.now.budgets replayed.outcome (log_of replayed.log)) }
     ensures no_entry { (result ≡ Err ReplayRefusal.NoEntry) ↔ ((routine_of (typed_program setting.now.program.now) entry).body ≡ None) }
 {

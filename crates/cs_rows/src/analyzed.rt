@@ -1,8 +1,7 @@
 //! What `analyze` says of whole files.
 
-use cs_app::{Status, csa};
-use cs_io::{SureSink, SureSource};
-use std::alloc::Global;
+use crate::asked::answered;
+use cs_app::Status;
 use std::test::Fail;
 
 /// Files with the status and the text of their analysis.
@@ -95,19 +94,10 @@ const ANALYSES: [(&str, Status, &str); 18] = [
     ),
 ];
 
-/// The status and the text of `analyze` on a file, with ample memory.
-pub fn analysis(alloc: Global, file: &str) -> Result<(Status, Vec<u8>), Fail> {
-    let words = vec![in alloc; String::from_str(alloc, "analyze")?]?;
-    let mut source = SureSource::new(Vec::from_slice(alloc, file.as_bytes())?);
-    let mut sink = SureSink::new(alloc, 4096)?;
-    let status = csa(alloc, words.as_slice(), &mut source, &mut sink);
-    Ok((status, Vec::from_slice(alloc, sink.written())?))
-}
-
 #[test]
 fn analyzes_files_of_the_form(rt: HostRuntime) -> Result<(), Fail> {
     for (file, status, text) in ANALYSES {
-        let (ended, written) = analysis(rt.alloc(), file)?;
+        let (ended, written) = answered(rt.alloc(), "analyze", file)?;
         assert_eq!(rt; written.as_slice(), text.as_bytes(), "{file}");
         assert_eq!(rt; ended, status, "{file}");
     }

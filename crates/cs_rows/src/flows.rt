@@ -1,6 +1,6 @@
 //! What `flow` says of whole files. The ways were written by hand from what C says of each statement.
 
-use crate::replays::answered;
+use crate::asked::answered;
 use cs_app::Status;
 use std::str;
 use std::test::Fail;

@@ -1,10 +1,15 @@
 //! The front end on a text.
+ghost use Rattle.std.specs.Prelude.{◌≤◌, length, IfSome};
+ghost use Rattle.cs_ast.specs.TypedProgram.{typed_program};
+ghost use Rattle.cs_well_formed.specs.Files.{IsFileTree};
+ghost use Rattle.cs_well_formed.specs.Programs.{IsWellFormed};
+ghost use Rattle.cs_app.specs.Trees.{IsOfFile};
 
-use cs_ast::raw::external::Tree;
+use cs_ast::raw::external::{RawExternal, Tree};
 use cs_ast::typed::program::Program;
 use cs_decl_parser::parse;
 use cs_grammar::SyntaxRefusal;
-use cs_lexer::tokens;
+use cs_lexer::{Lexed, tokens};
 use cs_types::DataModel;
 use cs_typing::typed;
 use std::alloc::Global;
@@ -40,16 +45,38 @@ pub fn front(alloc: Global, text: &str) -> Told {
 }
 
 /// The program that a text is under a data model, if it is one.
-pub fn program(alloc: Global, model: DataModel, text: &str) -> Option<Program> {
+pub fn program(alloc: Global, model: DataModel, text: &str) -> Option<Program>
+    ensures { IfSome result (λ program. IsWellFormed (typed_program program)) }
+{
     let bytes = text.as_bytes();
     if bytes.len() > 4_194_304 {
         return None;
     }
-    let lexed = tokens(alloc, bytes).ok()?;
-    let list = lexed.list.as_slice();
-    if list.len() > 400_000 {
-        return None;
+    match tokens(alloc, bytes) {
+        Ok(lexed) => program_of(alloc, model, &lexed),
+        Err(_) => None,
     }
-    let tree = parse(alloc, list, lexed.end).ok()?;
-    typed(alloc, model, &lexed.files, list, &tree.externals).ok()
+}
+
+/// The program that the tokens of a text are.
+fn program_of(alloc: Global, model: DataModel, lexed: &Lexed) -> Option<Program>
+    requires few { length lexed.now.list.items ≤ 400000 }
+    requires lexed { IsOfFile lexed.now }
+    ensures { IfSome result (λ program. IsWellFormed (typed_program program)) }
+{
+    match parse(alloc, lexed.list.as_slice(), lexed.end) {
+        Ok(tree) => typed_as(alloc, model, lexed, &tree.externals),
+        Err(_) => None,
+    }
+}
+
+/// The program that the tree of a text is.
+fn typed_as(alloc: Global, model: DataModel, lexed: &Lexed, tree: &[RawExternal]) -> Option<Program>
+    requires { IsFileTree lexed.now.files.items lexed.now.list.items tree.now }
+    ensures { IfSome result (λ program. IsWellFormed (typed_program program)) }
+{
+    match typed(alloc, model, &lexed.files, &lexed.list, tree) {
+        Ok(program) => Some(program),
+        Err(_) => None,
+    }
 }

@@ -3,12 +3,12 @@
 
 #[cfg(test)]
 mod analyzed;
+pub mod asked;
 #[cfg(test)]
 mod edited;
 #[cfg(test)]
 mod flows;
-#[cfg(test)]
-mod front;
+pub mod front;
 #[cfg(test)]
 mod ordered;
 #[cfg(test)]
@@ -17,7 +17,5 @@ mod parsed;
 mod refused;
 #[cfg(test)]
 mod replayed;
-#[cfg(test)]
-mod replays;
 #[cfg(test)]
 mod typed;

@@ -1,6 +1,6 @@
 //! What comes of refused words and files, and of sources and sinks that fail.
 
-use crate::analyzed::analysis;
+use crate::asked::{answered, words_of};
 use cs_app::{Status, csa};
 use cs_io::{MemSink, MemSource, SureSink, SureSource};
 use std::alloc::{AllocError, Global};
@@ -8,15 +8,6 @@ use std::test::Fail;
 
 /// A division by a parameter.
 const DIVISION: &str = "int f(int x){return 10/x;}";
-
-/// The words of a command line.
-fn words_of(alloc: Global, line: &str) -> Result<Vec<String>, AllocError> {
-    let mut words = Vec::new(alloc);
-    for word in line.split_ascii_whitespace() {
-        words.push(String::from_str(alloc, word)?)?;
-    }
-    Ok(words)
-}
 
 #[test]
 fn refuses_words_and_files_with_a_line(rt: HostRuntime) -> Result<(), Fail> {
@@ -105,11 +96,8 @@ fn refuses_words_and_files_with_a_line(rt: HostRuntime) -> Result<(), Fail> {
             "refused left-out : <input>:1:35\n",
         ),
     ] {
-        let words = words_of(alloc, words)?;
-        let mut source = SureSource::new(Vec::from_slice(alloc, file.as_bytes())?);
-        let mut sink = SureSink::new(alloc, 64)?;
-        let ended = csa(alloc, words.as_slice(), &mut source, &mut sink);
-        assert_eq!(rt; sink.written(), line.as_bytes(), "{file}");
+        let (ended, written) = answered(alloc, words, file)?;
+        assert_eq!(rt; written.as_slice(), line.as_bytes(), "{file}");
         assert_eq!(rt; ended, status, "{file}");
     }
     Ok(())
@@ -129,7 +117,7 @@ const OTHER_PROGRAMS: [&str; 6] = [
 fn refuses_programs_that_are_of_another_form(rt: HostRuntime) -> Result<(), Fail> {
     let alloc = rt.alloc();
     for file in OTHER_PROGRAMS {
-        let (ended, written) = analysis(alloc, file)?;
+        let (ended, written) = answered(alloc, "analyze", file)?;
         assert_eq!(rt; written.as_slice(), b"refused form\n".as_slice(), "{file}");
         assert_eq!(rt; ended, Status::BadFile, "{file}");
     }
@@ -158,7 +146,7 @@ fn refuses_a_tree_that_is_too_high(rt: HostRuntime) -> Result<(), Fail> {
         (197, Status::BadFile, "refused too-deep <input>:1:217\n"),
     ] {
         let file = enclosed(alloc, count)?;
-        let (ended, written) = analysis(alloc, file.as_str())?;
+        let (ended, written) = answered(alloc, "analyze", file.as_str())?;
         assert_eq!(rt; written.as_slice(), line.as_bytes(), "{count}");
         assert_eq!(rt; ended, status, "{count}");
     }

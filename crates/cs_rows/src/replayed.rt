@@ -1,7 +1,7 @@
 //! Reports against both interpreters: the run of each report ends in its fault.
 
+use crate::asked::answered;
 use crate::front::program;
-use crate::replays::answered;
 use cs_analysis::analyze;
 use cs_ast::Function;
 use cs_machine::run;

@@ -13,7 +13,7 @@ use Rattle.cs_runs.specs.declared.outcome.RunBudgets.{RunBudgets}
 use Rattle.cs_plain.specs.Calls.{call, allocate}
 use Rattle.cs_plain.specs.Expressions.{act, act_form}
 use Rattle.cs_plain.specs.Machine.{State}
-use Rattle.cs_steps.proofs.StatementForms.{count_all-list}
+use Rattle.cs_interpreter.proofs.StatementForms.{count_all-list}
 
 module _ (program : TypedProgram) (budgets : RunBudgets) (e : Expr) (m : State) where
   -- a call, with so many arguments

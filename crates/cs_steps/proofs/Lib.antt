@@ -1,4 +1,3 @@
-pub mod StatementForms
 pub mod Leaving
 pub mod MachineStates
 pub mod Overwriting

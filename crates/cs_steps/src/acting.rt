@@ -14,6 +14,7 @@ ghost use Rattle.cs_steps.specs.RunnerView.{program_of, budgets_of, state_in, Is
 ghost use Rattle.cs_steps.specs.Acting.{local_place, member_place, index_act, arrow_act, load_act, convert_act, unary_act, not_act, binary_act, compare_act, sum_act, difference_act, assign_act, update_act, move_act, free_act};
 
 use crate::frames::number_of;
+use crate::operands::{given, given_number, pop_moved, pop_stored, pop_updated};
 use crate::runner::Runner;
 use cs_ast::Place;
 use cs_ast::typed::expression::{Expr, ExprKind};
@@ -339,64 +340,5 @@ impl<'a> Runner<'a> {
         let access = access_of(object);
         self.machine.store(&mut self.log, self.setting, place, access, target, operand)?;
         Ok(())
-    }
-}
-
-// Takes the place of an assignment and the value.
-#[tactic(auto, using(cs_interpreter::proofs::States::states))]
-fn pop_stored(state: &mut Machine) -> (Cell, Operand)
-    ensures target { cell_of result.0 ≡ machine.cell_at (state_of state.old) 1 }
-    ensures value { operand_of result.1 ≡ machine.operand_at (state_of state.old) 0 }
-    ensures state { state_of state.new ≡ machine.pop_many 2 (state_of state.old) }
-{
-    let value = state.pop();
-    let target = state.pop_cell();
-    (target, value)
-}
-
-// Takes the place of an update of a pointer, the value before, and the amount.
-#[tactic(auto, using(cs_interpreter::proofs::States::states))]
-fn pop_moved(state: &mut Machine) -> (Cell, Operand, Cell)
-    ensures target { cell_of result.0 ≡ machine.cell_at (state_of state.old) 2 }
-    ensures before { operand_of result.1 ≡ machine.operand_at (state_of state.old) 1 }
-    ensures amount { cell_of result.2 ≡ machine.cell_at (state_of state.old) 0 }
-    ensures state { state_of state.new ≡ machine.pop_many 3 (state_of state.old) }
-{
-    let amount = state.pop_cell();
-    let (target, before) = pop_stored(state);
-    (target, before, amount)
-}
-
-// Takes the place of an update of a number, the value before, the same converted, and the right operand.
-#[tactic(auto, using(cs_interpreter::proofs::States::states))]
-fn pop_updated(state: &mut Machine) -> (Cell, Operand, Cell, Cell)
-    ensures target { cell_of result.0 ≡ machine.cell_at (state_of state.old) 3 }
-    ensures before { operand_of result.1 ≡ machine.operand_at (state_of state.old) 2 }
-    ensures converted { cell_of result.2 ≡ machine.cell_at (state_of state.old) 1 }
-    ensures right { cell_of result.3 ≡ machine.cell_at (state_of state.old) 0 }
-    ensures state { state_of state.new ≡ machine.pop_many 4 (state_of state.old) }
-{
-    let right = state.pop_cell();
-    let (target, before, converted) = pop_moved(state);
-    (target, before, converted, right)
-}
-
-// The value that an update gives.
-fn given(gives: Gives, before: Operand, after: Operand) -> Operand
-    ensures { operand_of result ≡ expressions.given gives (operand_of before) (operand_of after) }
-{
-    match gives {
-        Gives::Old => before,
-        Gives::New => after,
-    }
-}
-
-// The same of a number.
-fn given_number(gives: Gives, before: Operand, after: i128) -> Operand
-    ensures { operand_of result ≡ expressions.given gives (operand_of before) (machine.Scalar (NumberCell after)) }
-{
-    match gives {
-        Gives::Old => before,
-        Gives::New => Operand::Scalar(Cell::Number(after)),
     }
 }

@@ -10,6 +10,7 @@ ghost use Rattle.cs_steps.specs.Calling.{call_returning, inside_with, called_by,
 ghost use Rattle.cs_steps.specs.RunnerView.{program_of, budgets_of, state_in, IsReady, LeadsOn, Ends};
 
 use crate::frames::{local_blocks, new_frame};
+use crate::operands::pop_newest;
 use crate::outside::{outside_result, write_arguments};
 use crate::runner::Runner;
 use cs_ast::Place;
@@ -112,17 +113,6 @@ impl<'a> Runner<'a> {
             None => Err(Stop::Outcome(Outcome::Done(value.returned()))),
         }
     }
-}
-
-// Takes so many of the newest operands, the oldest of them first.
-#[tactic(auto, using(crate::proofs::Stacks::stacks), unfolding(cs_interpreter::specs::MachineView::state_of))]
-fn pop_newest(state: &mut Machine, count: usize) -> Result<Vec<Operand>, AllocError>
-    ensures operands { IfOk result (λ taken. map operand_of taken.items ≡ machine.newest count (state_of state.old)) }
-    ensures state { IfOk result (λ _. state_of state.new ≡ machine.pop_many count (state_of state.old)) }
-{
-    let left = state.frame.stack.len().saturating_sub(count);
-    let taken = state.frame.stack.split_off(left)?;
-    Ok(taken)
 }
 
 // Goes into a new frame, which has these locals.

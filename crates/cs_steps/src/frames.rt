@@ -8,13 +8,13 @@ ghost use Rattle.cs_interpreter.specs.View.{operand_of};
 ghost use Rattle.cs_interpreter.specs.MemoryView.{block_of, block_at};
 ghost use Rattle.cs_interpreter.specs.MachineView.{frame_of, state_of};
 
-use crate::marks::marks;
 use cs_ast::Place;
 use cs_ast::typed::program::{Function, Local, Program};
 use cs_interpreter::Operand;
 use cs_interpreter::blocks::{Block, BlockType, Change, Fill};
 use cs_interpreter::items::{Item, StmtStep};
 use cs_interpreter::machine::{Frame, Machine};
+use cs_interpreter::marks::marks;
 use cs_interpreter::types::size_of;
 use std::alloc::{AllocError, Global};
 
@@ -79,8 +79,8 @@ pub fn no_frame<'a>(alloc: Global, function: u32, number: u64) -> Result<Frame<'
     })
 }
 
-// So many zeros.
-fn zeros(alloc: Global, count: u64) -> Result<Vec<u32>, AllocError>
+/// So many zeros.
+pub fn zeros(alloc: Global, count: u64) -> Result<Vec<u32>, AllocError>
     ensures { IfOk result (λ made. made.items ≡ replicate count 0) }
 {
     let mut made = Vec::new(alloc);

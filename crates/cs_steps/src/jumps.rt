@@ -11,7 +11,6 @@ ghost use Rattle.cs_steps.specs.Jumping.{lands_at};
 ghost use Rattle.cs_steps.specs.RunnerView.{program_of, budgets_of, state_in, LeadsOn, Ends};
 
 use crate::lists::{drop_first, drop_past_out, drop_to_again, put_first, put_statements};
-use crate::marks::{marks, marks_in, together};
 use crate::runner::Runner;
 use cs_ast::Place;
 use cs_ast::typed::program::Function;
@@ -20,6 +19,7 @@ use cs_interpreter::Stop;
 use cs_interpreter::blocks::BlockType;
 use cs_interpreter::items::{Item, StmtStep};
 use cs_interpreter::machine::Machine;
+use cs_interpreter::marks::{marks, marks_in, together};
 use cs_runs::PointKind;
 use std::alloc::AllocError;
 

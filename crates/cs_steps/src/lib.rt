@@ -10,7 +10,7 @@ pub mod frames;
 mod jumps;
 mod lists;
 mod loops;
-mod marks;
+pub mod operands;
 mod outside;
 mod putting;
 pub mod runner;

@@ -7,9 +7,9 @@ ghost use Rattle.cs_plain.specs.Machine as machine;
 ghost use Rattle.cs_plain.specs.Jumps as jumps;
 ghost use Rattle.cs_interpreter.specs.MachineView.{item_of, todo_of};
 
-use crate::marks::{marks, marks_in, together};
 use cs_ast::typed::statement::Stmt;
 use cs_interpreter::items::{Item, StmtStep};
+use cs_interpreter::marks::{marks, marks_in, together};
 use std::alloc::AllocError;
 
 /// Puts a thing before what is to be done.

@@ -8,7 +8,6 @@ ghost use Rattle.cs_interpreter.specs.MachineView.{state_of};
 ghost use Rattle.cs_steps.specs.Deciding.{decides, turns};
 ghost use Rattle.cs_steps.specs.RunnerView.{budgets_of, state_in, LeadsOn, Ends};
 
-use crate::marks::{marks, marks_in, together};
 use crate::putting::{put_body, put_stmt, put_test};
 use crate::runner::Runner;
 use cs_ast::Place;
@@ -17,6 +16,7 @@ use cs_ast::typed::statement::{Stmt, StmtKind};
 use cs_interpreter::Stop;
 use cs_interpreter::items::{ExprStep, Item, StmtStep};
 use cs_interpreter::machine::Machine;
+use cs_interpreter::marks::{marks, marks_in, together};
 use cs_runs::PointKind;
 use std::alloc::AllocError;
 

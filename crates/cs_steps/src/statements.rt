@@ -9,7 +9,6 @@ ghost use Rattle.cs_interpreter.specs.MachineView.{state_of};
 ghost use Rattle.cs_steps.specs.RunnerView.{program_of, budgets_of, state_in, IsReady, LeadsOn, Ends};
 
 use crate::jumps::{break_out, go_on};
-use crate::marks::together;
 use crate::putting::{put_all, put_loop, put_stmt, put_test};
 use crate::runner::Runner;
 use cs_ast::Place;
@@ -17,6 +16,7 @@ use cs_ast::typed::expression::Expr;
 use cs_ast::typed::statement::{Stmt, StmtKind};
 use cs_interpreter::items::{ExprStep, Item, StmtStep};
 use cs_interpreter::machine::Machine;
+use cs_interpreter::marks::together;
 use cs_interpreter::{Operand, Stop};
 use cs_runs::PointKind;
 use std::alloc::AllocError;

@@ -8,12 +8,12 @@ ghost use Rattle.cs_interpreter.specs.MachineView.{state_of};
 ghost use Rattle.cs_steps.specs.Switching.{chosen_of};
 ghost use Rattle.cs_steps.specs.RunnerView.{state_in, LeadsOn, Ends};
 
-use crate::marks::{marks_in, together};
 use crate::putting::put_all;
 use crate::runner::Runner;
 use cs_ast::Place;
 use cs_ast::typed::statement::{Case, Stmt};
 use cs_interpreter::machine::Machine;
+use cs_interpreter::marks::{marks_in, together};
 use cs_interpreter::{Stop, Touch};
 use cs_runs::{Label, PointKind};
 use std::alloc::AllocError;

@@ -4,10 +4,10 @@ use Rattle.std.specs.Prelude.{nat_eq, Option, Some, None, IfSome, is_some, slice
 use Rattle.std.specs.Option.{option_or}
 use Rattle.std.specs.List.{All, AllByRecursion}
 use Rattle.std.specs.Cmp.Lexicographic.{pointwise}
-use Rattle.std.proofs.lemmas.List.Elements.{All-same, All-take, All-append, All-weaker, All-from_recursion, recursion_from_All}
-use Rattle.std.proofs.lemmas.Option.{same_Some, none-some, slice_get_within, get_or_from_slice_get}
+use Rattle.std.proofs.lemmas.List.Elements.{All-nil, All-same, All-take, All-append, All-weaker, All-from_recursion, recursion_from_All}
+use Rattle.std.proofs.lemmas.Option.{same_Some, none-some}
 use Rattle.cs_types.specs.Shape.{Shape}
-use Rattle.cs_ast.specs.TypedProgram.{TypedProgram, FileObject, Routine}
+use Rattle.cs_ast.specs.TypedProgram.{TypedProgram, Variable, FileObject, Routine}
 use Rattle.cs_consts.specs.declared.scope.Callee.{Callee}
 use Rattle.cs_consts.specs.declared.scope.Callee.TheVariants.{Malloc, Calloc, Free, Numbered}
 use Rattle.cs_consts.specs.Meanings.{Meaning, Typedef, Constant, Global, Local, Function, Declaration}
@@ -16,13 +16,14 @@ use Rattle.cs_declarations.specs.Known.{Known, model_of, table_of, declarations_
 use Rattle.cs_typing.specs.Objects.{Filed, with_known, changed}
 use Rattle.cs_typing.specs.Functions.{number_in}
 use Rattle.cs_typing.specs.Files.{allocators}
+use Rattle.cs_well_formed.specs.Structs.{NamesStructs, HasNamedTypes, TypesAreNamed}
 use Rattle.cs_well_formed.specs.Expressions.{Setting, parameter_types}
 use Rattle.cs_well_formed.specs.Programs.{outside, IsWellGlobal, IsWellRoutine}
-use Rattle.cs_well_formed.specs.Agreement.{IsThere, Agrees, AreFirst}
+use Rattle.cs_well_formed.specs.Agreement.{Keeps, KnownTypesAreNamed, IsThere, Agrees, AreFirst}
 use Rattle.cs_well_formed.specs.Growth.{Grows}
 use Rattle.cs_well_formed.specs.Leading.{Leads}
 use Rattle.cs_well_formed.proofs.Growth.{IsThere-grown}
-use Rattle.cs_well_formed.proofs.Leading.{Keeps}
+use Rattle.cs_well_formed.proofs.Structs.{keeps-self, keeps-trans, globals-longer, routines-longer}
 use Rattle.cs_typing.proofs.DeclarationsBehind.{Starts, starts-trans, start-take, IsPlain, DeclaresOn, on-starts}
 
 -- ---- lists
@@ -37,9 +38,6 @@ found-start first all number x h is = ap (λ xs. slice_get xs number) h.1 ∙ fo
     found [] i at = absurd (none-some x at)
     found (y ∷ xs) zero at = at
     found (y ∷ xs) (suc i) at = found xs i at
-
-pub All-found : {A : Type 0} (P : A → Type 0) (xs : List A) (number : ℕ) (x : A) → All P xs → slice_get xs number ≡ Some x → P x
-All-found P xs number x held is = subst P (get_or_from_slice_get xs number x x is) (held number x (slice_get_within xs number x is))
 
 pub both-All : {A : Type 0} (P Q : A → Type 0) (xs : List A) → All P xs → All Q xs → All (λ x. P x × Q x) xs
 both-All P Q xs h k = λ i d within. (h i d within, k i d within)
@@ -172,6 +170,20 @@ there-inside s (Function f) h = h
 abbrev pub IsCounted : Routine → Type 0
 IsCounted r = r.parameters ≤ length r.variables
 
+-- the types that are declared so far name structs of the table
+pub record TypesSoFar (f : Filed) : Type 0 where
+  pub known : KnownTypesAreNamed f.known.context
+  pub globals : All (λ (g : FileObject). NamesStructs (table_of f.known) g.ty) f.globals
+  pub routines : All (HasNamedTypes (table_of f.known)) f.routines
+
+-- they do so behind what changes no object and no function
+types-behind : (f : Filed) (k : Known) → TypesSoFar f → length (table_of f.known) ≤ length (table_of k) → KnownTypesAreNamed k.context → TypesSoFar (with_known k f)
+types-behind f k types longer named = record {
+  known = named;
+  globals = globals-longer (table_of f.known) (table_of k) longer f.globals types.globals;
+  routines = routines-longer (table_of f.known) (table_of k) longer f.routines types.routines;
+}
+
 module _ (p : TypedProgram) where
   -- the program with the objects and functions of a file so far
   abbrev pub with_parts : Filed → TypedProgram
@@ -186,12 +198,14 @@ module _ (p : TypedProgram) where
     pub declared : All (λ (d : Declaration). IsThere (outside (with_parts f)) d.meaning) (declarations_of f.known)
     pub numbered : All (λ (d : Declaration). HasNumber f.order d.name d.meaning) (declarations_of f.known)
     pub counted : All IsCounted f.routines
+    pub types : TypesSoFar f
 
-  -- the program has what is known so far
+  -- the program has what is known so far, and its declared types name structs
   pub record Has (f : Filed) : Type 0 where
     pub table : Keeps (table_of f.known) p.table
     pub texts : AreFirst p f.known.literals
     pub there : All (λ (d : Declaration). IsThere (outside p) d.meaning) (declarations_of f.known)
+    pub types : TypesAreNamed p
 
   -- the objects and functions so far are well formed in the program
   pub record IsWellSoFar (f : Filed) : Type 0 where
@@ -202,23 +216,31 @@ module _ (p : TypedProgram) where
   pub record Adds (f g : Filed) : Type 0 where
     pub order : g.order ≡ f.order
     pub kept : Kept g
+    pub longer : length (table_of f.known) ≤ length (table_of g.known)
     pub before : Has g → Has f
     pub well : Has g → IsWellSoFar f → IsWellSoFar g
 
   pub adds-self : (f : Filed) → Kept f → Adds f f
-  adds-self f kept = record { order = refl; kept = kept; before = λ has. has; well = λ has w. w }
+  adds-self f kept = record { order = refl; kept = kept; longer = omega arith; before = λ has. has; well = λ has w. w }
 
   pub adds-trans : (f g h : Filed) → Adds f g → Adds g h → Adds f h
   adds-trans f g h one other = record {
     order = other.order ∙ one.order;
     kept = other.kept;
+    longer = omega (arith, one.longer, other.longer);
     before = λ has. one.before (other.before has);
     well = λ has w. other.well has (one.well (other.before has) w);
   }
 
   -- what is known so far agrees with the program
   pub file-agrees : (f : Filed) → Kept f → Has f → Agrees (outside p) f.known.context
-  file-agrees f kept has = record { model = kept.model; table = has.table; declarations = has.there }
+  file-agrees f kept has = record {
+    model = kept.model;
+    table = has.table;
+    declarations = has.there;
+    named = kept.types.known;
+    types = record { program = has.types; variables = All-nil (λ (v : Variable). NamesStructs p.table v.ty); returns = tt };
+  }
 
   -- the object with a number has a type
   abbrev pub HasGlobal : Filed → ℕ → Shape → Type 0
@@ -233,7 +255,7 @@ module _ (p : TypedProgram) where
     where
       grows : Grows (outside (with_parts f)) (outside (with_parts g))
       grows = record {
-        program = record { model = refl; table = λ number members is. is; literals = λ number bytes is. is; globals = globals; routines = routines };
+        program = record { model = refl; table = keeps-self p.table; literals = λ number bytes is. is; globals = globals; routines = routines };
         variables = λ number v is. (v, is, refl);
         labels = omega arith;
         returns = refl;
@@ -248,11 +270,12 @@ module _ (p : TypedProgram) where
     pub model : model_of k ≡ model_of f.known
     pub literals : k.literals ≡ f.known.literals
     pub table : Keeps (table_of f.known) (table_of k)
+    pub named : KnownTypesAreNamed k.context
     pub on : DeclaresOn f.known k
     pub declared : All (λ (d : Declaration). IsThere (outside (with_parts f)) d.meaning) (declarations_of f.known) → All (λ (d : Declaration). IsThere (outside (with_parts f)) d.meaning) (declarations_of k)
 
-  pub leads-behind : (f : Filed) (k : Known) → Leads (outside (with_parts f)) f.known k → DeclaresOn f.known k → KnownBehind f k
-  leads-behind f k leads on = record { model = leads.model; literals = leads.literals; table = leads.table; on = on; declared = leads.declarations }
+  pub leads-behind : (f : Filed) (k : Known) → Leads (outside (with_parts f)) f.known k → DeclaresOn f.known k → KnownTypesAreNamed k.context → KnownBehind f k
+  leads-behind f k leads on named = record { model = leads.model; literals = leads.literals; table = leads.table; named = named; on = on; declared = leads.declarations }
 
   pub known-adds : (f : Filed) (k : Known) → Kept f → KnownBehind f k → Adds f (with_known k f)
   known-adds f k kept h = record {
@@ -267,11 +290,14 @@ module _ (p : TypedProgram) where
           (All-append numbered (declarations_of f.known) h.on.more kept.numbered
           (All-weaker (λ (d : Declaration). IsPlain d.meaning) numbered (λ d plain. plain-number f.order d.name d.meaning plain) h.on.more h.on.plain));
       counted = kept.counted;
+      types = types-behind f k kept.types h.table.longer h.named;
     };
+    longer = h.table.longer;
     before = λ has. record {
-      table = λ number members is. has.table number members (h.table number members is);
+      table = keeps-trans (table_of f.known) (table_of k) p.table h.table has.table;
       texts = subst (AreFirst p) h.literals has.texts;
       there = start-All (λ (d : Declaration). IsThere (outside p) d.meaning) (declarations_of f.known) (declarations_of k) (on-starts f.known k h.on) has.there;
+      types = has.types;
     };
     well = λ has w. record { globals = w.globals; routines = w.routines };
   }

@@ -12,6 +12,7 @@ pub mod LedJumps
 pub mod LabelPlaces
 pub mod LiteralsBehind
 pub mod LocalsInTurn
+pub mod NumberedCases
 pub mod OrderedNames
 pub mod ParameterTypes
 pub mod PlacedFunctions
@@ -26,3 +27,9 @@ pub mod WellFiles
 pub mod WellFunctions
 pub mod WellObjects
 pub mod WellStatements
+pub mod BoundedTexts
+pub mod BoundedParts
+pub mod BoundedStatements
+pub mod BoundedObjects
+pub mod BoundedFunctions
+pub mod BoundedFiles

@@ -24,26 +24,29 @@ use Rattle.cs_consts.specs.Meanings.{Meaning, Typedef, Constant, Global, Local, 
 use Rattle.cs_consts.specs.Scopes.{newest}
 use Rattle.cs_consts.specs.TypeNames.{starred}
 use Rattle.cs_consts.specs.Verdicts.{Verdict, Fine, Fault, lift}
-use Rattle.cs_declarations.specs.Known.{declarations_of, meaning_here, entered, left}
+use Rattle.cs_declarations.specs.Known.{table_of, declarations_of, meaning_here, entered, left}
 use Rattle.cs_declarations.specs.Parameters.{Head, parameters_typed}
 use Rattle.cs_typing.specs.Objects.{Filed, Told, Inside, changed}
 use Rattle.cs_typing.specs.Statements.{in_a_row, nothing_told, body_typed, labels_of_items}
 use Rattle.cs_typing.specs.Order.{is_of_library}
 use Rattle.cs_typing.specs.Functions.{is_result, same_types, types_of, has_body, may_be_function, bodiless, numbered, number_in, Routed, new_function, function_of, declared_inside, bodied, with_body, at_beginning, where_in, body_added, completed, outside_of, headed, resulted, function_added}
 use Rattle.cs_typing.specs.Files.{allocators}
+use Rattle.cs_well_formed.specs.Structs.{NamesStructs, VariablesName, HasNamedTypes}
 use Rattle.cs_well_formed.specs.Expressions.{Setting, IsScalar, IsWhole, parameter_types}
 use Rattle.cs_well_formed.specs.Statements.{label_counts}
 use Rattle.cs_well_formed.specs.Programs.{setting_of, outside, IsResult, IsWellRoutine}
-use Rattle.cs_well_formed.specs.Agreement.{IsFunction, IsThere}
+use Rattle.cs_well_formed.specs.Agreement.{IsNamed, IsFunction, IsThere}
 use Rattle.cs_well_formed.specs.Leading.{Leads, AreVariables}
 use Rattle.cs_well_formed.proofs.Verdicts.{IfFine, if_fine-at, if_fine-weaker, lift-then, cond-then, both_true}
 use Rattle.cs_well_formed.proofs.Leading.{parameters_typed-leads}
+use Rattle.cs_well_formed.proofs.NamedTypes.{starred-named, declaring-known, entered-known, left-known, HeadNamed, parameters_typed-named}
+use Rattle.cs_well_formed.proofs.Structs.{found-at, names-longer, variables-longer, globals-longer, routine-longer, routines-longer, meaning-longer}
 use Rattle.cs_typing.proofs.DeclarationsBehind.{Starts, starts-trans, start-take, IsPlain, DeclaresOn, parameters_typed-on, AreScalars, HeadDeclaresOn}
-use Rattle.cs_typing.proofs.FilesSoFar.{start-All, found-start, both-All, changed-length, changed-at, changed-other, changed-found, changed-All, All-found, newest-All, IsOther, newest-none, newest-start, HasNumber, there-inside, IsCounted, with_parts, Kept, Has, Adds, adds-self, adds-trans, HasGlobal, HasRoutine, all-there-kept, known-adds}
+use Rattle.cs_typing.proofs.FilesSoFar.{start-All, found-start, both-All, changed-length, changed-at, changed-other, changed-found, changed-All, newest-All, IsOther, newest-none, newest-start, HasNumber, there-inside, IsCounted, with_parts, Kept, Has, Adds, adds-self, adds-trans, HasGlobal, HasRoutine, all-there-kept, known-adds}
 use Rattle.cs_typing.proofs.HeldConstants.{ItemsHaveConstants}
 use Rattle.cs_typing.proofs.LedJumps.{ToldIsLed, body_typed-led}
 use Rattle.cs_typing.proofs.OrderedNames.{IsOrdered, IsPlaced, number-names}
-use Rattle.cs_typing.proofs.WellStatements.{both-fine, Has as HasInside, Tells, body_typed-well, AreThere}
+use Rattle.cs_typing.proofs.WellStatements.{both-fine, Has as HasInside, Knows, Tells, body_typed-well, AreThere}
 
 -- what holds of a value for each of some
 for-each : {A : Type 0} (Q : Type 0) (P : Q → A → Type 0) (v : Verdict A) → ((q : Q) → IfFine v (P q)) → IfFine v (λ a. (q : Q) → P q a)
@@ -109,6 +112,7 @@ module _ (p : TypedProgram) (laid_out : IsLaidOut p.model p.table) where
     on : DeclaresOn (entered f.known) head.known
     written : length head.written ≡ length head.variables
     scalars : AreScalars head.variables
+    named : HeadNamed (entered f.known) head
     leads : (s : Setting) → s.program.model ≡ p.model → AreVariables s head.variables → Leads s (entered f.known) head.known
 
   abbrev Around : Type 0
@@ -119,11 +123,11 @@ module _ (p : TypedProgram) (laid_out : IsLaidOut p.model p.table) where
       let v = parameters_typed (entered f.known) raw in
       let IsOn : Head → Type 0 = HeadDeclaresOn (entered f.known) in
       let IsLed : Around → Head → Type 0 = λ s head. AreVariables s.0 head.variables → Leads s.0 (entered f.known) head.known in
-      if_fine-weaker (λ head. IsOn head × ((s : Around) → IsLed s head)) (IsHead f) v
-      (both-fine IsOn (λ head. (s : Around) → IsLed s head) v
-      (parameters_typed-on (entered f.known) raw)
+      if_fine-weaker (λ head. (IsOn head × HeadNamed (entered f.known) head) × ((s : Around) → IsLed s head)) (IsHead f) v
+      (both-fine (λ head. IsOn head × HeadNamed (entered f.known) head) (λ head. (s : Around) → IsLed s head) v
+      (both-fine IsOn (HeadNamed (entered f.known)) v (parameters_typed-on (entered f.known) raw) (parameters_typed-named (entered f.known) raw (entered-known f.known kept.types.known)))
       (for-each Around IsLed v (λ s. parameters_typed-leads s.0 (entered f.known) raw (kept.model ∙ sym s.1))))
-      (λ head h. record { on = h.0.known; written = h.0.written; scalars = h.0.scalars; leads = λ s same are. h.1 (s, same) are })
+      (λ head h. record { on = h.0.0.known; written = h.0.0.written; scalars = h.0.0.scalars; named = h.0.1; leads = λ s same are. h.1 (s, same) are })
 
   -- the declarations outside of the parameters are those before them
   same-outside : (f : Filed) (head : Head) → IsHead f head → declarations_of (outside_of f head).known ≡ declarations_of f.known
@@ -138,6 +142,7 @@ module _ (p : TypedProgram) (laid_out : IsLaidOut p.model p.table) where
         model = leads.model;
         literals = leads.literals;
         table = leads.table;
+        named = left-known f.known head.known h.named.0.known;
         on = record {
           more = [];
           declarations = same-outside f head h ∙ sym (append-nil (declarations_of f.known));
@@ -205,8 +210,9 @@ module _ (p : TypedProgram) (laid_out : IsLaidOut p.model p.table) where
   same-globals f number x is = (x, is, refl)
 
   -- a new function, at its place in the order
-  new_function-adds : (f : Filed) (d : RawFunction) (result : Shape) (parameters : List Variable) (written : List Bool) → Kept p f → All (IsOther d.name) (declarations_of f.known) → IsOrdered f.order d.name → IsResult result → length written ≡ length parameters → AreScalars parameters → AddsFunction f result parameters (new_function f d result parameters written)
-  new_function-adds f d result parameters written kept other ordered fits long scalars = (added, new)
+  new_function-adds : (f : Filed) (d : RawFunction) (result : Shape) (parameters : List Variable) (written : List Bool) → NamesStructs (table_of f.known) result → VariablesName (table_of f.known) parameters → Kept p f →
+      All (IsOther d.name) (declarations_of f.known) → IsOrdered f.order d.name → IsResult result → length written ≡ length parameters → AreScalars parameters → AddsFunction f result parameters (new_function f d result parameters written)
+  new_function-adds f d result parameters written named parameters_named kept other ordered fits long scalars = (added, new)
     where
       slot : ℕ
       slot = number_in f.order d.name
@@ -264,15 +270,20 @@ module _ (p : TypedProgram) (laid_out : IsLaidOut p.model p.table) where
         table = has.table;
         texts = has.texts;
         there = start-All (λ (x : Declaration). IsThere (outside p) x.meaning) (declarations_of f.known) (declarations_of after.known) (declaration ∷ [], refl) has.there;
+        types = has.types;
       }
 
-      well-made : IsWellRoutine p made
-      well-made = record {
+      made-named : HasNamedTypes (table_of f.known) made
+      made-named = record { returns = named; variables = parameters_named }
+
+      well-made : Has p after → IsWellRoutine p made
+      well-made has = record {
         returns = fits;
         parameters = omega arith;
         passed = subst (All IsScalar) (sym types) (All-map IsScalar (λ (v : Variable). v.ty) parameters scalars);
         variables = whole-scalars parameters scalars;
         written = long;
+        named = routine-longer (table_of f.known) p.table has.table.longer made made-named;
         body = tt;
       }
 
@@ -287,11 +298,17 @@ module _ (p : TypedProgram) (laid_out : IsLaidOut p.model p.table) where
           declared = All-push (λ (x : Declaration). IsThere (outside (with_parts p after)) x.meaning) (declarations_of f.known) declaration old new;
           numbered = All-push (λ (x : Declaration). HasNumber f.order x.name x.meaning) (declarations_of f.known) declaration kept.numbered refl;
           counted = changed-All (λ blank. made) IsCounted slot f.routines (λ r _ _. omega arith) kept.counted;
+          types = record {
+            known = declaring-known d.name (Function (numbered slot result parameters)) f.known tt kept.types.known;
+            globals = kept.types.globals;
+            routines = changed-All (λ blank. made) (HasNamedTypes (table_of f.known)) slot f.routines (λ r _ _. made-named) kept.types.routines;
+          };
         };
+        longer = omega arith;
         before = before;
         well = λ has w. record {
           globals = w.globals;
-          routines = changed-All (λ blank. made) (IsWellRoutine p) slot f.routines (λ r _ _. well-made) w.routines;
+          routines = changed-All (λ blank. made) (IsWellRoutine p) slot f.routines (λ r _ _. well-made has) w.routines;
         };
       }
 
@@ -302,24 +319,27 @@ module _ (p : TypedProgram) (laid_out : IsLaidOut p.model p.table) where
   again-routed f result parameters Calloc before same types h = tt
   again-routed f result parameters Free before same types h = tt
 
-  function_of-adds : (f : Filed) (d : RawFunction) (result : Shape) (parameters : List Variable) (written : List Bool) (m : Option Meaning) → Kept p f → MayStand f d result m → IsResult result → length written ≡ length parameters → AreScalars parameters → IfFine (function_of f d result parameters written m) (AddsFunction f result parameters)
-  function_of-adds f d result parameters written None kept may fits long scalars = new_function-adds f d result parameters written kept may.0 may.1 fits long scalars
-  function_of-adds f d result parameters written (Some (Function before)) kept may fits long scalars =
+  function_of-adds : (f : Filed) (d : RawFunction) (result : Shape) (parameters : List Variable) (written : List Bool) (m : Option Meaning) → NamesStructs (table_of f.known) result → VariablesName (table_of f.known) parameters →
+      Kept p f → MayStand f d result m → IsResult result → length written ≡ length parameters → AreScalars parameters → IfFine (function_of f d result parameters written m) (AddsFunction f result parameters)
+  function_of-adds f d result parameters written None named parameters_named kept may fits long scalars = new_function-adds f d result parameters written named parameters_named kept may.0 may.1 fits long scalars
+  function_of-adds f d result parameters written (Some (Function before)) named parameters_named kept may fits long scalars =
       cond-then (AddsFunction f result parameters) (same_types before.parameters (types_of parameters)) _ (Fault DeclaredTwice d.place)
       (λ same. (adds-self p f kept, again-routed f result parameters before.callee before may.0 (same_types-true before.parameters (types_of parameters) same) may.1)) (λ _. tt)
-  function_of-adds f d result parameters written (Some (Typedef ty)) kept may fits long scalars = absurd may
-  function_of-adds f d result parameters written (Some (Constant value)) kept may fits long scalars = absurd may
-  function_of-adds f d result parameters written (Some (Global number ty)) kept may fits long scalars = absurd may
-  function_of-adds f d result parameters written (Some (Local number ty)) kept may fits long scalars = absurd may
+  function_of-adds f d result parameters written (Some (Typedef ty)) named parameters_named kept may fits long scalars = absurd may
+  function_of-adds f d result parameters written (Some (Constant value)) named parameters_named kept may fits long scalars = absurd may
+  function_of-adds f d result parameters written (Some (Global number ty)) named parameters_named kept may fits long scalars = absurd may
+  function_of-adds f d result parameters written (Some (Local number ty)) named parameters_named kept may fits long scalars = absurd may
 
   -- ---- bodies
 
   -- a function, in whose scope its parameters are declared, with its body
-  bodied-adds : (f g : Filed) (d : RawFunction) (body : RawBody) (result : Shape) (head : Head) (number : ℕ) (r : Routine) (told : Told) → Adds p f g → IsHead f head → slice_get g.routines number ≡ Some r → r.returns ≡ result → parameter_types r ≡ types_of head.variables → ItemsHaveConstants body.items.items → body_typed (where_in result body) body.items.items (nothing_told (at_beginning g head.variables (declared_inside f.known head.known))) ≡ Fine told → IfFine (with_body d body number g told) (Adds p g)
-  bodied-adds f g d body result head number r told adds h found returns types fit is = record {
+  bodied-adds : (f g : Filed) (d : RawFunction) (body : RawBody) (result : Shape) (head : Head) (number : ℕ) (r : Routine) (told : Told) → Adds p f g → length (table_of head.known) ≤ length (table_of g.known) → IsHead f head →
+      slice_get g.routines number ≡ Some r → r.returns ≡ result → parameter_types r ≡ types_of head.variables → ItemsHaveConstants body.items.items →
+      body_typed (where_in result body) body.items.items (nothing_told (at_beginning g head.variables (declared_inside f.known head.known))) ≡ Fine told → IfFine (with_body d body number g told) (Adds p g)
+  bodied-adds f g d body result head number r told adds longer h found returns types fit is = record {
     order = refl;
     kept = record {
-      model = tells.gives.model ∙ kept.model;
+      model = behind.model;
       outer = kept.outer;
       library = subst (Starts (allocators p.model)) (sym same) kept.library;
       order = changed-length change number g.routines ∙ kept.order;
@@ -327,7 +347,14 @@ module _ (p : TypedProgram) (laid_out : IsLaidOut p.model p.table) where
           (all-there-kept p g after (λ n x at. (x, at, refl)) routines-kept (declarations_of g.known) kept.declared);
       numbered = subst (All (λ (x : Declaration). HasNumber g.order x.name x.meaning)) (sym same) kept.numbered;
       counted = changed-All change IsCounted number g.routines (λ x at counted. counted-still x at) kept.counted;
+      types = record {
+        known = left-known g.known told.inside.known behind.known;
+        globals = globals-longer (table_of g.known) (table_of told.inside.known) tells.gives.longer g.globals kept.types.globals;
+        routines = changed-All change (HasNamedTypes (table_of told.inside.known)) number g.routines (λ x _ n. record { returns = n.returns; variables = behind.variables })
+            (routines-longer (table_of g.known) (table_of told.inside.known) tells.gives.longer g.routines kept.types.routines);
+      };
     };
+    longer = omega (arith, adds.longer, tells.gives.longer);
     before = before;
     well = λ has w. record { globals = w.globals; routines = changed-All change (IsWellRoutine p) number g.routines (λ x at well. well-still has x at well) w.routines };
   }
@@ -360,8 +387,26 @@ module _ (p : TypedProgram) (laid_out : IsLaidOut p.model p.table) where
       labels : length (labels_of_items body.items.items) ≤ label_counts (in_a_row told.statements)
       labels = let all : label_counts (in_a_row told.statements) ≡ 0 + length (labels_of_items body.items.items) = led.count in omega (arith, all)
 
+      -- what is known at the beginning of the body
+      begun-knows : Knows s laid_out begun
+      begun-knows = record {
+        model = kept.model;
+        known = record {
+          declarations = All-append (λ (x : Declaration). IsNamed (table_of g.known) x.meaning) (declarations_of g.known) inner kept.types.known.declarations
+              (All-drop (λ (x : Declaration). IsNamed (table_of g.known) x.meaning) (length (declarations_of f.known)) (declarations_of head.known)
+              (All-weaker (λ (x : Declaration). IsNamed (table_of head.known) x.meaning) (λ (x : Declaration). IsNamed (table_of g.known) x.meaning)
+              (λ x n. meaning-longer (table_of head.known) (table_of g.known) longer x.meaning n) (declarations_of head.known) h.named.0.known.declarations));
+          tags = kept.types.known.tags;
+          members = kept.types.known.members;
+        };
+        variables = variables-longer (table_of head.known) (table_of g.known) longer head.variables h.named.1;
+      }
+
       tells : Tells s laid_out (nothing_told begun) told
-      tells = if_fine-at (Tells s laid_out (nothing_told begun)) _ told (body_typed-well s laid_out (where_in result body) body.items.items (nothing_told begun) (sym returns, labels) kept.model fit) is
+      tells = if_fine-at (Tells s laid_out (nothing_told begun)) _ told (body_typed-well s laid_out (where_in result body) body.items.items (nothing_told begun) (sym returns, labels) begun-knows fit) is
+
+      behind : Knows s laid_out told.inside
+      behind = tells.gives.knows begun-knows
 
       -- behind the body the declarations are those around it
       same : declarations_of after.known ≡ declarations_of g.known
@@ -370,18 +415,27 @@ module _ (p : TypedProgram) (laid_out : IsLaidOut p.model p.table) where
           (starts-trans (declarations_of g.known) (declarations_of begun.known) (declarations_of told.inside.known) (inner, refl) tells.gives.scope)
 
       has-inside : Has p after → HasInside s laid_out told.inside
-      has-inside has = record { table = has.table; texts = has.texts; variables = λ n v at. (v, at, refl) }
+      has-inside has = record {
+        table = has.table;
+        texts = has.texts;
+        variables = λ n v at. (v, at, refl);
+        types = record {
+          program = has.types;
+          variables = variables-longer (table_of told.inside.known) p.table has.table.longer told.inside.variables behind.variables;
+          returns = names-longer (table_of g.known) p.table (omega (arith, tells.gives.longer, has.table.longer)) r.returns (found-at (HasNamedTypes (table_of g.known)) g.routines number r kept.types.routines found).returns;
+        };
+      }
 
       before : Has p after → Has p g
       before has =
           let start = tells.gives.before (has-inside has) in
-          record { table = start.table; texts = start.texts; there = subst (All (λ (x : Declaration). IsThere (outside p) x.meaning)) same has.there }
+          record { table = start.table; texts = start.texts; there = subst (All (λ (x : Declaration). IsThere (outside p) x.meaning)) same has.there; types = has.types }
 
       is-routine : (x : Routine) → slice_get g.routines number ≡ Some x → x ≡ r
       is-routine x at = same_Some x r (sym at ∙ found)
 
       counted-at : IsCounted r
-      counted-at = All-found IsCounted g.routines number r kept.counted found
+      counted-at = found-at IsCounted g.routines number r kept.counted found
 
       count : r.parameters ≡ length head.variables
       count = count-is r head.variables counted-at types
@@ -432,6 +486,7 @@ module _ (p : TypedProgram) (laid_out : IsLaidOut p.model p.table) where
         passed = subst (All IsScalar) (sym same-types) well.passed;
         variables = (tells.gives.there (has-inside has) (there-begun has)).whole;
         written = well.written;
+        named = record { returns = well.named.returns; variables = (has-inside has).types.variables };
         body = record {
           statement = tells.gives.well (has-inside has) (there-begun has) tt;
           labels = led.numbered 0 refl tt;
@@ -444,28 +499,32 @@ module _ (p : TypedProgram) (laid_out : IsLaidOut p.model p.table) where
           let e = is-routine x at in
           subst (λ (y : Routine). IsWellRoutine p (change y)) (sym e) (well-at has (subst (IsWellRoutine p) e well))
 
-  body_added-adds : (f : Filed) (d : RawFunction) (body : RawBody) (result : Shape) (head : Head) (callee : Callee) (g : Filed) → Adds p f g → IsHead f head → IsRouted g result head.variables callee → ItemsHaveConstants body.items.items → IfFine (body_added d body result head.variables (declared_inside f.known head.known) callee g) (Adds p g)
-  body_added-adds f d body result head Malloc g adds h routed fit = adds-self p g adds.kept
-  body_added-adds f d body result head Calloc g adds h routed fit = adds-self p g adds.kept
-  body_added-adds f d body result head Free g adds h routed fit = adds-self p g adds.kept
-  body_added-adds f d body result head (Numbered number) g adds h routed fit =
+  body_added-adds : (f : Filed) (d : RawFunction) (body : RawBody) (result : Shape) (head : Head) (callee : Callee) (g : Filed) → Adds p f g → length (table_of head.known) ≤ length (table_of g.known) → IsHead f head →
+      IsRouted g result head.variables callee → ItemsHaveConstants body.items.items → IfFine (body_added d body result head.variables (declared_inside f.known head.known) callee g) (Adds p g)
+  body_added-adds f d body result head Malloc g adds longer h routed fit = adds-self p g adds.kept
+  body_added-adds f d body result head Calloc g adds longer h routed fit = adds-self p g adds.kept
+  body_added-adds f d body result head Free g adds longer h routed fit = adds-self p g adds.kept
+  body_added-adds f d body result head (Numbered number) g adds longer h routed fit =
       let v = body_typed (where_in result body) body.items.items (nothing_told (at_beginning g head.variables (declared_inside f.known head.known))) in
       lift-then (λ told. v ≡ Fine told) (Adds p g) (with_body d body number g) v (itself v)
-      (λ told is. bodied-adds f g d body result head number routed.0 told adds h routed.1 routed.2 routed.3 fit is)
+      (λ told is. bodied-adds f g d body result head number routed.0 told adds longer h routed.1 routed.2 routed.3 fit is)
 
-  completed-adds : (f : Filed) (d : RawFunction) (body : Option RawBody) (result : Shape) (head : Head) (r : Routed) → Adds p f r.1 → IsHead f head → IsRouted r.1 result head.variables r.0 → BodyHasConstants body → IfFine (completed d body result head.variables (declared_inside f.known head.known) r) (Adds p f)
-  completed-adds f d None result head r adds h routed fit = adds
-  completed-adds f d (Some body) result head r adds h routed fit =
-      if_fine-weaker (Adds p r.1) (Adds p f) (body_added d body result head.variables (declared_inside f.known head.known) r.0 r.1) (body_added-adds f d body result head r.0 r.1 adds h routed fit)
+  completed-adds : (f : Filed) (d : RawFunction) (body : Option RawBody) (result : Shape) (head : Head) (r : Routed) → Adds p f r.1 → length (table_of head.known) ≤ length (table_of r.1.known) → IsHead f head →
+      IsRouted r.1 result head.variables r.0 → BodyHasConstants body → IfFine (completed d body result head.variables (declared_inside f.known head.known) r) (Adds p f)
+  completed-adds f d None result head r adds longer h routed fit = adds
+  completed-adds f d (Some body) result head r adds longer h routed fit =
+      if_fine-weaker (Adds p r.1) (Adds p f) (body_added d body result head.variables (declared_inside f.known head.known) r.0 r.1) (body_added-adds f d body result head r.0 r.1 adds longer h routed fit)
       (λ g k. adds-trans p f r.1 g adds k)
 
   -- ---- functions
 
-  headed-adds : (f : Filed) (d : RawFunction) (body : Option RawBody) (result : Shape) (head : Head) → Kept p f → IsHead f head → IsPlaced f.order d.name → may_be_function f (is_some body) result (meaning_here d.name f.known) ≡ true → IsResult result → BodyHasConstants body → IfFine (headed d body f result head) (Adds p f)
-  headed-adds f d body result head kept h placed may fits fit =
+  headed-adds : (f : Filed) (d : RawFunction) (body : Option RawBody) (result : Shape) (head : Head) → NamesStructs (table_of f.known) result → Kept p f → IsHead f head → IsPlaced f.order d.name →
+      may_be_function f (is_some body) result (meaning_here d.name f.known) ≡ true → IsResult result → BodyHasConstants body → IfFine (headed d body f result head) (Adds p f)
+  headed-adds f d body result head named kept h placed may fits fit =
       lift-then (AddsFunction (outside_of f head) result head.variables) (Adds p f) (completed d body result head.variables (declared_inside f.known head.known)) _
-      (function_of-adds (outside_of f head) d result head.variables head.written (meaning_here d.name (outside_of f head).known) adds.kept stands fits h.written h.scalars)
-      (λ r k. completed-adds f d body result head r (adds-trans p f (outside_of f head) r.1 adds k.0) h k.1 fit)
+      (function_of-adds (outside_of f head) d result head.variables head.written (meaning_here d.name (outside_of f head).known)
+      (names-longer (table_of f.known) (table_of head.known) h.named.0.longer result named) h.named.1 adds.kept stands fits h.written h.scalars)
+      (λ r k. completed-adds f d body result head r (adds-trans p f (outside_of f head) r.1 adds k.0) k.0.longer h k.1 fit)
     where
       adds : Adds p f (outside_of f head)
       adds = outside-adds f head kept h
@@ -489,11 +548,12 @@ module _ (p : TypedProgram) (laid_out : IsLaidOut p.model p.table) where
           (may-stand (outside_of f head) d result f (is_some body) (meaning_here d.name f.known) may there new)
 
   -- a declared function, with its body if it has one
-  pub function_added-adds : (d : RawFunction) (body : Option RawBody) (f : Filed) (ty : Shape) → Kept p f → IsPlaced f.order d.name → BodyHasConstants body → IfFine (function_added d body f ty) (Adds p f)
-  function_added-adds d body f ty kept placed fit =
+  pub function_added-adds : (d : RawFunction) (body : Option RawBody) (f : Filed) (ty : Shape) → NamesStructs (table_of f.known) ty → Kept p f → IsPlaced f.order d.name → BodyHasConstants body → IfFine (function_added d body f ty) (Adds p f)
+  function_added-adds d body f ty named kept placed fit =
       let result = starred d.pointers.items ty in
       cond-then (Adds p f) (may_be_function f (is_some body) result (meaning_here d.name f.known)) (resulted d body f result) (Fault DeclaredTwice d.place)
       (λ may. cond-then (Adds p f) (is_result result) (lift (headed d body f result) (parameters_typed (entered f.known) d.parameters)) (Fault IncompleteType d.place)
-      (λ fits. lift-then (IsHead f) (Adds p f) (headed d body f result) _ (head-is f d.parameters kept) (λ head h. headed-adds f d body result head kept h placed may (result-is result fits) fit))
+      (λ fits. lift-then (IsHead f) (Adds p f) (headed d body f result) _ (head-is f d.parameters kept)
+      (λ head h. headed-adds f d body result head (starred-named (table_of f.known) d.pointers.items ty named) kept h placed may (result-is result fits) fit))
       (λ _. tt))
       (λ _. tt)

@@ -1,17 +1,12 @@
 -- What the typing of statements gives is well formed in the function and the program around it: for the contract of `typed`.
-use Rattle.std.proofs.Common.{Bool, ◌≡◌, ◌∙◌, ℕ, ℤ, suc, ◌≤◌, ◌<◌, true, List, [], ◌∷◌, ◌++◌, length, take, refl, sym, ap, subst, arith, ◌≢◌, get_or, false}
+use Rattle.std.proofs.Common.{◌≡◌, ◌∙◌, ℕ, ℤ, ◌≤◌, ◌<◌, true, List, [], ◌∷◌, ◌++◌, length, take, refl, sym, ap, subst, arith, ◌≢◌, false}
 use Rattle.std.specs.Prelude.{nat_eq, Option, Some, None, IfSome, slice_get}
 use Rattle.std.specs.List.{All}
 use Rattle.std.proofs.lemmas.List.{append-nil, length_push, take_at}
 use Rattle.std.proofs.lemmas.List.Elements.{All-push, All-take, All-weaker, All-nil}
-use Rattle.std.proofs.lemmas.List.Folds.{list_any_at}
 use Rattle.std.proofs.lemmas.List.Quantifiers.{all_pairs_push}
-use Rattle.std.proofs.lemmas.Cmp.{int_eq_equiv}
-use Rattle.cs_types.specs.declared.data_model.DataModel.{DataModel}
-use Rattle.cs_types.specs.IntType.{InRange}
 use Rattle.cs_types.specs.Layout.{IsLaidOut}
-use Rattle.cs_types.proofs.Wrapping.{wrapped-InRange}
-use Rattle.cs_types.specs.Shape.{Shape, void, integer, pointer, array, struct}
+use Rattle.cs_types.specs.Shape.{Shape}
 use Rattle.cs_ast.specs.declared.place.Place.{Place}
 use Rattle.cs_ast.specs.declared.raw.declaration.RawSpecs.{RawSpecs}
 use Rattle.cs_ast.specs.declared.raw.declaration.RawFirstValue.{RawFirstValue}
@@ -39,21 +34,25 @@ use Rattle.cs_declarations.specs.Initializers.{InFunction, Reading, initial_type
 use Rattle.cs_declarations.specs.Known.{Known, model_of, table_of, declarations_of, with_literals, is_declared_here}
 use Rattle.cs_declarations.specs.Objects.{object_type}
 use Rattle.cs_typing.specs.Objects.{Inside, knowing, LocalDeclared, Told, with_local, local_held, local_initialized, local_added, after_local, locals_added}
-use Rattle.cs_typing.specs.Statements.{Where, Part, Switching, in_loop, in_switch, in_a_row, part, past, tested_in, dropped_in, some_found, tested_if, dropped_if, is_void, value_returned, returned, label_number, goto_typed, is_first, meeting, in_block, behind_block, declared_in, declaration_typed, first_place, nothing_told, telling, ran_first, first_typed, is_case, case_put, case_added, with_told, block_made, run_made, if_made, if_else_made, while_made, do_made, for_made, switch_made, return_made, label_made, selected, statement_typed, item_typed, items_typed, switch_item_typed, switch_typed, body_typed, same_value, wrapped_in, constant_case}
-use Rattle.cs_well_formed.specs.Expressions.{Setting, IsWell, IsValue, IsValueOf, IsScalarValue, IsIntegerValue, IsWhole}
+use Rattle.cs_typing.specs.Statements.{Where, Part, Switching, in_loop, in_switch, in_a_row, part, past, tested_in, dropped_in, some_found, tested_if, dropped_if, is_void, value_returned, returned, label_number, goto_typed, is_first, meeting, in_block, behind_block, declared_in, declaration_typed, first_place, nothing_told, telling, ran_first, first_typed, is_case, case_put, case_added, with_told, block_made, run_made, if_made, if_else_made, while_made, do_made, for_made, switch_made, return_made, label_made, selected, statement_typed, item_typed, items_typed, switch_item_typed, switch_typed, body_typed, wrapped_in, constant_case}
+use Rattle.cs_well_formed.specs.Structs.{NamesStructs, VariablesName}
+use Rattle.cs_well_formed.specs.Expressions.{Setting, TypesAroundAreNamed, IsWell, IsValue, IsValueOf, IsScalarValue, IsIntegerValue, IsWhole}
 use Rattle.cs_well_formed.specs.Initials.{IsWellInitial}
 use Rattle.cs_well_formed.specs.Constants.{HasConstants}
-use Rattle.cs_well_formed.specs.Statements.{IsWellStatement, AreWellStatements, IsDroppedIfAny, IsTestIfAny, IsReturned, IsCase, count_of, IsNumberOf, AreCases}
-use Rattle.cs_well_formed.specs.Agreement.{IsThere, Agrees, AreFirst}
+use Rattle.cs_well_formed.specs.Statements.{IsWellStatement, AreWellStatements, IsDroppedIfAny, IsTestIfAny, IsReturned, IsCase, IsNumberOf, AreCases}
+use Rattle.cs_well_formed.specs.Agreement.{Keeps, KnownTypesAreNamed, IsThere, Agrees, AreFirst}
 use Rattle.cs_well_formed.specs.Laws.{IsTyped}
 use Rattle.cs_well_formed.specs.Leading.{Leads, AreVariables}
 use Rattle.cs_well_formed.proofs.Verdicts.{IfFine, if_fine-any, if_fine-weaker, lift-then, cond-then}
 use Rattle.cs_well_formed.proofs.Names.{first-part, literals-begin}
 use Rattle.cs_well_formed.proofs.Doors.{assigned_value-well, test_of-well, selector_of-well, discarded_value-well}
 use Rattle.cs_well_formed.proofs.Initials.{initial-well}
-use Rattle.cs_well_formed.proofs.Leading.{Keeps, specs_type-leads, object_type-whole}
+use Rattle.cs_well_formed.proofs.Leading.{specs_type-leads, object_type-whole}
+use Rattle.cs_well_formed.proofs.NamedTypes.{NamedOn, TypeNamed, specs_type-named, object_type-named, declaring-known, entered-known, left-known}
+use Rattle.cs_well_formed.proofs.Structs.{found-at, keeps-trans, names-longer, variables-longer}
 use Rattle.cs_typing.proofs.DeclarationsBehind.{Starts, starts-self, starts-trans, DeclaresOn, TypeDeclaresOn, specs_type-on}
 use Rattle.cs_typing.proofs.HeldConstants.{FirstValueHasConstants, ObjectsHaveConstants, AnyHasConstants, FirstHasConstants, StatementHasConstants, ItemHasConstants, RowHasConstants, SwitchItemHasConstants, SwitchHasConstants, ItemsHaveConstants}
+use Rattle.cs_typing.proofs.NumberedCases.{count-length, new-case, wrapped_in-number, void-is}
 use Rattle.cs_typing.proofs.LedJumps.{label_number-below}
 use Rattle.cs_typing.proofs.LiteralsBehind.{GoesOnFrom, initial_typed-begins}
 
@@ -80,65 +79,43 @@ found-last : (variables : List Variable) (v : Variable) → slice_get (variables
 found-last [] v = refl
 found-last (x ∷ vs) v = found-last vs v
 
--- ---- statements in a row
-
-count-length : (statements : List Statement) → count_of (in_a_row statements) ≡ length statements
-count-length [] = refl
-count-length (s ∷ ss) = ap suc (count-length ss)
-
--- a case that isn't there yet has another number than each that is
-same_value-itself : (value : Option ℤ) → same_value value value ≡ true
-same_value-itself (Some n) = int_eq_equiv.refl n
-same_value-itself None = refl
-
-new-case : (value : Option ℤ) (cases : List Case) → is_case value cases ≡ false → (k : ℕ) (d : Case) → k < length cases → (get_or cases k d).value ≢ value
-new-case value cases new k d within is =
-    let named : Case → Bool = λ c. same_value c.value value in
-    let same : named (get_or cases k d) ≡ true = ap (λ v. same_value v value) is ∙ same_value-itself value in
-    let there : is_case value cases ≡ true = list_any_at named cases k d within same in
-    absurd cc
-
-wrapped_in-number : (model : DataModel) (ty : Shape) (n : ℤ) → IsNumberOf model ty (wrapped_in model ty n)
-wrapped_in-number model ty n kind is = subst (λ t. InRange model kind (wrapped_in model t n)) (sym is) (wrapped-InRange model kind n)
-
-void-is : (ty : Shape) → is_void ty ≡ true → ty ≡ void
-void-is void h = refl
-void-is (integer ty) h = absurd cc
-void-is (pointer target) h = absurd cc
-void-is (array element count) h = absurd cc
-void-is (struct number) h = absurd cc
-
 -- where statements stand: in a function of a program whose structs are laid out
 module _ (s : Setting) (laid_out : IsLaidOut s.program.model s.program.table) where
-  -- what is known here is a part of what the program and the function have
+  -- what is known here is a part of what the program and the function have, whose declared types name structs
   pub record Has (i : Inside) : Type 0 where
     pub table : Keeps (table_of i.known) s.program.table
     pub texts : AreFirst s.program i.known.literals
     pub variables : AreVariables s i.variables
+    pub types : TypesAroundAreNamed s
 
   -- what is declared here is there, and the variables so far have whole types
   pub record AreThere (i : Inside) : Type 0 where
     pub declared : All (λ (d : Declaration). IsThere s d.meaning) (declarations_of i.known)
     pub whole : All (λ (v : Variable). IsWhole s.program v.ty) i.variables
 
-  abbrev pub HasModel : Inside → Type 0
-  HasModel i = model_of i.known ≡ s.program.model
+  -- what is known here has the data model of the program, and its types name structs of the table so far
+  pub record Knows (i : Inside) : Type 0 where
+    pub model : model_of i.known ≡ s.program.model
+    pub known : KnownTypesAreNamed i.known.context
+    pub variables : VariablesName (table_of i.known) i.variables
 
   -- from one point to one behind it: something is well formed, if the program has what is known behind it
   pub record Gives (i j : Inside) (Well : Type 0) : Type 0 where
-    pub model : model_of j.known ≡ model_of i.known
+    pub knows : Knows i → Knows j
+    pub longer : length (table_of i.known) ≤ length (table_of j.known)
     pub scope : Starts (declarations_of i.known) (declarations_of j.known)
     pub variables : Starts i.variables j.variables
     pub before : Has j → Has i
     pub there : Has j → AreThere i → AreThere j
     pub well : Has j → AreThere i → Well
 
-  agrees : (i : Inside) → HasModel i → Has i → AreThere i → Agrees s i.known.context
-  agrees i model has there = record { model = model; table = has.table; declarations = there.declared }
+  agrees : (i : Inside) → Knows i → Has i → AreThere i → Agrees s i.known.context
+  agrees i knows has there = record { model = knows.model; table = has.table; declarations = there.declared; named = knows.known; types = has.types }
 
   nothing : (i : Inside) → Gives i i (Unit {0})
   nothing i = record {
-    model = refl;
+    knows = λ h. h;
+    longer = omega arith;
     scope = starts-self (declarations_of i.known);
     variables = starts-self i.variables;
     before = λ h. h;
@@ -148,12 +125,13 @@ module _ (s : Setting) (laid_out : IsLaidOut s.program.model s.program.table) wh
 
   -- something else that is well formed then
   so : {A B : Type 0} (i j : Inside) → Gives i j A → (A → B) → Gives i j B
-  so i j g follows = record { model = g.model; scope = g.scope; variables = g.variables; before = g.before; there = g.there; well = λ h t. follows (g.well h t) }
+  so i j g follows = record { knows = g.knows; longer = g.longer; scope = g.scope; variables = g.variables; before = g.before; there = g.there; well = λ h t. follows (g.well h t) }
 
   -- one part behind another
   both : {A B : Type 0} (i j k : Inside) → Gives i j A → Gives j k B → Gives i k (A × B)
   both i j k g h = record {
-    model = h.model ∙ g.model;
+    knows = λ is. h.knows (g.knows is);
+    longer = omega (arith, g.longer, h.longer);
     scope = starts-trans (declarations_of i.known) (declarations_of j.known) (declarations_of k.known) g.scope h.scope;
     variables = starts-trans i.variables j.variables k.variables g.variables h.variables;
     before = λ has. g.before (h.before has);
@@ -161,13 +139,21 @@ module _ (s : Setting) (laid_out : IsLaidOut s.program.model s.program.table) wh
     well = λ has t. (g.well (h.before has) t, h.well has (g.there (h.before has) t));
   }
 
+  -- inside of a new scope, and behind a label
+  block-knows : (i : Inside) → Knows i → Knows (in_block i)
+  block-knows i is = record { model = is.model; known = entered-known i.known is.known; variables = is.variables }
+
+  met-knows : (i : Inside) → Knows i → Knows (meeting i)
+  met-knows i is = record { model = is.model; known = is.known; variables = is.variables }
+
   -- from a point inside of a new scope
   entering : {A : Type 0} (i j : Inside) → Gives (in_block i) j A → Gives i j A
   entering i j g = record {
-    model = g.model;
+    knows = λ is. g.knows (block-knows i is);
+    longer = g.longer;
     scope = g.scope;
     variables = g.variables;
-    before = λ has. let inner = g.before has in record { table = inner.table; texts = inner.texts; variables = inner.variables };
+    before = λ has. let inner = g.before has in record { table = inner.table; texts = inner.texts; variables = inner.variables; types = inner.types };
     there = λ has t. g.there has (record { declared = t.declared; whole = t.whole });
     well = λ has t. g.well has (record { declared = t.declared; whole = t.whole });
   }
@@ -175,7 +161,8 @@ module _ (s : Setting) (laid_out : IsLaidOut s.program.model s.program.table) wh
   -- to the point behind a scope that began here
   leaving : {A : Type 0} (i j : Inside) → Gives i j A → Gives i (behind_block i j) A
   leaving i j g = record {
-    model = g.model;
+    knows = λ is. let behind = g.knows is in record { model = behind.model; known = left-known i.known j.known behind.known; variables = behind.variables };
+    longer = g.longer;
     scope = (
       [],
       ap (take (length (declarations_of i.known))) g.scope.1
@@ -192,15 +179,16 @@ module _ (s : Setting) (laid_out : IsLaidOut s.program.model s.program.table) wh
   }
     where
       inside : Has (behind_block i j) → Has j
-      inside has = record { table = has.table; texts = has.texts; variables = has.variables }
+      inside has = record { table = has.table; texts = has.texts; variables = has.variables; types = has.types }
 
   -- the next label is met
   met-one : {A : Type 0} (i j : Inside) → Gives (meeting i) j A → Gives i j A
   met-one i j g = record {
-    model = g.model;
+    knows = λ is. g.knows (met-knows i is);
+    longer = g.longer;
     scope = g.scope;
     variables = g.variables;
-    before = λ has. let inner = g.before has in record { table = inner.table; texts = inner.texts; variables = inner.variables };
+    before = λ has. let inner = g.before has in record { table = inner.table; texts = inner.texts; variables = inner.variables; types = inner.types };
     there = λ has t. g.there has (record { declared = t.declared; whole = t.whole });
     well = λ has t. g.well has (record { declared = t.declared; whole = t.whole });
   }
@@ -210,20 +198,22 @@ module _ (s : Setting) (laid_out : IsLaidOut s.program.model s.program.table) wh
   abbrev pub GivesPart : {A : Type 0} → Inside → (A → Type 0) → Part A → Type 0
   GivesPart i Well p = Gives i p.inside (Well p.found)
 
-  expression-well : (i : Inside) (e : RawExpr) (Well : Typed → Type 0) (v : Verdict Typed) → HasModel i → HasConstants (written e) → (IsTyped s i.known.context i.known.literals e.kind → IfFine v Well) → IfFine (lift (part (past e i)) v) (GivesPart i Well)
-  expression-well i e Well v model fit h =
+  expression-well : (i : Inside) (e : RawExpr) (Well : Typed → Type 0) (v : Verdict Typed) → Knows i → HasConstants (written e) → (IsTyped s i.known.context i.known.literals e.kind → IfFine v Well) →
+      IfFine (lift (part (past e i)) v) (GivesPart i Well)
+  expression-well i e Well v knows fit h =
       lift-then (λ a. IsTyped s i.known.context i.known.literals e.kind → Well a) (GivesPart i Well) (part (past e i)) v (under (IsTyped s i.known.context i.known.literals e.kind) Well v h)
       (λ a well. record {
-        model = refl;
+        knows = λ is. record { model = is.model; known = record { declarations = is.known.declarations; tags = is.known.tags; members = is.known.members }; variables = is.variables };
+        longer = omega arith;
         scope = starts-self (declarations_of i.known);
         variables = starts-self i.variables;
         before = before;
         there = λ has t. record { declared = t.declared; whole = t.whole };
-        well = λ has t. well (record { agrees = agrees i model (before has) t; constants = fit; texts = has.texts });
+        well = λ has t. well (record { agrees = agrees i knows (before has) t; constants = fit; texts = has.texts });
       })
     where
       before : Has (past e i) → Has i
-      before has = record { table = has.table; texts = first-part s.program i.known.literals _ (literals-begin i.known.literals e.kind) has.texts; variables = has.variables }
+      before has = record { table = has.table; texts = first-part s.program i.known.literals _ (literals-begin i.known.literals e.kind) has.texts; variables = has.variables; types = has.types }
 
   abbrev IsTest : Typed → Type 0
   IsTest e = IsWell s e × IsScalarValue e
@@ -231,25 +221,25 @@ module _ (s : Setting) (laid_out : IsLaidOut s.program.model s.program.table) wh
   abbrev IsDropped : Typed → Type 0
   IsDropped e = IsWell s e × IsValue e
 
-  tested_in-well : (at : Place) (i : Inside) (e : RawExpr) → HasModel i → HasConstants (written e) → IfFine (tested_in at i e) (GivesPart i IsTest)
-  tested_in-well at i e model fit = expression-well i e IsTest (test_of i.known.context i.known.literals at e) model fit (λ h. test_of-well s i.known.context i.known.literals e h at)
+  tested_in-well : (at : Place) (i : Inside) (e : RawExpr) → Knows i → HasConstants (written e) → IfFine (tested_in at i e) (GivesPart i IsTest)
+  tested_in-well at i e knows fit = expression-well i e IsTest (test_of i.known.context i.known.literals at e) knows fit (λ h. test_of-well s i.known.context i.known.literals e h at)
 
-  dropped_in-well : (i : Inside) (e : RawExpr) → HasModel i → HasConstants (written e) → IfFine (dropped_in i e) (GivesPart i IsDropped)
-  dropped_in-well i e model fit = expression-well i e IsDropped (discarded_value i.known.context i.known.literals e) model fit (λ h. discarded_value-well s i.known.context i.known.literals e h)
+  dropped_in-well : (i : Inside) (e : RawExpr) → Knows i → HasConstants (written e) → IfFine (dropped_in i e) (GivesPart i IsDropped)
+  dropped_in-well i e knows fit = expression-well i e IsDropped (discarded_value i.known.context i.known.literals e) knows fit (λ h. discarded_value-well s i.known.context i.known.literals e h)
 
-  tested_if-well : (at : Place) (i : Inside) (e : Option RawExpr) → HasModel i → AnyHasConstants e → IfFine (tested_if at i e) (GivesPart i (IsTestIfAny s))
-  tested_if-well at i None model fit = nothing i
-  tested_if-well at i (Some e) model fit =
-      lift-then (GivesPart i IsTest) (GivesPart i (IsTestIfAny s)) some_found (tested_in at i e) (tested_in-well at i e model fit) (λ p g. g)
+  tested_if-well : (at : Place) (i : Inside) (e : Option RawExpr) → Knows i → AnyHasConstants e → IfFine (tested_if at i e) (GivesPart i (IsTestIfAny s))
+  tested_if-well at i None knows fit = nothing i
+  tested_if-well at i (Some e) knows fit =
+      lift-then (GivesPart i IsTest) (GivesPart i (IsTestIfAny s)) some_found (tested_in at i e) (tested_in-well at i e knows fit) (λ p g. g)
 
-  dropped_if-well : (i : Inside) (e : Option RawExpr) → HasModel i → AnyHasConstants e → IfFine (dropped_if i e) (GivesPart i (IsDroppedIfAny s))
-  dropped_if-well i None model fit = nothing i
-  dropped_if-well i (Some e) model fit =
-      lift-then (GivesPart i IsDropped) (GivesPart i (IsDroppedIfAny s)) some_found (dropped_in i e) (dropped_in-well i e model fit) (λ p g. g)
+  dropped_if-well : (i : Inside) (e : Option RawExpr) → Knows i → AnyHasConstants e → IfFine (dropped_if i e) (GivesPart i (IsDroppedIfAny s))
+  dropped_if-well i None knows fit = nothing i
+  dropped_if-well i (Some e) knows fit =
+      lift-then (GivesPart i IsDropped) (GivesPart i (IsDroppedIfAny s)) some_found (dropped_in i e) (dropped_in-well i e knows fit) (λ p g. g)
 
-  selected-well : (at : Place) (i : Inside) (e : RawExpr) → HasModel i → HasConstants (written e) → IfFine (selected at i e) (GivesPart i (λ v. IsWell s v × IsIntegerValue v))
-  selected-well at i e model fit =
-      expression-well i e (λ v. IsWell s v × IsIntegerValue v) (selector_of i.known.context i.known.literals at e) model fit (λ h. selector_of-well s i.known.context i.known.literals e h at)
+  selected-well : (at : Place) (i : Inside) (e : RawExpr) → Knows i → HasConstants (written e) → IfFine (selected at i e) (GivesPart i (λ v. IsWell s v × IsIntegerValue v))
+  selected-well at i e knows fit =
+      expression-well i e (λ v. IsWell s v × IsIntegerValue v) (selector_of i.known.context i.known.literals at e) knows fit (λ h. selector_of-well s i.known.context i.known.literals e h at)
 
   -- ---- declarations
 
@@ -288,104 +278,130 @@ module _ (s : Setting) (laid_out : IsLaidOut s.program.model s.program.table) wh
   IsVariable number ty = (v : Variable) × (slice_get s.variables number ≡ Some v) × (v.ty ≡ ty)
 
   -- behind the name of a local of a whole type
-  with_local-gives : (name : List ℕ) (ty : Shape) (i : Inside) → HasModel i → (Agrees s i.known.context → IsWhole s.program ty) → Gives i (with_local name ty i) (IsVariable (length i.variables) ty × IsWhole s.program ty)
-  with_local-gives name ty i model whole = record {
-    model = refl;
+  with_local-gives : (name : List ℕ) (ty : Shape) (i : Inside) → NamesStructs (table_of i.known) ty → Knows i → (Agrees s i.known.context → IsWhole s.program ty) →
+      Gives i (with_local name ty i) (IsVariable (length i.variables) ty × IsWhole s.program ty)
+  with_local-gives name ty i named knows whole = record {
+    knows = λ is. record {
+      model = is.model;
+      known = declaring-known name (Local (length i.variables) ty) i.known tt is.known;
+      variables = All-push (λ (v : Variable). NamesStructs (table_of i.known) v.ty) i.variables variable is.variables named;
+    };
+    longer = omega arith;
     scope = (record { name = name; meaning = Local (length i.variables) ty } ∷ [], refl);
     variables = (variable ∷ [], refl);
     before = before;
     there = λ has t. record {
       declared = All-push (λ (d : Declaration). IsThere s d.meaning) (declarations_of i.known) (record { name = name; meaning = Local (length i.variables) ty }) t.declared (last has);
-      whole = All-push (λ (v : Variable). IsWhole s.program v.ty) i.variables variable t.whole (whole (agrees i model (before has) t));
+      whole = All-push (λ (v : Variable). IsWhole s.program v.ty) i.variables variable t.whole (whole (agrees i knows (before has) t));
     };
-    well = λ has t. (last has, whole (agrees i model (before has) t));
+    well = λ has t. (last has, whole (agrees i knows (before has) t));
   }
     where
       variable : Variable
       variable = record { name = name; ty = ty; block = None }
 
       before : Has (with_local name ty i) → Has i
-      before has = record { table = has.table; texts = has.texts; variables = λ number v is. has.variables number v (found-before i.variables variable v number is) }
+      before has = record { table = has.table; texts = has.texts; variables = λ number v is. has.variables number v (found-before i.variables variable v number is); types = has.types }
 
       last : Has (with_local name ty i) → IsVariable (length i.variables) ty
       last has = has.variables (length i.variables) variable (found-last i.variables variable)
 
-  local_initialized-well : (number : ℕ) (ty : Shape) (at : Place) (first : Option RawFirstValue) (i j : Inside) → Gives i j (IsVariable number ty × IsWhole s.program ty) → HasModel i → FirstValueHasConstants first → IfFine (local_initialized number ty at first j) (GivesLocal i)
-  local_initialized-well number ty at None i j g model fit = so i j g (λ r. (r.0.0, r.0.1, tt))
-  local_initialized-well number ty at (Some value) i j g model fit =
+  local_initialized-well : (number : ℕ) (ty : Shape) (at : Place) (first : Option RawFirstValue) (i j : Inside) → Gives i j (IsVariable number ty × IsWhole s.program ty) → Knows i → FirstValueHasConstants first →
+      IfFine (local_initialized number ty at first j) (GivesLocal i)
+  local_initialized-well number ty at None i j g knows fit = so i j g (λ r. (r.0.0, r.0.1, tt))
+  local_initialized-well number ty at (Some value) i j g knows fit =
       let v = initial_typed j.known.context j.known.literals InFunction value.place ty value.initial in
-      lift-then (λ (r : Reading). (Agrees s j.known.context × IsWhole s.program ty → AreFirst s.program r.1 → IsWellInitial s ty r.0) × GoesOnFrom j.known.literals r) (GivesLocal i) (local_held number value.place j) v
-      (both-fine (λ (r : Reading). Agrees s j.known.context × IsWhole s.program ty → AreFirst s.program r.1 → IsWellInitial s ty r.0) (GoesOnFrom j.known.literals) v
-      (under (Agrees s j.known.context × IsWhole s.program ty) (λ (r : Reading). AreFirst s.program r.1 → IsWellInitial s ty r.0) v
-      (λ h. initial-well s j.known.context h.0 laid_out InFunction value.place j.known.literals ty value.initial h.1 fit))
+      lift-then (λ (r : Reading). (Agrees s j.known.context × IsWhole s.program ty × NamesStructs s.program.table ty → AreFirst s.program r.1 → IsWellInitial s ty r.0) × GoesOnFrom j.known.literals r)
+      (GivesLocal i) (local_held number value.place j) v
+      (both-fine (λ (r : Reading). Agrees s j.known.context × IsWhole s.program ty × NamesStructs s.program.table ty → AreFirst s.program r.1 → IsWellInitial s ty r.0) (GoesOnFrom j.known.literals) v
+      (under (Agrees s j.known.context × IsWhole s.program ty × NamesStructs s.program.table ty) (λ (r : Reading). AreFirst s.program r.1 → IsWellInitial s ty r.0) v
+      (λ h. initial-well s j.known.context h.0 laid_out InFunction value.place j.known.literals ty value.initial h.1 h.2 fit))
       (initial_typed-begins j.known.context j.known.literals InFunction value.place ty value.initial))
       (λ r h. held r h.0 h.1)
     where
-      held : (r : Reading) → (Agrees s j.known.context × IsWhole s.program ty → AreFirst s.program r.1 → IsWellInitial s ty r.0) → GoesOnFrom j.known.literals r → IfFine (local_held number value.place j r) (GivesLocal i)
+      held : (r : Reading) → (Agrees s j.known.context × IsWhole s.program ty × NamesStructs s.program.table ty → AreFirst s.program r.1 → IsWellInitial s ty r.0) → GoesOnFrom j.known.literals r →
+          IfFine (local_held number value.place j r) (GivesLocal i)
       held r well begins = record {
-        model = g.model;
+        knows = λ is. let behind = g.knows is in record {
+          model = behind.model;
+          known = record { declarations = behind.known.declarations; tags = behind.known.tags; members = behind.known.members };
+          variables = behind.variables;
+        };
+        longer = g.longer;
         scope = g.scope;
         variables = g.variables;
         before = λ has. g.before (at_equal has);
         there = λ has t. let behind = g.there (at_equal has) t in record { declared = behind.declared; whole = behind.whole };
         well = λ has t.
             let is = g.well (at_equal has) t in
-            let known = agrees j (g.model ∙ model) (at_equal has) (g.there (at_equal has) t) in
-            (is.0.0, is.0.1, subst (λ x. IsWellInitial s x r.0) (sym is.0.2) (well (known, is.1) has.texts));
+            let known = agrees j (g.knows knows) (at_equal has) (g.there (at_equal has) t) in
+            let named = subst (NamesStructs s.program.table) is.0.2 (found-at (λ (v : Variable). NamesStructs s.program.table v.ty) s.variables number is.0.0 has.types.variables is.0.1) in
+            (is.0.0, is.0.1, subst (λ x. IsWellInitial s x r.0) (sym is.0.2) (well (known, is.1, named) has.texts));
       }
         where
           at_equal : Has (knowing (with_literals r.1 j.known) j) → Has j
-          at_equal has = record { table = has.table; texts = first-part s.program j.known.literals r.1 begins has.texts; variables = has.variables }
+          at_equal has = record { table = has.table; texts = first-part s.program j.known.literals r.1 begins has.texts; variables = has.variables; types = has.types }
 
-  local_added-well : (base : Shape) (d : RawInit) (i : Inside) → HasModel i → FirstValueHasConstants d.initial → IfFine (local_added base d i) (GivesLocal i)
-  local_added-well base d i model fit =
+  local_added-well : (base : Shape) (d : RawInit) (i : Inside) → NamesStructs (table_of i.known) base → Knows i → FirstValueHasConstants d.initial → IfFine (local_added base d i) (GivesLocal i)
+  local_added-well base d i named knows fit =
       cond-then (GivesLocal i) (is_declared_here d.declarator.name i.known) _ _ (λ _. tt)
-      (λ _. lift-then (λ ty. Agrees s i.known.context → IsWhole s.program ty) (GivesLocal i) _ (object_type i.known.context base d)
+      (λ _. lift-then (λ ty. (Agrees s i.known.context → IsWhole s.program ty) × NamesStructs (table_of i.known) ty) (GivesLocal i) _ (object_type i.known.context base d)
+      (both-fine (λ ty. Agrees s i.known.context → IsWhole s.program ty) (NamesStructs (table_of i.known)) (object_type i.known.context base d)
       (under (Agrees s i.known.context) (IsWhole s.program) (object_type i.known.context base d) (λ h. object_type-whole s i.known.context h base d))
-      (λ ty whole. local_initialized-well (length i.variables) ty d.declarator.place d.initial i (with_local d.declarator.name ty i) (with_local-gives d.declarator.name ty i model whole) model fit))
+      (object_type-named i.known.context base d named))
+      (λ ty whole. local_initialized-well (length i.variables) ty d.declarator.place d.initial i (with_local d.declarator.name ty i) (with_local-gives d.declarator.name ty i whole.1 knows whole.0) knows fit))
 
-  locals_added-well : (base : Shape) (ds : List RawInit) (so_far : Told) → HasModel so_far.inside → ObjectsHaveConstants ds → IfFine (locals_added base ds so_far) (Tells so_far)
-  locals_added-well base [] so_far model fit = tells-nothing so_far
-  locals_added-well base (d ∷ ds) so_far model fit =
+  locals_added-well : (base : Shape) (ds : List RawInit) (so_far : Told) → NamesStructs (table_of so_far.inside.known) base → Knows so_far.inside → ObjectsHaveConstants ds → IfFine (locals_added base ds so_far) (Tells so_far)
+  locals_added-well base [] so_far named knows fit = tells-nothing so_far
+  locals_added-well base (d ∷ ds) so_far named knows fit =
       lift-then (Tells so_far) (Tells so_far) (locals_added base ds) _
-      (lift-then (GivesLocal so_far.inside) (Tells so_far) (after_local so_far.statements) _ (local_added-well base d so_far.inside model fit.0)
+      (lift-then (GivesLocal so_far.inside) (Tells so_far) (after_local so_far.statements) _ (local_added-well base d so_far.inside named knows fit.0)
       (λ one g. tells-one so_far.statements so_far.inside one.inside one.statement g))
-      (λ told h. if_fine-weaker (Tells told) (Tells so_far) (locals_added base ds told) (locals_added-well base ds told (h.gives.model ∙ model) fit.1) (λ after k. tells-on so_far told after h k))
+      (λ told h. if_fine-weaker (Tells told) (Tells so_far) (locals_added base ds told)
+      (locals_added-well base ds told (names-longer (table_of so_far.inside.known) (table_of told.inside.known) h.gives.longer base named) (h.gives.knows knows) fit.1) (λ after k. tells-on so_far told after h k))
 
   -- behind the words of a declaration
-  knowing-gives : (i : Inside) (k : Known) → Leads s i.known k → DeclaresOn i.known k → Gives i (knowing k i) (Unit {0})
-  knowing-gives i k leads on = record {
-    model = leads.model;
+  knowing-gives : (i : Inside) (k : Known) → Leads s i.known k → DeclaresOn i.known k → NamedOn i.known k → Gives i (knowing k i) (Unit {0})
+  knowing-gives i k leads on named = record {
+    knows = λ is. record {
+      model = leads.model ∙ is.model;
+      known = named.known;
+      variables = variables-longer (table_of i.known) (table_of k) named.longer i.variables is.variables;
+    };
+    longer = named.longer;
     scope = (on.more, on.declarations);
     variables = starts-self i.variables;
     before = λ has. record {
-      table = λ number members is. has.table number members (leads.table number members is);
+      table = keeps-trans (table_of i.known) (table_of k) s.program.table leads.table has.table;
       texts = subst (AreFirst s.program) leads.literals has.texts;
       variables = has.variables;
+      types = has.types;
     };
     there = λ has t. record { declared = leads.declarations t.declared; whole = t.whole };
     well = λ has t. tt;
   }
 
-  declaration_typed-well : (words : RawSpecs) (objects : List RawInit) (so_far : Told) → HasModel so_far.inside → ObjectsHaveConstants objects → IfFine (declaration_typed words objects so_far) (Tells so_far)
-  declaration_typed-well words objects so_far model fit =
+  declaration_typed-well : (words : RawSpecs) (objects : List RawInit) (so_far : Told) → Knows so_far.inside → ObjectsHaveConstants objects → IfFine (declaration_typed words objects so_far) (Tells so_far)
+  declaration_typed-well words objects so_far knows fit =
       let typing = specs_type so_far.inside.known (first_place objects) words in
-      lift-then (λ (r : Typing). Leads s so_far.inside.known r.1 × TypeDeclaresOn so_far.inside.known r) (Tells so_far) (declared_in words objects so_far) typing
-      (both-fine (λ (r : Typing). Leads s so_far.inside.known r.1) (TypeDeclaresOn so_far.inside.known) typing
-      (specs_type-leads s so_far.inside.known (first_place objects) words model) (specs_type-on so_far.inside.known (first_place objects) words))
+      lift-then (λ (r : Typing). Leads s so_far.inside.known r.1 × (TypeDeclaresOn so_far.inside.known r × TypeNamed so_far.inside.known r)) (Tells so_far) (declared_in words objects so_far) typing
+      (both-fine (λ (r : Typing). Leads s so_far.inside.known r.1) (λ (r : Typing). TypeDeclaresOn so_far.inside.known r × TypeNamed so_far.inside.known r) typing
+      (specs_type-leads s so_far.inside.known (first_place objects) words knows.model)
+      (both-fine (TypeDeclaresOn so_far.inside.known) (TypeNamed so_far.inside.known) typing
+      (specs_type-on so_far.inside.known (first_place objects) words) (specs_type-named so_far.inside.known (first_place objects) words knows.known)))
       (λ ty led.
       let known = knowing ty.1 so_far.inside in
-      let begun : Tells so_far (record { statements = so_far.statements; inside = known }) = record { gives = so so_far.inside known (knowing-gives so_far.inside ty.1 led.0 led.1) (λ _ row. row); longer = omega arith } in
+      let begun : Tells so_far (record { statements = so_far.statements; inside = known }) = record { gives = so so_far.inside known (knowing-gives so_far.inside ty.1 led.0 led.1.0 led.1.1.0) (λ _ row. row); longer = omega arith } in
       if_fine-weaker (Tells (record { statements = so_far.statements; inside = known })) (Tells so_far) _
-      (locals_added-well ty.0 objects (record { statements = so_far.statements; inside = known }) (led.0.model ∙ model) fit)
+      (locals_added-well ty.0 objects (record { statements = so_far.statements; inside = known }) led.1.1.1 (begun.gives.knows knows) fit)
       (λ after k. tells-on so_far _ after begun k))
 
-  first_typed-well : (i : Inside) (first : RawFirst) → HasModel i → FirstHasConstants first → IfFine (first_typed i first) (λ told. Gives i told.inside (Row told.statements))
-  first_typed-well i first_part.Empty model fit = nothing i
-  first_typed-well i (first_part.Run e) model fit =
-      lift-then (GivesPart i IsDropped) (λ (told : Told). Gives i told.inside (Row told.statements)) (ran_first e.place) (dropped_in i e) (dropped_in-well i e model fit) (λ p g. so i p.inside g (λ well. (well, tt)))
-  first_typed-well i (first_part.Declare words objects) model fit =
-      if_fine-weaker (Tells (nothing_told i)) (λ (told : Told). Gives i told.inside (Row told.statements)) (declaration_typed words objects.items (nothing_told i)) (declaration_typed-well words objects.items (nothing_told i) model fit)
+  first_typed-well : (i : Inside) (first : RawFirst) → Knows i → FirstHasConstants first → IfFine (first_typed i first) (λ told. Gives i told.inside (Row told.statements))
+  first_typed-well i first_part.Empty knows fit = nothing i
+  first_typed-well i (first_part.Run e) knows fit =
+      lift-then (GivesPart i IsDropped) (λ (told : Told). Gives i told.inside (Row told.statements)) (ran_first e.place) (dropped_in i e) (dropped_in-well i e knows fit) (λ p g. so i p.inside g (λ well. (well, tt)))
+  first_typed-well i (first_part.Declare words objects) knows fit =
+      if_fine-weaker (Tells (nothing_told i)) (λ (told : Told). Gives i told.inside (Row told.statements)) (declaration_typed words objects.items (nothing_told i)) (declaration_typed-well words objects.items (nothing_told i) knows fit)
       (λ told h. so i told.inside h.gives (λ row. row tt))
 
   -- ---- cases
@@ -424,9 +440,10 @@ module _ (s : Setting) (laid_out : IsLaidOut s.program.model s.program.table) wh
       }
 
   -- a written case has the number that it says, modulo where the type doesn't hold it
-  constant_case-well : (ty : Shape) (at : Place) (so_far : Switching) (n : ℤ) → HasModel so_far.told.inside → IfFine (constant_case at so_far ty n) (Switches ty so_far)
-  constant_case-well ty at so_far n model =
-      case_added-well ty at so_far (Some (wrapped_in (model_of so_far.told.inside.known) ty n)) (subst (λ m. IsNumberOf m ty (wrapped_in (model_of so_far.told.inside.known) ty n)) model (wrapped_in-number (model_of so_far.told.inside.known) ty n))
+  constant_case-well : (ty : Shape) (at : Place) (so_far : Switching) (n : ℤ) → Knows so_far.told.inside → IfFine (constant_case at so_far ty n) (Switches ty so_far)
+  constant_case-well ty at so_far n knows =
+      case_added-well ty at so_far (Some (wrapped_in (model_of so_far.told.inside.known) ty n))
+      (subst (λ m. IsNumberOf m ty (wrapped_in (model_of so_far.told.inside.known) ty n)) knows.model (wrapped_in-number (model_of so_far.told.inside.known) ty n))
 
   with_told-well : (ty : Shape) (so_far : Switching) (told : Told) → Tells so_far.told told → IfFine (with_told so_far told) (Switches ty so_far)
   with_told-well ty so_far told h = record { told = h; cases = λ all. record { each = All-weaker Before Behind further so_far.cases all.each; apart = all.apart } }
@@ -446,17 +463,17 @@ module _ (s : Setting) (laid_out : IsLaidOut s.program.model s.program.table) wh
   abbrev pub Fits : Where → Type 0
   Fits w = (w.returns ≡ s.returns) × (length w.labels ≤ s.labels)
 
-  value_returned-well : (w : Where) (at : Place) (i : Inside) (e : RawExpr) → HasModel i → HasConstants (written e) → IfFine (value_returned w at i e) (GivesPart i (λ v. IsWell s v × IsValueOf v w.returns))
-  value_returned-well w at i e model fit =
+  value_returned-well : (w : Where) (at : Place) (i : Inside) (e : RawExpr) → w.returns ≡ s.returns → Knows i → HasConstants (written e) → IfFine (value_returned w at i e) (GivesPart i (λ v. IsWell s v × IsValueOf v w.returns))
+  value_returned-well w at i e same knows fit =
       cond-then (GivesPart i (λ v. IsWell s v × IsValueOf v w.returns)) (is_void w.returns) (Fault Return at) _ (λ _. tt)
-      (λ _. expression-well i e (λ v. IsWell s v × IsValueOf v w.returns) (assigned_value i.known.context i.known.literals at w.returns e) model fit
-      (λ h. assigned_value-well s i.known.context i.known.literals e h at w.returns))
+      (λ _. expression-well i e (λ v. IsWell s v × IsValueOf v w.returns) (assigned_value i.known.context i.known.literals at w.returns e) knows fit
+      (λ h. assigned_value-well s i.known.context i.known.literals e h at w.returns (subst (NamesStructs s.program.table) (sym same) h.agrees.types.returns)))
 
-  returned-well : (w : Where) (at : Place) (i : Inside) (e : Option RawExpr) → w.returns ≡ s.returns → HasModel i → AnyHasConstants e → IfFine (returned w at i e) (GivesPart i (IsReturned s))
-  returned-well w at i None same model fit =
+  returned-well : (w : Where) (at : Place) (i : Inside) (e : Option RawExpr) → w.returns ≡ s.returns → Knows i → AnyHasConstants e → IfFine (returned w at i e) (GivesPart i (IsReturned s))
+  returned-well w at i None same knows fit =
       cond-then (GivesPart i (IsReturned s)) (is_void w.returns) _ (Fault Return at) (λ is. so i i (nothing i) (λ _. sym same ∙ void-is w.returns is)) (λ _. tt)
-  returned-well w at i (Some e) same model fit =
-      lift-then (GivesPart i (λ v. IsWell s v × IsValueOf v w.returns)) (GivesPart i (IsReturned s)) some_found (value_returned w at i e) (value_returned-well w at i e model fit)
+  returned-well w at i (Some e) same knows fit =
+      lift-then (GivesPart i (λ v. IsWell s v × IsValueOf v w.returns)) (GivesPart i (IsReturned s)) some_found (value_returned w at i e) (value_returned-well w at i e same knows fit)
       (λ p g. so i p.inside g (λ well. subst (λ ty. IsWell s p.found × IsValueOf p.found ty) same well))
 
   goto_typed-well : (at : Place) (i : Inside) (number : Option ℕ) → IfSome number (λ n. n < s.labels) → IfFine (goto_typed at i number) (GivesPart i (IsWellStatement s))
@@ -482,93 +499,93 @@ module _ (s : Setting) (laid_out : IsLaidOut s.program.model s.program.table) wh
   GivesStatement i p = GivesPart i (IsWellStatement s) p
 
   mutual
-    pub statement_typed-well : (w : Where) (i : Inside) (at : Place) (k : RawStmtKind) → Fits w → HasModel i → StatementHasConstants k → IfFine (statement_typed w i at k) (GivesStatement i)
-    statement_typed-well w i at (kind.Block' shape row) fits model fit =
-        lift-then (Tells (nothing_told (in_block i))) (GivesStatement i) (block_made at i) _ (items_typed-well w row (nothing_told (in_block i)) fits model fit)
+    pub statement_typed-well : (w : Where) (i : Inside) (at : Place) (k : RawStmtKind) → Fits w → Knows i → StatementHasConstants k → IfFine (statement_typed w i at k) (GivesStatement i)
+    statement_typed-well w i at (kind.Block' shape row) fits knows fit =
+        lift-then (Tells (nothing_told (in_block i))) (GivesStatement i) (block_made at i) _ (items_typed-well w row (nothing_told (in_block i)) fits (block-knows i knows) fit)
         (λ told h. leaving i told.inside (entering i told.inside (so (in_block i) told.inside h.gives (λ row. row tt))))
-    statement_typed-well w i at kind.Empty fits model fit = nothing i
-    statement_typed-well w i at (kind.Run e) fits model fit =
-        lift-then (GivesPart i IsDropped) (GivesStatement i) (run_made at) (dropped_in i e) (dropped_in-well i e model fit) (λ p g. g)
-    statement_typed-well w i at (kind.If' test p place body) fits model fit =
-        lift-then (GivesPart i IsTest) (GivesStatement i) _ (tested_in at i test) (tested_in-well at i test model fit.0)
-        (λ t g. lift-then (GivesStatement t.inside) (GivesStatement i) (if_made at t.found) _ (statement_typed-well w t.inside place body fits (g.model ∙ model) fit.1)
+    statement_typed-well w i at kind.Empty fits knows fit = nothing i
+    statement_typed-well w i at (kind.Run e) fits knows fit =
+        lift-then (GivesPart i IsDropped) (GivesStatement i) (run_made at) (dropped_in i e) (dropped_in-well i e knows fit) (λ p g. g)
+    statement_typed-well w i at (kind.If' test p place body) fits knows fit =
+        lift-then (GivesPart i IsTest) (GivesStatement i) _ (tested_in at i test) (tested_in-well at i test knows fit.0)
+        (λ t g. lift-then (GivesStatement t.inside) (GivesStatement i) (if_made at t.found) _ (statement_typed-well w t.inside place body fits (g.knows knows) fit.1)
         (λ b h. so i b.inside (both i t.inside b.inside g h) (λ r. (r.0.0, r.0.1, r.1))))
-    statement_typed-well w i at (kind.IfElse' test p place body q place' other) fits model fit =
-        lift-then (GivesPart i IsTest) (GivesStatement i) _ (tested_in at i test) (tested_in-well at i test model fit.0)
-        (λ t g. lift-then (GivesStatement t.inside) (GivesStatement i) _ _ (statement_typed-well w t.inside place body fits (g.model ∙ model) fit.1)
+    statement_typed-well w i at (kind.IfElse' test p place body q place' other) fits knows fit =
+        lift-then (GivesPart i IsTest) (GivesStatement i) _ (tested_in at i test) (tested_in-well at i test knows fit.0)
+        (λ t g. lift-then (GivesStatement t.inside) (GivesStatement i) _ _ (statement_typed-well w t.inside place body fits (g.knows knows) fit.1)
         (λ one h.
         let front = both i t.inside one.inside g h in
-        lift-then (GivesStatement one.inside) (GivesStatement i) (if_else_made at t.found one.found) _ (statement_typed-well w one.inside place' other fits (front.model ∙ model) fit.2)
+        lift-then (GivesStatement one.inside) (GivesStatement i) (if_else_made at t.found one.found) _ (statement_typed-well w one.inside place' other fits (front.knows knows) fit.2)
         (λ b k. so i b.inside (both i one.inside b.inside front k) (λ r. (r.0.0.0, r.0.0.1, r.0.1, r.1)))))
-    statement_typed-well w i at (kind.While' test p place body) fits model fit =
-        lift-then (GivesPart i IsTest) (GivesStatement i) _ (tested_in at i test) (tested_in-well at i test model fit.0)
-        (λ t g. lift-then (GivesStatement t.inside) (GivesStatement i) (while_made at t.found) _ (statement_typed-well (in_loop w) t.inside place body fits (g.model ∙ model) fit.1)
+    statement_typed-well w i at (kind.While' test p place body) fits knows fit =
+        lift-then (GivesPart i IsTest) (GivesStatement i) _ (tested_in at i test) (tested_in-well at i test knows fit.0)
+        (λ t g. lift-then (GivesStatement t.inside) (GivesStatement i) (while_made at t.found) _ (statement_typed-well (in_loop w) t.inside place body fits (g.knows knows) fit.1)
         (λ b h. so i b.inside (both i t.inside b.inside g h) (λ r. (r.0.0, r.0.1, r.1))))
-    statement_typed-well w i at (kind.Do' p place body test) fits model fit =
-        lift-then (GivesStatement i) (GivesStatement i) _ _ (statement_typed-well (in_loop w) i place body fits model fit.0)
-        (λ b g. lift-then (GivesPart b.inside IsTest) (GivesStatement i) (do_made at b.found) (tested_in at b.inside test) (tested_in-well at b.inside test (g.model ∙ model) fit.1)
+    statement_typed-well w i at (kind.Do' p place body test) fits knows fit =
+        lift-then (GivesStatement i) (GivesStatement i) _ _ (statement_typed-well (in_loop w) i place body fits knows fit.0)
+        (λ b g. lift-then (GivesPart b.inside IsTest) (GivesStatement i) (do_made at b.found) (tested_in at b.inside test) (tested_in-well at b.inside test (g.knows knows) fit.1)
         (λ t h. so i t.inside (both i b.inside t.inside g h) (λ r. (r.1.0, r.1.1, r.0))))
-    statement_typed-well w i at (kind.For' first test last p place body) fits model fit =
-        lift-then (λ (f : Told). Gives (in_block i) f.inside (Row f.statements)) (GivesStatement i) _ (first_typed (in_block i) first) (first_typed-well (in_block i) first model fit.0)
-        (λ f g. lift-then (GivesPart f.inside (IsTestIfAny s)) (GivesStatement i) _ (tested_if at f.inside test) (tested_if-well at f.inside test (g.model ∙ model) fit.1)
+    statement_typed-well w i at (kind.For' first test last p place body) fits knows fit =
+        lift-then (λ (f : Told). Gives (in_block i) f.inside (Row f.statements)) (GivesStatement i) _ (first_typed (in_block i) first) (first_typed-well (in_block i) first (block-knows i knows) fit.0)
+        (λ f g. lift-then (GivesPart f.inside (IsTestIfAny s)) (GivesStatement i) _ (tested_if at f.inside test) (tested_if-well at f.inside test (g.knows (block-knows i knows)) fit.1)
         (λ t h.
         let tested = both (in_block i) f.inside t.inside g h in
-        lift-then (GivesPart t.inside (IsDroppedIfAny s)) (GivesStatement i) _ (dropped_if t.inside last) (dropped_if-well t.inside last (tested.model ∙ model) fit.2)
+        lift-then (GivesPart t.inside (IsDroppedIfAny s)) (GivesStatement i) _ (dropped_if t.inside last) (dropped_if-well t.inside last (tested.knows (block-knows i knows)) fit.2)
         (λ l k.
         let front = both (in_block i) t.inside l.inside tested k in
-        lift-then (GivesStatement l.inside) (GivesStatement i) (for_made at i f.statements t.found l.found) _ (statement_typed-well (in_loop w) l.inside place body fits (front.model ∙ model) fit.3)
+        lift-then (GivesStatement l.inside) (GivesStatement i) (for_made at i f.statements t.found l.found) _ (statement_typed-well (in_loop w) l.inside place body fits (front.knows (block-knows i knows)) fit.3)
         (λ b m. leaving i b.inside (entering i b.inside (so (in_block i) b.inside (both (in_block i) l.inside b.inside front m) (λ r. (r.0.0.0, r.0.0.1, r.0.1, r.1))))))))
-    statement_typed-well w i at (kind.Switch' value shape row) fits model fit =
-        lift-then (GivesPart i (λ v. IsWell s v × IsIntegerValue v)) (GivesStatement i) _ (selected at i value) (selected-well at i value model fit.0)
+    statement_typed-well w i at (kind.Switch' value shape row) fits knows fit =
+        lift-then (GivesPart i (λ v. IsWell s v × IsIntegerValue v)) (GivesStatement i) _ (selected at i value) (selected-well at i value knows fit.0)
         (λ v g. let begun : Switching = record { cases = []; told = nothing_told (in_block v.inside) } in
-        lift-then (Switches (type_of v.found) begun) (GivesStatement i) (switch_made at i v.found) _ (switch_typed-well (in_switch w) (type_of v.found) row begun fits (g.model ∙ model) fit.1)
+        lift-then (Switches (type_of v.found) begun) (GivesStatement i) (switch_made at i v.found) _ (switch_typed-well (in_switch w) (type_of v.found) row begun fits (block-knows v.inside (g.knows knows)) fit.1)
         (λ all h.
         let cases = subst (λ n. AreCases s.program.model (type_of v.found) n all.cases) (sym (count-length all.told.statements)) (h.cases (no-cases (type_of v.found))) in
         leaving i all.told.inside
         (so i all.told.inside
         (both i v.inside all.told.inside g (entering v.inside all.told.inside (so (in_block v.inside) all.told.inside h.told.gives (λ row. row tt))))
         (λ r. (r.0.0, r.0.1, cases, r.1)))))
-    statement_typed-well w i at (kind.Goto label) fits model fit = goto_typed-well at i (label_number label w.labels) (label-below w label fits)
-    statement_typed-well w i at kind.Continue fits model fit = cond-then (GivesStatement i) w.continues _ (Fault Jump at) (λ _. nothing i) (λ _. tt)
-    statement_typed-well w i at kind.Break fits model fit = cond-then (GivesStatement i) w.breaks _ (Fault Jump at) (λ _. nothing i) (λ _. tt)
-    statement_typed-well w i at (kind.Return value) fits model fit =
-        lift-then (GivesPart i (IsReturned s)) (GivesStatement i) (return_made at) (returned w at i value) (returned-well w at i value fits.0 model fit) (λ p g. g)
-    statement_typed-well w i at (kind.Label' name p place body) fits model fit =
+    statement_typed-well w i at (kind.Goto label) fits knows fit = goto_typed-well at i (label_number label w.labels) (label-below w label fits)
+    statement_typed-well w i at kind.Continue fits knows fit = cond-then (GivesStatement i) w.continues _ (Fault Jump at) (λ _. nothing i) (λ _. tt)
+    statement_typed-well w i at kind.Break fits knows fit = cond-then (GivesStatement i) w.breaks _ (Fault Jump at) (λ _. nothing i) (λ _. tt)
+    statement_typed-well w i at (kind.Return value) fits knows fit =
+        lift-then (GivesPart i (IsReturned s)) (GivesStatement i) (return_made at) (returned w at i value) (returned-well w at i value fits.0 knows fit) (λ p g. g)
+    statement_typed-well w i at (kind.Label' name p place body) fits knows fit =
         cond-then (GivesStatement i) (is_first i (label_number name w.labels)) _ (Fault Jump at)
         (λ first.
         let below = met-below i (label_number name w.labels) (label-below w name fits) first in
-        lift-then (GivesStatement (meeting i)) (GivesStatement i) (label_made at i.met) _ (statement_typed-well w (meeting i) place body fits model fit)
+        lift-then (GivesStatement (meeting i)) (GivesStatement i) (label_made at i.met) _ (statement_typed-well w (meeting i) place body fits (met-knows i knows) fit)
         (λ b g. met-one i b.inside (so (meeting i) b.inside g (λ well. (below, well)))))
         (λ _. tt)
 
-    pub item_typed-well : (w : Where) (item : RawItem) (so_far : Told) → Fits w → HasModel so_far.inside → ItemHasConstants item → IfFine (item_typed w item so_far) (Tells so_far)
-    item_typed-well w (items.TheVariants.Declare words objects) so_far fits model fit = declaration_typed-well words objects.items so_far model fit
-    item_typed-well w (items.TheVariants.Run' place body) so_far fits model fit =
-        lift-then (GivesStatement so_far.inside) (Tells so_far) (telling so_far.statements) _ (statement_typed-well w so_far.inside place body fits model fit)
+    pub item_typed-well : (w : Where) (item : RawItem) (so_far : Told) → Fits w → Knows so_far.inside → ItemHasConstants item → IfFine (item_typed w item so_far) (Tells so_far)
+    item_typed-well w (items.TheVariants.Declare words objects) so_far fits knows fit = declaration_typed-well words objects.items so_far knows fit
+    item_typed-well w (items.TheVariants.Run' place body) so_far fits knows fit =
+        lift-then (GivesStatement so_far.inside) (Tells so_far) (telling so_far.statements) _ (statement_typed-well w so_far.inside place body fits knows fit)
         (λ p g. tells-one so_far.statements so_far.inside p.inside p.found g)
 
-    items_typed-well : {n : _} → (w : Where) (row : kinds.Row_of-RawItem n) (so_far : Told) → Fits w → HasModel so_far.inside → RowHasConstants row → IfFine (items_typed w row so_far) (Tells so_far)
-    items_typed-well w kinds.end_of-RawItem so_far fits model fit = tells-nothing so_far
-    items_typed-well w (kinds.more_of-RawItem first others) so_far fits model fit =
-        lift-then (Tells so_far) (Tells so_far) (items_typed w others) _ (item_typed-well w first so_far fits model fit.0)
-        (λ told h. if_fine-weaker (Tells told) (Tells so_far) (items_typed w others told) (items_typed-well w others told fits (h.gives.model ∙ model) fit.1) (λ after k. tells-on so_far told after h k))
+    items_typed-well : {n : _} → (w : Where) (row : kinds.Row_of-RawItem n) (so_far : Told) → Fits w → Knows so_far.inside → RowHasConstants row → IfFine (items_typed w row so_far) (Tells so_far)
+    items_typed-well w kinds.end_of-RawItem so_far fits knows fit = tells-nothing so_far
+    items_typed-well w (kinds.more_of-RawItem first others) so_far fits knows fit =
+        lift-then (Tells so_far) (Tells so_far) (items_typed w others) _ (item_typed-well w first so_far fits knows fit.0)
+        (λ told h. if_fine-weaker (Tells told) (Tells so_far) (items_typed w others told) (items_typed-well w others told fits (h.gives.knows knows) fit.1) (λ after k. tells-on so_far told after h k))
 
-    switch_item_typed-well : (w : Where) (ty : Shape) (item : switches.RawSwitchItem) (so_far : Switching) → Fits w → HasModel so_far.told.inside → SwitchItemHasConstants item → IfFine (switch_item_typed w ty item so_far) (Switches ty so_far)
-    switch_item_typed-well w ty (switches.TheVariants.Case at value) so_far fits model fit =
-        lift-then (λ _. Unit {0}) (Switches ty so_far) _ _ (if_fine-any (value_of so_far.told.inside.known.context value)) (λ n _. constant_case-well ty at so_far n.1 model)
-    switch_item_typed-well w ty (switches.TheVariants.Default at) so_far fits model fit = case_added-well ty at so_far None tt
-    switch_item_typed-well w ty (switches.TheVariants.Item i) so_far fits model fit =
-        lift-then (Tells so_far.told) (Switches ty so_far) (with_told so_far) _ (item_typed-well w i so_far.told fits model fit) (λ told h. with_told-well ty so_far told h)
+    switch_item_typed-well : (w : Where) (ty : Shape) (item : switches.RawSwitchItem) (so_far : Switching) → Fits w → Knows so_far.told.inside → SwitchItemHasConstants item → IfFine (switch_item_typed w ty item so_far) (Switches ty so_far)
+    switch_item_typed-well w ty (switches.TheVariants.Case at value) so_far fits knows fit =
+        lift-then (λ _. Unit {0}) (Switches ty so_far) _ _ (if_fine-any (value_of so_far.told.inside.known.context value)) (λ n _. constant_case-well ty at so_far n.1 knows)
+    switch_item_typed-well w ty (switches.TheVariants.Default at) so_far fits knows fit = case_added-well ty at so_far None tt
+    switch_item_typed-well w ty (switches.TheVariants.Item i) so_far fits knows fit =
+        lift-then (Tells so_far.told) (Switches ty so_far) (with_told so_far) _ (item_typed-well w i so_far.told fits knows fit) (λ told h. with_told-well ty so_far told h)
 
-    switch_typed-well : {n : _} → (w : Where) (ty : Shape) (row : kinds.Row_of-RawSwitchItem n) (so_far : Switching) → Fits w → HasModel so_far.told.inside → SwitchHasConstants row → IfFine (switch_typed w ty row so_far) (Switches ty so_far)
-    switch_typed-well w ty kinds.end_of-RawSwitchItem so_far fits model fit = record { told = tells-nothing so_far.told; cases = λ all. all }
-    switch_typed-well w ty (kinds.more_of-RawSwitchItem first others) so_far fits model fit =
-        lift-then (Switches ty so_far) (Switches ty so_far) (switch_typed w ty others) _ (switch_item_typed-well w ty first so_far fits model fit.0)
-        (λ next h. if_fine-weaker (Switches ty next) (Switches ty so_far) (switch_typed w ty others next) (switch_typed-well w ty others next fits (h.told.gives.model ∙ model) fit.1) (λ after k. switches-on ty so_far next after h k))
+    switch_typed-well : {n : _} → (w : Where) (ty : Shape) (row : kinds.Row_of-RawSwitchItem n) (so_far : Switching) → Fits w → Knows so_far.told.inside → SwitchHasConstants row → IfFine (switch_typed w ty row so_far) (Switches ty so_far)
+    switch_typed-well w ty kinds.end_of-RawSwitchItem so_far fits knows fit = record { told = tells-nothing so_far.told; cases = λ all. all }
+    switch_typed-well w ty (kinds.more_of-RawSwitchItem first others) so_far fits knows fit =
+        lift-then (Switches ty so_far) (Switches ty so_far) (switch_typed w ty others) _ (switch_item_typed-well w ty first so_far fits knows fit.0)
+        (λ next h. if_fine-weaker (Switches ty next) (Switches ty so_far) (switch_typed w ty others next) (switch_typed-well w ty others next fits (h.told.gives.knows knows) fit.1) (λ after k. switches-on ty so_far next after h k))
 
   -- the body of a function
-  pub body_typed-well : (w : Where) (list : List RawItem) (so_far : Told) → Fits w → HasModel so_far.inside → ItemsHaveConstants list → IfFine (body_typed w list so_far) (Tells so_far)
-  body_typed-well w [] so_far fits model fit = tells-nothing so_far
-  body_typed-well w (first ∷ others) so_far fits model fit =
-      lift-then (Tells so_far) (Tells so_far) (body_typed w others) _ (item_typed-well w first so_far fits model fit.0)
-      (λ told h. if_fine-weaker (Tells told) (Tells so_far) (body_typed w others told) (body_typed-well w others told fits (h.gives.model ∙ model) fit.1) (λ after k. tells-on so_far told after h k))
+  pub body_typed-well : (w : Where) (list : List RawItem) (so_far : Told) → Fits w → Knows so_far.inside → ItemsHaveConstants list → IfFine (body_typed w list so_far) (Tells so_far)
+  body_typed-well w [] so_far fits knows fit = tells-nothing so_far
+  body_typed-well w (first ∷ others) so_far fits knows fit =
+      lift-then (Tells so_far) (Tells so_far) (body_typed w others) _ (item_typed-well w first so_far fits knows fit.0)
+      (λ told h. if_fine-weaker (Tells told) (Tells so_far) (body_typed w others told) (body_typed-well w others told fits (h.gives.knows knows) fit.1) (λ after k. tells-on so_far told after h k))

@@ -1,5 +1,5 @@
 -- The order of a file's functions: that of their places, each the place of its name in its definition, or else in its first declaration.
-use Rattle.std.specs.Prelude.{ℕ, Bool, true, false, not, nat_eq, codes, ◌&&◌, ◌||◌, if◌then◌else◌, List, [], ◌∷◌, ◌++◌, Option, Some, None, option_to_list}
+use Rattle.std.specs.Prelude.{ℕ, Bool, false, nat_eq, codes, ◌||◌, if◌then◌else◌, List, [], ◌∷◌, ◌++◌, Option, Some, None, option_to_list}
 use Rattle.std.specs.Cmp.Lexicographic.{pointwise}
 use Rattle.indexmap.specs.IndexSet.{insert_all}
 use Rattle.cs_ast.specs.declared.raw.external.RawExternalKind.{RawExternalKind}

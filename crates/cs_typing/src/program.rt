@@ -1,13 +1,10 @@
 //! The typed program of a file.
-ghost use Rattle.std.specs.Prelude.{◌≡◌, map, IfOk};
-ghost use Rattle.std.specs.List.{All};
+ghost use Rattle.std.specs.Prelude.{◌≡◌, IfOk};
 ghost use Rattle.cs_types.specs.Layout.{IsLaidOut};
-ghost use Rattle.cs_ast.specs.HeldTokens.{IsHeldToken};
-ghost use Rattle.cs_ast.specs.RawStatementView.{external};
 ghost use Rattle.cs_ast.specs.TypedProgram.{typed_program};
-ghost use Rattle.cs_grammar.specs.FileText.{file_text};
 ghost use Rattle.cs_consts.specs.Verdicts.{Answers};
 ghost use Rattle.cs_typing.specs.Programs.{constants_in, typed};
+ghost use Rattle.cs_well_formed.specs.Files.{IsFileTree};
 ghost use Rattle.cs_well_formed.specs.Programs.{IsWellFormed};
 
 use crate::file::typed_file;
@@ -49,7 +46,8 @@ fn copied(alloc: Global, names: &[Name]) -> Result<Vec<Name>, AllocError>
 }
 
 /// The program that the parts of a file with these tokens are, whose places are in these files, or the first failing place. It is
-/// well formed where no constant is too wide for the types of its list (C11 6.4.4, paragraph 2), of which a lexed file has none.
+/// well formed where these are the tree and the tokens of a file's text: no constant is too wide for the types of its list (C11 6.4.4,
+/// paragraph 2), places are in the files, and the text is short.
 #[tactic(auto, using(cs_consts::proofs::Lifting::lifts))]
 pub fn typed(
     alloc: Global,
@@ -60,7 +58,7 @@ pub fn typed(
 ) -> Result<Program, TypeRefusal>
     ensures told { Answers typed_program (typed model files.now tokens.now file.now) result }
     ensures laid_out { IfOk result (λ program. IsLaidOut program.model program.table.list) }
-    ensures well_formed { All IsHeldToken (file_text (map external file.now)) → IfOk result (λ program. IsWellFormed (typed_program program)) }
+    ensures well_formed { IsFileTree files.now tokens.now file.now → IfOk result (λ program. IsWellFormed (typed_program program)) }
 {
     let Filed {
         known,

@@ -1,12 +1,14 @@
 -- Calls are well formed: the rules of calls.
 use Rattle.std.proofs.Common.{◌≡◌, ℕ, ◌&&◌, not, List, [], ◌∷◌, length, Option, Some, None, eqb, refl, sym, subst, eqb-true}
-use Rattle.std.specs.Prelude.{IfSome}
+use Rattle.std.specs.Prelude.{IfSome, take}
+use Rattle.std.proofs.lemmas.List.Elements.{All-take}
 use Rattle.cs_types.specs.declared.data_model.DataModel.{DataModel}
 use Rattle.cs_types.specs.Shape.{Shape, void, integer, pointer, array, struct}
 use Rattle.cs_ast.specs.declared.place.Place.{Place}
 use Rattle.cs_ast.specs.declared.typed.operator.Allocator.{Allocator}
 use Rattle.cs_ast.specs.declared.typed.operator.Allocator.TheVariants as allocator
 use Rattle.cs_ast.specs.TypedTree.{Typed, TypedList, NoMore, Further}
+use Rattle.cs_ast.specs.TypedProgram.{TypedProgram, Variable}
 use Rattle.cs_consts.specs.declared.context.Context.{Context}
 use Rattle.cs_consts.specs.declared.scope.Callee.{Callee}
 use Rattle.cs_consts.specs.declared.scope.Callee.TheVariants.{Malloc, Calloc, Free, Numbered}
@@ -15,9 +17,12 @@ use Rattle.cs_consts.specs.Verdicts.{Verdict, Fine, Fault}
 use Rattle.cs_consts.specs.Integers.{type_of}
 use Rattle.cs_consts.specs.Calls.{parameters_of, allocates, is_pointer_target, admitted, before_others, converted_list, allocated, freed, call_by, call_of}
 use Rattle.cs_consts.specs.Typing.{call_with, call_or_not, no_function}
+use Rattle.cs_well_formed.specs.Structs.{NamesStructs, HasNamedTypes, TypesAreNamed}
 use Rattle.cs_well_formed.specs.Expressions.{Setting, IsWell, AreWell, IsValue, IsValueOf, AreValuesOf, sizes_of}
 use Rattle.cs_well_formed.specs.Agreement.{IsFunction, IsAllocator}
 use Rattle.cs_well_formed.proofs.Verdicts.{IfFine, if_fine-any, lift-then, lift2-then, cond-then}
+use Rattle.cs_well_formed.specs.Laws.{TargetNames}
+use Rattle.cs_well_formed.proofs.Structs.{found-at, AreNamed, each-named}
 use Rattle.cs_well_formed.proofs.Conversions.{converted-well}
 
 -- well-formed values, as many as there are types
@@ -37,21 +42,21 @@ before-taken s at ty types (Fault code place) (Fine others) h k = tt
 before-taken s at ty types (Fault code place) (Fault other there) h k = tt
 
 -- the values of arguments, each converted to the type of its parameter
-converted_list-taken : (s : Setting) (model : DataModel) (at : Place) (types : List Shape) (values : TypedList) → AreGiven s types values → IfFine (converted_list model at types values) (AreTaken s types)
-converted_list-taken s model at [] NoMore given = (tt, tt)
-converted_list-taken s model at [] (Further e others) given = absurd given
-converted_list-taken s model at (ty ∷ types) NoMore given = absurd given
-converted_list-taken s model at (ty ∷ types) (Further e others) given =
-    before-taken s at ty types _ _ (converted-well s model at e ty (type_of e) given.0 (given.1, refl)) (converted_list-taken s model at types others given.2)
+converted_list-taken : (s : Setting) (model : DataModel) (at : Place) (types : List Shape) (values : TypedList) → AreNamed s.program.table types → AreGiven s types values → IfFine (converted_list model at types values) (AreTaken s types)
+converted_list-taken s model at [] NoMore names given = (tt, tt)
+converted_list-taken s model at [] (Further e others) names given = absurd given
+converted_list-taken s model at (ty ∷ types) NoMore names given = absurd given
+converted_list-taken s model at (ty ∷ types) (Further e others) names given =
+    before-taken s at ty types _ _ (converted-well s model at e ty (type_of e) names.0 given.0 (given.1, refl)) (converted_list-taken s model at types others names.1 given.2)
 
-module _ (s : Setting) (at : Place) (target : Option Shape) where
-  allocated-well : (a : Allocator) (arguments : TypedList) (to : Option Shape) → AreWell s arguments → AreValuesOf arguments (sizes_of s.program.model a) → IfFine (allocated at a arguments to) (IsWell s)
-  allocated-well a arguments (Some (pointer ty)) well sizes = (well, sizes, ty, refl, refl)
-  allocated-well a arguments (Some void) well sizes = tt
-  allocated-well a arguments (Some (integer ty)) well sizes = tt
-  allocated-well a arguments (Some (array element count)) well sizes = tt
-  allocated-well a arguments (Some (struct number)) well sizes = tt
-  allocated-well a arguments None well sizes = tt
+module _ (s : Setting) (at : Place) (target : Option Shape) (names : TargetNames s target) where
+  allocated-well : (a : Allocator) (arguments : TypedList) (to : Option Shape) → TargetNames s to → AreWell s arguments → AreValuesOf arguments (sizes_of s.program.model a) → IfFine (allocated at a arguments to) (IsWell s)
+  allocated-well a arguments (Some (pointer ty)) to_names well sizes = (well, sizes, ty, refl, refl, to_names)
+  allocated-well a arguments (Some void) to_names well sizes = tt
+  allocated-well a arguments (Some (integer ty)) to_names well sizes = tt
+  allocated-well a arguments (Some (array element count)) to_names well sizes = tt
+  allocated-well a arguments (Some (struct number)) to_names well sizes = tt
+  allocated-well a arguments None to_names well sizes = tt
 
   freed-well : (arguments : TypedList) → AreWell s arguments → AreValuesOf arguments (pointer void ∷ []) → IfFine (freed at arguments) (IsWell s)
   freed-well NoMore well v = tt
@@ -59,7 +64,7 @@ module _ (s : Setting) (at : Place) (target : Option Shape) where
   freed-well (Further e (Further e' others)) well v = tt
 
   allocation-well : (a : Allocator) (f : Signature) (arguments : TypedList) → IsAllocator s.program a f → AreTaken s f.parameters arguments → IfFine (allocated at a arguments target) (IsWell s)
-  allocation-well a f arguments is taken = allocated-well a arguments target taken.0 (subst (AreValuesOf arguments) is.1 taken.1)
+  allocation-well a f arguments is taken = allocated-well a arguments target names taken.0 (subst (AreValuesOf arguments) is.1 taken.1)
 
   call_by-well : (callee : Callee) (f : Signature) (arguments : TypedList) → IsFunction s.program callee f → AreTaken s f.parameters arguments → IfFine (call_by at target callee f.result arguments) (IsWell s)
   call_by-well (Numbered number) f arguments is taken = (taken.0, (is.0, is.1, is.2, subst (AreValuesOf arguments) (sym is.3) taken.1))
@@ -71,6 +76,21 @@ module _ (s : Setting) (at : Place) (target : Option Shape) where
   unfolding call_of
   call_of-well f arguments is taken = call_by-well f.callee f arguments is taken
 
+-- the types of parameters name structs
+parameters-named : (p : TypedProgram) → TypesAreNamed p → (callee : Callee) (f : Signature) → IsFunction p callee f → AreNamed p.table f.parameters
+parameters-named p types Malloc f is = subst (AreNamed p.table) (sym is.1) (tt, tt)
+parameters-named p types Calloc f is = subst (AreNamed p.table) (sym is.1) (tt, (tt, tt))
+parameters-named p types Free f is = subst (AreNamed p.table) (sym is.1) (tt, tt)
+parameters-named p types (Numbered number) f is =
+    let r = found-at (HasNamedTypes p.table) p.routines number is.0 types.routines is.1 in
+    subst (AreNamed p.table) is.3
+    (each-named p.table (λ (v : Variable). v.ty) (take is.0.parameters is.0.variables)
+    (All-take (λ (v : Variable). NamesStructs p.table v.ty) is.0.parameters is.0.variables r.variables))
+
+pub parameters_of-named : (p : TypedProgram) → TypesAreNamed p → (function : Option Signature) → IfSome function (λ f. IsFunction p f.callee f) → AreNamed p.table (parameters_of function)
+parameters_of-named p types None is = tt
+parameters_of-named p types (Some f) is = parameters-named p types f.callee f is
+
 -- a call that is admitted has an argument for each parameter
 admitted-counts : (at : Place) (target : Option Shape) (count : ℕ) (f : Signature) → IfFine (admitted at target count f) (λ g. (g ≡ f) × (length f.parameters ≡ count))
 unfolding admitted
@@ -80,14 +100,15 @@ admitted-counts at target count f =
     (λ _. tt)
 
 -- a call of a function with its arguments
-pub call-well : (s : Setting) (c : Context) (at : Place) (target : Option Shape) (function : Option Signature) (count : ℕ) (v : Verdict Typed) (values : Verdict TypedList) → IfSome function (λ f. IsFunction s.program f.callee f) → IfFine values (λ vs. length (parameters_of function) ≡ count → AreGiven s (parameters_of function) vs) → IfFine (call_or_not c at target function count v values) (IsWell s)
+pub call-well : (s : Setting) (c : Context) (at : Place) (target : Option Shape) (function : Option Signature) (count : ℕ) (v : Verdict Typed) (values : Verdict TypedList) → TargetNames s target → TypesAreNamed s.program →
+    IfSome function (λ f. IsFunction s.program f.callee f) → IfFine values (λ vs. length (parameters_of function) ≡ count → AreGiven s (parameters_of function) vs) → IfFine (call_or_not c at target function count v values) (IsWell s)
 unfolding call_or_not call_with
-call-well s c at target None count v values there given = lift-then (λ _. Unit {0}) (IsWell s) (no_function at) v (if_fine-any v) (λ _ _. tt)
-call-well s c at target (Some f) count v values there given =
+call-well s c at target None count v values names types there given = lift-then (λ _. Unit {0}) (IsWell s) (no_function at) v (if_fine-any v) (λ _ _. tt)
+call-well s c at target (Some f) count v values names types there given =
     lift2-then (λ g. (g ≡ f) × (length f.parameters ≡ count)) (λ vs. length f.parameters ≡ count → AreGiven s f.parameters vs) (IsWell s) (call_with c at target) _ values
     (admitted-counts at target count f) given
     (λ g vs is are.
     subst (λ h. IfFine (call_with c at target h vs) (IsWell s)) (sym is.0)
     (lift-then (AreTaken s f.parameters) (IsWell s) (call_of at target f) _
-    (converted_list-taken s c.model at f.parameters vs (are is.1))
-    (λ ws taken. call_of-well s at target f ws there taken)))
+    (converted_list-taken s c.model at f.parameters vs (parameters-named s.program types f.callee f there) (are is.1))
+    (λ ws taken. call_of-well s at target names f ws there taken)))

@@ -14,10 +14,11 @@ use Rattle.cs_consts.specs.Conversions.{converted}
 use Rattle.cs_consts.specs.Operators.{tested}
 use Rattle.cs_consts.specs.Typing.{Literals, literals_behind, formed, operand_in}
 use Rattle.cs_consts.specs.Doors.{number_of_constant, value_of, operand_of, assigned_value, test_of, selector_of, discarded_value}
+use Rattle.cs_well_formed.specs.Structs.{NamesStructs}
 use Rattle.cs_well_formed.specs.Expressions.{Setting, IsWell, IsValueOf, IsScalarValue, IsIntegerValue}
 use Rattle.cs_well_formed.specs.Constants.{HasConstants}
 use Rattle.cs_well_formed.specs.Agreement.{Agrees}
-use Rattle.cs_well_formed.specs.Laws.{IsTyped, FormedAreWell, OperandsAreWell, AssignedAreWell, TestsAreWell, SelectorsAreWell, DiscardedAreWell, ConstantsAreInRange}
+use Rattle.cs_well_formed.specs.Laws.{TargetNames, IsTyped, FormedAreWell, OperandsAreWell, AssignedAreWell, TestsAreWell, SelectorsAreWell, DiscardedAreWell, ConstantsAreInRange}
 use Rattle.cs_well_formed.proofs.Verdicts.{IfFine, if_fine-at, lift-then}
 use Rattle.cs_well_formed.proofs.Integers.{raised-well}
 use Rattle.cs_well_formed.proofs.Conversions.{converted-well}
@@ -26,40 +27,40 @@ use Rattle.cs_well_formed.proofs.Typing.{IsWellValue, done-well, value_in-well, 
 
 -- an expression that is run, behind literals
 module _ (s : Setting) (c : Context) (literals : Literals) (e : RawExpr) (h : IsTyped s c literals e.kind) where
-  run-well : (target : Option Shape) → IfFine (formed c Run literals target e.place e.kind) (IsWell s)
-  run-well target = formed-well s c h.agrees Run literals target e.place e.kind h.constants h.texts
+  run-well : (target : Option Shape) → TargetNames s target → IfFine (formed c Run literals target e.place e.kind) (IsWell s)
+  run-well target names = formed-well s c h.agrees Run literals target names e.place e.kind h.constants h.texts
 
-  value-well : (target : Option Shape) → IfFine (operand_in c Run (formed c Run literals target e.place e.kind)) (IsWellValue s)
-  value-well target = operand_in-well s c h.agrees Run _ (run-well target)
+  value-well : (target : Option Shape) → TargetNames s target → IfFine (operand_in c Run (formed c Run literals target e.place e.kind)) (IsWellValue s)
+  value-well target names = operand_in-well s c h.agrees Run _ (run-well target names)
 
   -- one that has to have a value
-  pub operand_of-well : (target : Option Shape) → IfFine (operand_of c literals target e) (IsWellValue s)
+  pub operand_of-well : (target : Option Shape) → TargetNames s target → IfFine (operand_of c literals target e) (IsWellValue s)
   unfolding operand_of
-  operand_of-well target = value-well target
+  operand_of-well target names = value-well target names
 
   -- one whose value goes to a type
-  pub assigned_value-well : (at : Place) (target : Shape) → IfFine (assigned_value c literals at target e) (λ v. IsWell s v × IsValueOf v target)
+  pub assigned_value-well : (at : Place) (target : Shape) → NamesStructs s.program.table target → IfFine (assigned_value c literals at target e) (λ v. IsWell s v × IsValueOf v target)
   unfolding assigned_value
-  assigned_value-well at target =
-      lift-then (IsWellValue s) (λ v. IsWell s v × IsValueOf v target) (λ v. converted c.model at v target (type_of v)) _ (value-well (Some target))
-      (λ v held. converted-well s c.model at v target (type_of v) held.0 (held.1, refl))
+  assigned_value-well at target names =
+      lift-then (IsWellValue s) (λ v. IsWell s v × IsValueOf v target) (λ v. converted c.model at v target (type_of v)) _ (value-well (Some target) names)
+      (λ v held. converted-well s c.model at v target (type_of v) names held.0 (held.1, refl))
 
   -- one that is tested
   pub test_of-well : (at : Place) → IfFine (test_of c literals at e) (λ v. IsWell s v × IsScalarValue v)
   unfolding test_of
-  test_of-well at = lift-then (IsWellValue s) (λ v. IsWell s v × IsScalarValue v) (tested at) _ (value-well None) (λ v held. tested-well s at v held.0 held.1)
+  test_of-well at = lift-then (IsWellValue s) (λ v. IsWell s v × IsScalarValue v) (tested at) _ (value-well None tt) (λ v held. tested-well s at v held.0 held.1)
 
   -- one that a `switch` goes by
   pub selector_of-well : (at : Place) → IfFine (selector_of c literals at e) (λ v. IsWell s v × IsIntegerValue v)
   unfolding selector_of
   selector_of-well at =
-      lift-then (IsWellValue s) (λ v. IsWell s v × IsIntegerValue v) (λ v. raised c.model at v (type_of v)) _ (value-well None)
+      lift-then (IsWellValue s) (λ v. IsWell s v × IsIntegerValue v) (λ v. raised c.model at v (type_of v)) _ (value-well None tt)
       (λ v held. raised-well s c.model at v (type_of v) held.0 (held.1, refl))
 
   -- one whose value is dropped
   pub discarded_value-well : IfFine (discarded_value c literals e) (IsWellValue s)
   unfolding discarded_value
-  discarded_value-well = value_in-well s c h.agrees Run _ (run-well None)
+  discarded_value-well = value_in-well s c h.agrees Run _ (run-well None tt)
 
 -- the setting with these literals alone
 abbrev with_literals : Setting → Literals → Setting
@@ -67,7 +68,17 @@ with_literals s literals = record s { program = record s.program { literals = li
 
 -- what is known says nothing of literals
 agrees-with_literals : (s : Setting) (c : Context) (literals : Literals) → Agrees s c → Agrees (with_literals s literals) c
-agrees-with_literals s c literals h = record { model = h.model; table = h.table; declarations = h.declarations }
+agrees-with_literals s c literals h = record {
+  model = h.model;
+  table = h.table;
+  declarations = h.declarations;
+  named = h.named;
+  types = record {
+    program = record { members = h.types.program.members; globals = h.types.program.globals; routines = h.types.program.routines };
+    variables = h.types.variables;
+    returns = h.types.returns;
+  };
+}
 
 number-InRange : (s : Setting) (c : Context) (e : Typed) → c.model ≡ s.program.model → IsWell s e → IfFine (number_of_constant e) (λ k. InRange c.model k.0 k.1)
 number-InRange s c (Of at (integer ty) (Number n)) same well =
@@ -82,19 +93,19 @@ value_of-InRange s c e h fit =
     let alone = with_literals s (literals_behind [] e.kind) in
     let agrees = agrees-with_literals s c (literals_behind [] e.kind) h in
     lift-then (IsWell alone) (λ k. InRange c.model k.0 k.1) number_of_constant _
-    (done-well alone c agrees Constant _ (formed-well alone c agrees Constant [] None e.place e.kind fit ([], sym (append-nil _))))
+    (done-well alone c agrees Constant _ (formed-well alone c agrees Constant [] None tt e.place e.kind fit ([], sym (append-nil _))))
     (λ v well. number-InRange alone c v h.model well)
 
 pub formed_are_well : FormedAreWell
-formed_are_well s c purpose literals target at k e h is =
-    if_fine-at (IsWell s) (formed c purpose literals target at k) e (formed-well s c h.agrees purpose literals target at k h.constants h.texts) is
+formed_are_well s c purpose literals target at k e h names is =
+    if_fine-at (IsWell s) (formed c purpose literals target at k) e (formed-well s c h.agrees purpose literals target names at k h.constants h.texts) is
 
 pub operands_are_well : OperandsAreWell
-operands_are_well s c literals target e v h is = if_fine-at (IsWellValue s) (operand_of c literals target e) v (operand_of-well s c literals e h target) is
+operands_are_well s c literals target e v h names is = if_fine-at (IsWellValue s) (operand_of c literals target e) v (operand_of-well s c literals e h target names) is
 
 pub assigned_are_well : AssignedAreWell
-assigned_are_well s c literals at target e v h is =
-    if_fine-at (λ r. IsWell s r × IsValueOf r target) (assigned_value c literals at target e) v (assigned_value-well s c literals e h at target) is
+assigned_are_well s c literals at target e v h names is =
+    if_fine-at (λ r. IsWell s r × IsValueOf r target) (assigned_value c literals at target e) v (assigned_value-well s c literals e h at target names) is
 
 pub tests_are_well : TestsAreWell
 tests_are_well s c literals at e v h is = if_fine-at (λ r. IsWell s r × IsScalarValue r) (test_of c literals at e) v (test_of-well s c literals e h at) is

@@ -17,12 +17,14 @@ use Rattle.cs_consts.specs.declared.scope.Callee.{Callee}
 use Rattle.cs_consts.specs.declared.scope.Callee.TheVariants.{Malloc, Calloc, Free as FreeOf, Numbered}
 use Rattle.cs_consts.specs.Meanings.{Signature, Meaning, Typedef, Constant, Global as GlobalName, Local as LocalName, Function, Declaration}
 use Rattle.cs_consts.specs.Integers.{type_of}
-use Rattle.cs_well_formed.specs.Expressions.{Setting, IsWell, IsWellForm, AreWell, IsWhole, IsHeld, IsElementPointer, HasMember, AreValuesOf, sizes_of}
+use Rattle.cs_well_formed.specs.Structs.{NamesStructs}
+use Rattle.cs_well_formed.specs.Expressions.{Setting, TypesAroundAreNamed, IsWell, IsWellForm, AreWell, IsWhole, IsHeld, IsElementPointer, HasMember, AreValuesOf, sizes_of}
 use Rattle.cs_well_formed.specs.Initials.{HasParts, IsWellInitial, AreWellParts, HasConstantValues}
 use Rattle.cs_well_formed.specs.Statements.{IsWellStatement, AreWellStatements, AreCases, count_of, IsDroppedIfAny, IsTestIfAny, IsReturned}
 use Rattle.cs_well_formed.specs.Programs.{setting_of, IsWellBody, IsWellRoutine, outside, IsWellGlobal}
 use Rattle.cs_well_formed.specs.Agreement.{IsFunction, IsThere, Agrees}
 use Rattle.cs_well_formed.specs.Growth.{Extends, Grows}
+use Rattle.cs_well_formed.proofs.Structs.{keeps-self, keeps-trans, names-longer, routine-longer}
 
 module _ (s t : Setting) (grows : Grows s t) where
   pub IsWhole-grown : (ty : Shape) → IsWhole s.program ty → IsWhole t.program ty
@@ -33,7 +35,7 @@ module _ (s t : Setting) (grows : Grows s t) where
   IsWhole-grown (struct number) h = by_members (members_of s.program.table number) refl h
     where
       by_members : (found : Option (List Member)) → members_of s.program.table number ≡ found → is_some found ≡ true → is_some (members_of t.program.table number) ≡ true
-      by_members (Some members) is there = ap is_some (grows.program.table number members is)
+      by_members (Some members) is there = ap is_some (grows.program.table.members number members is)
       by_members None is there = absurd cc
 
   InRange-grown : (ty : Shape) (kind : IntType) (n : _) → InRange s.program.model kind n → InRange t.program.model kind n
@@ -42,7 +44,7 @@ module _ (s t : Setting) (grows : Grows s t) where
   HasMember-grown : (number offset : ℕ) (ty : Shape) → HasMember s.program number offset ty → HasMember t.program number offset ty
   HasMember-grown number offset ty h = record {
     members = h.members;
-    complete = grows.program.table number h.members h.complete;
+    complete = grows.program.table.members number h.members h.complete;
     index = h.index;
     member = h.member;
     found = h.found;
@@ -56,6 +58,9 @@ module _ (s t : Setting) (grows : Grows s t) where
   IsHeld-grown : (ty : Shape) → IsHeld s.program ty → IsHeld t.program ty
   IsHeld-grown ty h = (IsWhole-grown ty h.0, h.1)
 
+  Names-grown : (ty : Shape) → NamesStructs s.program.table ty → NamesStructs t.program.table ty
+  Names-grown ty h = names-longer s.program.table t.program.table grows.program.table.longer ty h
+
   mutual
     -- a well-formed expression
     pub IsWell-grown : (e : Typed) → IsWell s e → IsWell t e
@@ -63,7 +68,7 @@ module _ (s t : Setting) (grows : Grows s t) where
 
     IsWellForm-grown : (form : Form) (ty : Shape) → IsWellForm s ty form → IsWellForm t ty form
     IsWellForm-grown (Number n) ty h = (h.0, h.1, InRange-grown ty h.0 n h.2)
-    IsWellForm-grown Null ty h = h
+    IsWellForm-grown Null ty h = (h.0, Names-grown ty h.1)
     IsWellForm-grown (Text number) ty h = (h.0, grows.program.literals number h.0 h.1, h.2)
     IsWellForm-grown (Local number) ty h = let found = grows.variables number h.0 h.1 in (found.0, found.1, found.2 ∙ h.2)
     IsWellForm-grown (Global number) ty h = let found = grows.program.globals number h.0 h.1 in (found.0, found.1, found.2 ∙ h.2)
@@ -93,7 +98,7 @@ module _ (s t : Setting) (grows : Grows s t) where
         let found = grows.program.routines number h.1.0 h.1.1 in
         (AreWell-grown arguments h.0, (found.0, found.1, found.2 ∙ h.1.2, subst (AreValuesOf arguments) (sym found.3) h.1.3))
     IsWellForm-grown (Allocate a arguments element) ty h =
-        (AreWell-grown arguments h.0, subst (λ m. AreValuesOf arguments (sizes_of m a)) grows.program.model h.1, h.2, h.3, h.4)
+        (AreWell-grown arguments h.0, subst (λ m. AreValuesOf arguments (sizes_of m a)) grows.program.model h.1, h.2, h.3, h.4, Names-grown ty h.5)
     IsWellForm-grown (Free e) ty h = (IsWell-grown e h.0, h.1, h.2)
 
     AreWell-grown : (es : TypedList) → AreWell s es → AreWell t es
@@ -102,7 +107,7 @@ module _ (s t : Setting) (grows : Grows s t) where
 
   HasParts-grown : (ty : Shape) (types : List Shape) → HasParts s.program ty types → HasParts t.program ty types
   HasParts-grown (array element count) types h = h
-  HasParts-grown (struct number) types h = (h.0, grows.program.table number h.0 h.1, h.2)
+  HasParts-grown (struct number) types h = (h.0, grows.program.table.members number h.0 h.1, h.2)
   HasParts-grown void types h = absurd h
   HasParts-grown (integer ty) types h = absurd h
   HasParts-grown (pointer target) types h = absurd h
@@ -178,18 +183,20 @@ module _ (s t : Setting) (grows : Grows s t) where
   IsThere-grown (Function f) h = IsFunction-grown f.callee f h
 
   -- what is known agrees with what grows
-  pub Agrees-grown : (c : Context) → Agrees s c → Agrees t c
-  Agrees-grown c h = record {
+  pub Agrees-grown : (c : Context) → TypesAroundAreNamed t → Agrees s c → Agrees t c
+  Agrees-grown c types h = record {
     model = h.model ∙ grows.program.model;
-    table = λ number members is. grows.program.table number members (h.table number members is);
+    table = keeps-trans c.table.list s.program.table t.program.table h.table grows.program.table;
     declarations = All-weaker (λ (d : Declaration). IsThere s d.meaning) (λ (d : Declaration). IsThere t d.meaning) (λ d there. IsThere-grown d.meaning there) c.scope.declarations h.declarations;
+    named = h.named;
+    types = types;
   }
 
 -- a program that extends another, and one that extends that
 pub Extends-trans : (p q r : TypedProgram) → Extends p q → Extends q r → Extends p r
 Extends-trans p q r h k = record {
   model = h.model ∙ k.model;
-  table = λ number members is. k.table number members (h.table number members is);
+  table = keeps-trans p.table q.table r.table h.table k.table;
   literals = λ number bytes is. k.literals number bytes (h.literals number bytes is);
   globals = λ number g is. let one = h.globals number g is in let two = k.globals number one.0 one.1 in (two.0, two.1, two.2 ∙ one.2);
   routines = λ number o is. let one = h.routines number o is in let two = k.routines number one.0 one.1 in (two.0, two.1, two.2 ∙ one.2, two.3 ∙ one.3);
@@ -198,7 +205,7 @@ Extends-trans p q r h k = record {
 pub Extends-self : (p : TypedProgram) → Extends p p
 Extends-self p = record {
   model = refl;
-  table = λ number members is. is;
+  table = keeps-self p.table;
   literals = λ number bytes is. is;
   globals = λ number g is. (g, is, refl);
   routines = λ number r is. (r, is, refl, refl);
@@ -224,7 +231,7 @@ HasConstantValues-grown p q i h held = subst (λ m. HasConstantValues m i) h.mod
 pub IsWellGlobal-grown : (p q : TypedProgram) (g : FileObject) → Extends p q → IsWellGlobal p g → IsWellGlobal q g
 IsWellGlobal-grown p q g h well =
     let grows = Grows-inside (outside p) q h in
-    (IsWhole-grown (outside p) (outside q) grows g.ty well.0, first g.initial well.1)
+    (IsWhole-grown (outside p) (outside q) grows g.ty well.0, first g.initial well.1, names-longer p.table q.table h.table.longer g.ty well.2)
   where
     first : (i : Option Initial) → IfSome i (λ i. IsWellInitial (outside p) g.ty i × HasConstantValues p.model i) → IfSome i (λ i. IsWellInitial (outside q) g.ty i × HasConstantValues q.model i)
     first None held = tt
@@ -238,6 +245,7 @@ IsWellRoutine-grown p q r h well = record {
   passed = well.passed;
   variables = All-weaker (λ (v : Variable). IsWhole p v.ty) (λ (v : Variable). IsWhole q v.ty) (λ v whole. IsWhole-grown (outside p) (outside q) (Grows-inside (outside p) q h) v.ty whole) r.variables well.variables;
   written = well.written;
+  named = routine-longer p.table q.table h.table.longer r well.named;
   body = inside r.body well.body;
 }
   where

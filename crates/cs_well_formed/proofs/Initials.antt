@@ -1,6 +1,6 @@
 -- What the typing of initializers gives is well formed: first the values that are read, then what the `=` makes of them.
 use Rattle.std.proofs.Common.{◌≡◌, ℕ, zero, suc, ◌≤◌, true, List, [], ◌∷◌, length, map, Option, Some, None, is_some, refl, arith}
-use Rattle.std.specs.Prelude.{nat_le}
+use Rattle.std.specs.Prelude.{nat_le, IfSome}
 use Rattle.std.proofs.lemmas.Bool.Decides.{nat_tests}
 use Rattle.cs_types.specs.declared.structs.StructType.{StructType}
 use Rattle.cs_types.specs.Layout.{members_of, IsLaidOut}
@@ -22,6 +22,7 @@ use Rattle.cs_consts.specs.Conversions.{converted}
 use Rattle.cs_consts.specs.Typing.{Literals, literals_behind}
 use Rattle.cs_consts.specs.Doors.{operand_of}
 use Rattle.cs_declarations.specs.Initializers.{Storage, InFile, InFunction, is_character, copies, member_types, part_types, text_of, is_admitted, takes_expression, has_form, have_forms, Reading, Readings, value_read, expression_read, types_or_none, parts_read, one_more, initial_read, items_read, is_braceless, value_held, value_judged, item_judged, before_others, part_judged, parts_judged, initial_judged, stored, limited, kept_with, initial_typed}
+use Rattle.cs_well_formed.specs.Structs.{NamesStructs, MembersName}
 use Rattle.cs_well_formed.specs.Expressions.{Setting, IsWell, IsValue, IsValueOf, IsWhole}
 use Rattle.cs_well_formed.specs.Initials.{HasParts, TakesBytes, IsWellInitial, AreWellParts, HasConstantValues, HaveConstantValues}
 use Rattle.cs_well_formed.specs.Constants.{HasConstants, InitialHasConstants, InitialsHaveConstants}
@@ -32,6 +33,7 @@ use Rattle.cs_well_formed.proofs.Conversions.{converted-well}
 use Rattle.cs_well_formed.proofs.Names.{Begins, begins-self, begins-trans, first-part, literals-begin}
 use Rattle.cs_well_formed.proofs.Typing.{IsWellValue}
 use Rattle.cs_well_formed.proofs.Doors.{operand_of-well}
+use Rattle.cs_well_formed.proofs.Structs.{AreNamed, each-named, members-longer, members-named}
 use Rattle.cs_well_formed.proofs.Layouts.{AreWhole, members-whole}
 
 abbrev mutual
@@ -69,18 +71,19 @@ module _ (s : Setting) (c : Context) (agrees : Agrees s c) where
   abbrev AreReadings : Literals → Option (List Shape) → Readings → Type 0
   AreReadings literals types r = (AreFirst s.program r.1 → AreRead s c.table.list types r.0) × Begins literals r.1
 
-  value-reading : (literals : Literals) (ty : Shape) (e : RawExpr) → HasConstants (written e) → IfFine (lift (value_read literals e.kind) (operand_of c literals (Some ty) e)) (IsReading literals ty)
-  value-reading literals ty e fit =
+  value-reading : (literals : Literals) (ty : Shape) (e : RawExpr) → NamesStructs s.program.table ty → HasConstants (written e) → IfFine (lift (value_read literals e.kind) (operand_of c literals (Some ty) e)) (IsReading literals ty)
+  value-reading literals ty e names fit =
       lift-then (λ v. AreFirst s.program (literals_behind literals e.kind) → IsWellValue s v) (IsReading literals ty) (value_read literals e.kind) (operand_of c literals (Some ty) e)
-      (under (AreFirst s.program (literals_behind literals e.kind)) (IsWellValue s) (operand_of c literals (Some ty) e) (λ texts. operand_of-well s c literals e (record { agrees = agrees; constants = fit; texts = texts }) (Some ty)))
+      (under (AreFirst s.program (literals_behind literals e.kind)) (IsWellValue s) (operand_of c literals (Some ty) e) (λ texts. operand_of-well s c literals e (record { agrees = agrees; constants = fit; texts = texts }) (Some ty) names))
       (λ v well. (well, literals-begin literals e.kind))
 
-  expression-reading : (storage : Storage) (literals : Literals) (ty : Shape) (e : RawExpr) → HasConstants (written e) → takes_expression storage ty e.kind ≡ true → IfFine (expression_read c literals ty e) (IsReading literals ty)
-  expression-reading storage literals (array element count) e fit h = (λ _. text-taken storage element count e.kind h, begins-self literals)
-  expression-reading storage literals void e fit h = value-reading literals void e fit
-  expression-reading storage literals (integer ty) e fit h = value-reading literals (integer ty) e fit
-  expression-reading storage literals (pointer target) e fit h = value-reading literals (pointer target) e fit
-  expression-reading storage literals (struct number) e fit h = value-reading literals (struct number) e fit
+  expression-reading : (storage : Storage) (literals : Literals) (ty : Shape) (e : RawExpr) → NamesStructs s.program.table ty → HasConstants (written e) → takes_expression storage ty e.kind ≡ true →
+      IfFine (expression_read c literals ty e) (IsReading literals ty)
+  expression-reading storage literals (array element count) e names fit h = (λ _. text-taken storage element count e.kind h, begins-self literals)
+  expression-reading storage literals void e names fit h = value-reading literals void e names fit
+  expression-reading storage literals (integer ty) e names fit h = value-reading literals (integer ty) e names fit
+  expression-reading storage literals (pointer target) e names fit h = value-reading literals (pointer target) e names fit
+  expression-reading storage literals (struct number) e names fit h = value-reading literals (struct number) e names fit
 
   parts-reading : (literals : Literals) (ty : Shape) (v : Verdict Readings) → IfFine v (AreReadings literals (part_types c.table.list ty)) → IfFine (lift parts_read v) (IsReading literals ty)
   parts-reading literals ty v h = lift-then (AreReadings literals (part_types c.table.list ty)) (IsReading literals ty) parts_read v h (λ r held. held)
@@ -90,32 +93,54 @@ module _ (s : Setting) (c : Context) (agrees : Agrees s c) where
       lift-then (AreReadings first.1 (Some types)) (AreReadings literals (Some (ty ∷ types))) (one_more first.0) v others
       (λ r held. (λ texts. (one.0 (first-part s.program first.1 r.1 held.1 texts), held.0 texts), begins-trans literals first.1 r.1 one.1 held.1))
 
-  mutual
-    initial-reading : (storage : Storage) (literals : Literals) (ty : Shape) (raw : RawInitial) → InitialHasConstants (initial raw) → has_form c.table.list storage ty raw ≡ true → IfFine (initial_read c literals ty raw) (IsReading literals ty)
-    initial-reading storage literals ty (first_value.Value e) fit h = expression-reading storage literals ty e fit h
-    initial-reading storage literals ty (first_value.List' shape row comma) fit h =
-        parts-reading literals ty _ (items-reading storage literals (part_types c.table.list ty) row fit h)
+  -- the types of the parts of an object
+  copies-named : (count : ℕ) (ty : Shape) → NamesStructs s.program.table ty → AreNamed s.program.table (copies count ty)
+  copies-named zero ty h = tt
+  copies-named (suc n) ty h = (h, copies-named n ty h)
 
-    items-reading : (storage : Storage) (literals : Literals) (types : Option (List Shape)) {n : _} (row : Row_of-RawInitial n) → InitialsHaveConstants (initials row) → have_forms c.table.list storage types row ≡ true → IfFine (items_read c literals (types_or_none types) row) (AreReadings literals types)
-    items-reading storage literals None end_of-RawInitial fit h = absurd cc
-    items-reading storage literals None (more_of-RawInitial first others) fit h = absurd cc
-    items-reading storage literals (Some types) end_of-RawInitial fit h = (λ _. tt, begins-self literals)
-    items-reading storage literals (Some []) (more_of-RawInitial first others) fit h = absurd cc
-    items-reading storage literals (Some (ty ∷ types)) (more_of-RawInitial first others) fit h =
+  members-are-named : (members : List Member) → MembersName s.program.table members → AreNamed s.program.table (map (λ (m : Member). m.ty) members)
+  members-are-named members h = each-named s.program.table (λ (m : Member). m.ty) members h
+
+  part_types-named : (ty : Shape) → NamesStructs s.program.table ty → IfSome (part_types c.table.list ty) (AreNamed s.program.table)
+  part_types-named void h = tt
+  part_types-named (integer ty) h = tt
+  part_types-named (pointer target) h = tt
+  part_types-named (array element count) h = copies-named count element h
+  part_types-named (struct number) h = by_members (members_of c.table.list number) refl
+    where
+      by_members : (found : Option (List Member)) → members_of c.table.list number ≡ found → AreNamed s.program.table (member_types found)
+      by_members (Some members) is =
+          members-are-named members (members-longer c.table.list s.program.table agrees.table.longer members (members-named c.table.list c.table.list number members agrees.named.members is))
+      by_members None is = tt
+
+  mutual
+    initial-reading : (storage : Storage) (literals : Literals) (ty : Shape) (raw : RawInitial) → NamesStructs s.program.table ty → InitialHasConstants (initial raw) → has_form c.table.list storage ty raw ≡ true →
+        IfFine (initial_read c literals ty raw) (IsReading literals ty)
+    initial-reading storage literals ty (first_value.Value e) names fit h = expression-reading storage literals ty e names fit h
+    initial-reading storage literals ty (first_value.List' shape row comma) names fit h =
+        parts-reading literals ty _ (items-reading storage literals (part_types c.table.list ty) row (part_types-named ty names) fit h)
+
+    items-reading : (storage : Storage) (literals : Literals) (types : Option (List Shape)) {n : _} (row : Row_of-RawInitial n) → IfSome types (AreNamed s.program.table) → InitialsHaveConstants (initials row) →
+        have_forms c.table.list storage types row ≡ true → IfFine (items_read c literals (types_or_none types) row) (AreReadings literals types)
+    items-reading storage literals None end_of-RawInitial names fit h = absurd cc
+    items-reading storage literals None (more_of-RawInitial first others) names fit h = absurd cc
+    items-reading storage literals (Some types) end_of-RawInitial names fit h = (λ _. tt, begins-self literals)
+    items-reading storage literals (Some []) (more_of-RawInitial first others) names fit h = absurd cc
+    items-reading storage literals (Some (ty ∷ types)) (more_of-RawInitial first others) names fit h =
         let both = both_true (has_form c.table.list storage ty first) (have_forms c.table.list storage (Some types) others) h in
         lift-then (IsReading literals ty) (AreReadings literals (Some (ty ∷ types))) _ (initial_read c literals ty first)
-        (initial-reading storage literals ty first fit.0 both.0)
-        (λ r held. more-reading literals ty types r _ held (items-reading storage r.1 (Some types) others fit.1 both.1))
+        (initial-reading storage literals ty first names.0 fit.0 both.0)
+        (λ r held. more-reading literals ty types r _ held (items-reading storage r.1 (Some types) others names.1 fit.1 both.1))
 
-  value-judged : (storage : Storage) (at : Place) (ty : Shape) (v : Typed) → IsWell s v → IsValue v → IfFine (value_judged c.model storage at ty v) (IsWellInitial s ty)
-  value-judged storage at ty v well value =
+  value-judged : (storage : Storage) (at : Place) (ty : Shape) (v : Typed) → NamesStructs s.program.table ty → IsWell s v → IsValue v → IfFine (value_judged c.model storage at ty v) (IsWellInitial s ty)
+  value-judged storage at ty v names well value =
       lift-then (λ r. IsWell s r × IsValueOf r ty) (IsWellInitial s ty) (value_held c.model storage at) _
-      (converted-well s c.model at v ty (type_of v) well (value, refl))
+      (converted-well s c.model at v ty (type_of v) names well (value, refl))
       (λ r given. cond-then (IsWellInitial s ty) (is_admitted c.model storage r) _ _ (λ _. given) (λ _. tt))
 
-  item-judged : (storage : Storage) (at : Place) (ty : Shape) (v : Typed) → IsWell s v → IsValue v → IfFine (item_judged c.model storage at ty v) (IsWellInitial s ty)
-  item-judged storage at ty v well value =
-      cond-then (IsWellInitial s ty) (is_braceless ty (type_of v)) _ _ (λ _. tt) (λ _. value-judged storage at ty v well value)
+  item-judged : (storage : Storage) (at : Place) (ty : Shape) (v : Typed) → NamesStructs s.program.table ty → IsWell s v → IsValue v → IfFine (item_judged c.model storage at ty v) (IsWellInitial s ty)
+  item-judged storage at ty v names well value =
+      cond-then (IsWellInitial s ty) (is_braceless ty (type_of v)) _ _ (λ _. tt) (λ _. value-judged storage at ty v names well value)
 
   before-well : (at : Place) (ty : Shape) (types : List Shape) (v : Verdict Initial) (w : Verdict Initials) → IfFine v (IsWellInitial s ty) → IfFine w (AreWellParts s types) → IfFine (before_others at v w) (AreWellParts s (ty ∷ types))
   before-well at ty types (Fine first) (Fine others) h k = (h, k)
@@ -141,58 +166,62 @@ module _ (s : Setting) (c : Context) (agrees : Agrees s c) where
         by_members None is h = absurd cc
 
     -- items for the members of a struct
-    struct-well : (number : ℕ) (parts : Initials) (found : Option (List Member)) → members_of c.table.list number ≡ found → IsWhole s.program (struct number) → AreRead s c.table.list (Some (member_types found)) parts → ((types : List Shape) → AreWhole s.program types → AreRead s c.table.list (Some types) parts → IfFine (parts_judged c storage at types parts) (AreWellParts s types)) → IfFine (lift (λ all. Fine (Parts all)) (parts_judged c storage at (member_types found) parts)) (IsWellInitial s (struct number))
+    struct-well : (number : ℕ) (parts : Initials) (found : Option (List Member)) → members_of c.table.list number ≡ found → IsWhole s.program (struct number) → AreRead s c.table.list (Some (member_types found)) parts →
+        ((types : List Shape) → AreWhole s.program types → AreNamed s.program.table types → AreRead s c.table.list (Some types) parts → IfFine (parts_judged c storage at types parts) (AreWellParts s types)) →
+        IfFine (lift (λ all. Fine (Parts all)) (parts_judged c storage at (member_types found) parts)) (IsWellInitial s (struct number))
     struct-well number parts (Some members) is whole read judged =
-        let there = agrees.table number members is in
+        let there = agrees.table.members number members is in
         parts-well (struct number) (map (λ (m : Member). m.ty) members) _ (members, there, refl)
-        (judged (map (λ (m : Member). m.ty) members) (members-whole s.program number members laid_out there) read)
+        (judged (map (λ (m : Member). m.ty) members) (members-whole s.program number members laid_out there)
+        (members-are-named members (members-named s.program.table s.program.table number members agrees.types.program.members there)) read)
     struct-well number parts None is whole read judged = none-well number parts whole read
 
     mutual
-      part-well : (ty : Shape) (i : Initial) → IsWhole s.program ty → IsRead s c.table.list ty i → IfFine (part_judged c storage at ty i) (IsWellInitial s ty)
-      part-well ty (Value v) whole read = item-judged storage at ty v read.0 read.1
-      part-well ty (Bytes bytes) whole read = read
-      part-well void (Parts parts) whole read = absurd read
-      part-well (integer ty) (Parts parts) whole read = absurd read
-      part-well (pointer target) (Parts parts) whole read = absurd read
-      part-well (array element count) (Parts parts) whole read =
-          parts-well (array element count) (copies count element) _ refl (parts-judged (copies count element) parts (copies-whole count element whole) read)
-      part-well (struct number) (Parts parts) whole read =
-          struct-well number parts (members_of c.table.list number) refl whole read (λ types whole' read'. parts-judged types parts whole' read')
+      part-well : (ty : Shape) (i : Initial) → IsWhole s.program ty → NamesStructs s.program.table ty → IsRead s c.table.list ty i → IfFine (part_judged c storage at ty i) (IsWellInitial s ty)
+      part-well ty (Value v) whole names read = item-judged storage at ty v names read.0 read.1
+      part-well ty (Bytes bytes) whole names read = read
+      part-well void (Parts parts) whole names read = absurd read
+      part-well (integer ty) (Parts parts) whole names read = absurd read
+      part-well (pointer target) (Parts parts) whole names read = absurd read
+      part-well (array element count) (Parts parts) whole names read =
+          parts-well (array element count) (copies count element) _ refl (parts-judged (copies count element) parts (copies-whole count element whole) (copies-named count element names) read)
+      part-well (struct number) (Parts parts) whole names read =
+          struct-well number parts (members_of c.table.list number) refl whole read (λ types whole' names' read'. parts-judged types parts whole' names' read')
 
-      parts-judged : (types : List Shape) (parts : Initials) → AreWhole s.program types → AreRead s c.table.list (Some types) parts → IfFine (parts_judged c storage at types parts) (AreWellParts s types)
-      parts-judged types NoPart whole read = tt
-      parts-judged [] (Part first others) whole read = absurd read
-      parts-judged (ty ∷ types) (Part first others) whole read =
-          before-well at ty types _ _ (part-well ty first whole.0 read.0) (parts-judged types others whole.1 read.1)
+      parts-judged : (types : List Shape) (parts : Initials) → AreWhole s.program types → AreNamed s.program.table types → AreRead s c.table.list (Some types) parts → IfFine (parts_judged c storage at types parts) (AreWellParts s types)
+      parts-judged types NoPart whole names read = tt
+      parts-judged [] (Part first others) whole names read = absurd read
+      parts-judged (ty ∷ types) (Part first others) whole names read =
+          before-well at ty types _ _ (part-well ty first whole.0 names.0 read.0) (parts-judged types others whole.1 names.1 read.1)
 
     -- what the `=` says of the whole
-    judged-well : (ty : Shape) (i : Initial) → IsWhole s.program ty → IsRead s c.table.list ty i → IfFine (initial_judged c storage at ty i) (IsWellInitial s ty)
-    judged-well ty (Value v) whole read = value-judged storage at ty v read.0 read.1
-    judged-well ty (Bytes bytes) whole read = part-well ty (Bytes bytes) whole read
-    judged-well ty (Parts parts) whole read = part-well ty (Parts parts) whole read
+    judged-well : (ty : Shape) (i : Initial) → IsWhole s.program ty → NamesStructs s.program.table ty → IsRead s c.table.list ty i → IfFine (initial_judged c storage at ty i) (IsWellInitial s ty)
+    judged-well ty (Value v) whole names read = value-judged storage at ty v names read.0 read.1
+    judged-well ty (Bytes bytes) whole names read = part-well ty (Bytes bytes) whole names read
+    judged-well ty (Parts parts) whole names read = part-well ty (Parts parts) whole names read
 
     limited-well : (ty : Shape) (place : Storage) (found : Initial) → IsWellInitial s ty found → IfFine (limited c.table.list place at ty found) (IsWellInitial s ty)
     limited-well ty InFile found well = well
     limited-well ty InFunction found well = cond-then (IsWellInitial s ty) (is_some (stored c.table.list ty found)) _ _ (λ _. well) (λ _. tt)
 
     -- an initializer
-    pub initial-well : (literals : Literals) (ty : Shape) (raw : RawInitial) → IsWhole s.program ty → InitialHasConstants (initial raw) → IfFine (initial_typed c literals storage at ty raw) (λ r. AreFirst s.program r.1 → IsWellInitial s ty r.0)
-    initial-well literals ty raw whole fit =
+    pub initial-well : (literals : Literals) (ty : Shape) (raw : RawInitial) → IsWhole s.program ty → NamesStructs s.program.table ty → InitialHasConstants (initial raw) →
+        IfFine (initial_typed c literals storage at ty raw) (λ r. AreFirst s.program r.1 → IsWellInitial s ty r.0)
+    initial-well literals ty raw whole names fit =
         cond-then (λ (r : Reading). AreFirst s.program r.1 → IsWellInitial s ty r.0) (has_form c.table.list storage ty raw) _ _
         (λ h. lift-then (IsReading literals ty) (λ (r : Reading). AreFirst s.program r.1 → IsWellInitial s ty r.0) _ (initial_read c literals ty raw)
-        (initial-reading storage literals ty raw fit h)
+        (initial-reading storage literals ty raw names fit h)
         (λ r held.
         lift-then (λ found. AreFirst s.program r.1 → IsWellInitial s ty found) (λ (r : Reading). AreFirst s.program r.1 → IsWellInitial s ty r.0) (kept_with r.1) _
         (under (AreFirst s.program r.1) (IsWellInitial s ty) (lift (limited c.table.list storage at ty) (initial_judged c storage at ty r.0))
-        (λ texts. lift-then (IsWellInitial s ty) (IsWellInitial s ty) (limited c.table.list storage at ty) _ (judged-well ty r.0 whole (held.0 texts)) (limited-well ty storage)))
+        (λ texts. lift-then (IsWellInitial s ty) (IsWellInitial s ty) (limited c.table.list storage at ty) _ (judged-well ty r.0 whole names (held.0 texts)) (limited-well ty storage)))
         (λ found well. well)))
         (λ _. tt)
 
 pub initials_are_well : InitialsAreWell
-initials_are_well s c literals behind storage at ty raw found agrees laid_out whole fit texts is =
+initials_are_well s c literals behind storage at ty raw found agrees laid_out whole names fit texts is =
     if_fine-at (λ (r : Reading). AreFirst s.program r.1 → IsWellInitial s ty r.0) (initial_typed c literals storage at ty raw) (found, behind)
-    (initial-well s c agrees laid_out storage at literals ty raw whole fit) is texts
+    (initial-well s c agrees laid_out storage at literals ty raw whole names fit) is texts
 
 -- the values that the `=` lets an object of a file have
 module _ (c : Context) (at : Place) where

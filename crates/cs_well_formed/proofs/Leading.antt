@@ -1,10 +1,10 @@
 -- What declarations make known: for the typing of statements and files, which goes on behind them.
-use Rattle.std.proofs.Common.{◌≡◌, ◌≢◌, ℕ, zero, suc, Bool, true, false, ◌||◌, List, [], ◌∷◌, ◌++◌, length, set, slice_get, Option, Some, None, is_some, refl, sym, ap, ◌∙◌, subst, arith}
+use Rattle.std.proofs.Common.{◌≡◌, ◌≢◌, ℕ, ◌≤◌, zero, suc, Bool, true, false, ◌||◌, List, [], ◌∷◌, ◌++◌, length, set, slice_get, Option, Some, None, is_some, refl, sym, ap, ◌∙◌, subst, arith}
 use Rattle.std.specs.Prelude.{ℤ, pos, ◌≤ℤ◌, int_le}
 use Rattle.std.specs.Option.{option_and_then}
 use Rattle.std.proofs.lemmas.Int.{ints}
-use Rattle.std.proofs.lemmas.List.{length-set, get_or-set_other}
-use Rattle.std.proofs.lemmas.List.Elements.{All-push, All-take}
+use Rattle.std.proofs.lemmas.List.{length-append, length-set, get_or-set_other}
+use Rattle.std.proofs.lemmas.List.Elements.{All-push}
 use Rattle.std.proofs.lemmas.Option.{option_and_then_some, slice_get_within, slice_get_read, get_or_from_slice_get}
 use Rattle.cs_types.specs.declared.int_type.IntType.TheVariants.{Int}
 use Rattle.cs_types.specs.declared.structs.StructType.{StructType}
@@ -34,19 +34,16 @@ use Rattle.cs_consts.specs.Verdicts.{Verdict, Fine, lift}
 use Rattle.cs_consts.specs.Scopes.{newest}
 use Rattle.cs_consts.specs.Objects.{is_complete}
 use Rattle.cs_consts.specs.TypeNames.{whole_word, typedef_at, enum_at, tag_place, starred, complete_at}
-use Rattle.cs_declarations.specs.Known.{Known, table_of, declarations_of, with_table, with_reading, with_tag, declaring, is_declared_here, entered, left}
+use Rattle.cs_declarations.specs.Known.{Known, table_of, declarations_of, with_table, with_reading, with_tag, declaring, is_declared_here}
 use Rattle.cs_declarations.specs.Bodies.{Typing, empty_struct, with_struct, with_tagged_struct, tag_in, struct_named, word_type, Laying, nothing_laid, declarator_type, members_declared, with_members, is_int, Counting, constant_added, number_said, constant_declared, constants_declared, with_enum_tag, is_new_enum, enum_body, Opening, is_among, opened, opening_tagged, opening, name_or_none, Body, struct_read, group_declared, first_name, plain_row, row_type, members_read, plain_words, words_type, specs_type, typedef_added, typedefs_added}
 use Rattle.cs_declarations.specs.Objects.{count_given, object_type}
 use Rattle.cs_declarations.specs.Parameters.{Head, Passed, naming, is_free_name, with_parameter, parameter_passed, parameter_typed, parameters_behind, parameters_typed}
 use Rattle.cs_well_formed.specs.Expressions.{Setting, IsWhole}
-use Rattle.cs_well_formed.specs.Agreement.{IsThere, Agrees}
+use Rattle.cs_well_formed.specs.Agreement.{Keeps, IsThere, Agrees}
 use Rattle.cs_well_formed.specs.Leading.{Leads, AreVariables, WordsLead, TypedefsLead, ParametersLead, ObjectsAreWhole}
 use Rattle.cs_well_formed.proofs.Verdicts.{IfFine, if_fine-at, if_fine-any, if_fine-weaker, lift-then, cond-then, both_true}
 use Rattle.cs_well_formed.proofs.Objects.{complete-IsWhole}
-
--- a struct that has its members keeps them
-abbrev pub Keeps : List StructType → List StructType → Type 0
-Keeps one other = (number : ℕ) (members : List Member) → members_of one number ≡ Some members → members_of other number ≡ Some members
+use Rattle.cs_well_formed.proofs.Structs.{keeps-self, keeps-trans}
 
 -- a number that no struct with members has
 abbrev pub IsOpen : List StructType → ℕ → Type 0
@@ -63,16 +60,16 @@ found-set xs i j v x apart h =
     slice_get_read (set xs i v) (length xs) j x (sym (length-set xs i v)) within (sym (get_or-set_other xs i j v x apart ∙ get_or_from_slice_get xs j x x h))
 
 -- members in one table are those in another one that has the struct too
-kept : (one other : List StructType) → ((n : ℕ) (x : StructType) (members : List Member) → members_of one n ≡ Some members → slice_get one n ≡ Some x → slice_get other n ≡ Some x) → Keeps one other
+kept : (one other : List StructType) → ((n : ℕ) (x : StructType) → slice_get one n ≡ Some x → slice_get other n ≡ Some x) → (number : ℕ) (members : List Member) → members_of one number ≡ Some members → members_of other number ≡ Some members
 kept one other has number members h =
     option_and_then_some (λ (laid : StructType). laid.members) (slice_get one number) members h
-    (λ laid at is. ap (option_and_then (λ (x : StructType). x.members)) (has number laid members h at) ∙ is)
+    (λ laid at is. ap (option_and_then (λ (x : StructType). x.members)) (has number laid at) ∙ is)
 
 keeps-append : (table more : List StructType) → Keeps table (table ++ more)
-keeps-append table more = kept table (table ++ more) (λ n x members _ at. found-append table more n x at)
-
-keeps-set : (table : List StructType) (number : ℕ) (v : StructType) → IsOpen table number → Keeps table (set table number v)
-keeps-set table number v is_open = kept table (set table number v) (λ n x members has at. found-set table number n v x (is_open n members has) at)
+keeps-append table more = record {
+  members = kept table (table ++ more) (λ n x at. found-append table more n x at);
+  longer = let e = length-append table more in omega (arith, e);
+}
 
 -- a struct behind all others is open
 last-open : (table : List StructType) → IsOpen table (length table)
@@ -92,13 +89,13 @@ either-false false b h = h
 
 module _ (s : Setting) where
   leads-self : (k : Known) → Leads s k k
-  leads-self k = record { model = refl; literals = refl; table = λ _ _ h. h; declarations = λ h. h }
+  leads-self k = record { model = refl; literals = refl; table = keeps-self (table_of k); declarations = λ h. h }
 
   pub leads-trans : (k m n : Known) → Leads s k m → Leads s m n → Leads s k n
   leads-trans k m n h g = record {
     model = g.model ∙ h.model;
     literals = g.literals ∙ h.literals;
-    table = λ number members is. g.table number members (h.table number members is);
+    table = keeps-trans (table_of k) (table_of m) (table_of n) h.table g.table;
     declarations = λ there. g.declarations (h.declarations there);
   }
 
@@ -109,10 +106,10 @@ module _ (s : Setting) where
   leads-struct name k = leads-table k (table_of k ++ empty_struct name ∷ []) (keeps-append (table_of k) (empty_struct name ∷ []))
 
   leads-tag : (name : List ℕ) (meaning : TagMeaning) (k : Known) → Leads s k (with_tag name meaning k)
-  leads-tag name meaning k = record { model = refl; literals = refl; table = λ _ _ h. h; declarations = λ h. h }
+  leads-tag name meaning k = record { model = refl; literals = refl; table = keeps-self (table_of k); declarations = λ h. h }
 
   leads-reading : (reading : List ℕ) (k : Known) → Leads s k (with_reading reading k)
-  leads-reading reading k = record { model = refl; literals = refl; table = λ _ _ h. h; declarations = λ h. h }
+  leads-reading reading k = record { model = refl; literals = refl; table = keeps-self (table_of k); declarations = λ h. h }
 
   leads-tagged : (name : List ℕ) (k : Known) → Leads s k (with_tagged_struct name k)
   leads-tagged name k = leads-trans k (with_struct name k) (with_tagged_struct name k) (leads-struct name k) (leads-tag name (tag.Struct (length (table_of k))) (with_struct name k))
@@ -122,7 +119,7 @@ module _ (s : Setting) where
   leads-declaring name meaning k there = record {
     model = refl;
     literals = refl;
-    table = λ _ _ h. h;
+    table = keeps-self (table_of k);
     declarations = λ h. All-push (λ (d : Declaration). IsThere s d.meaning) (declarations_of k) (record { name = name; meaning = meaning }) h there;
   }
 
@@ -213,7 +210,7 @@ module _ (s : Setting) where
   leads-members k m number name before laying h is_open = record {
     model = h.model;
     literals = h.literals;
-    table = λ n members is. kept_there n members is (h.table n members is);
+    table = record { members = λ n members is. kept_there n members is (h.table.members n members is); longer = no_shorter };
     declarations = h.declarations;
   }
     where
@@ -221,6 +218,11 @@ module _ (s : Setting) where
       set_there v n members apart has =
           option_and_then_some (λ (laid : StructType). laid.members) (slice_get (table_of m) n) members has
           (λ laid at is. ap (option_and_then (λ (x : StructType). x.members)) (found-set (table_of m) number n v laid apart at) ∙ is)
+
+      no_shorter : length (table_of k) ≤ length (table_of (with_reading before (with_members number name laying m)))
+      no_shorter =
+          let same : length (table_of (with_reading before (with_members number name laying m))) ≡ length (table_of m) = length-set (table_of m) number _ in
+          omega (arith, same, h.table.longer)
 
       kept_there : (n : ℕ) (members : List Member) → members_of (table_of k) n ≡ Some members → members_of (table_of m) n ≡ Some members → members_of (table_of (with_reading before (with_members number name laying m))) n ≡ Some members
       kept_there n members is has = set_there _ n members (is_open n members is) has
@@ -346,25 +348,6 @@ module _ (s : Setting) where
   parameters_typed-leads k parameter_lists.Void same = λ _. leads-self s k
   parameters_typed-leads k (parameter_lists.List list) same =
       if_fine-weaker (HeadLeads (nothing_before k)) (λ head. AreVariables s head.variables → Leads s k head.known) _ (parameters_behind-leads list.items (nothing_before k) same) (λ head h. h.known)
-
--- what is known behind a part of a file agrees too, if its structs do
-pub Agrees-behind : (s : Setting) (k m : Known) → Leads s k m → Keeps (table_of m) s.program.table → Agrees s k.context → Agrees s m.context
-Agrees-behind s k m h keeps agrees = record { model = h.model ∙ agrees.model; table = keeps; declarations = h.declarations agrees.declarations }
-
--- and the structs before it do, if those behind it do
-pub Keeps-before : (s : Setting) (k m : Known) → Leads s k m → Keeps (table_of m) s.program.table → Keeps (table_of k) s.program.table
-Keeps-before s k m h keeps = λ number members is. keeps number members (h.table number members is)
-
--- in a new scope, and behind one that ends (C11 6.2.1, paragraph 4)
-pub Agrees-entered : (s : Setting) (k : Known) → Agrees s k.context → Agrees s (entered k).context
-Agrees-entered s k agrees = record { model = agrees.model; table = agrees.table; declarations = agrees.declarations }
-
-pub Agrees-left : (s : Setting) (before k : Known) → Agrees s k.context → Agrees s (left before k).context
-Agrees-left s before k agrees = record {
-  model = agrees.model;
-  table = agrees.table;
-  declarations = All-take (λ (d : Declaration). IsThere s d.meaning) (length (declarations_of before)) (declarations_of k) agrees.declarations;
-}
 
 -- the type of a declared object
 pub object_type-whole : (s : Setting) (c : Context) → Agrees s c → (base : Shape) (d : RawInit) → IfFine (object_type c base d) (IsWhole s.program)

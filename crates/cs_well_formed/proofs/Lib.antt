@@ -1,4 +1,7 @@
 pub mod Verdicts
+pub mod Structs
+pub mod Naming
+pub mod NamedTypes
 pub mod Numbers
 pub mod Constants
 pub mod Integers
@@ -17,3 +20,11 @@ pub mod Growth
 pub mod Tokens
 pub mod Leading
 pub mod Labels
+pub mod TextSizes
+pub mod LiteralsBehind
+pub mod FittingValues
+pub mod FittingObjects
+pub mod FittingTyping
+pub mod FittingDoors
+pub mod FittingInitials
+pub mod FittingDeclarations

@@ -84,7 +84,7 @@ cond_some-holds : {A : Type 0} (P : A → Type 0) (t : Bool) (x : A) → P x →
 cond_some-holds P true x h = h
 cond_some-holds P false x h = tt
 
-newest-holds : (P : Meaning → Type 0) (name : List ℕ) (ds : List Declaration) → AllByRecursion (λ (d : Declaration). P d.meaning) ds → IfSome (newest name ds) P
+pub newest-holds : (P : Meaning → Type 0) (name : List ℕ) (ds : List Declaration) → AllByRecursion (λ (d : Declaration). P d.meaning) ds → IfSome (newest name ds) P
 newest-holds P name [] h = tt
 newest-holds P name (d ∷ ds) h =
     option_or-some P (newest name ds) _ (newest-holds P name ds h.1) (cond_some-holds P (pointwise nat_eq d.name name) d.meaning h.0)

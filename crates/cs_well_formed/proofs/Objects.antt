@@ -27,7 +27,7 @@ module _ (s : Setting) (c : Context) (agrees : Agrees s c) where
   complete-IsWhole (struct number) h = by_members (members_of c.table.list number) refl h
     where
       by_members : (found : Option (List Member)) → members_of c.table.list number ≡ found → is_some found ≡ true → is_some (members_of s.program.table number) ≡ true
-      by_members (Some members) is there = ap is_some (agrees.table number members is)
+      by_members (Some members) is there = ap is_some (agrees.table.members number members is)
       by_members None is there = absurd cc
 
   load-well : (at : Place) (e : Typed) (ty : Shape) → IsWell s e → IsObject e → HasType e ty → is_array ty ≡ false → IfFine (cond (is_complete c.table.list ty) (Fine (Of at ty (Load e))) (Fault code.IncompleteType at)) (λ v. IsWell s v × IsValue v)

@@ -21,11 +21,13 @@ use Rattle.cs_consts.specs.declared.context.Context.{Context}
 use Rattle.cs_consts.specs.Integers.{type_of}
 use Rattle.cs_consts.specs.Objects.{is_scalar, is_complete}
 use Rattle.cs_consts.specs.Operators.{int_at, compared_pair, equated, ordered, moved, added, apart, subtracted, tested, denied, both_tested, combined, chosen_pair, alike, chosen, followed}
-use Rattle.cs_well_formed.specs.Expressions.{Setting, IsWell, IsValue, IsValueOf, IsScalar, IsScalarValue}
+use Rattle.cs_well_formed.specs.Structs.{NamesStructs}
+use Rattle.cs_well_formed.specs.Expressions.{Setting, TypesAroundAreNamed, IsWell, IsValue, IsValueOf, IsScalar, IsScalarValue}
 use Rattle.cs_well_formed.specs.Agreement.{Agrees}
 use Rattle.cs_well_formed.proofs.Verdicts.{IfFine, lift-then, cond-then, both_true}
 use Rattle.cs_well_formed.proofs.Integers.{in_type-well, integer-value, joined-well, shifted-well}
 use Rattle.cs_well_formed.proofs.Objects.{complete-IsWhole}
+use Rattle.cs_well_formed.proofs.Naming.{type_of-named}
 use Rattle.cs_well_formed.proofs.Conversions.{AreMet, met-well}
 
 scalar-true : (ty : Shape) → is_scalar ty ≡ true → IsScalar ty
@@ -67,10 +69,10 @@ module _ (s : Setting) where
       (λ h. let both = both_true (is_scalar (type_of left)) (is_scalar (type_of right)) h in well (v, scalar-true (type_of left) both.0) (v', scalar-true (type_of right) both.1))
       (λ _. tt)
 
-  equated-well : (model : DataModel) (op : CmpOp) (at : Place) (left right : Typed) → IsWell s left → IsValue left → IsWell s right → IsValue right → IfFine (equated model op at left right) (IsWell s)
+  equated-well : (model : DataModel) (op : CmpOp) (at : Place) (left right : Typed) → TypesAroundAreNamed s → IsWell s left → IsValue left → IsWell s right → IsValue right → IfFine (equated model op at left right) (IsWell s)
   unfolding equated
-  equated-well model op at left right w v w' v' =
-      lift-then (AreMet s) (IsWell s) (compared_pair op at) _ (met-well s model at left right (type_of left) (type_of right) w (v, refl) w' (v', refl))
+  equated-well model op at left right types w v w' v' =
+      lift-then (AreMet s) (IsWell s) (compared_pair op at) _ (met-well s model at left right (type_of left) (type_of right) (type_of-named s types left w) (type_of-named s types right w') w (v, refl) w' (v', refl))
       (λ pair both. (both.left, both.right, refl, both.scalar, both.same))
 
   ordered-well : (model : DataModel) (op : CmpOp) (at : Place) (left right : Typed) (t u : Shape) → IsWell s left → IsValueOf left t → IsWell s right → IsValueOf right u → IfFine (ordered model op at left right t u) (IsWell s)
@@ -86,12 +88,13 @@ module _ (s : Setting) where
   ordered-well model op at left right t u w v w' v' = tt
 
   -- a choice between two values
-  pub chosen-well : (model : DataModel) (at : Place) (test one other : Typed) (t u : Shape) → IsWell s test → IsScalarValue test → IsWell s one → IsValueOf one t → IsWell s other → IsValueOf other u → IfFine (chosen model at test one other t u) (IsWell s)
+  pub chosen-well : (model : DataModel) (at : Place) (test one other : Typed) (t u : Shape) → NamesStructs s.program.table t → NamesStructs s.program.table u → IsWell s test → IsScalarValue test → IsWell s one → IsValueOf one t →
+      IsWell s other → IsValueOf other u → IfFine (chosen model at test one other t u) (IsWell s)
   unfolding chosen
-  chosen-well model at test one other t u tells scalar w v w' v' =
+  chosen-well model at test one other t u names names' tells scalar w v w' v' =
       cond-then (IsWell s) (alike t u) _ _
       (λ h. (tells, w, w', scalar, v, (v'.0, v'.1 ∙ sym (alike-true t u h))))
-      (λ _. lift-then (AreMet s) (IsWell s) (chosen_pair at test) _ (met-well s model at one other t u w v w' v')
+      (λ _. lift-then (AreMet s) (IsWell s) (chosen_pair at test) _ (met-well s model at one other t u names names' w v w' v')
       (λ pair both. (tells, both.left, both.right, scalar, (both.scalar.0, refl), both.same)))
 
   pub followed-well : (at : Place) (first second : Typed) → IsWell s first → IsValue first → IsWell s second → IsValue second → IfFine (followed at first second) (IsWell s)
@@ -137,8 +140,8 @@ module _ (s : Setting) (c : Context) (agrees : Agrees s c) where
   combined-well infix_op.BitOr at left right w v w' v' = joined-well s c.model at bin.Or left right (type_of left) (type_of right) w (v, refl) w' (v', refl)
   combined-well infix_op.BitXor at left right w v w' v' = joined-well s c.model at bin.Xor left right (type_of left) (type_of right) w (v, refl) w' (v', refl)
   combined-well infix_op.BitAnd at left right w v w' v' = joined-well s c.model at bin.And left right (type_of left) (type_of right) w (v, refl) w' (v', refl)
-  combined-well infix_op.Equal at left right w v w' v' = equated-well s c.model cmp.Equal at left right w v w' v'
-  combined-well infix_op.Differs at left right w v w' v' = equated-well s c.model cmp.Differs at left right w v w' v'
+  combined-well infix_op.Equal at left right w v w' v' = equated-well s c.model cmp.Equal at left right agrees.types w v w' v'
+  combined-well infix_op.Differs at left right w v w' v' = equated-well s c.model cmp.Differs at left right agrees.types w v w' v'
   combined-well infix_op.Less at left right w v w' v' = ordered-well s c.model cmp.Less at left right (type_of left) (type_of right) w (v, refl) w' (v', refl)
   combined-well infix_op.AtMost at left right w v w' v' = ordered-well s c.model cmp.AtMost at left right (type_of left) (type_of right) w (v, refl) w' (v', refl)
   combined-well infix_op.More at left right w v w' v' = ordered-well s c.model cmp.More at left right (type_of left) (type_of right) w (v, refl) w' (v', refl)

@@ -58,7 +58,7 @@ module _ (s : Setting) (c : Context) (agrees : Agrees s c) where
       by_name : (members : List Member) → members_of c.table.list number ≡ Some members → (found : Option Member) → member_named name members ≡ found → IfFine (member_at at found) (λ m. HasMember s.program number m.offset m.ty)
       by_name members is (Some m) named =
           let among = named-among name members m named in
-          record { members = members; complete = agrees.table number members is; index = among.0; member = m; found = among.1; offset_is = refl; type_is = refl }
+          record { members = members; complete = agrees.table.members number members is; index = among.0; member = m; found = among.1; offset_is = refl; type_is = refl }
       by_name members is None named = tt
 
       by_members : (found : Option (List Member)) → members_of c.table.list number ≡ found → IfFine (member_found at name found) (λ m. HasMember s.program number m.offset m.ty)

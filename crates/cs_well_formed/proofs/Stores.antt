@@ -19,12 +19,14 @@ use Rattle.cs_consts.specs.Scalars.{has_few_scalars}
 use Rattle.cs_consts.specs.Conversions.{converted}
 use Rattle.cs_consts.specs.Stores.{is_stored_to, assignable, assigned, is_additive, updatable_as, updatable, works_in, taken_in, updated, one_in, stepped}
 use Rattle.cs_consts.specs.Typing.{is_plain, operator_of, left_side, stored}
-use Rattle.cs_well_formed.specs.Expressions.{Setting, IsWell, IsObject, IsValue, IsValueOf, HasType, IsWhole, IsHeld, IsRight}
+use Rattle.cs_well_formed.specs.Structs.{NamesStructs}
+use Rattle.cs_well_formed.specs.Expressions.{Setting, TypesAroundAreNamed, IsWell, IsObject, IsValue, IsValueOf, HasType, IsWhole, IsHeld, IsRight}
 use Rattle.cs_well_formed.specs.Agreement.{Agrees}
 use Rattle.cs_well_formed.proofs.Verdicts.{IfFine, lift-then, cond-then, both_true, not_false, not_true}
 use Rattle.cs_well_formed.proofs.Numbers.{small-InRange}
 use Rattle.cs_well_formed.proofs.Integers.{in_type-well, integer-value, value-IsRight}
 use Rattle.cs_well_formed.proofs.Objects.{complete-IsWhole}
+use Rattle.cs_well_formed.proofs.Naming.{type_of-named}
 use Rattle.cs_well_formed.proofs.Conversions.{converted-well}
 
 -- an object that may be updated: where it is a pointer, what it points to is whole
@@ -43,6 +45,11 @@ pub record IsAssigned (s : Setting) (e : Typed) : Type 0 where
 abbrev pub IsLeft : Setting → Bool → Typed → Type 0
 IsLeft s true e = IsAssigned s e
 IsLeft s false e = IsUpdated s e
+
+-- its type names structs
+pub left-named : (s : Setting) (plain : Bool) (e : Typed) → TypesAroundAreNamed s → IsLeft s plain e → NamesStructs s.program.table (type_of e)
+left-named s true e types h = type_of-named s types e h.well
+left-named s false e types h = type_of-named s types e h.well
 
 -- a right operand is one of its operator in the type that the operator works in
 taken-IsRight : (model : DataModel) (op : BinOp) (t u : IntType) (e : Typed) → IsValueOf e (integer (taken_in model op t u)) → IsRight op (integer (works_in model op t u)) e
@@ -73,10 +80,11 @@ module _ (s : Setting) where
       (left.well, well, left.object, (target, refl, left.elements target is), is, (v.0, (u, v.1)))
   updated-well model op at object value t u left is well v = tt
 
-  assigned-well : (model : DataModel) (at : Place) (object value : Typed) → IsAssigned s object → IsWell s value → IsValue value → IfFine (lift (assigned at object) (converted model at value (type_of object) (type_of value))) (IsWell s)
-  assigned-well model at object value left well v =
+  assigned-well : (model : DataModel) (at : Place) (object value : Typed) → NamesStructs s.program.table (type_of object) → IsAssigned s object → IsWell s value → IsValue value →
+      IfFine (lift (assigned at object) (converted model at value (type_of object) (type_of value))) (IsWell s)
+  assigned-well model at object value names left well v =
       lift-then (λ r. IsWell s r × IsValueOf r (type_of object)) (IsWell s) (assigned at object) _
-      (converted-well s model at value (type_of object) (type_of value) well (v, refl))
+      (converted-well s model at value (type_of object) (type_of value) names well (v, refl))
       (λ r given. (left.well, given.0, left.object, refl, given.1, left.held))
 
 module _ (s : Setting) (c : Context) (agrees : Agrees s c) where
@@ -128,5 +136,5 @@ module _ (s : Setting) (c : Context) (agrees : Agrees s c) where
   stored-well op at object value left well v = by_plain (is_plain op) left
     where
       by_plain : (plain : Bool) → IsLeft s plain object → IfFine (cond plain (lift (assigned at object) (converted c.model at value (type_of object) (type_of value))) (updated c.model (operator_of op) at object value (type_of object) (type_of value))) (IsWell s)
-      by_plain true left = assigned-well s c.model at object value left well v
+      by_plain true left = assigned-well s c.model at object value (type_of-named s agrees.types object left.well) left well v
       by_plain false left = updated-well s c.model (operator_of op) at object value (type_of object) (type_of value) left refl well (v, refl)

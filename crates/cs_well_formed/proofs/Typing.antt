@@ -1,5 +1,5 @@
 -- What the typing of an expression gives is well formed, by the productions of its tree.
-use Rattle.std.proofs.Common.{◌≡◌, ℕ, suc, true, false, List, [], ◌∷◌, length, Option, Some, None, refl, subst, arith}
+use Rattle.std.proofs.Common.{◌≡◌, ℕ, suc, Bool, true, false, cond, List, [], ◌∷◌, length, Option, Some, None, refl, subst, arith}
 use Rattle.std.specs.Prelude.{ℤ, pos}
 use Rattle.cs_types.specs.declared.int_type.IntType.TheVariants.{Int}
 use Rattle.cs_types.specs.IntType.{InRange}
@@ -8,16 +8,18 @@ use Rattle.cs_ast.specs.declared.place.Place.{Place}
 use Rattle.cs_ast.specs.declared.token.IntegerConstant.{IntegerConstant}
 use Rattle.cs_ast.specs.declared.raw.expression.RawExprKind.{RawExprKind, Row_of-RawExpr, end_of-RawExpr, more_of-RawExpr}
 use Rattle.cs_ast.specs.declared.raw.expression.RawExprKind.TheVariants as kind
+use Rattle.cs_ast.specs.declared.raw.operator.AssignOp.{AssignOp}
 use Rattle.cs_ast.specs.declared.raw.operator.InfixOp.{InfixOp}
 use Rattle.cs_ast.specs.declared.raw.operator.PrefixOp.{PrefixOp}
 use Rattle.cs_ast.specs.declared.raw.operator.PrefixOp.TheVariants as prefix_op
 use Rattle.cs_ast.specs.declared.typed.operator.UnOp.TheVariants as un
 use Rattle.cs_ast.specs.declared.typed.operator.Gives.TheVariants.{Old, New}
+use Rattle.cs_ast.specs.declared.raw.written_type.WrittenType.{WrittenType}
 use Rattle.cs_ast.specs.RawView.{written_kind, written_row}
 use Rattle.cs_ast.specs.TypedTree.{Typed, Number, TypedList, NoMore}
 use Rattle.cs_consts.specs.declared.context.Context.{Context}
 use Rattle.cs_consts.specs.declared.purpose.Purpose.{Purpose}
-use Rattle.cs_consts.specs.Verdicts.{Verdict, lift, lift2}
+use Rattle.cs_consts.specs.Verdicts.{Verdict, Fine, Fault, lift, lift2}
 use Rattle.cs_consts.specs.Integers.{type_of, raised}
 use Rattle.cs_consts.specs.Objects.{is_void, valued, operand, measured}
 use Rattle.cs_consts.specs.Constants.{finished}
@@ -27,7 +29,8 @@ use Rattle.cs_consts.specs.Places.{selected}
 use Rattle.cs_consts.specs.Stores.{updatable, step_operator}
 use Rattle.cs_consts.specs.Scopes.{newest}
 use Rattle.cs_consts.specs.Calls.{called, parameters_of}
-use Rattle.cs_consts.specs.Typing.{Literals, literals_behind, literals_behind_row, row_length, constant_type, done, value_in, operand_in, purpose_if, purpose_behind, is_address, prefixed_value, prefixed, indexed_values, arrow_on, stepped_object, is_plain, left_side, stored, right_target, cast_type, given_shape, cast_operand, cast_to, chosen_values, measured_type, measured_arrays, base_in, further, formed, arguments_formed}
+use Rattle.cs_consts.specs.Typing.{Literals, literals_behind, literals_behind_row, row_length, constant_type, done, value_in, operand_in, purpose_if, purpose_behind, is_address, prefixed_value, prefixed, indexed_values, arrow_on, stepped_object, is_plain, left_side, stored, type_in, right_target, cast_type, given_shape, cast_operand, cast_to, chosen_values, measured_type, measured_arrays, base_in, further, formed, arguments_formed}
+use Rattle.cs_well_formed.specs.Structs.{NamesStructs}
 use Rattle.cs_well_formed.specs.Expressions.{Setting, IsWell, IsWellForm, IsValue, IsScalarValue}
 use Rattle.cs_ast.specs.HeldTokens.{IsHeldConstant}
 use Rattle.cs_well_formed.specs.Constants.{HasConstants, HaveConstants}
@@ -40,9 +43,13 @@ use Rattle.cs_well_formed.proofs.Objects.{valued-well, operand-well, measured-we
 use Rattle.cs_well_formed.proofs.Conversions.{recast-well}
 use Rattle.cs_well_formed.proofs.Operators.{tested-well, denied-well, chosen-well, followed-well, combined-well}
 use Rattle.cs_well_formed.proofs.Places.{address_of-well, through-well, indexed-well, selected-well, selected_through-well}
-use Rattle.cs_well_formed.proofs.Stores.{IsUpdated, IsLeft, stepped-well, updatable-well, left_side-well, stored-well}
+use Rattle.cs_well_formed.proofs.Stores.{IsUpdated, IsLeft, stepped-well, updatable-well, left-named, left_side-well, stored-well}
+use Rattle.cs_well_formed.specs.Laws.{TargetNames}
+use Rattle.cs_well_formed.proofs.Structs.{names-longer, AreNamed}
+use Rattle.cs_well_formed.proofs.Naming.{type_of-named}
+use Rattle.cs_well_formed.proofs.NamedTypes.{cast_type-named, given_shape-named}
 use Rattle.cs_well_formed.proofs.Names.{first-part, literals-begin, literals-begin_row, text-well, newest-there, called-there, named-well}
-use Rattle.cs_well_formed.proofs.Calls.{AreGiven, call-well}
+use Rattle.cs_well_formed.proofs.Calls.{AreGiven, parameters_of-named, call-well}
 
 -- a well-formed value
 abbrev pub IsWellValue : Setting → Typed → Type 0
@@ -91,11 +98,26 @@ module _ (s : Setting) (c : Context) (agrees : Agrees s c) where
   unfolding cast_operand
   cast_operand-well target e well = cond-then (IsWellValue s) (is_void target) _ _ (λ _. valued-well s c agrees e well) (λ _. operand-well s c agrees e well)
 
-  cast_to-well : (at : Place) (target : Shape) (e : Typed) → IsWell s e → IfFine (cast_to c at target e) (IsWell s)
+  -- the type of a cast
+  given_named : (at : Place) (count : ℕ) (ty : WrittenType) → IfFine (cast_type at count (base_in c at ty)) (NamesStructs s.program.table)
+  given_named at count ty =
+      if_fine-weaker (NamesStructs c.table.list) (NamesStructs s.program.table) (cast_type at count (base_in c at ty)) (cast_type-named c agrees.named at count ty)
+      (λ shape n. names-longer c.table.list s.program.table agrees.table.longer shape n)
+
+  cast_to-well : (at : Place) (target : Shape) (e : Typed) → NamesStructs s.program.table target → IsWell s e → IfFine (cast_to c at target e) (IsWell s)
   unfolding cast_to
-  cast_to-well at target e well =
+  cast_to-well at target e names well =
       lift-then (IsWellValue s) (IsWell s) (λ v. recast c.model at v target (type_of v)) (cast_operand c target e) (cast_operand-well target e well)
-      (λ v held. recast-well s c.model at v target (type_of v) held.0 (held.1, refl))
+      (λ v held. recast-well s c.model at v target (type_of v) names held.0 (held.1, refl))
+
+  -- the type to which the right side of an operator that stores goes
+  right_named : (op : AssignOp) (v : Verdict Typed) → IfFine v (IsLeft s (is_plain op)) → TargetNames s (right_target op v)
+  right_named op v left = by_plain (is_plain op) v left
+    where
+      by_plain : (plain : Bool) (v : Verdict Typed) → IfFine v (IsLeft s plain) → TargetNames s (cond plain (type_in v) None)
+      by_plain true (Fine e) h = left-named s true e agrees.types h
+      by_plain true (Fault code place) h = tt
+      by_plain false v h = tt
 
   -- a step
   step-well : (op : _) (gives : _) (at : Place) (v : Verdict Typed) → IfFine v (IsWell s) → IfFine (lift (stepped_object c op gives at) (lift (updatable c.table.list op at) v)) (IsWell s)
@@ -128,83 +150,89 @@ module _ (s : Setting) (c : Context) (agrees : Agrees s c) where
 
   mutual
     -- an expression, for any purpose and any target
-    pub formed-well : (purpose : Purpose) (literals : Literals) (target : Option Shape) (at : Place) (k : RawExprKind) → HasConstants (written_kind k) → AreFirst s.program (literals_behind literals k) → IfFine (formed c purpose literals target at k) (IsWell s)
-    formed-well purpose literals target at (kind.Name name) fit texts = named-well s at (newest name c.scope.declarations) (newest-there s c agrees name)
-    formed-well purpose literals target at (kind.Number k) fit texts = number-well k fit
-    formed-well purpose literals target at (kind.Character n) fit texts = (Int, refl, character-InRange s.program.model n fit)
-    formed-well purpose literals target at (kind.Text bytes) fit texts = text-well s literals at bytes texts
-    formed-well purpose literals target at (kind.Parenthesis' p place inner) fit texts = done-well purpose _ (formed-well purpose literals target place inner fit texts)
-    formed-well purpose literals target at (kind.Index' p place left q place' right) fit texts =
+    pub formed-well : (purpose : Purpose) (literals : Literals) (target : Option Shape) → TargetNames s target → (at : Place) (k : RawExprKind) → HasConstants (written_kind k) → AreFirst s.program (literals_behind literals k) →
+        IfFine (formed c purpose literals target at k) (IsWell s)
+    formed-well purpose literals target names at (kind.Name name) fit texts = named-well s at (newest name c.scope.declarations) (newest-there s c agrees name)
+    formed-well purpose literals target names at (kind.Number k) fit texts = number-well k fit
+    formed-well purpose literals target names at (kind.Character n) fit texts = (Int, refl, character-InRange s.program.model n fit)
+    formed-well purpose literals target names at (kind.Text bytes) fit texts = text-well s literals at bytes texts
+    formed-well purpose literals target names at (kind.Parenthesis' p place inner) fit texts = done-well purpose _ (formed-well purpose literals target names place inner fit texts)
+    formed-well purpose literals target names at (kind.Index' p place left q place' right) fit texts =
         lift2-then (IsWellValue s) (IsWellValue s) (IsWell s) (indexed_values c at) _ _
-        (operand_in-well purpose _ (formed-well purpose literals None place left fit.0 (both-first s literals left right texts)))
-        (operand_in-well purpose _ (formed-well purpose (literals_behind literals left) None place' right fit.1 texts))
+        (operand_in-well purpose _ (formed-well purpose literals None tt place left fit.0 (both-first s literals left right texts)))
+        (operand_in-well purpose _ (formed-well purpose (literals_behind literals left) None tt place' right fit.1 texts))
         (λ a b h k. indexed-well s c agrees at a b (type_of a) (type_of b) h.0 (h.1, refl) k.0 (k.1, refl))
-    formed-well purpose literals target at (kind.Call' p place function shape row) fit texts =
+    formed-well purpose literals target names at (kind.Call' p place function shape row) fit texts =
         call-well s c at target (called c.scope.declarations function) (row_length row)
         (operand_in c purpose (formed c purpose literals None place function))
         (arguments_formed c purpose literals (parameters_of (called c.scope.declarations function)) row)
-        (called-there s c agrees function)
-        (arguments-given purpose literals (parameters_of (called c.scope.declarations function)) row fit.1 texts)
-    formed-well purpose literals target at (kind.Member' p place object name) fit texts =
+        names agrees.types.program (called-there s c agrees function)
+        (arguments-given purpose literals (parameters_of (called c.scope.declarations function)) (parameters_of-named s.program agrees.types.program (called c.scope.declarations function) (called-there s c agrees function)) row fit.1 texts)
+    formed-well purpose literals target names at (kind.Member' p place object name) fit texts =
         lift-then (IsWell s) (IsWell s) (selected c.table.list at name.place name.name) _
-        (done-well purpose _ (formed-well purpose literals None place object fit texts))
+        (done-well purpose _ (formed-well purpose literals None tt place object fit texts))
         (λ e h. selected-well s c agrees at name.place name.name e h)
-    formed-well purpose literals target at (kind.Arrow' p place e name) fit texts =
+    formed-well purpose literals target names at (kind.Arrow' p place e name) fit texts =
         lift-then (IsWellValue s) (IsWell s) (arrow_on c at name.place name.name) _
-        (operand_in-well purpose _ (formed-well purpose literals None place e fit texts))
+        (operand_in-well purpose _ (formed-well purpose literals None tt place e fit texts))
         (λ v h. selected_through-well s c agrees at name.place name.name v (type_of v) h.0 (h.1, refl))
-    formed-well purpose literals target at (kind.StepBehind' step p place object) fit texts =
-        step-well (step_operator step) Old at _ (done-well purpose _ (formed-well purpose literals None place object fit texts))
-    formed-well purpose literals target at (kind.StepBefore' step p place object) fit texts =
-        step-well (step_operator step) New at _ (done-well purpose _ (formed-well purpose literals None place object fit texts))
-    formed-well purpose literals target at (kind.Prefix' operator p place e) fit texts =
-        lift-then (IsWell s) (IsWell s) (prefixed c operator at) _ (done-well purpose _ (formed-well purpose literals None place e fit texts)) (prefixed-well operator at)
-    formed-well purpose literals target at (kind.SizeOf' p place e) fit texts = sized-well at _
-    formed-well purpose literals target at (kind.SizeOfType' ty shape row) fit texts = sized_type-well at _ _
-    formed-well purpose literals target at (kind.Cast' ty shape row p place e) fit texts =
-        lift2-then (λ _. Unit {0}) (IsWell s) (IsWell s) (cast_to c at) _ _
-        (if_fine-any (cast_type at (row_length row) (base_in c at ty)))
-        (done-well purpose _ (formed-well purpose literals (given_shape (cast_type at (row_length row) (base_in c at ty))) place e fit.1 texts))
-        (λ to v _ h. cast_to-well at to v h)
-    formed-well purpose literals target at (kind.Infix' operator p place left q place' right) fit texts =
+    formed-well purpose literals target names at (kind.StepBehind' step p place object) fit texts =
+        step-well (step_operator step) Old at _ (done-well purpose _ (formed-well purpose literals None tt place object fit texts))
+    formed-well purpose literals target names at (kind.StepBefore' step p place object) fit texts =
+        step-well (step_operator step) New at _ (done-well purpose _ (formed-well purpose literals None tt place object fit texts))
+    formed-well purpose literals target names at (kind.Prefix' operator p place e) fit texts =
+        lift-then (IsWell s) (IsWell s) (prefixed c operator at) _ (done-well purpose _ (formed-well purpose literals None tt place e fit texts)) (prefixed-well operator at)
+    formed-well purpose literals target names at (kind.SizeOf' p place e) fit texts = sized-well at _
+    formed-well purpose literals target names at (kind.SizeOfType' ty shape row) fit texts = sized_type-well at _ _
+    formed-well purpose literals target names at (kind.Cast' ty shape row p place e) fit texts =
+        let to = cast_type at (row_length row) (base_in c at ty) in
+        let given = given_named at (row_length row) ty in
+        let cast_names = given_shape-named (NamesStructs s.program.table) to given in
+        lift2-then (NamesStructs s.program.table) (IsWell s) (IsWell s) (cast_to c at) _ _ given
+        (done-well purpose _ (formed-well purpose literals (given_shape (cast_type at (row_length row) (base_in c at ty))) cast_names place e fit.1 texts))
+        (λ to v n h. cast_to-well at to v n h)
+    formed-well purpose literals target names at (kind.Infix' operator p place left q place' right) fit texts =
         let one = operand_in c purpose (formed c purpose literals None place left) in
         infix-well operator at _ _
-        (operand_in-well purpose _ (formed-well purpose literals None place left fit.0 (both-first s literals left right texts)))
-        (operand_in-well (purpose_behind operator purpose one) _ (formed-well (purpose_behind operator purpose one) (literals_behind literals left) None place' right fit.1 texts))
-    formed-well purpose literals target at (kind.Choice' p place test q place' one r place'' other) fit texts =
+        (operand_in-well purpose _ (formed-well purpose literals None tt place left fit.0 (both-first s literals left right texts)))
+        (operand_in-well (purpose_behind operator purpose one) _ (formed-well (purpose_behind operator purpose one) (literals_behind literals left) None tt place' right fit.1 texts))
+    formed-well purpose literals target names at (kind.Choice' p place test q place' one r place'' other) fit texts =
         let tells = lift (tested at) (operand_in c purpose (formed c purpose literals None place test)) in
         let behind = literals_behind literals test in
         let before = both-first s behind one other texts in
         lift3-then (λ v. IsWell s v × IsScalarValue v) (IsWellValue s) (IsWellValue s) (IsWell s) (chosen_values c at) _ _ _
         (lift-then (IsWellValue s) (λ v. IsWell s v × IsScalarValue v) (tested at) _
-        (operand_in-well purpose _ (formed-well purpose literals None place test fit.0 (both-first s literals test one before)))
+        (operand_in-well purpose _ (formed-well purpose literals None tt place test fit.0 (both-first s literals test one before)))
         (λ v h. tested-well s at v h.0 h.1))
-        (value_in-well (purpose_if true purpose tells) _ (formed-well (purpose_if true purpose tells) behind None place' one fit.1 before))
-        (value_in-well (purpose_if false purpose tells) _ (formed-well (purpose_if false purpose tells) (literals_behind behind one) None place'' other fit.2 texts))
-        (λ t a b h k l. chosen-well s c.model at t a b (type_of a) (type_of b) h.0 h.1 k.0 (k.1, refl) l.0 (l.1, refl))
-    formed-well purpose literals target at (kind.Assign' operator p place object q place' value) fit texts =
+        (value_in-well (purpose_if true purpose tells) _ (formed-well (purpose_if true purpose tells) behind None tt place' one fit.1 before))
+        (value_in-well (purpose_if false purpose tells) _ (formed-well (purpose_if false purpose tells) (literals_behind behind one) None tt place'' other fit.2 texts))
+        (λ t a b h k l. chosen-well s c.model at t a b (type_of a) (type_of b) (type_of-named s agrees.types a k.0) (type_of-named s agrees.types b l.0) h.0 h.1 k.0 (k.1, refl) l.0 (l.1, refl))
+    formed-well purpose literals target names at (kind.Assign' operator p place object q place' value) fit texts =
         let left = lift (left_side c operator at) (done c purpose (formed c purpose literals None place object)) in
-        lift2-then (IsLeft s (is_plain operator)) (IsWellValue s) (IsWell s) (stored c operator at) _ _
-        (lift-then (IsWell s) (IsLeft s (is_plain operator)) (left_side c operator at) _
-        (done-well purpose _ (formed-well purpose literals None place object fit.0 (both-first s literals object value texts)))
-        (left_side-well s c agrees operator at))
-        (operand_in-well purpose _ (formed-well purpose (literals_behind literals object) (right_target operator left) place' value fit.1 texts))
+        let is_left =
+        lift-then (IsWell s) (IsLeft s (is_plain operator)) (left_side c operator at) _
+        (done-well purpose _ (formed-well purpose literals None tt place object fit.0 (both-first s literals object value texts)))
+        (left_side-well s c agrees operator at) in
+        let right_names = right_named operator left is_left in
+        lift2-then (IsLeft s (is_plain operator)) (IsWellValue s) (IsWell s) (stored c operator at) _ _ is_left
+        (operand_in-well purpose _ (formed-well purpose (literals_behind literals object) (right_target operator left) right_names place' value fit.1 texts))
         (λ o v h k. stored-well s c agrees operator at o v h k.0 k.1)
-    formed-well purpose literals target at (kind.Comma' p place first q place' second) fit texts =
+    formed-well purpose literals target names at (kind.Comma' p place first q place' second) fit texts =
         lift2-then (IsWellValue s) (IsWellValue s) (IsWell s) (followed at) _ _
-        (value_in-well purpose _ (formed-well purpose literals None place first fit.0 (both-first s literals first second texts)))
-        (value_in-well purpose _ (formed-well purpose (literals_behind literals first) None place' second fit.1 texts))
+        (value_in-well purpose _ (formed-well purpose literals None tt place first fit.0 (both-first s literals first second texts)))
+        (value_in-well purpose _ (formed-well purpose (literals_behind literals first) None tt place' second fit.1 texts))
         (λ a b h k. followed-well s at a b h.0 h.1 k.0 k.1)
 
     -- the values of arguments
-    pub arguments-given : (purpose : Purpose) (literals : Literals) (types : List Shape) {n : _} (row : Row_of-RawExpr n) → HaveConstants (written_row row) → AreFirst s.program (literals_behind_row literals row) → IfFine (arguments_formed c purpose literals types row) (λ vs. length types ≡ row_length row → AreGiven s types vs)
-    arguments-given purpose literals types end_of-RawExpr fit texts = none types
+    pub arguments-given : (purpose : Purpose) (literals : Literals) (types : List Shape) → AreNamed s.program.table types → {n : _} (row : Row_of-RawExpr n) → HaveConstants (written_row row) →
+        AreFirst s.program (literals_behind_row literals row) → IfFine (arguments_formed c purpose literals types row) (λ vs. length types ≡ row_length row → AreGiven s types vs)
+    arguments-given purpose literals types names end_of-RawExpr fit texts = none types
       where
         none : (types : List Shape) → length types ≡ 0 → AreGiven s types NoMore
         none [] h = tt
         none (ty ∷ types) h = absurd (omega arith)
-    arguments-given purpose literals [] (more_of-RawExpr place k rest) fit texts = λ h. absurd (omega (arith, h))
-    arguments-given purpose literals (ty ∷ types) (more_of-RawExpr place k rest) fit texts =
+    arguments-given purpose literals [] names (more_of-RawExpr place k rest) fit texts = λ h. absurd (omega (arith, h))
+    arguments-given purpose literals (ty ∷ types) names (more_of-RawExpr place k rest) fit texts =
         further-given ty types (row_length rest) _ _
-        (operand_in-well purpose _ (formed-well purpose literals (Some ty) place k fit.0 (first-part s.program (literals_behind literals k) _ (literals-begin_row (literals_behind literals k) rest) texts)))
-        (arguments-given purpose (literals_behind literals k) types rest fit.1 texts)
+        (operand_in-well purpose _ (formed-well purpose literals (Some ty) names.0 place k fit.0 (first-part s.program (literals_behind literals k) _ (literals-begin_row (literals_behind literals k) rest) texts)))
+        (arguments-given purpose (literals_behind literals k) types names.1 rest fit.1 texts)

@@ -1,7 +1,8 @@
 -- What is known where an expression is typed, and what is there in the program of which it becomes a part.
-use Rattle.std.specs.Prelude.{◌≡◌, ℕ, List, [], ◌∷◌, ◌++◌, Some, slice_get}
+use Rattle.std.specs.Prelude.{◌≡◌, ℕ, ◌≤◌, List, [], ◌∷◌, ◌++◌, length, Some, slice_get}
 use Rattle.std.specs.List.{All}
 use Rattle.cs_types.specs.declared.int_type.IntType.TheVariants.{Int}
+use Rattle.cs_types.specs.declared.structs.StructType.{StructType}
 use Rattle.cs_types.specs.IntType.{InRange}
 use Rattle.cs_types.specs.Members.{Member}
 use Rattle.cs_types.specs.Layout.{members_of}
@@ -10,11 +11,30 @@ use Rattle.cs_ast.specs.declared.typed.operator.Allocator.{Allocator}
 use Rattle.cs_ast.specs.declared.typed.operator.Allocator.TheVariants as allocator
 use Rattle.cs_ast.specs.TypedProgram.{TypedProgram, Variable, FileObject, Routine}
 use Rattle.cs_consts.specs.declared.context.Context.{Context}
+use Rattle.cs_consts.specs.declared.scope.Tag.{Tag}
 use Rattle.cs_consts.specs.declared.scope.Callee.{Callee}
 use Rattle.cs_consts.specs.declared.scope.Callee.TheVariants.{Malloc, Calloc, Free, Numbered}
 use Rattle.cs_consts.specs.Meanings.{Signature, Meaning, Typedef, Constant, Global, Local, Function, Declaration}
 use Rattle.cs_consts.specs.Typing.{Literals}
-use Rattle.cs_well_formed.specs.Expressions.{Setting, parameter_types, sizes_of}
+use Rattle.cs_declarations.specs.LaidOut.{IsOfTable}
+use Rattle.cs_well_formed.specs.Structs.{NamesStructs, StructsName}
+use Rattle.cs_well_formed.specs.Expressions.{Setting, TypesAroundAreNamed, parameter_types, sizes_of}
+
+-- structs that have their members in one table keep them in the other, and none is gone
+pub record Keeps (one other : List StructType) : Type 0 where
+  pub members : (number : ℕ) (members : List Member) → members_of one number ≡ Some members → members_of other number ≡ Some members
+  pub longer : length one ≤ length other
+
+-- the type of a typedef names structs of the table
+abbrev pub IsNamed : List StructType → Meaning → Type 0
+IsNamed table (Typedef ty) = NamesStructs table ty
+IsNamed table other = Unit {0}
+
+-- the types that can be written where this is known name structs of its table: by typedefs, by tags, and by the members of structs
+pub record KnownTypesAreNamed (c : Context) : Type 0 where
+  pub declarations : All (λ (d : Declaration). IsNamed c.table.list d.meaning) c.scope.declarations
+  pub tags : All (λ (t : Tag). IsOfTable c.table.list t.meaning) c.scope.tags
+  pub members : StructsName c.table.list c.table.list
 
 -- a function that gives a block of memory, with the types that C11 7.22.3 gives it
 abbrev pub IsAllocator : TypedProgram → Allocator → Signature → Type 0
@@ -40,11 +60,13 @@ IsThere s (Local number ty) = (v : Variable) × (slice_get s.variables number �
 IsThere s (Function f) = IsFunction s.program f.callee f
 
 -- what is known where an expression is typed holds in the program: its data model, the structs that have their members by now,
--- and the declarations in force
+-- and the declarations in force; types that are written there, or declared around it, name structs
 pub record Agrees (s : Setting) (c : Context) : Type 0 where
   pub model : c.model ≡ s.program.model
-  pub table : (number : ℕ) (members : List Member) → members_of c.table.list number ≡ Some members → members_of s.program.table number ≡ Some members
+  pub table : Keeps c.table.list s.program.table
   pub declarations : All (λ (d : Declaration). IsThere s d.meaning) c.scope.declarations
+  pub named : KnownTypesAreNamed c
+  pub types : TypesAroundAreNamed s
 
 -- these literals are the first ones of the program
 abbrev pub AreFirst : TypedProgram → Literals → Type 0

@@ -17,6 +17,7 @@ use Rattle.cs_ast.specs.TypedProgram.{TypedProgram, Variable, FileObject, Routin
 use Rattle.cs_consts.specs.Objects.{is_object, is_void, is_array, is_complete}
 use Rattle.cs_consts.specs.Integers.{type_of, form_of}
 use Rattle.cs_consts.specs.Calls.{block_of}
+use Rattle.cs_well_formed.specs.Structs.{NamesStructs, VariablesName, TypesAreNamed}
 
 -- where expressions stand: in a program, in a function with these parameters and locals and so many labels, with this result
 pub record Setting : Type 0 where
@@ -24,6 +25,12 @@ pub record Setting : Type 0 where
   pub variables : List Variable
   pub labels : ℕ
   pub returns : Shape
+
+-- the declared types around an expression name structs of the program
+pub record TypesAroundAreNamed (s : Setting) : Type 0 where
+  pub program : TypesAreNamed s.program
+  pub variables : VariablesName s.program.table s.variables
+  pub returns : NamesStructs s.program.table s.returns
 
 -- an expression that names an object, and one that is a value
 abbrev pub IsObject : Typed → Type 0
@@ -115,7 +122,7 @@ abbrev mutual
 
   pub IsWellForm : Setting → Shape → Form → Type 0
   IsWellForm s ty (Number n) = (kind : IntType) × (ty ≡ integer kind) × InRange s.program.model kind n
-  IsWellForm s ty Null = IsPointer ty
+  IsWellForm s ty Null = IsPointer ty × NamesStructs s.program.table ty
   IsWellForm s ty (Text number) = (bytes : List ℕ) × (slice_get s.program.literals number ≡ Some bytes) × (ty ≡ array (integer Char) (length bytes + 1))
   IsWellForm s ty (Local number) = (v : Variable) × (slice_get s.variables number ≡ Some v) × (v.ty ≡ ty)
   IsWellForm s ty (Global number) = (g : FileObject) × (slice_get s.program.globals number ≡ Some g) × (g.ty ≡ ty)
@@ -145,7 +152,7 @@ abbrev mutual
       IsWell s object × IsWell s amount × IsObject object × IsElementPointer s.program ty × HasType object ty × IsIntegerValue amount
   IsWellForm s ty (Call number arguments) = AreWell s arguments × IsCalled s.program number arguments ty
   IsWellForm s ty (Allocate allocator arguments element) =
-      AreWell s arguments × AreValuesOf arguments (sizes_of s.program.model allocator) × (target : Shape) × (ty ≡ pointer target) × (element ≡ block_of target)
+      AreWell s arguments × AreValuesOf arguments (sizes_of s.program.model allocator) × (target : Shape) × (ty ≡ pointer target) × (element ≡ block_of target) × NamesStructs s.program.table ty
   IsWellForm s ty (Free e) = IsWell s e × (ty ≡ void) × IsValueOf e (pointer void)
 
   -- the same of expressions in a row

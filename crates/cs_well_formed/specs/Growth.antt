@@ -1,21 +1,19 @@
 -- A program that grows: what it has by now, it has behind each further part of a file.
 use Rattle.std.specs.Prelude.{◌≡◌, ℕ, ◌≤◌, List, Some, slice_get}
-use Rattle.cs_types.specs.Layout.{members_of}
-use Rattle.cs_types.specs.Members.{Member}
 use Rattle.cs_types.specs.Shape.{Shape}
 use Rattle.cs_ast.specs.TypedTree.{Typed, Initial, Statement}
 use Rattle.cs_ast.specs.TypedProgram.{TypedProgram, Variable, FileObject, Routine}
 use Rattle.cs_consts.specs.declared.context.Context.{Context}
-use Rattle.cs_well_formed.specs.Expressions.{Setting, IsWell, parameter_types}
+use Rattle.cs_well_formed.specs.Expressions.{Setting, TypesAroundAreNamed, IsWell, parameter_types}
 use Rattle.cs_well_formed.specs.Initials.{IsWellInitial}
 use Rattle.cs_well_formed.specs.Statements.{IsWellStatement}
 use Rattle.cs_well_formed.specs.Programs.{IsWellGlobal, IsWellRoutine}
-use Rattle.cs_well_formed.specs.Agreement.{Agrees}
+use Rattle.cs_well_formed.specs.Agreement.{Keeps, Agrees}
 
 -- what the one program has, the other has too, with the same types
 pub record Extends (p q : TypedProgram) : Type 0 where
   pub model : p.model ≡ q.model
-  pub table : (number : ℕ) (members : List Member) → members_of p.table number ≡ Some members → members_of q.table number ≡ Some members
+  pub table : Keeps p.table q.table
   pub literals : (number : ℕ) (bytes : List ℕ) → slice_get p.literals number ≡ Some bytes → slice_get q.literals number ≡ Some bytes
   pub globals : (number : ℕ) (g : FileObject) → slice_get p.globals number ≡ Some g → (h : FileObject) × (slice_get q.globals number ≡ Some h) × (h.ty ≡ g.ty)
   pub routines : (number : ℕ) (r : Routine) → slice_get p.routines number ≡ Some r → (o : Routine) × (slice_get q.routines number ≡ Some o) × (o.returns ≡ r.returns) × (parameter_types o ≡ parameter_types r)
@@ -27,7 +25,7 @@ pub record Grows (s t : Setting) : Type 0 where
   pub labels : s.labels ≤ t.labels
   pub returns : s.returns ≡ t.returns
 
--- what is well formed stays so, and what agrees
+-- what is well formed stays so, and what agrees, where the types that are declared then name structs too
 abbrev pub ExpressionsStay : Type 0
 ExpressionsStay = (s t : Setting) (e : Typed) → Grows s t → IsWell s e → IsWell t e
 
@@ -38,7 +36,7 @@ abbrev pub StatementsStay : Type 0
 StatementsStay = (s t : Setting) (b : Statement) → Grows s t → IsWellStatement s b → IsWellStatement t b
 
 abbrev pub AgreementStays : Type 0
-AgreementStays = (s t : Setting) (c : Context) → Grows s t → Agrees s c → Agrees t c
+AgreementStays = (s t : Setting) (c : Context) → Grows s t → TypesAroundAreNamed t → Agrees s c → Agrees t c
 
 abbrev pub GlobalsStay : Type 0
 GlobalsStay = (p q : TypedProgram) (g : FileObject) → Extends p q → IsWellGlobal p g → IsWellGlobal q g

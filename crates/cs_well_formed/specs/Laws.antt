@@ -1,5 +1,5 @@
 -- What the typing of expressions and initializers gives is well formed.
-use Rattle.std.specs.Prelude.{◌≡◌, ℤ, Option}
+use Rattle.std.specs.Prelude.{◌≡◌, ℤ, Option, IfSome}
 use Rattle.cs_types.specs.declared.int_type.IntType.{IntType}
 use Rattle.cs_types.specs.IntType.{InRange}
 use Rattle.cs_types.specs.Layout.{IsLaidOut}
@@ -17,6 +17,7 @@ use Rattle.cs_consts.specs.Verdicts.{Fine}
 use Rattle.cs_consts.specs.Typing.{Literals, literals_behind, formed}
 use Rattle.cs_consts.specs.Doors.{value_of, operand_of, assigned_value, test_of, selector_of, discarded_value}
 use Rattle.cs_declarations.specs.Initializers.{Storage, InFile, initial_typed}
+use Rattle.cs_well_formed.specs.Structs.{NamesStructs}
 use Rattle.cs_well_formed.specs.Expressions.{Setting, IsWell, IsValue, IsValueOf, IsIntegerValue, IsScalarValue, IsWhole}
 use Rattle.cs_well_formed.specs.Initials.{IsWellInitial, HasConstantValues}
 use Rattle.cs_well_formed.specs.Constants.{HasConstants, InitialHasConstants}
@@ -29,20 +30,24 @@ pub record IsTyped (s : Setting) (c : Context) (literals : Literals) (k : RawExp
   pub constants : HasConstants (written_kind k)
   pub texts : AreFirst s.program (literals_behind literals k)
 
+-- the type to which a value goes, if one is asked for, names structs
+abbrev pub TargetNames : Setting → Option Shape → Type 0
+TargetNames s target = IfSome target (NamesStructs s.program.table)
+
 -- an expression, for any purpose and for any target
 abbrev pub FormedAreWell : Type 0
 FormedAreWell = (s : Setting) (c : Context) (purpose : Purpose) (literals : Literals) (target : Option Shape) (at : Place) (k : RawExprKind) (e : Typed) →
-    IsTyped s c literals k → formed c purpose literals target at k ≡ Fine e → IsWell s e
+    IsTyped s c literals k → TargetNames s target → formed c purpose literals target at k ≡ Fine e → IsWell s e
 
 -- an expression that has to have a value
 abbrev pub OperandsAreWell : Type 0
 OperandsAreWell = (s : Setting) (c : Context) (literals : Literals) (target : Option Shape) (e : RawExpr) (v : Typed) →
-    IsTyped s c literals e.kind → operand_of c literals target e ≡ Fine v → IsWell s v × IsValue v
+    IsTyped s c literals e.kind → TargetNames s target → operand_of c literals target e ≡ Fine v → IsWell s v × IsValue v
 
 -- an expression whose value goes to a type as if by assignment has that type
 abbrev pub AssignedAreWell : Type 0
 AssignedAreWell = (s : Setting) (c : Context) (literals : Literals) (at : Place) (target : Shape) (e : RawExpr) (v : Typed) →
-    IsTyped s c literals e.kind → assigned_value c literals at target e ≡ Fine v → IsWell s v × IsValueOf v target
+    IsTyped s c literals e.kind → NamesStructs s.program.table target → assigned_value c literals at target e ≡ Fine v → IsWell s v × IsValueOf v target
 
 -- an expression that is tested is an integer or a pointer
 abbrev pub TestsAreWell : Type 0
@@ -67,7 +72,7 @@ ConstantsAreInRange = (s : Setting) (c : Context) (e : RawExpr) (ty : IntType) (
 -- what an object of a whole type holds at first, where the structs of the program are laid out
 abbrev pub InitialsAreWell : Type 0
 InitialsAreWell = (s : Setting) (c : Context) (literals behind : Literals) (storage : Storage) (at : Place) (ty : Shape) (raw : RawInitial) (found : Initial) →
-    Agrees s c → IsLaidOut s.program.model s.program.table → IsWhole s.program ty → InitialHasConstants (initial raw) → AreFirst s.program behind →
+    Agrees s c → IsLaidOut s.program.model s.program.table → IsWhole s.program ty → NamesStructs s.program.table ty → InitialHasConstants (initial raw) → AreFirst s.program behind →
     initial_typed c literals storage at ty raw ≡ Fine (found, behind) → IsWellInitial s ty found
 
 -- what an object of a file holds at first is constant

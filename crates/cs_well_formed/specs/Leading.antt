@@ -1,8 +1,6 @@
 -- What declarations make known: structs get their members and keep them, and what they declare is there.
 use Rattle.std.specs.Prelude.{◌≡◌, ℕ, List, Some, slice_get}
 use Rattle.std.specs.List.{All}
-use Rattle.cs_types.specs.Layout.{members_of}
-use Rattle.cs_types.specs.Members.{Member}
 use Rattle.cs_types.specs.Shape.{Shape}
 use Rattle.cs_ast.specs.declared.place.Place.{Place}
 use Rattle.cs_ast.specs.declared.raw.declaration.RawSpecs.{RawSpecs}
@@ -18,13 +16,13 @@ use Rattle.cs_declarations.specs.Bodies.{specs_type, typedefs_added}
 use Rattle.cs_declarations.specs.Objects.{object_type}
 use Rattle.cs_declarations.specs.Parameters.{Head, parameters_typed}
 use Rattle.cs_well_formed.specs.Expressions.{Setting, IsWhole}
-use Rattle.cs_well_formed.specs.Agreement.{IsThere, Agrees}
+use Rattle.cs_well_formed.specs.Agreement.{Keeps, IsThere, Agrees}
 
 -- what is known at a point of a file, and what is known behind a part of it
 pub record Leads (s : Setting) (k m : Known) : Type 0 where
   pub model : m.context.model ≡ k.context.model
   pub literals : m.literals ≡ k.literals
-  pub table : (number : ℕ) (members : List Member) → members_of (table_of k) number ≡ Some members → members_of (table_of m) number ≡ Some members
+  pub table : Keeps (table_of k) (table_of m)
   pub declarations : All (λ (d : Declaration). IsThere s d.meaning) (declarations_of k) → All (λ (d : Declaration). IsThere s d.meaning) (declarations_of m)
 
 -- the variables are the first ones of the function

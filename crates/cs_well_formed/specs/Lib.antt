@@ -1,3 +1,4 @@
+pub mod Structs
 pub mod Expressions
 pub mod Initials
 pub mod Statements
@@ -5,7 +6,14 @@ pub mod Programs
 pub mod Constants
 pub mod Agreement
 pub mod Laws
+pub mod Naming
 pub mod Growth
 pub mod Tokens
 pub mod Leading
 pub mod Landing
+pub mod Nodes
+pub mod Places
+pub mod WrittenPlaces
+pub mod Sizes
+pub mod Files
+pub mod Bounded

@@ -1,12 +1,16 @@
--- Well-formed programs: each node has the type and the parts that its form asks for, and each number names what is there.
-use Rattle.std.specs.Prelude.{◌≡◌, ◌≤◌, ◌⊎◌, false, [], length, IfSome}
+-- Well-formed programs: each node has the type and the parts that its form asks for, and each number names what is there. There are not
+-- too many of them.
+use Rattle.std.specs.Prelude.{◌≡◌, ◌<◌, ◌≤◌, ◌^◌, ◌⊎◌, false, [], length, IfSome}
 use Rattle.std.specs.List.{All}
 use Rattle.cs_types.specs.Layout.{IsLaidOut}
 use Rattle.cs_types.specs.Shape.{Shape, void}
 use Rattle.cs_ast.specs.TypedTree.{Statement}
 use Rattle.cs_ast.specs.TypedProgram.{TypedProgram, Variable, FileObject, Routine}
+use Rattle.cs_well_formed.specs.Structs.{NamesStructs, HasNamedTypes, AllTypesAreNamed}
 use Rattle.cs_well_formed.specs.Expressions.{Setting, IsScalar, IsWhole, parameter_types}
 use Rattle.cs_well_formed.specs.Initials.{IsWellInitial, HasConstantValues}
+use Rattle.cs_well_formed.specs.Places.{IsOfFiles, ProgramStandsAmong}
+use Rattle.cs_well_formed.specs.Nodes.{program_nodes}
 use Rattle.cs_well_formed.specs.Statements.{IsWellStatement, label_count, AreNumbered, JumpsLead}
 
 -- where the body of a function stands
@@ -23,23 +27,28 @@ pub record IsWellBody (p : TypedProgram) (r : Routine) (body : Statement) : Type
   pub labels : AreNumbered 0 body
   pub jumps : JumpsLead false false body
 
--- a function: the first of its variables are its parameters, which are scalars, each with its mark
+-- a function: the first of its variables are its parameters, which are scalars, each with its mark; its declared types name structs
 pub record IsWellRoutine (p : TypedProgram) (r : Routine) : Type 0 where
   pub returns : IsResult r.returns
   pub parameters : r.parameters ≤ length r.variables
   pub passed : All IsScalar (parameter_types r)
   pub variables : All (λ (v : Variable). IsWhole p v.ty) r.variables
   pub written : length r.written ≡ r.parameters
+  pub named : HasNamedTypes p.table r
   pub body : IfSome r.body (IsWellBody p r)
 
 -- where the initializers of file-scope objects stand
 abbrev pub outside : TypedProgram → Setting
 outside p = record { program = p; variables = []; labels = 0; returns = void }
 
+-- an object of a file, whose declared type names structs
 abbrev pub IsWellGlobal : TypedProgram → FileObject → Type 0
-IsWellGlobal p g = IsWhole p g.ty × IfSome g.initial (λ i. IsWellInitial (outside p) g.ty i × HasConstantValues p.model i)
+IsWellGlobal p g = IsWhole p g.ty × IfSome g.initial (λ i. IsWellInitial (outside p) g.ty i × HasConstantValues p.model i) × NamesStructs p.table g.ty
 
 pub record IsWellFormed (p : TypedProgram) : Type 0 where
   pub laid_out : IsLaidOut p.model p.table
   pub globals : All (IsWellGlobal p) p.globals
   pub routines : All (IsWellRoutine p) p.routines
+  pub structs : AllTypesAreNamed p
+  pub placed : ProgramStandsAmong (IsOfFiles (length p.files)) p
+  pub few : program_nodes p < 2 ^ 28

@@ -1,10 +1,14 @@
 //! Well-formed programs, in `specs/`: what every typed program is, and what later calls may ask of one.
 #![tactic(auto)]
 
+ghost use Rattle.std.specs.Prelude.{ℕ};
+ghost use Rattle.cs_well_formed.specs.Bounded.{FormedAreBounded, OperandsAreBounded, AssignedAreBounded, TestsAreBounded, SelectorsAreBounded, DiscardedAreBounded, LiteralsAreBounded, InitialsAreBounded, WordsAreBounded, TypedefsAreBounded, ParametersAreBounded};
 ghost use Rattle.cs_well_formed.specs.Growth.{ExpressionsStay, InitialsStay, StatementsStay, AgreementStays, GlobalsStay, RoutinesStay};
 ghost use Rattle.cs_well_formed.specs.Landing.{LabelsAreThere};
 ghost use Rattle.cs_well_formed.specs.Laws.{FormedAreWell, OperandsAreWell, AssignedAreWell, TestsAreWell, SelectorsAreWell, DiscardedAreWell, ConstantsAreInRange, InitialsAreWell, FileInitialsAreConstant};
 ghost use Rattle.cs_well_formed.specs.Leading.{WordsLead, TypedefsLead, ParametersLead, ObjectsAreWhole};
+ghost use Rattle.cs_well_formed.specs.Naming.{ExpressionsAreNamed, InitialsAreNamed, StatementsAreNamed, WordsAreNamed, TypedefsAreNamed, ParametersAreNamed, ObjectsAreNamed};
+ghost use Rattle.cs_well_formed.specs.Places.{IsOfFiles};
 ghost use Rattle.cs_well_formed.specs.Tokens.{TextsHoldConstants, InitialTextsHoldConstants};
 
 /// What the typing of an expression gives is well formed, with the type that is asked for.
@@ -23,6 +27,18 @@ pub fn expressions_are_well_formed()
 pub fn initializers_are_well_formed()
     ensures well_formed { InitialsAreWell }
     ensures constant { FileInitialsAreConstant }
+{}
+
+/// Where the declared types of a program name structs of its table, so do those of all nodes that are well formed in it; and where
+/// what is known names structs, so do the types that are declared then.
+pub fn types_are_named()
+    ensures expressions { ExpressionsAreNamed }
+    ensures initializers { InitialsAreNamed }
+    ensures statements { StatementsAreNamed }
+    ensures words { WordsAreNamed }
+    ensures typedefs { TypedefsAreNamed }
+    ensures parameters { ParametersAreNamed }
+    ensures objects { ObjectsAreNamed }
 {}
 
 /// What is well formed stays so where the program grows, and what is known goes on to agree with it.
@@ -52,4 +68,23 @@ pub fn declarations_lead()
 /// Where the labels of a body are numbered as they stand, a `goto` leads to one that is there.
 pub fn labels_are_there()
     ensures { LabelsAreThere }
+{}
+
+/// What typing gives stands among the places of what is written, and has no more nodes than the size of its text has room for.
+pub fn typed_nodes_are_bounded()
+    ensures formed { (count : ℕ) → FormedAreBounded (IsOfFiles count) }
+    ensures operands { (count : ℕ) → OperandsAreBounded (IsOfFiles count) }
+    ensures assigned { (count : ℕ) → AssignedAreBounded (IsOfFiles count) }
+    ensures tests { (count : ℕ) → TestsAreBounded (IsOfFiles count) }
+    ensures selectors { (count : ℕ) → SelectorsAreBounded (IsOfFiles count) }
+    ensures discarded { (count : ℕ) → DiscardedAreBounded (IsOfFiles count) }
+    ensures literals { LiteralsAreBounded }
+    ensures initializers { (count : ℕ) → InitialsAreBounded (IsOfFiles count) }
+{}
+
+/// How much is known behind a declaration is bounded by the size of its text.
+pub fn declarations_are_bounded()
+    ensures words { WordsAreBounded }
+    ensures typedefs { TypedefsAreBounded }
+    ensures parameters { ParametersAreBounded }
 {}

@@ -11,7 +11,7 @@ pub returns-clause-statements : goal.returns-clause-statements
 returns-clause-statements c = λ s t b grows h. IsWellStatement-grown s t grows b h
 
 pub returns-clause-agreement : goal.returns-clause-agreement
-returns-clause-agreement c = λ s t k grows h. Agrees-grown s t grows k h
+returns-clause-agreement c = λ s t k grows types h. Agrees-grown s t grows k types h
 
 pub returns-clause-globals : goal.returns-clause-globals
 returns-clause-globals c = IsWellGlobal-grown

@@ -1,11 +1,13 @@
+use Rattle.cs_file_trees.proofs.FileTrees.{lexed_files_have_trees}
 use Rattle.cs_app.proofs.AnswerLemmas.{refuses_syntax}
-use Rattle.cs_app.proofs.HeldFiles.{tree_held}
 use Rattle.cs_app.proofs.file.answer_by_syntax.Goals as goal
 
 pub answer_by_type-requires : goal.answer_by_type-requires
 answer_by_type-requires c =
     let taken = rw c.as_slice.ensures.value at c.in-Ok.ensures.taken in
-    rw c.deref.ensures.value (tree_held c.args.lexed.now.list.items c.in-Ok.tree.externals.items c.requires.held taken)
+    let placed = rw c.as_slice.ensures.value at c.in-Ok.ensures.placed in
+    let cut = c.requires.lexed in
+    rw c.deref.ensures.value (lexed_files_have_trees cut.0 c.args.lexed.now c.in-Ok.tree.externals.items cut.1 cut.2 taken placed)
 
 pub returns-in_ok-answer-in-Ok : goal.returns-in_ok-answer-in-Ok
 returns-in_ok-answer-in-Ok c =

@@ -7,7 +7,7 @@ use Rattle.cs_app.proofs.AnswerLemmas.{answers_program, refuses_type}
 use Rattle.cs_app.proofs.file.answer_by_type.Goals as goal
 
 pub answer_of-requires : goal.answer_of-requires
-answer_of-requires c = c.in-Ok.ensures.well_formed c.requires
+answer_of-requires c = c.in-Ok.ensures.well_formed (rw c.deref.ensures.value (rw c.deref-2.ensures.value c.requires))
 
 pub returns-in_ok-answer-in-Ok : goal.returns-in_ok-answer-in-Ok
 returns-in_ok-answer-in-Ok c =

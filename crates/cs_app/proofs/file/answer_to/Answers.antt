@@ -1,9 +1,8 @@
-use Rattle.cs_lexer.proofs.HeldTokens.{lexed_tokens_are_held}
 use Rattle.cs_app.proofs.AnswerLemmas.{refuses_tokens}
 use Rattle.cs_app.proofs.file.answer_to.Goals as goal
 
-pub answer_by_syntax-requires-clause-held : goal.answer_by_syntax-requires-clause-held
-answer_by_syntax-requires-clause-held c = lexed_tokens_are_held c.args.file.now c.in-Ok.lexed c.in-Ok.ensures.lexed
+pub answer_by_syntax-requires-clause-lexed : goal.answer_by_syntax-requires-clause-lexed
+answer_by_syntax-requires-clause-lexed c = (c.args.file.now, c.requires, c.in-Ok.ensures.lexed)
 
 pub returns-in_ok-answer-in-Err : goal.returns-in_ok-answer-in-Err
 returns-in_ok-answer-in-Err c =

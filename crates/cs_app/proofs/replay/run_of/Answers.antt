@@ -11,8 +11,8 @@ lower-requires c = c.requires.well_formed.laid_out
 pub replay-requires-clause-laid_out : goal.replay-requires-clause-laid_out
 replay-requires-clause-laid_out c = c.requires.well_formed.laid_out
 
-pub replay-requires-clause-placed : goal.replay-requires-clause-placed
-replay-requires-clause-placed c = c.in_ok-code.ensures.placed (well_formed_allocates (typed_program c.args.program.now) c.requires.well_formed)
+pub replay-requires-clause-lowered : goal.replay-requires-clause-lowered
+replay-requires-clause-lowered c = c.in_ok-code.ensures.lowered (well_formed_allocates (typed_program c.args.program.now) c.requires.well_formed)
 
 pub returns-in-Ok : goal.returns-in-Ok
 returns-in-Ok c =

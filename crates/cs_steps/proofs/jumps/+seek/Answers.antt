@@ -1,7 +1,7 @@
 use Rattle.std.proofs.Common.{◌≡◌, ◌+◌, arith}
 use Rattle.cs_ast.specs.TypedView.{statement_list}
 use Rattle.cs_plain.specs.Marks.{marks_in}
-use Rattle.cs_steps.proofs.StatementForms.{block_is, for_is, switch_is}
+use Rattle.cs_interpreter.proofs.StatementForms.{block_is, for_is, switch_is}
 use Rattle.cs_steps.proofs.jumps.+seek.Goals as goal
 
 pub seek-returns-in-Block : goal.seek-returns-in-Block

@@ -3,7 +3,7 @@ use Rattle.cs_runs.specs.Runs.{Continues}
 use Rattle.cs_plain.specs.Machine.{State}
 use Rattle.cs_interpreter.specs.View.{log_of}
 use Rattle.cs_interpreter.proofs.Performing.{perform-Goes}
-use Rattle.cs_steps.proofs.StatementForms.{block_is, for_is}
+use Rattle.cs_interpreter.proofs.StatementForms.{block_is, for_is}
 use Rattle.cs_steps.proofs.runner.Runner.execute.Goals as goal
 
 pub returns-in_ok-put_all-in-Block-clause-ok : goal.returns-in_ok-put_all-in-Block-clause-ok

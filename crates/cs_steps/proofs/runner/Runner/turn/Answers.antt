@@ -1,7 +1,7 @@
 use Rattle.std.proofs.Common.{◌≡◌, ◌+◌, arith}
 use Rattle.cs_ast.specs.TypedView.{statement_list}
 use Rattle.cs_plain.specs.Marks.{marks_in}
-use Rattle.cs_steps.proofs.StatementForms.{for_is}
+use Rattle.cs_interpreter.proofs.StatementForms.{for_is}
 use Rattle.cs_steps.proofs.runner.Runner.turn.Goals as goal
 
 pub returns-in_ok-inner-in-None-clause-ok : goal.returns-in_ok-inner-in-None-clause-ok

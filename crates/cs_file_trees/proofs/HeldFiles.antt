@@ -1,0 +1,18 @@
+-- No constant of a lexed file's tree is too wide: for `lexed_files_have_trees`.
+use Rattle.std.proofs.Common.{List, sym}
+use Rattle.std.specs.List.{All}
+use Rattle.std.proofs.lemmas.List.Elements.{All-map, All-same}
+use Rattle.cs_ast.specs.declared.token.Token.{Token}
+use Rattle.cs_ast.specs.declared.raw.external.RawExternal.{RawExternal}
+use Rattle.cs_ast.specs.HeldTokens.{IsHeldToken}
+use Rattle.cs_grammar.specs.FileText.{file_text}
+use Rattle.cs_expr_parser.specs.Positions.{kinds}
+use Rattle.cs_decl_parser.specs.Files.{parts_of, IsTheFile}
+
+-- no constant among these tokens is too wide for the types of its list
+abbrev pub AreHeld : List Token → Type 0
+AreHeld tokens = All (λ (t : Token). IsHeldToken t.kind) tokens
+
+-- where none of the tokens is too wide, none of the tree that they are is
+pub tree_held : (tokens : List Token) (tree : List RawExternal) → AreHeld tokens → IsTheFile tokens (parts_of tree) → All IsHeldToken (file_text (parts_of tree))
+tree_held tokens tree held is = All-same IsHeldToken (file_text (parts_of tree)) (kinds tokens) (sym is.spelled) (All-map IsHeldToken (λ (t : Token). t.kind) tokens held)

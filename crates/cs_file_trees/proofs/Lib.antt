@@ -1,0 +1,4 @@
+pub mod HeldFiles
+pub mod ShortFiles
+pub mod PlacesAmong
+pub mod FileTrees

@@ -1,0 +1,218 @@
+-- Typed files stand among the places of what is written, and have few nodes: for the contract of `typed`.
+use Rattle.std.proofs.Common.{◌≡◌, ℕ, ◌+◌, ◌*◌, ◌≤◌, ◌<◌, ◌^◌, ℤ, Bool, true, false, cond, List, [], ◌∷◌, ◌++◌, length, map, refl, arith}
+use Rattle.std.specs.Prelude.{Some, None, nat_eq, ◌||◌, option_to_list}
+use Rattle.std.specs.List.{All, AllByRecursion, list_any}
+use Rattle.std.specs.Ordering.{int_eq}
+use Rattle.std.specs.Cmp.Lexicographic.{pointwise}
+use Rattle.std.proofs.lemmas.List.{length_push, length-append}
+use Rattle.std.proofs.lemmas.List.Elements.{recursion_from_All, All-nil, All-map}
+use Rattle.indexmap.specs.IndexSet.{insert_key, insert_all}
+use Rattle.cs_types.specs.declared.data_model.DataModel.{DataModel}
+use Rattle.cs_types.specs.Shape.{Shape}
+use Rattle.cs_ast.specs.declared.place.Place.{Place}
+use Rattle.cs_ast.specs.declared.token.Token.{Token}
+use Rattle.cs_ast.specs.declared.token.TokenKind.{TokenKind}
+use Rattle.cs_ast.specs.declared.token.TokenKind.TheVariants as token
+use Rattle.cs_ast.specs.declared.token.Mark.TheVariants as mark
+use Rattle.cs_ast.specs.declared.raw.declaration.RawSpecs.{RawSpecs}
+use Rattle.cs_ast.specs.declared.raw.external.RawExternal.{RawExternal}
+use Rattle.cs_ast.specs.declared.raw.external.RawExternalKind.{RawExternalKind}
+use Rattle.cs_ast.specs.declared.raw.external.RawExternalKind.TheVariants as external_kind
+use Rattle.cs_ast.specs.RawDeclarationView.{declared, declarator, specs, head}
+use Rattle.cs_ast.specs.RawStatementView.{items_list, external_of, external}
+use Rattle.cs_ast.specs.TypedProgram.{TypedProgram}
+use Rattle.cs_grammar.specs.Text.{Kinds}
+use Rattle.cs_grammar.specs.FileText.{mark_text, with_commas, declarator_text, declared_text, specs_text, head_text, items_text, external_text, externals_text, file_text}
+use Rattle.cs_grammar.proofs.FileTexts.{declared_append, items_append, head_append}
+use Rattle.cs_consts.specs.Verdicts.{Verdict, Fine}
+use Rattle.cs_declarations.specs.Bodies.{Typing, specs_type, typedefs_added}
+use Rattle.cs_typing.specs.Objects.{Filed, with_known, objects_added}
+use Rattle.cs_typing.specs.Order.{is_of_library, is_defined, placed, all_placed, order_of}
+use Rattle.cs_typing.specs.Files.{blank, beginning, specs_of, external_declared, external_read, external_typed, file_typed, typed_file}
+use Rattle.cs_typing.specs.Programs.{number_before, numbers_in, constants_in, program_of, typed}
+use Rattle.cs_well_formed.specs.Files.{IsFileTree}
+use Rattle.cs_well_formed.specs.Nodes.{all_nodes, routine_nodes, program_nodes}
+use Rattle.cs_well_formed.specs.Places.{IsOfFiles, ObjectStandsAmong, RoutineStandsAmong, ProgramStandsAmong}
+use Rattle.cs_well_formed.specs.Sizes.{text_size, size_of}
+use Rattle.cs_well_formed.specs.WrittenPlaces.{DeclaredAmong, ExternalKindAmong, ExternalAmong}
+use Rattle.cs_well_formed.proofs.TextSizes.{size-behind, size-specs, size-with_commas, all_nodes-cons}
+use Rattle.cs_well_formed.proofs.Verdicts.{IfFine, if_fine-at, if_fine-weaker, lift-then}
+use Rattle.cs_typing.proofs.BoundedParts.{IsTyping, words-bounded, AreTypedefs, typedefs-bounded, grows-by}
+use Rattle.cs_typing.proofs.BoundedTexts.{declarators_size}
+use Rattle.cs_typing.proofs.BoundedObjects.{FiledFits, fits-less, fits-known, objects_added-fits}
+use Rattle.cs_typing.proofs.BoundedFunctions.{function_added-fits}
+
+-- ---- names and numbers, each once
+
+module _ {T : Type 0} (eq : T → T → Bool) where
+  key-added : (ks : List T) (k : T) → length (insert_key eq ks k) ≤ length ks + 1
+  key-added ks k = by_test (list_any (eq k) ks)
+    where
+      by_test : (there : Bool) → length (cond there ks (ks ++ k ∷ [])) ≤ length ks + 1
+      by_test true = omega arith
+      by_test false = let e = length_push ks k in omega (arith, e)
+
+  keys-added : (ks xs : List T) → length (insert_all eq ks xs) ≤ length ks + length xs
+  keys-added ks [] = omega arith
+  keys-added ks (x ∷ xs) = let one = key-added ks x in let more = keys-added (insert_key eq ks x) xs in omega (arith, one, more)
+
+one-number : (kind : TokenKind) (behind : List ℤ) → length (number_before kind behind) ≤ length behind + 1
+one-number (token.Number constant) behind = omega arith
+one-number other behind = omega arith
+
+few-numbers : (tokens : List Token) → length (numbers_in tokens) ≤ length tokens
+few-numbers [] = omega arith
+few-numbers (t ∷ ts) = let one = one-number t.kind (numbers_in ts) in let more = few-numbers ts in omega (arith, one, more)
+
+-- as many constants as tokens at most
+few-constants : (tokens : List Token) → length (constants_in tokens) ≤ length tokens
+few-constants tokens = let all = few-numbers tokens in let each = keys-added int_eq [] (numbers_in tokens) in omega (arith, all, each)
+
+placed-once : (defined : List ℕ → Bool) (kind : RawExternalKind) → length (option_to_list (placed defined kind)) ≤ 1
+placed-once defined (external_kind.Type s) = omega arith
+placed-once defined (external_kind.Typedef s names) = omega arith
+placed-once defined (external_kind.Objects s objects) = omega arith
+placed-once defined (external_kind.Definition s d body) = omega arith
+placed-once defined (external_kind.Function s d) = by_test (is_of_library d.name || defined d.name)
+  where
+    by_test : (no : Bool) → length (option_to_list (cond no None (Some d.name))) ≤ 1
+    by_test true = omega arith
+    by_test false = omega arith
+
+-- a part of a file has a token at least
+some-token : (kind : RawExternalKind) (rest : Kinds) → 1 + text_size rest ≤ text_size (external_text (external_of kind) rest)
+some-token (external_kind.Type s) rest = let e = size-specs (specs s) (mark_text mark.Semicolon rest) in omega (arith, e)
+some-token (external_kind.Typedef s names) rest =
+    let behind = mark_text mark.Semicolon rest in
+    let e = size-specs (specs s) (with_commas declarator_text (map declarator names.items) behind) in
+    let d = declarators_size (map declarator names.items) behind in
+    omega (arith, e, d)
+some-token (external_kind.Objects s objects) rest =
+    let behind = mark_text mark.Semicolon rest in
+    let e = size-specs (specs s) (with_commas declared_text (map declared objects.items) behind) in
+    let d = size-with_commas declared_text declared_append (map declared objects.items) behind in
+    omega (arith, e, d)
+some-token (external_kind.Function s d) rest =
+    let behind = mark_text mark.Semicolon rest in
+    let e = size-specs (specs s) (head_text (head d) behind) in
+    let h = size-behind (head_text (head d)) (head_append (head d)) behind in
+    omega (arith, e, h)
+some-token (external_kind.Definition s d body) rest =
+    let close = mark_text mark.CloseBrace rest in
+    let behind = mark_text mark.OpenBrace (items_text (items_list body.items.items) close) in
+    let e = size-specs (specs s) (head_text (head d) behind) in
+    let h = size-behind (head_text (head d)) (head_append (head d)) behind in
+    let i = size-behind (items_text (items_list body.items.items)) (items_append (items_list body.items.items)) close in
+    omega (arith, e, h, i)
+
+few-placed : (defined : List ℕ → Bool) (file : List RawExternal) (rest : Kinds) → length (all_placed defined file) + text_size rest ≤ text_size (externals_text (map external file) rest)
+few-placed defined [] rest = omega arith
+few-placed defined (e ∷ es) rest =
+    let one = placed-once defined e.kind in
+    let parts = length-append (option_to_list (placed defined e.kind)) (all_placed defined es) in
+    let some = some-token e.kind (externals_text (map external es) rest) in
+    let more = few-placed defined es rest in
+    omega (arith, one, parts, some, more)
+
+-- as many functions as the file's text has room for
+few-functions : (file : List RawExternal) → length (order_of file) ≤ text_size (file_text (map external file))
+few-functions file =
+    let defined : List ℕ → Bool = λ name. is_defined name file in
+    let all = few-placed defined file [] in
+    let each = keys-added (pointwise nat_eq) [] (all_placed defined file) in
+    omega (arith, all, each)
+
+blank-nodes : (order : List (List ℕ)) → all_nodes routine_nodes (map blank order) ≡ length order
+blank-nodes [] = omega arith
+blank-nodes (name ∷ order) = let e = all_nodes-cons routine_nodes (blank name) (map blank order) in let more = blank-nodes order in omega (arith, e, more)
+
+-- ---- files
+
+module _ (Is : Place → Type 0) (room : ℕ) where
+  abbrev After : Kinds → Filed → Type 0
+  After rest = FiledFits Is room (24 * text_size rest)
+
+  -- behind words before declarators
+  words-fit : (f : Filed) (s : RawSpecs) (ty : Typing) (behind : Kinds) → IsTyping f.known s ty → After (specs_text (specs s) behind) f → After behind (with_known ty.1 f)
+  words-fit f s ty behind g h =
+      let long = size-specs (specs s) behind in
+      let grown = grows-by f.known ty.1 (size_of (specs_text (specs s))) g in
+      fits-known Is room f ty.1 _ _ (omega (arith, long, grown)) h
+
+  -- what stands behind the words of a part of a file
+  abbrev behind_words : RawExternalKind → Kinds → Kinds
+  behind_words (external_kind.Type s) rest = mark_text mark.Semicolon rest
+  behind_words (external_kind.Typedef s names) rest = with_commas declarator_text (map declarator names.items) (mark_text mark.Semicolon rest)
+  behind_words (external_kind.Objects s objects) rest = with_commas declared_text (map declared objects.items) (mark_text mark.Semicolon rest)
+  behind_words (external_kind.Function s d) rest = head_text (head d) (mark_text mark.Semicolon rest)
+  behind_words (external_kind.Definition s d body) rest = head_text (head d) (mark_text mark.OpenBrace (items_text (items_list body.items.items) (mark_text mark.CloseBrace rest)))
+
+  -- a semicolon behind
+  passed-semicolon : (v : Verdict Filed) (rest : Kinds) → IfFine v (After (mark_text mark.Semicolon rest)) → IfFine v (After rest)
+  passed-semicolon v rest h = if_fine-weaker (After (mark_text mark.Semicolon rest)) (After rest) v h (λ g k. fits-less Is room g _ _ (omega arith) k)
+
+  declared-fits : (kind : RawExternalKind) (f : Filed) (base : Shape) (rest : Kinds) → ExternalKindAmong Is kind → After (behind_words kind rest) f → IfFine (external_declared kind f base) (After rest)
+  declared-fits (external_kind.Type s) f base rest among h = fits-less Is room f _ _ (omega arith) h
+  declared-fits (external_kind.Typedef s names) f base rest among h =
+      let long = declarators_size (map declarator names.items) (mark_text mark.Semicolon rest) in
+      lift-then (AreTypedefs f.known) (After rest) _ (typedefs_added base names.items f.known) (typedefs-bounded f.known base names.items)
+      (λ k g. let grown = grows-by f.known k 0 g in fits-known Is room f k _ _ (omega (arith, long, grown)) h)
+  declared-fits (external_kind.Objects s objects) f base rest among h =
+      passed-semicolon (objects_added s base objects.items f) rest
+      (objects_added-fits Is room s base objects.items f (mark_text mark.Semicolon rest) (recursion_from_All (DeclaredAmong Is) objects.items among) h)
+  declared-fits (external_kind.Function s d) f base rest among h = function_added-fits Is room d None f base rest among tt (mark_text mark.Semicolon rest) refl h
+  declared-fits (external_kind.Definition s d body) f base rest among h =
+      function_added-fits Is room d (Some body) f base rest among.0 among.1 (mark_text mark.OpenBrace (items_text (items_list body.items.items) (mark_text mark.CloseBrace rest))) refl h
+
+  -- the words of a part of a file are in its text
+  words-first : (kind : RawExternalKind) (rest : Kinds) → text_size (specs_text (specs (specs_of kind)) (behind_words kind rest)) ≤ text_size (external_text (external_of kind) rest)
+  words-first (external_kind.Type s) rest = omega arith
+  words-first (external_kind.Typedef s names) rest = omega arith
+  words-first (external_kind.Objects s objects) rest = omega arith
+  words-first (external_kind.Function s d) rest = omega arith
+  words-first (external_kind.Definition s d body) rest = omega arith
+
+  external-fits : (at : Place) (kind : RawExternalKind) (f : Filed) (rest : Kinds) → ExternalKindAmong Is kind → After (external_text (external_of kind) rest) f → IfFine (external_typed at kind f) (After rest)
+  external-fits at kind f rest among h =
+      lift-then (IsTyping f.known (specs_of kind)) (After rest) (external_read kind f) (specs_type f.known at (specs_of kind)) (words-bounded f.known at (specs_of kind))
+      (λ ty g.
+      let first = words-first kind rest in
+      declared-fits kind (with_known ty.1 f) ty.0 rest among (words-fit f (specs_of kind) ty (behind_words kind rest) g (fits-less Is room f _ _ (omega (arith, first)) h)))
+
+  file-fits : (file : List RawExternal) (f : Filed) → AllByRecursion (ExternalAmong Is) file → After (externals_text (map external file) []) f → IfFine (file_typed file f) (After [])
+  file-fits [] f among h = h
+  file-fits (e ∷ es) f among h =
+      let behind = externals_text (map external es) [] in
+      lift-then (After behind) (After []) (file_typed es) (external_typed e.place e.kind f) (external-fits e.place e.kind f behind among.0 h) (λ g k. file-fits es g among.1 k)
+
+-- the place of functions that aren't declared
+abbrev blank_place : Place
+blank_place = record { file = 0; line = 1; column = 1 }
+
+module _ (Is : Place → Type 0) (blank_is : Is blank_place) where
+  pub typed_file-fits : (model : DataModel) (file : List RawExternal) → All (ExternalAmong Is) file → IfFine (typed_file model file) (FiledFits Is (25 * text_size (file_text (map external file))) 0)
+  typed_file-fits model file among = file-fits Is _ file (beginning model (order_of file)) (recursion_from_All (ExternalAmong Is) file among) begun
+    where
+      begun : FiledFits Is (25 * text_size (file_text (map external file))) (24 * text_size (file_text (map external file))) (beginning model (order_of file))
+      begun = record {
+        globals = All-nil (ObjectStandsAmong Is);
+        routines = All-map (RoutineStandsAmong Is) blank (order_of file) (λ i name within. record { at = blank_is; closes = blank_is; body = tt });
+        nodes = (let e = blank-nodes (order_of file) in let few = few-functions file in omega (arith, e, few));
+      }
+
+-- a program whose places are in its files, and which has few nodes
+abbrev IsBoundedProgram : TypedProgram → Type 0
+IsBoundedProgram p = ProgramStandsAmong (IsOfFiles (length p.files)) p × (program_nodes p < 2 ^ 28)
+
+typed-bounded : (model : DataModel) (files : List (List ℕ)) (tokens : List Token) (file : List RawExternal) → IsFileTree files tokens file → IfFine (typed model files tokens file) IsBoundedProgram
+typed-bounded model files tokens file tree =
+    let Is : Place → Type 0 = IsOfFiles (length files) in
+    lift-then (FiledFits Is (25 * text_size (file_text (map external file))) 0) IsBoundedProgram (λ (f : Filed). Fine (program_of model files tokens f)) (typed_file model file)
+    (typed_file-fits Is tree.some_file model file tree.placed)
+    (λ f h. (
+      record { globals = h.globals; routines = h.routines },
+      omega (arith, h.nodes, few-constants tokens, tree.short, tree.few_tokens, tree.few_files),
+    ))
+
+pub typed_is_bounded : (model : DataModel) (files : List (List ℕ)) (tokens : List Token) (file : List RawExternal) (p : TypedProgram) → IsFileTree files tokens file → typed model files tokens file ≡ Fine p → ProgramStandsAmong (IsOfFiles (length p.files)) p × (program_nodes p < 2 ^ 28)
+typed_is_bounded model files tokens file p tree told = if_fine-at IsBoundedProgram (typed model files tokens file) p (typed-bounded model files tokens file tree) told
