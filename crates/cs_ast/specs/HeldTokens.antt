@@ -1,7 +1,9 @@
 -- Tokens whose constants are not too wide for the types of their lists (C11 6.4.4, paragraph 2).
-use Rattle.std.specs.Prelude.{◌≡◌, ◌^◌, ◌<◌, true, false, FitsSigned}
+use Rattle.std.specs.Prelude.{◌≡◌, ◌^◌, ◌<◌, true, false, List, FitsSigned}
+use Rattle.std.specs.List.{All}
 use Rattle.std.specs.Int.{w32}
 use Rattle.cs_ast.specs.declared.token.IntegerConstant.{IntegerConstant}
+use Rattle.cs_ast.specs.declared.token.Token.{Token}
 use Rattle.cs_ast.specs.declared.token.TokenKind.{TokenKind}
 use Rattle.cs_ast.specs.declared.token.TokenKind.TheVariants as token
 
@@ -15,3 +17,10 @@ abbrev pub IsHeldToken : TokenKind → Type 0
 IsHeldToken (token.Number constant) = IsHeldConstant constant
 IsHeldToken (token.Character value) = FitsSigned w32 value
 IsHeldToken other = Unit {0}
+
+-- the same of a token with its place, and of each token of a text
+abbrev pub IsHeld : Token → Type 0
+IsHeld t = IsHeldToken t.kind
+
+abbrev pub AreHeld : List Token → Type 0
+AreHeld tokens = All IsHeld tokens

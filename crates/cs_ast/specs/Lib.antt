@@ -12,3 +12,4 @@ pub mod TypedTree
 pub mod TypedView
 pub mod TypedProgram
 pub mod HeldTokens
+pub mod TokenSizes

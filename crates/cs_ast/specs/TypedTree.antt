@@ -1,5 +1,5 @@
 -- Typed expressions and statements as plain data, with their places and types: what the meaning of a program is stated over.
-use Rattle.std.specs.Prelude.{ℕ, ℤ, List, Option}
+use Rattle.std.specs.Prelude.{ℕ, ℤ, suc, List, Option}
 use Rattle.cs_types.specs.declared.int_type.IntType.{IntType}
 use Rattle.cs_types.specs.Shape.{Shape}
 use Rattle.cs_ast.specs.declared.place.Place.{Place}
@@ -87,3 +87,8 @@ mutual
   pub data Statements : Type 0 where
     Empty : Statements
     Then : (first : Statement) (others : Statements) → Statements
+
+-- how many statements stand in a row
+abbrev pub count_of : Statements → ℕ
+count_of Empty = 0
+count_of (Then first others) = suc (count_of others)

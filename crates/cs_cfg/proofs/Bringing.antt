@@ -3,11 +3,11 @@ use Rattle.std.proofs.Common.{◌≡◌, ℕ, ◌+◌, List, [], ◌∷◌, ◌+
 use Rattle.std.proofs.lemmas.List.Elements.{All-contains_itself}
 use Rattle.cs_ast.specs.declared.place.Place.{Place}
 use Rattle.cs_ast.specs.declared.typed.statement.Case.{Case}
-use Rattle.cs_ast.specs.TypedTree.{Typed, Statement, If, While, Do, Switch, Label, Return, Statements}
+use Rattle.cs_ast.specs.TypedTree.{Typed, Statement, If, While, Do, Switch, Label, Return, Statements, count_of}
 use Rattle.cs_ast.specs.TypedProgram.{TypedProgram, Routine}
 use Rattle.cs_runs.specs.declared.point.PointKind.TheVariants as point
 use Rattle.cs_plain.specs.Machine.{body_of}
-use Rattle.cs_plain.specs.Statements.{default_item, count_of}
+use Rattle.cs_plain.specs.Statements.{default_item}
 use Rattle.cs_cfg.specs.Graph as graph
 use Rattle.cs_cfg.specs.Graph.{Point, Flow, block_of}
 use Rattle.cs_cfg.specs.ControlPoints.{Next, met, first, last_point, points, points_some, Targets, for_tested, for_points, flows, flows_in, starts, in_loop, in_switch, end_of, body_targets, control_points}

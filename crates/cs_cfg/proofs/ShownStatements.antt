@@ -2,14 +2,14 @@
 -- control points of placed code.
 use Rattle.std.proofs.Common.{ℕ, ◌+◌, List, [], ◌∷◌, Option, Some, None, refl, subst}
 use Rattle.cs_ast.specs.declared.place.Place.{Place}
-use Rattle.cs_ast.specs.TypedTree.{Typed, Initial, Value, Parts, Bytes, Statement, Block, Declare, Run, If, IfElse, While, Do, For, Switch, Goto, Label, Break, Continue, Return, Statements, Empty, Then}
+use Rattle.cs_ast.specs.TypedTree.{Typed, Initial, Value, Parts, Bytes, Statement, Block, Declare, Run, If, IfElse, While, Do, For, Switch, Goto, Label, Break, Continue, Return, Statements, Empty, Then, count_of}
 use Rattle.cs_ast.specs.TypedProgram.{TypedProgram, Routine}
 use Rattle.cs_runs.specs.declared.point.PointKind.TheVariants as point
 use Rattle.cs_plain.specs.Initials.{Piece, Evaluated, Spelled, pieces}
 use Rattle.cs_plain.specs.Machine.{body_of}
 use Rattle.cs_plain.specs.Jumps.{Landing, landing}
 use Rattle.cs_plain.specs.Marks.{marks, marks_in}
-use Rattle.cs_plain.specs.Statements.{default_item, count_of}
+use Rattle.cs_plain.specs.Statements.{default_item}
 use Rattle.cs_cfg.specs.Graph as graph
 use Rattle.cs_cfg.specs.Graph.{Work, Point, Flow, block_of}
 use Rattle.cs_cfg.specs.ControlPoints.{Next, met, tested, ControlPoint, points, points_initial, points_some, Targets, for_tested, for_points, flows, flows_in, in_switch}

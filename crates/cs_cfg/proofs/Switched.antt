@@ -3,7 +3,7 @@ use Rattle.std.proofs.Common.{◌≡◌, ℕ, ◌+◌, ℤ, Bool, true, false, L
 use Rattle.std.specs.Ordering.{int_eq}
 use Rattle.cs_ast.specs.declared.place.Place.{Place}
 use Rattle.cs_ast.specs.declared.typed.statement.Case.{Case}
-use Rattle.cs_ast.specs.TypedTree.{Typed, Switch, Statements}
+use Rattle.cs_ast.specs.TypedTree.{Typed, Switch, Statements, count_of}
 use Rattle.cs_ast.specs.TypedProgram.{TypedProgram, Routine}
 use Rattle.cs_runs.specs.declared.event.Label.TheVariants as label
 use Rattle.cs_runs.specs.declared.point.PointKind.TheVariants as point
@@ -14,7 +14,7 @@ use Rattle.cs_runs.specs.Simulation.{Tells, together, both_go, both_touch}
 use Rattle.cs_plain.specs.Initials.{number_in}
 use Rattle.cs_plain.specs.Access.{shows_then}
 use Rattle.cs_plain.specs.Machine.{Item, Decide, CallFrame, State, to_do, pop, cell_at, routine_of}
-use Rattle.cs_plain.specs.Statements.{Chosen, stands_for, has_value, case_of, default_item, values_in, count_of, chosen_case, switch_to, executes_from}
+use Rattle.cs_plain.specs.Statements.{Chosen, stands_for, has_value, case_of, default_item, values_in, chosen_case, switch_to, executes_from}
 use Rattle.cs_cfg.specs.Graph as graph
 use Rattle.cs_cfg.specs.Graph.{SwitchCase, Point, Flow, Code, block_of}
 use Rattle.cs_cfg.specs.CodeSteps.{Way, way_of, goes_way, code_step}

@@ -3,7 +3,7 @@ use Rattle.std.specs.Prelude.{◌≡◌, ℤ, ℕ, zero, suc, ◌+◌, ⊤, List
 use Rattle.cs_types.specs.Shape.{Shape, void}
 use Rattle.cs_ast.specs.declared.place.Place.{Place}
 use Rattle.cs_ast.specs.declared.typed.statement.Case.{Case}
-use Rattle.cs_ast.specs.TypedTree.{Typed, Initial, Value, Parts, Bytes, Statement, Block, Declare, Run, If, IfElse, While, Do, For, Switch, Goto, Label, Break, Continue, Return, Statements, Empty, Then}
+use Rattle.cs_ast.specs.TypedTree.{Typed, Initial, Value, Parts, Bytes, Statement, Block, Declare, Run, If, IfElse, While, Do, For, Switch, Goto, Label, Break, Continue, Return, Statements, Empty, Then, count_of}
 use Rattle.cs_ast.specs.TypedProgram.{TypedProgram, Routine, Variable}
 use Rattle.cs_runs.specs.declared.point.PointKind.TheVariants as point
 use Rattle.cs_plain.specs.Types.{type_of, is_scalar}
@@ -11,7 +11,7 @@ use Rattle.cs_plain.specs.Initials.{Piece, Evaluated, Spelled, pieces}
 use Rattle.cs_plain.specs.Machine.{body_of}
 use Rattle.cs_plain.specs.Marks.{marks, marks_in}
 use Rattle.cs_plain.specs.Jumps.{Landing, landing}
-use Rattle.cs_plain.specs.Statements.{default_item, count_of}
+use Rattle.cs_plain.specs.Statements.{default_item}
 use Rattle.cs_cfg.specs.Graph as graph
 use Rattle.cs_cfg.specs.Graph.{SwitchCase, Point, Flow, block_of}
 use Rattle.cs_cfg.specs.Placing.{does, split, Joins, evaluates, used}

@@ -1,17 +1,14 @@
 -- The text of the flow of a program. Every line ends with a line feed.
-use Rattle.std.specs.Prelude.{ℕ, true, false, List, [], ◌++◌, Option, Some, None, codes, slice_index_or}
+use Rattle.std.specs.Prelude.{ℕ, true, false, List, [], ◌++◌, Option, Some, None, codes}
 use Rattle.std.specs.List.{flat_map}
 use Rattle.std.specs.Fmt.{decimal}
 use Rattle.cs_ast.specs.declared.place.Place.{Place}
 use Rattle.cs_ast.specs.TypedTree.{Statement}
 use Rattle.cs_ast.specs.TypedProgram.{TypedProgram, Routine}
+use Rattle.cs_model.specs.Texts.{place_text}
 use Rattle.cs_runs.specs.declared.point.PointKind.{PointKind}
 use Rattle.cs_runs.specs.declared.point.PointKind.TheVariants.{Enter, Head, Label, Branch, Switch, Return, End}
 use Rattle.cs_cfg.specs.ControlPoints.{Exit, Onward, TruthOf, CaseOf, Next, Way, ControlPoint, control_points}
-
--- `FILE:LINE:COLUMN`, the files by their numbers
-abbrev pub place_text : List (List ℕ) → Place → List ℕ
-place_text files at = slice_index_or files at.file [] ++ codes ":" ++ decimal at.line ++ codes ":" ++ decimal at.column
 
 abbrev pub kind_text : PointKind → List ℕ
 kind_text Enter = codes "enter"

@@ -4,7 +4,7 @@ use Rattle.std.specs.Prelude.{◌≡◌, ℕ, suc, ◌+◌, pos, Bool, List, Opt
 use Rattle.cs_types.specs.Shape.{Shape}
 use Rattle.cs_ast.specs.declared.place.Place.{Place}
 use Rattle.cs_ast.specs.declared.typed.operator.Direction.TheVariants.{Forward}
-use Rattle.cs_ast.specs.TypedTree.{Typed, Of, Form, Number, Null, Text, Local, Global, Index, Member, Arrow, Load, Convert, Unary, Not, Binary, Compare, Sum, Difference, And, Or, Choice, Assign, Update, Move, Call, Allocate, Free, Statement, If, IfElse, While, Do, For, Switch}
+use Rattle.cs_ast.specs.TypedTree.{Typed, Of, Form, Number, Null, Text, Local, Global, Index, Member, Arrow, Load, Convert, Unary, Not, Binary, Compare, Sum, Difference, And, Or, Choice, Assign, Update, Move, Call, Allocate, Free, Statement, If, IfElse, While, Do, For, Switch, count_of}
 use Rattle.cs_ast.specs.TypedProgram.{TypedProgram, Routine}
 use Rattle.cs_runs.specs.declared.point.PointKind.TheVariants as point
 use Rattle.cs_plain.specs.Types.{size_of, type_of, integer_of, is_scalar}
@@ -12,7 +12,7 @@ use Rattle.cs_plain.specs.Access.{access_of}
 use Rattle.cs_plain.specs.Machine.{Item, Evaluate, EvaluateUnused, Act, Fetch, Choose, Judge, Use, Drop, Store, Spell, Execute, Decide, Turn, Again, Out, Begin, End, Give, Leave}
 use Rattle.cs_plain.specs.Marks.{marks, marks_in}
 use Rattle.cs_plain.specs.Expressions.{count_all}
-use Rattle.cs_plain.specs.Statements.{default_item, count_of}
+use Rattle.cs_plain.specs.Statements.{default_item}
 use Rattle.cs_cfg.specs.Graph as graph
 use Rattle.cs_cfg.specs.Graph.{Work, SwitchCase, Point, Flow, Code, no_flow, block_of, flow_of}
 use Rattle.cs_cfg.specs.Working.{takes, closed_with}

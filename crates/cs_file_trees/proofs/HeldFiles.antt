@@ -4,14 +4,10 @@ use Rattle.std.specs.List.{All}
 use Rattle.std.proofs.lemmas.List.Elements.{All-map, All-same}
 use Rattle.cs_ast.specs.declared.token.Token.{Token}
 use Rattle.cs_ast.specs.declared.raw.external.RawExternal.{RawExternal}
-use Rattle.cs_ast.specs.HeldTokens.{IsHeldToken}
+use Rattle.cs_ast.specs.HeldTokens.{IsHeldToken, AreHeld}
 use Rattle.cs_grammar.specs.FileText.{file_text}
 use Rattle.cs_expr_parser.specs.Positions.{kinds}
 use Rattle.cs_decl_parser.specs.Files.{parts_of, IsTheFile}
-
--- no constant among these tokens is too wide for the types of its list
-abbrev pub AreHeld : List Token → Type 0
-AreHeld tokens = All (λ (t : Token). IsHeldToken t.kind) tokens
 
 -- where none of the tokens is too wide, none of the tree that they are is
 pub tree_held : (tokens : List Token) (tree : List RawExternal) → AreHeld tokens → IsTheFile tokens (parts_of tree) → All IsHeldToken (file_text (parts_of tree))

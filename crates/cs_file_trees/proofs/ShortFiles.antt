@@ -3,17 +3,11 @@ use Rattle.std.proofs.Common.{◌≡◌, List, [], ◌∷◌, refl, arith}
 use Rattle.std.specs.List.{sum_by}
 use Rattle.std.proofs.lemmas.List.Sums.{sum_by-cons}
 use Rattle.cs_ast.specs.declared.token.Token.{Token}
-use Rattle.cs_ast.specs.declared.token.TokenKind.{TokenKind}
-use Rattle.cs_ast.specs.declared.token.TokenKind.TheVariants as token
-use Rattle.cs_lexer.specs.Extent.{kind_extent, token_extent}
+use Rattle.cs_lexer.specs.Extent.{token_extent}
 use Rattle.cs_expr_parser.specs.Positions.{kinds}
-use Rattle.cs_well_formed.specs.Sizes.{token_size, text_size}
-
-same_size : (kind : TokenKind) → token_size kind ≡ kind_extent kind
-same_size (token.Text bytes) = refl
-same_size other = refl
+use Rattle.cs_well_formed.specs.Sizes.{text_size}
 
 -- the size of a text is what its tokens have together
 pub size_is_extent : (tokens : List Token) → text_size (kinds tokens) ≡ sum_by token_extent tokens
 size_is_extent [] = refl
-size_is_extent (t ∷ ts) = omega (arith, same_size t.kind, size_is_extent ts, sum_by-cons token_extent t ts)
+size_is_extent (t ∷ ts) = omega (arith, size_is_extent ts, sum_by-cons token_extent t ts)

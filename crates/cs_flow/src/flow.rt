@@ -6,7 +6,7 @@ ghost use Rattle.cs_cfg.specs.FlowText as cfg;
 ghost use Rattle.cs_flow.specs.WholeFlows.{first_flows};
 
 use crate::function::control_points;
-use crate::lines::{append, append_points};
+use crate::lines::append_points;
 use cs_ast::typed::program::{Function, Program};
 use cs_names::Name;
 use std::alloc::{AllocError, Global};

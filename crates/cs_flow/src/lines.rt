@@ -1,17 +1,15 @@
 //! Control points as lines of text.
 ghost use Rattle.std.specs.Prelude.{◌≡◌, ◌++◌, OnOk};
-ghost use Rattle.std.specs.Fmt.{AppendsText};
 ghost use Rattle.std.specs.List.{flat_map};
 ghost use Rattle.cs_cfg.specs.FlowText as cfg;
 ghost use Rattle.cs_flow.specs.PointView.{exit_of, from_of, next_of, point_of, points_of};
 
 use crate::point::{ControlPoint, Exit, Met, Way};
 use crate::points::Points;
-use cs_ast::Place;
 use cs_names::Name;
+use cs_report::{append, append_place};
 use cs_runs::PointKind;
 use std::alloc::AllocError;
-use std::fmt::Display;
 
 /// Appends the lines of control points, in their order.
 pub(crate) fn append_points(
@@ -89,22 +87,4 @@ fn kind_name(kind: PointKind) -> &'static str
         PointKind::Return => "return",
         PointKind::End => "end",
     }
-}
-
-/// Appends `FILE:LINE:COLUMN`. A file without a name leaves out its name.
-fn append_place(text: &mut Vec<u8>, files: &[Name], place: Place) -> Result<(), AllocError>
-    ensures { OnOk result (text.new.items ≡ text.old.items ++ cfg.place_text files.now place) }
-{
-    if let Some(file) = files.get(place.file as usize) {
-        text.extend_from_slice(file.as_bytes())?;
-    }
-    append(text, format_args!(":{}:{}", place.line, place.column))
-}
-
-/// Appends what `{}` prints of a value.
-pub(crate) fn append<D: Display + Drop>(text: &mut Vec<u8>, value: D) -> Result<(), AllocError>
-    ensures { OnOk result (AppendsText text.old.items text.new.items (D.output value)) }
-{
-    let printed = value.to_string(*text.allocator())?;
-    text.extend_from_slice(printed.as_bytes())
 }

@@ -36,7 +36,7 @@ use Rattle.cs_lexer.specs.Pieces.{class_of, BeginsAs}
 use Rattle.cs_lexer.specs.Quoted.{closing, signed, character_with, character_of, character_in, IsTextToken, TextBodyGives, TextIn}
 use Rattle.cs_lexer.specs.Texts.{text_of_kind, behind_text, joined_to, joined}
 use Rattle.cs_lexer.specs.Words.{WordIs, WordGives}
-use Rattle.cs_ast.specs.HeldTokens.{IsHeldToken}
+use Rattle.cs_ast.specs.HeldTokens.{IsHeldToken, IsHeld}
 use Rattle.cs_lexer.specs.Held.{LexedTokensAreHeld}
 
 -- ---- pieces
@@ -183,9 +183,6 @@ piece-held class.Text bytes piece h = text-held (drop 1 bytes) (closing 34 false
 piece-held class.Mark bytes piece h = mark-held bytes piece h
 
 -- ---- tokens
-
-abbrev IsHeld : Token → Type 0
-IsHeld t = IsHeldToken t.kind
 
 pieces-held : (text : List ℕ) (files : List (List ℕ)) (list : List Token) (spot : Spot) (rest : List ℕ) → Reaches text files list spot rest → All IsHeld list
 pieces-held text files list spot rest begins = All-nil IsHeld

@@ -27,7 +27,8 @@ use Rattle.cs_lexer.specs.Digits.{run, value_of}
 use Rattle.cs_lexer.specs.Directives.{line_number, number_part, file_name, with_line, marker as marker_of, whole_length, line_of, skip_blanks, directive_at}
 use Rattle.cs_lexer.specs.Escapes.{simple, byte_of, coded, begins_hexadecimal, numeric, simple_or, escape, item_at, Advances}
 use Rattle.cs_lexer.specs.Classes.{is_octal_digit}
-use Rattle.cs_lexer.specs.Extent.{kind_extent, token_extent, LexedTokensAreShort}
+use Rattle.cs_ast.specs.TokenSizes.{token_size}
+use Rattle.cs_lexer.specs.Extent.{token_extent, LexedTokensAreShort}
 use Rattle.cs_lexer.specs.Marks.{IsMarkToken, MarkGives}
 use Rattle.cs_lexer.specs.Numbers.{base_of, prefix_length, suffix_of, goes_on, is_decimal, is_too_wide, constant, number_at}
 use Rattle.cs_lexer.specs.Pieces.{class_of, BeginsAs}
@@ -198,7 +199,7 @@ abbrev extent : List Token → ℕ
 extent list = sum_by token_extent list
 
 -- a token and what is left behind it are no more than what was left before it
-one_less : (bytes : List ℕ) (size : ℕ) (kind : TokenKind) → 0 < length bytes → 0 < size → KindFits (length bytes) size kind → kind_extent kind + length (drop size bytes) ≤ length bytes
+one_less : (bytes : List ℕ) (size : ℕ) (kind : TokenKind) → 0 < length bytes → 0 < size → KindFits (length bytes) size kind → token_size kind + length (drop size bytes) ≤ length bytes
 one_less bytes size (token.Text values) some more h = omega (arith, h.0, h.1, length-drop size bytes)
 one_less bytes size other some more h = omega (arith, length-drop size bytes)
 
@@ -230,7 +231,7 @@ front-short (t ∷ ts) = by_kind t.kind t.place
     by_kind (token.Text bytes) place = omega (arith, sum_by-cons token_extent (token_at (token.Text bytes) place) ts)
     by_kind other place = omega arith
 
-joined_to-short : (kind : TokenKind) (place : Place) (list : List Token) → extent (joined_to (text_of_kind kind) (token_at kind place) list) ≤ kind_extent kind + extent list
+joined_to-short : (kind : TokenKind) (place : Place) (list : List Token) → extent (joined_to (text_of_kind kind) (token_at kind place) list) ≤ token_size kind + extent list
 joined_to-short (token.Text bytes) place list =
     let more = unwrap_or (first_text list) [] in
     let made = token_at (token.Text (bytes ++ more)) place in

@@ -1,19 +1,13 @@
 -- How much a lexed text has: its files, the places of its tokens, and what its tokens have together.
-use Rattle.std.specs.Prelude.{ℕ, suc, ◌+◌, ◌<◌, ◌≤◌, List, length}
+use Rattle.std.specs.Prelude.{ℕ, ◌+◌, ◌<◌, ◌≤◌, List, length}
 use Rattle.std.specs.List.{All, sum_by}
 use Rattle.cs_ast.specs.declared.token.Token.{Token}
-use Rattle.cs_ast.specs.declared.token.TokenKind.{TokenKind}
-use Rattle.cs_ast.specs.declared.token.TokenKind.TheVariants.{Text}
+use Rattle.cs_ast.specs.TokenSizes.{token_size}
 use Rattle.cs_lexer.specs.declared.lexer.Lexed.{Lexed}
 use Rattle.cs_lexer.specs.Lexing.{Lexes}
 
--- a token counts as one, and a string literal's bytes besides
-abbrev pub kind_extent : TokenKind → ℕ
-kind_extent (Text bytes) = suc (length bytes)
-kind_extent other = 1
-
 abbrev pub token_extent : Token → ℕ
-token_extent t = kind_extent t.kind
+token_extent t = token_size t.kind
 
 -- there is a file, and each token stands in one that is there
 pub record HasFiles (lexed : Lexed) : Type 0 where

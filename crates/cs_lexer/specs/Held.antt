@@ -1,11 +1,9 @@
 -- No constant of a lexed text is too wide for the types of its list (C11 6.4.4, paragraph 2).
 use Rattle.std.specs.Prelude.{ℕ, List}
-use Rattle.std.specs.List.{All}
-use Rattle.cs_ast.specs.declared.token.Token.{Token}
-use Rattle.cs_ast.specs.HeldTokens.{IsHeldToken}
+use Rattle.cs_ast.specs.HeldTokens.{AreHeld}
 use Rattle.cs_lexer.specs.declared.lexer.Lexed.{Lexed}
 use Rattle.cs_lexer.specs.Lexing.{Lexes}
 
 -- no token of a lexed text is too wide
 abbrev pub LexedTokensAreHeld : Type 0
-LexedTokensAreHeld = (text : List ℕ) (lexed : Lexed) → Lexes text lexed → All (λ (t : Token). IsHeldToken t.kind) lexed.list.items
+LexedTokensAreHeld = (text : List ℕ) (lexed : Lexed) → Lexes text lexed → AreHeld lexed.list.items

@@ -3,13 +3,12 @@
 -- first, which brings in no control points but those of the statement.
 use Rattle.std.specs.Prelude.{◌≡◌, ℕ, ◌+◌, List, [], ◌∷◌, ◌++◌, length, Option, unwrap_or, slice_get}
 use Rattle.cs_ast.specs.declared.place.Place.{Place}
-use Rattle.cs_ast.specs.TypedTree.{Typed, Initial, Statement, Declare, Return, Statements}
+use Rattle.cs_ast.specs.TypedTree.{Typed, Initial, Statement, Declare, Return, Statements, count_of}
 use Rattle.cs_ast.specs.TypedProgram.{TypedProgram, Routine}
 use Rattle.cs_plain.specs.Initials.{Piece}
 use Rattle.cs_plain.specs.Jumps.{landing}
 use Rattle.cs_plain.specs.Machine.{body_of}
 use Rattle.cs_plain.specs.Marks.{marks, marks_in}
-use Rattle.cs_plain.specs.Statements.{count_of}
 use Rattle.cs_cfg.specs.ControlPoints.{Next, points_some, Targets, for_tested, for_points, at_label, flows, flows_in}
 use Rattle.cs_cfg.specs.Fitting.{Brings}
 use Rattle.cs_cfg.specs.Graph.{Point, Flow, block_of}

@@ -4,7 +4,7 @@ use Rattle.std.specs.Ordering.{int_eq}
 use Rattle.cs_types.specs.Shape.{Shape, void}
 use Rattle.cs_ast.specs.declared.place.Place.{Place}
 use Rattle.cs_ast.specs.declared.typed.statement.Case.{Case}
-use Rattle.cs_ast.specs.TypedTree.{Typed, Initial, Value, Statement, Block, Declare, Run, If, IfElse, While, Do, For, Switch, Goto, Label, Break, Continue, Return, Statements, Empty, Then}
+use Rattle.cs_ast.specs.TypedTree.{Typed, Initial, Value, Statement, Block, Declare, Run, If, IfElse, While, Do, For, Switch, Goto, Label, Break, Continue, Return, Statements, Empty, Then, count_of}
 use Rattle.cs_ast.specs.TypedProgram.{TypedProgram, Variable}
 use Rattle.cs_runs.specs.declared.event.Label.TheVariants as label
 use Rattle.cs_runs.specs.declared.outcome.RunBudgets.{RunBudgets}
@@ -168,11 +168,6 @@ default_item (c ∷ cases) otherwise = default_or c.value c.item (default_item c
 abbrev pub values_in : List Case → ℕ
 values_in [] = 0
 values_in (c ∷ cases) = has_value c.value + values_in cases
-
--- how many statements there are
-abbrev pub count_of : Statements → ℕ
-count_of Empty = 0
-count_of (Then first others) = count_of others + 1
 
 -- the case that a `switch` takes: that of its number, else `default`, else none, which leads behind all statements (C11 6.8.4.2)
 abbrev pub chosen_case : List Case → Statements → Option Chosen → Chosen

@@ -11,5 +11,7 @@ mod tests;
 mod text;
 
 pub use entry::append_entry;
+pub use place::append_place;
 pub use refusal::append_refusal;
 pub use replayed::append_replayed;
+pub use text::append;

@@ -8,11 +8,7 @@ use cs_names::Name;
 use std::alloc::AllocError;
 
 /// Appends `FILE:LINE:COLUMN`. A file without a name leaves out its name.
-pub(crate) fn append_place(
-    text: &mut Vec<u8>,
-    files: &[Name],
-    place: Place,
-) -> Result<(), AllocError>
+pub fn append_place(text: &mut Vec<u8>, files: &[Name], place: Place) -> Result<(), AllocError>
     ensures { OnOk result (text.new.items ≡ text.old.items ++ place_text files.now place) }
 {
     if let Some(file) = files.get(place.file as usize) {

@@ -6,7 +6,7 @@ use std::alloc::AllocError;
 use std::fmt::Display;
 
 /// Appends what `{}` prints of a value.
-pub(crate) fn append<D: Display + Drop>(text: &mut Vec<u8>, value: D) -> Result<(), AllocError>
+pub fn append<D: Display + Drop>(text: &mut Vec<u8>, value: D) -> Result<(), AllocError>
     ensures { OnOk result (AppendsText text.old.items text.new.items (D.output value)) }
 {
     let printed = value.to_string(*text.allocator())?;

@@ -7,7 +7,7 @@ use Rattle.cs_plain.specs.Initials.{Piece, Evaluated, Spelled}
 use Rattle.cs_plain.specs.Machine.{Item}
 use Rattle.cs_plain.specs.Marks.{marks, marks_in}
 use Rattle.cs_plain.specs.Jumps.{executes}
-use Rattle.cs_plain.specs.Statements.{executes_from, stores_pieces, count_of}
+use Rattle.cs_plain.specs.Statements.{executes_from, stores_pieces}
 use Rattle.cs_steps.specs.Storing.{with_piece}
 
 -- statements from the one with a number on

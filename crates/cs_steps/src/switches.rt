@@ -1,5 +1,6 @@
 //! The ways of a `switch` (C11 6.8.4.2).
 ghost use Rattle.std.specs.Prelude.{◌≡◌, ℕ, OnOk, IfErr, IfOk, None, option_map, unwrap_or};
+ghost use Rattle.cs_ast.specs.TypedTree as typed;
 ghost use Rattle.cs_ast.specs.TypedView.{statement_list};
 ghost use Rattle.cs_plain.specs.Initials.{number_in};
 ghost use Rattle.cs_plain.specs.Machine as machine;
@@ -88,7 +89,7 @@ fn otherwise(cases: &[Case], statements: &[Stmt]) -> Result<Chosen, AllocError>
 // How many statements there are.
 #[tactic(auto, using(crate::proofs::InRows::in_rows))]
 fn count_of(statements: &[Stmt]) -> Result<u32, AllocError>
-    ensures { IfOk result (λ count. count ≡ plain.count_of (statement_list statements.now)) }
+    ensures { IfOk result (λ count. count ≡ typed.count_of (statement_list statements.now)) }
 {
     u32::try_from(statements.len()).ok().ok_or(AllocError)
 }

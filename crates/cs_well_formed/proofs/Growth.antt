@@ -10,7 +10,7 @@ use Rattle.cs_types.specs.Layout.{members_of}
 use Rattle.cs_types.specs.Members.{Member}
 use Rattle.cs_types.specs.Shape.{Shape, void, integer, pointer, array, struct}
 use Rattle.cs_ast.specs.declared.typed.operator.Allocator.TheVariants as allocator
-use Rattle.cs_ast.specs.TypedTree.{Typed, Of, Form, Number, Null, Text, Local, Global, Through, Index, Member as MemberOf, Arrow, Load, Address, Decay, Convert, Unary, Not, Binary, Compare, Sum, Difference, And, Or, Choice, Comma, Assign, Update, Move, Call, Allocate, Free, TypedList, NoMore, Further, Initial, Value, Parts, Bytes, Initials, NoPart, Part, Statement, Block, Declare, Run, If, IfElse, While, Do, For, Switch, Goto, Label, Break, Continue, Return, Statements, Empty, Then}
+use Rattle.cs_ast.specs.TypedTree.{Typed, Of, Form, Number, Null, Text, Local, Global, Through, Index, Member as MemberOf, Arrow, Load, Address, Decay, Convert, Unary, Not, Binary, Compare, Sum, Difference, And, Or, Choice, Comma, Assign, Update, Move, Call, Allocate, Free, TypedList, NoMore, Further, Initial, Value, Parts, Bytes, Initials, NoPart, Part, Statement, Block, Declare, Run, If, IfElse, While, Do, For, Switch, Goto, Label, Break, Continue, Return, Statements, Empty, Then, count_of}
 use Rattle.cs_ast.specs.TypedProgram.{TypedProgram, Variable, FileObject, Routine}
 use Rattle.cs_consts.specs.declared.context.Context.{Context}
 use Rattle.cs_consts.specs.declared.scope.Callee.{Callee}
@@ -20,7 +20,7 @@ use Rattle.cs_consts.specs.Integers.{type_of}
 use Rattle.cs_well_formed.specs.Structs.{NamesStructs}
 use Rattle.cs_well_formed.specs.Expressions.{Setting, TypesAroundAreNamed, IsWell, IsWellForm, AreWell, IsWhole, IsHeld, IsElementPointer, HasMember, AreValuesOf, sizes_of}
 use Rattle.cs_well_formed.specs.Initials.{HasParts, IsWellInitial, AreWellParts, HasConstantValues}
-use Rattle.cs_well_formed.specs.Statements.{IsWellStatement, AreWellStatements, AreCases, count_of, IsDroppedIfAny, IsTestIfAny, IsReturned}
+use Rattle.cs_well_formed.specs.Statements.{IsWellStatement, AreWellStatements, AreCases, IsDroppedIfAny, IsTestIfAny, IsReturned}
 use Rattle.cs_well_formed.specs.Programs.{setting_of, IsWellBody, IsWellRoutine, outside, IsWellGlobal}
 use Rattle.cs_well_formed.specs.Agreement.{IsFunction, IsThere, Agrees}
 use Rattle.cs_well_formed.specs.Growth.{Extends, Grows}

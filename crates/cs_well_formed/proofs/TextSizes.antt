@@ -13,7 +13,8 @@ use Rattle.cs_grammar.specs.FileText.{each_behind_comma, with_commas, declarator
 use Rattle.cs_grammar.proofs.Texts.{words_append, pointers_append, text_append, listed_append, commas_append, bounds_append}
 use Rattle.cs_grammar.proofs.FileTexts.{each_append, with_commas_append, declarator_append, spec_append, specs_append, members_append, initial_append, initials_append, further_initials_append, parameter_append, parameters_append}
 use Rattle.cs_well_formed.specs.Nodes.{all_nodes}
-use Rattle.cs_well_formed.specs.Sizes.{token_size, text_size, size_of}
+use Rattle.cs_ast.specs.TokenSizes.{token_size}
+use Rattle.cs_well_formed.specs.Sizes.{text_size, size_of}
 
 -- two texts, one behind the other
 pub text_size-append : (x y : Kinds) → text_size (x ++ y) ≡ text_size x + text_size y

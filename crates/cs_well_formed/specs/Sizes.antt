@@ -1,13 +1,7 @@
 -- The size of a text: its tokens, and the bytes of its string literals.
-use Rattle.std.specs.Prelude.{ℕ, suc, ◌+◌, [], ◌∷◌, length}
-use Rattle.cs_ast.specs.declared.token.TokenKind.{TokenKind}
-use Rattle.cs_ast.specs.declared.token.TokenKind.TheVariants as token
+use Rattle.std.specs.Prelude.{ℕ, ◌+◌, [], ◌∷◌}
+use Rattle.cs_ast.specs.TokenSizes.{token_size}
 use Rattle.cs_grammar.specs.Text.{Kinds}
-
--- a token, with its bytes if it is a string literal
-abbrev pub token_size : TokenKind → ℕ
-token_size (token.Text bytes) = suc (length bytes)
-token_size other = 1
 
 abbrev pub text_size : Kinds → ℕ
 text_size [] = 0

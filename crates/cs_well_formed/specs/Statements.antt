@@ -6,7 +6,7 @@ use Rattle.cs_types.specs.declared.int_type.IntType.{IntType}
 use Rattle.cs_types.specs.IntType.{InRange}
 use Rattle.cs_types.specs.Shape.{Shape, void, integer}
 use Rattle.cs_ast.specs.declared.typed.statement.Case.{Case}
-use Rattle.cs_ast.specs.TypedTree.{Typed, Statement, Block, Declare, Run, If, IfElse, While, Do, For, Switch, Goto, Label, Break, Continue, Return, Statements, Empty, Then}
+use Rattle.cs_ast.specs.TypedTree.{Typed, Statement, Block, Declare, Run, If, IfElse, While, Do, For, Switch, Goto, Label, Break, Continue, Return, Statements, Empty, Then, count_of}
 use Rattle.cs_ast.specs.TypedProgram.{Variable}
 use Rattle.cs_consts.specs.Integers.{type_of}
 use Rattle.cs_well_formed.specs.Expressions.{Setting, IsWell, IsValue, IsScalarValue, IsIntegerValue, IsValueOf}
@@ -20,11 +20,6 @@ IsDroppedIfAny s (Some e) = IsWell s e × IsValue e
 abbrev pub IsTestIfAny : Setting → Option Typed → Type 0
 IsTestIfAny s None = Unit {0}
 IsTestIfAny s (Some e) = IsWell s e × IsScalarValue e
-
--- how many statements stand in a row
-abbrev pub count_of : Statements → ℕ
-count_of Empty = 0
-count_of (Then first others) = suc (count_of others)
 
 -- a number of an integer type
 abbrev pub IsNumberOf : DataModel → Shape → ℤ → Type 0
