@@ -3,6 +3,7 @@
 use cs_app::{Status, csa};
 use cs_io::{SureSink, SureSource};
 use std::alloc::{AllocError, Global};
+use std::str;
 
 /// The words of a command line.
 pub fn words_of(alloc: Global, line: &str) -> Result<Vec<String>, AllocError> {
@@ -21,4 +22,21 @@ pub fn answered(alloc: Global, words: &str, file: &str) -> Result<(Status, Vec<u
     let ended = csa(alloc, words.as_slice(), &mut source, &mut sink);
     let written = Vec::from_slice(alloc, sink.written())?;
     Ok((ended, written))
+}
+
+/// Of a table of words, files, statuses and texts, the rows that csa answers otherwise, with the text that it gives.
+pub fn answered_otherwise(
+    alloc: Global,
+    table: &[(&str, &str, Status, &str)],
+) -> Result<String, AllocError> {
+    let mut found = String::new(alloc);
+    for (words, file, status, text) in table {
+        let (ended, written) = answered(alloc, words, file)?;
+        if ended != *status || written.as_slice() != text.as_bytes() {
+            let given = str::from_utf8(&written).unwrap_or("no text");
+            let told = format!(in alloc; "{words}: {file} gives {given}")?;
+            found.push_str(told.as_str())?;
+        }
+    }
+    Ok(found)
 }

@@ -1,15 +1,16 @@
 //! What `flow` says of whole files. The ways were written by hand from what C says of each statement.
 
-use crate::asked::answered;
+use crate::asked::answered_otherwise;
 use cs_app::Status;
-use std::str;
 use std::test::Fail;
 
-/// A file, and its flow: every form of statement, the operators that choose, initializers, functions of two files.
-const FLOWS: [(&str, &str); 13] = [
+/// A file and its flow: every form of statement, the operators that choose, initializers, functions of two files.
+const FLOWS: [(&str, &str, Status, &str); 13] = [
     // A loop over an array
     (
+        "flow",
         "int f(int n){int a[3];int i;for(i=0;i<n;i++)a[i]=0;return a[0];}",
+        Status::Clean,
         "flow f
   enter <input>:1:5 -> head <input>:1:29
   head <input>:1:29 -> branch <input>:1:29
@@ -19,7 +20,9 @@ const FLOWS: [(&str, &str); 13] = [
     ),
     // `if` and `else`
     (
+        "flow",
         "int f(int a){if(a)return 1;else if(a+1)return 2;return 3;}",
+        Status::Clean,
         "flow f
   enter <input>:1:5 -> branch <input>:1:14
   branch <input>:1:14 true -> return <input>:1:19
@@ -30,7 +33,9 @@ const FLOWS: [(&str, &str); 13] = [
     ),
     // `while` with `break` and `continue`
     (
+        "flow",
         "void f(int n){while(n){if(n==3)break;if(n==2)continue;n--;}}",
+        Status::Clean,
         "flow f
   enter <input>:1:6 -> head <input>:1:15
   head <input>:1:15 -> branch <input>:1:15
@@ -44,7 +49,9 @@ const FLOWS: [(&str, &str); 13] = [
     ),
     // `do`, whose test has a point of its own
     (
+        "flow",
         "int f(int a,int b){do a--;while(a&&b);return a;}",
+        Status::Clean,
         "flow f
   enter <input>:1:5 -> head <input>:1:20
   head <input>:1:20 -> branch <input>:1:34
@@ -56,7 +63,9 @@ const FLOWS: [(&str, &str); 13] = [
     ),
     // `do` with `continue` and `break`
     (
+        "flow",
         "int f(int a){do{if(a==1)continue;if(a==2)break;a--;}while(a);return a;}",
+        Status::Clean,
         "flow f
   enter <input>:1:5 -> head <input>:1:14
   head <input>:1:14 -> branch <input>:1:17
@@ -70,7 +79,9 @@ const FLOWS: [(&str, &str); 13] = [
     ),
     // `for` without a test
     (
+        "flow",
         "int f(int n){int i;for(i=n?1:2;;i=i||n)if(i>5)return i;}",
+        Status::Clean,
         "flow f
   enter <input>:1:5 -> branch <input>:1:27
   head <input>:1:20 -> branch <input>:1:40
@@ -84,7 +95,9 @@ const FLOWS: [(&str, &str); 13] = [
     ),
     // `for` with `continue`, which meets the last part
     (
+        "flow",
         "int f(int n){int i;int s=0;for(i=0;i<n;i=n?i+1:n){if(i==2)continue;s+=i&&n;}return s;}",
+        Status::Clean,
         "flow f
   enter <input>:1:5 -> head <input>:1:28
   head <input>:1:28 -> branch <input>:1:28
@@ -100,7 +113,9 @@ const FLOWS: [(&str, &str); 13] = [
     ),
     // `switch` in a loop
     (
+        "flow",
         "int f(int n){while(n){switch(n){case 3:n--;case 1:break;default:continue;case 7:return n;}if(n>9)n=0;}return 0;}",
+        Status::Clean,
         "flow f
   enter <input>:1:5 -> head <input>:1:14
   head <input>:1:14 -> branch <input>:1:14
@@ -116,7 +131,9 @@ const FLOWS: [(&str, &str); 13] = [
     ),
     // `switch` without a `default`
     (
+        "flow",
         "int f(int n){switch(n&&1){case 1:return 1;}return 0;}",
+        Status::Clean,
         "flow f
   enter <input>:1:5 -> branch <input>:1:22
   switch <input>:1:14 case 0 -> return <input>:1:34
@@ -127,7 +144,9 @@ const FLOWS: [(&str, &str); 13] = [
     ),
     // `goto` and labels
     (
+        "flow",
         "int f(int n){goto in;out:return n;in:if(n)goto out;n=1;goto in;}",
+        Status::Clean,
         "flow f
   enter <input>:1:5 -> label <input>:1:35
   label <input>:1:22 -> return <input>:1:26
@@ -138,7 +157,9 @@ const FLOWS: [(&str, &str); 13] = [
     ),
     // Expressions, and a function without a body
     (
+        "flow",
         "int g(int x,int y);int f(int a,int b){return a&&(b||a)?g(a&&b,b):!a;}",
+        Status::Clean,
         "flow f
   enter <input>:1:24 -> branch <input>:1:47
   branch <input>:1:47 true -> branch <input>:1:51
@@ -153,7 +174,9 @@ const FLOWS: [(&str, &str); 13] = [
     ),
     // Initializers
     (
+        "flow",
         "int f(int n){int a[2]={n&&1,n||0};return a[0];}",
+        Status::Clean,
         "flow f
   enter <input>:1:5 -> branch <input>:1:25
   branch <input>:1:25 true -> branch <input>:1:30
@@ -164,7 +187,9 @@ const FLOWS: [(&str, &str); 13] = [
     ),
     // Two functions in two files
     (
+        "flow",
         "# 1 \"a.h\"\nvoid f(void){}\n# 7 \"b.c\"\nvoid g(int n){if(n);}\n",
+        Status::Clean,
         "flow f
   enter a.h:1:6 -> end a.h:1:14
 flow g
@@ -177,16 +202,7 @@ flow g
 
 #[test]
 fn tells_the_flow_of_each_function(rt: HostRuntime) -> Result<(), Fail> {
-    let alloc = rt.alloc();
-    let mut found = String::new(alloc);
-    for (file, flow) in FLOWS {
-        let (ended, written) = answered(alloc, "flow", file)?;
-        if written.as_slice() != flow.as_bytes() || ended != Status::Clean {
-            let text = str::from_utf8(&written).unwrap_or("no text");
-            let told = format!(in alloc; "{file} gives {text}")?;
-            found.push_str(told.as_str())?;
-        }
-    }
+    let found = answered_otherwise(rt.alloc(), &FLOWS)?;
     assert_eq!(rt; found.as_str(), "");
     Ok(())
 }

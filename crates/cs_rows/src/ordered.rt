@@ -40,14 +40,25 @@ fn names_of(alloc: Global, functions: &[Function]) -> Result<String, AllocError>
     Ok(names)
 }
 
+/// Of a table of files and names, the files whose functions are others, with those.
+fn ordered_otherwise(alloc: Global, table: &[(&str, &str)]) -> Result<String, AllocError> {
+    let mut found = String::new(alloc);
+    for (file, expected) in table {
+        let names = match program(alloc, DataModel::Lp64, file) {
+            Some(program) => names_of(alloc, &program.functions)?,
+            None => String::from_str(alloc, "no program")?,
+        };
+        if names.as_str() != *expected {
+            let told = format!(in alloc; "{file} gives {names}")?;
+            found.push_str(told.as_str())?;
+        }
+    }
+    Ok(found)
+}
+
 #[test]
 fn functions_stand_in_the_order_of_their_definitions(rt: HostRuntime) -> Result<(), Fail> {
-    for (file, names) in ORDERED {
-        let Some(program) = program(rt.alloc(), DataModel::Lp64, file) else {
-            panic!(rt; "no program: {file}");
-        };
-        let found = names_of(rt.alloc(), &program.functions)?;
-        assert_eq!(rt; found.as_str(), names, "{file}");
-    }
+    let found = ordered_otherwise(rt.alloc(), &ORDERED)?;
+    assert_eq!(rt; found.as_str(), "");
     Ok(())
 }

@@ -88,11 +88,22 @@ fn in_words(alloc: Global, refusal: &SyntaxRefusal) -> Result<String, AllocError
     }
 }
 
+/// Of a table of files and verdicts, the files of which the front end says something else, with that.
+fn judged_otherwise(alloc: Global, table: &[(&str, &str)]) -> Result<String, AllocError> {
+    let mut found = String::new(alloc);
+    for (file, expected) in table {
+        let said = verdict(alloc, file)?;
+        if said.as_str() != *expected {
+            let told = format!(in alloc; "{file} gives {said}")?;
+            found.push_str(told.as_str())?;
+        }
+    }
+    Ok(found)
+}
+
 #[test]
 fn parses_files_or_tells_the_first_refused_token(rt: HostRuntime) -> Result<(), Fail> {
-    for (file, expected) in FILES {
-        let said = verdict(rt.alloc(), file)?;
-        assert_eq!(rt; said.as_str(), expected, "{file}");
-    }
+    let found = judged_otherwise(rt.alloc(), &FILES)?;
+    assert_eq!(rt; found.as_str(), "");
     Ok(())
 }

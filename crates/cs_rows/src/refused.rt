@@ -1,6 +1,6 @@
 //! What comes of refused words and files, and of sources and sinks that fail.
 
-use crate::asked::{answered, words_of};
+use crate::asked::{answered, answered_otherwise, words_of};
 use cs_app::{Status, csa};
 use cs_io::{MemSink, MemSource, SureSink, SureSource};
 use std::alloc::{AllocError, Global};
@@ -9,118 +9,142 @@ use std::test::Fail;
 /// A division by a parameter.
 const DIVISION: &str = "int f(int x){return 10/x;}";
 
+/// Words and files that are refused, with the status and the line.
+const REFUSED: [(&str, &str, Status, &str); 16] = [
+    ("", DIVISION, Status::BadWords, "refused words 1\n"),
+    ("replay", DIVISION, Status::BadWords, "refused words 2\n"),
+    (
+        "replay f x=",
+        DIVISION,
+        Status::BadWords,
+        "refused words 3\n",
+    ),
+    (
+        "replay --visits 0 f",
+        DIVISION,
+        Status::BadWords,
+        "refused words 3\n",
+    ),
+    (
+        "analyze --model lp32",
+        DIVISION,
+        Status::BadWords,
+        "refused words 3\n",
+    ),
+    ("analyze f", DIVISION, Status::BadWords, "refused words 2\n"),
+    (
+        "analyze",
+        "int x; /* a",
+        Status::BadFile,
+        "refused lex 2 <input>:1:8\n",
+    ),
+    (
+        "analyze",
+        "int x;\n# 7 \"a.h\"\n  @",
+        Status::BadFile,
+        "refused lex 1 a.h:7:3\n",
+    ),
+    (
+        "analyze",
+        "18446744073709551616",
+        Status::BadFile,
+        "refused lex 3 <input>:1:1\n",
+    ),
+    (
+        "analyze",
+        " #include <stdlib.h>",
+        Status::BadFile,
+        "refused lex 4 <input>:1:2\n",
+    ),
+    (
+        "analyze",
+        "float x;",
+        Status::BadFile,
+        "refused left-out float <input>:1:1\n",
+    ),
+    (
+        "analyze",
+        "int f(int x){return x}",
+        Status::BadFile,
+        "refused syntax <input>:1:22\n",
+    ),
+    (
+        "analyze",
+        "int f(int x){return x;",
+        Status::BadFile,
+        "refused syntax <input>:1:23\n",
+    ),
+    (
+        "analyze",
+        "int x;\n# 3 \"a.h\"\nint f(int x){\n  static int y;return x;}",
+        Status::BadFile,
+        "refused left-out static a.h:4:3\n",
+    ),
+    (
+        "analyze",
+        "int x;\n# 9 \"b.h\"\nint f(int x){return y;}",
+        Status::BadFile,
+        "refused type 1 b.h:9:21\n",
+    ),
+    (
+        "analyze",
+        "int x[sizeof(char)];struct s{int a:3;};",
+        Status::BadFile,
+        "refused left-out : <input>:1:35\n",
+    ),
+];
+
 #[test]
 fn refuses_words_and_files_with_a_line(rt: HostRuntime) -> Result<(), Fail> {
-    let alloc = rt.alloc();
-    // The words, the file, the status and the line.
-    for (words, file, status, line) in [
-        ("", DIVISION, Status::BadWords, "refused words 1\n"),
-        ("replay", DIVISION, Status::BadWords, "refused words 2\n"),
-        (
-            "replay f x=",
-            DIVISION,
-            Status::BadWords,
-            "refused words 3\n",
-        ),
-        (
-            "replay --visits 0 f",
-            DIVISION,
-            Status::BadWords,
-            "refused words 3\n",
-        ),
-        (
-            "analyze --model lp32",
-            DIVISION,
-            Status::BadWords,
-            "refused words 3\n",
-        ),
-        ("analyze f", DIVISION, Status::BadWords, "refused words 2\n"),
-        (
-            "analyze",
-            "int x; /* a",
-            Status::BadFile,
-            "refused lex 2 <input>:1:8\n",
-        ),
-        (
-            "analyze",
-            "int x;\n# 7 \"a.h\"\n  @",
-            Status::BadFile,
-            "refused lex 1 a.h:7:3\n",
-        ),
-        (
-            "analyze",
-            "18446744073709551616",
-            Status::BadFile,
-            "refused lex 3 <input>:1:1\n",
-        ),
-        (
-            "analyze",
-            " #include <stdlib.h>",
-            Status::BadFile,
-            "refused lex 4 <input>:1:2\n",
-        ),
-        (
-            "analyze",
-            "float x;",
-            Status::BadFile,
-            "refused left-out float <input>:1:1\n",
-        ),
-        (
-            "analyze",
-            "int f(int x){return x}",
-            Status::BadFile,
-            "refused syntax <input>:1:22\n",
-        ),
-        (
-            "analyze",
-            "int f(int x){return x;",
-            Status::BadFile,
-            "refused syntax <input>:1:23\n",
-        ),
-        (
-            "analyze",
-            "int x;\n# 3 \"a.h\"\nint f(int x){\n  static int y;return x;}",
-            Status::BadFile,
-            "refused left-out static a.h:4:3\n",
-        ),
-        (
-            "analyze",
-            "int x;\n# 9 \"b.h\"\nint f(int x){return y;}",
-            Status::BadFile,
-            "refused type 1 b.h:9:21\n",
-        ),
-        (
-            "analyze",
-            "int x[sizeof(char)];struct s{int a:3;};",
-            Status::BadFile,
-            "refused left-out : <input>:1:35\n",
-        ),
-    ] {
-        let (ended, written) = answered(alloc, words, file)?;
-        assert_eq!(rt; written.as_slice(), line.as_bytes(), "{file}");
-        assert_eq!(rt; ended, status, "{file}");
-    }
+    let found = answered_otherwise(rt.alloc(), &REFUSED)?;
+    assert_eq!(rt; found.as_str(), "");
     Ok(())
 }
 
 /// Programs that aren't of the form: a sum; a statement more; a long; a local; a pointer; a function without a body.
-const OTHER_PROGRAMS: [&str; 6] = [
-    "int f(int x){return x+1;}",
-    "int f(int x){x=1;return x;}",
-    "long f(int x){return x;}",
-    "int f(int x){int y=x;return y;}",
-    "int f(int*p){return 0;}",
-    "int g(int x);int f(int x){return x;}",
+const OTHER_PROGRAMS: [(&str, &str, Status, &str); 6] = [
+    (
+        "analyze",
+        "int f(int x){return x+1;}",
+        Status::BadFile,
+        "refused form\n",
+    ),
+    (
+        "analyze",
+        "int f(int x){x=1;return x;}",
+        Status::BadFile,
+        "refused form\n",
+    ),
+    (
+        "analyze",
+        "long f(int x){return x;}",
+        Status::BadFile,
+        "refused form\n",
+    ),
+    (
+        "analyze",
+        "int f(int x){int y=x;return y;}",
+        Status::BadFile,
+        "refused form\n",
+    ),
+    (
+        "analyze",
+        "int f(int*p){return 0;}",
+        Status::BadFile,
+        "refused form\n",
+    ),
+    (
+        "analyze",
+        "int g(int x);int f(int x){return x;}",
+        Status::BadFile,
+        "refused form\n",
+    ),
 ];
 
 #[test]
 fn refuses_programs_that_are_of_another_form(rt: HostRuntime) -> Result<(), Fail> {
-    let alloc = rt.alloc();
-    for file in OTHER_PROGRAMS {
-        let (ended, written) = answered(alloc, "analyze", file)?;
-        assert_eq!(rt; written.as_slice(), b"refused form\n".as_slice(), "{file}");
-        assert_eq!(rt; ended, Status::BadFile, "{file}");
-    }
+    let found = answered_otherwise(rt.alloc(), &OTHER_PROGRAMS)?;
+    assert_eq!(rt; found.as_str(), "");
     Ok(())
 }
 
