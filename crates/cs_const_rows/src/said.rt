@@ -69,3 +69,37 @@ pub fn type_of(alloc: Global, model: DataModel, text: &str) -> Result<String, Al
         Err(error) => refusal(alloc, &error),
     }
 }
+
+/// Of a table of constants and what is said of them, those of which something else is said, with that.
+pub fn constants_otherwise(
+    alloc: Global,
+    model: DataModel,
+    table: &[(&str, &str)],
+) -> Result<String, AllocError> {
+    let mut found = String::new(alloc);
+    for (text, expected) in table {
+        let said = constant(alloc, model, text)?;
+        if said.as_str() != *expected {
+            let told = format!(in alloc; "{text} gives {said}")?;
+            found.push_str(told.as_str())?;
+        }
+    }
+    Ok(found)
+}
+
+/// Of a table of expressions and the types of their values, those of which something else is said, with that.
+pub fn types_otherwise(
+    alloc: Global,
+    model: DataModel,
+    table: &[(&str, &str)],
+) -> Result<String, AllocError> {
+    let mut found = String::new(alloc);
+    for (text, expected) in table {
+        let said = type_of(alloc, model, text)?;
+        if said.as_str() != *expected {
+            let told = format!(in alloc; "{text} gives {said}")?;
+            found.push_str(told.as_str())?;
+        }
+    }
+    Ok(found)
+}

@@ -162,81 +162,85 @@ fn refusal_of(alloc: Global, line: &str) -> Result<Option<WordsRefusal>, AllocEr
     Ok(words_of(alloc, words.as_slice()).err())
 }
 
+// Of a table of lines and numbers, the lines that aren't refused for the word of that number.
+fn refused_otherwise(alloc: Global, table: &[(&str, u64)]) -> Result<String, AllocError> {
+    let mut found = String::new(alloc);
+    for (line, number) in table {
+        if refusal_of(alloc, line)? != Some(WordsRefusal::Words(*number)) {
+            found.push_str(line)?;
+            found.push('\n')?;
+        }
+    }
+    Ok(found)
+}
+
+/// Words that begin no command, or that a command without a function doesn't take.
+const COMMANDS: [(&str, u64); 12] = [
+    ("", 1),
+    ("Analyze", 1),
+    ("analyze ", 2),
+    ("analyze f", 2),
+    ("analyze --visits 0", 2),
+    ("analyze --model", 3),
+    ("analyze --model lp32", 3),
+    ("analyze --model=", 2),
+    ("analyze --model lp64 lp64", 4),
+    ("analyze --model lp64 --model=lp64", 4),
+    ("flow f", 2),
+    ("flow --visits 1", 2),
+];
+
 #[test]
 fn refuses_commands(rt: HostRuntime) -> Result<(), Fail> {
     let alloc = rt.alloc();
     assert_eq!(rt; words_of(alloc, &[]).err(), Some(WordsRefusal::Words(1)));
-    for (line, number) in [
-        ("", 1),
-        ("Analyze", 1),
-        ("analyze ", 2),
-        ("analyze f", 2),
-        ("analyze --visits 0", 2),
-        ("analyze --model", 3),
-        ("analyze --model lp32", 3),
-        ("analyze --model=", 2),
-        ("analyze --model lp64 lp64", 4),
-        ("analyze --model lp64 --model=lp64", 4),
-        ("flow f", 2),
-        ("flow --visits 1", 2),
-    ] {
-        assert_eq!(rt;
-            refusal_of(alloc, line)?,
-            Some(WordsRefusal::Words(number)),
-            "{line}"
-        );
-    }
+    let found = refused_otherwise(alloc, &COMMANDS)?;
+    assert_eq!(rt; found.as_str(), "");
     Ok(())
 }
+
+/// Budgets that are out of range, cut off, or said twice.
+const SETTINGS: [(&str, u64); 17] = [
+    ("replay --visits 0", 3),
+    ("replay --visits 0 f", 3),
+    ("replay --visits 1001 f", 3),
+    ("replay --visits=1001 f", 2),
+    ("replay --visits 0000000001 f", 3),
+    ("replay --visits +1 f", 3),
+    ("replay --visits --depth 1 f", 3),
+    ("replay --visits", 3),
+    ("replay --visits 1", 4),
+    ("replay --visits 1 --visits 1 f", 4),
+    ("replay --visits 1 --visits=x f", 4),
+    ("replay --depth 65 f", 3),
+    ("replay --depth 0 f", 3),
+    ("replay --events 1000001 f", 3),
+    ("replay --events=0 f", 2),
+    ("replay --event 1 f", 2),
+    ("replay -visits 1 f", 2),
+];
 
 #[test]
 fn refuses_settings(rt: HostRuntime) -> Result<(), Fail> {
-    let alloc = rt.alloc();
-    for (line, number) in [
-        ("replay --visits 0", 3),
-        ("replay --visits 0 f", 3),
-        ("replay --visits 1001 f", 3),
-        ("replay --visits=1001 f", 2),
-        ("replay --visits 0000000001 f", 3),
-        ("replay --visits +1 f", 3),
-        ("replay --visits --depth 1 f", 3),
-        ("replay --visits", 3),
-        ("replay --visits 1", 4),
-        ("replay --visits 1 --visits 1 f", 4),
-        ("replay --visits 1 --visits=x f", 4),
-        ("replay --depth 65 f", 3),
-        ("replay --depth 0 f", 3),
-        ("replay --events 1000001 f", 3),
-        ("replay --events=0 f", 2),
-        ("replay --event 1 f", 2),
-        ("replay -visits 1 f", 2),
-    ] {
-        assert_eq!(rt;
-            refusal_of(alloc, line)?,
-            Some(WordsRefusal::Words(number)),
-            "{line}"
-        );
-    }
+    let found = refused_otherwise(rt.alloc(), &SETTINGS)?;
+    assert_eq!(rt; found.as_str(), "");
     Ok(())
 }
 
+/// Runs of no function, and inputs that aren't any.
+const ENTRIES: [(&str, u64); 7] = [
+    ("replay", 2),
+    ("replay 1f", 2),
+    ("replay f@0=1", 2),
+    ("replay f x=", 3),
+    ("replay f x=1 y", 4),
+    ("replay f x=1 --depth 6", 4),
+    ("replay f x=18446744073709551616", 3),
+];
+
 #[test]
 fn refuses_entries_and_inputs(rt: HostRuntime) -> Result<(), Fail> {
-    let alloc = rt.alloc();
-    for (line, number) in [
-        ("replay", 2),
-        ("replay 1f", 2),
-        ("replay f@0=1", 2),
-        ("replay f x=", 3),
-        ("replay f x=1 y", 4),
-        ("replay f x=1 --depth 6", 4),
-        ("replay f x=18446744073709551616", 3),
-    ] {
-        assert_eq!(rt;
-            refusal_of(alloc, line)?,
-            Some(WordsRefusal::Words(number)),
-            "{line}"
-        );
-    }
+    let found = refused_otherwise(rt.alloc(), &ENTRIES)?;
+    assert_eq!(rt; found.as_str(), "");
     Ok(())
 }
