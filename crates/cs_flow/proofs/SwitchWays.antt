@@ -2,9 +2,9 @@
 use Rattle.std.proofs.Common.{◌≡◌, ℕ, zero, suc, ◌+◌, List, [], ◌∷◌, ◌++◌, length, refl, ap, ◌∙◌, arith}
 use Rattle.cs_ast.specs.declared.typed.statement.Case.{Case}
 use Rattle.cs_ast.specs.declared.typed.statement.Stmt.{Stmt}
-use Rattle.cs_ast.specs.TypedTree.{Statements, Empty, Then}
+use Rattle.cs_ast.specs.TypedTree.{Statements, Empty, Then, count_of}
 use Rattle.cs_ast.specs.TypedView.{statement, statement_list}
-use Rattle.cs_plain.specs.Statements.{has_value, default_item, count_of}
+use Rattle.cs_plain.specs.Statements.{has_value, default_item}
 use Rattle.cs_cfg.specs.ControlPoints.{Targets, Next, with_case, starts, starts_in, starts_from, case_ways}
 use Rattle.cs_flow.specs.SwitchView.{all_starts, start_at, ways_before, ways_of_cases}
 use Rattle.cs_flow.proofs.RowsFromTheEnd.{starts_in-last}

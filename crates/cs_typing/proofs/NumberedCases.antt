@@ -8,9 +8,9 @@ use Rattle.cs_types.specs.IntType.{InRange}
 use Rattle.cs_types.proofs.Wrapping.{wrapped-InRange}
 use Rattle.cs_types.specs.Shape.{Shape, void, integer, pointer, array, struct}
 use Rattle.cs_ast.specs.declared.typed.statement.Case.{Case}
-use Rattle.cs_ast.specs.TypedTree.{Statement}
+use Rattle.cs_ast.specs.TypedTree.{Statement, count_of}
 use Rattle.cs_typing.specs.Statements.{in_a_row, is_void, is_case, same_value, wrapped_in}
-use Rattle.cs_well_formed.specs.Statements.{count_of, IsNumberOf}
+use Rattle.cs_well_formed.specs.Statements.{IsNumberOf}
 
 -- statements in a row are as many as in the list
 pub count-length : (statements : List Statement) → count_of (in_a_row statements) ≡ length statements
