@@ -2,6 +2,7 @@
 use Rattle.std.proofs.Common.{◌≡◌, ℕ, zero, suc, ◌+◌, ◌<◌, ◌≤◌, List, [], ◌∷◌, drop, take, length, refl, ap, ◌∙◌, arith}
 use Rattle.cs_ast.specs.declared.place.Place.{Place}
 use Rattle.cs_ast.specs.declared.typed.statement.Stmt.{Stmt}
+use Rattle.cs_ast.specs.TypedTree.{count_of}
 use Rattle.cs_ast.specs.TypedView.{statement, statement_list}
 use Rattle.cs_plain.specs.Initials.{Piece, Evaluated, Spelled}
 use Rattle.cs_plain.specs.Machine.{Item}
