@@ -2,7 +2,7 @@
 use cs_ast::{IntegerConstant, Keyword, LeftOut, Length, Mark, Place};
 use cs_lexer::{LexRefusal, Lexed, Token, TokenKind, tokens};
 use cs_names::Name;
-use std::alloc::Global;
+use std::alloc::{AllocError, Global};
 use std::test::Fail;
 
 const fn at(line: u32, column: u32) -> Place {
@@ -83,47 +83,62 @@ fn a_token_has_its_kind(rt: HostRuntime) -> Result<(), Fail> {
     Ok(())
 }
 
-#[test]
-fn a_bad_text_is_refused_at_its_first_fault(rt: HostRuntime) -> Result<(), Fail> {
-    for (text, fault, place) in [
-        ("\0", Fault::BadByte, at(1, 1)),
-        ("x # 1", Fault::BadByte, at(1, 3)),
-        ("/* a */ # 1", Fault::BadByte, at(1, 9)),
-        ("\x0c# 1", Fault::BadByte, at(1, 2)),
-        ("08", Fault::BadByte, at(1, 2)),
-        ("0x", Fault::BadByte, at(1, 2)),
-        ("1.5", Fault::BadByte, at(1, 2)),
-        ("1lul", Fault::BadByte, at(1, 4)),
-        ("''", Fault::BadByte, at(1, 1)),
-        ("'ab'", Fault::BadByte, at(1, 3)),
-        ("'\\q'", Fault::BadByte, at(1, 2)),
-        ("'\\1234'", Fault::BadByte, at(1, 6)),
-        ("'a\\xfff'", Fault::BadByte, at(1, 3)),
-        ("\"a\\x\"", Fault::BadByte, at(1, 3)),
-        ("a\n\t@ '", Fault::BadByte, at(2, 2)),
-        ("/* x", Fault::Unclosed, at(1, 1)),
-        ("/*/", Fault::Unclosed, at(1, 1)),
-        ("'ab\n'", Fault::Unclosed, at(1, 1)),
-        ("'\\\n'", Fault::Unclosed, at(1, 1)),
-        ("\n\n  \"\\q\nb\"", Fault::Unclosed, at(3, 3)),
-        ("int x = 18446744073709551616;", Fault::WideNumber, at(1, 9)),
-        ("9223372036854775808", Fault::WideNumber, at(1, 1)),
-        ("99999999999999999999x", Fault::WideNumber, at(1, 1)),
-        ("'\\400'", Fault::WideNumber, at(1, 2)),
-        ("\"\\x00100\"", Fault::WideNumber, at(1, 2)),
-        ("#", Fault::BadLine, at(1, 1)),
-        (" # 1 2", Fault::BadLine, at(1, 2)),
-        ("#line5", Fault::BadLine, at(1, 1)),
-        ("# 1\"x\"", Fault::BadLine, at(1, 1)),
-        ("# 1 \"x", Fault::BadLine, at(1, 1)),
-        ("# 2147483648 \"a\"", Fault::BadLine, at(1, 1)),
-    ] {
-        let file = Name::from_slice(rt.alloc(), b"<input>")?;
-        match lexed(rt.alloc(), text.as_bytes()) {
-            Ok(_) => assert!(rt; false, "{text} has tokens"),
-            Err(found) => assert_eq!(rt; found, refusal(fault, place, file), "{text}"),
+/// Texts that have no tokens, each with its first fault, the line and the column.
+const FAULTS: [(&str, Fault, (u32, u32)); 31] = [
+    ("\0", Fault::BadByte, (1, 1)),
+    ("x # 1", Fault::BadByte, (1, 3)),
+    ("/* a */ # 1", Fault::BadByte, (1, 9)),
+    ("\x0c# 1", Fault::BadByte, (1, 2)),
+    ("08", Fault::BadByte, (1, 2)),
+    ("0x", Fault::BadByte, (1, 2)),
+    ("1.5", Fault::BadByte, (1, 2)),
+    ("1lul", Fault::BadByte, (1, 4)),
+    ("''", Fault::BadByte, (1, 1)),
+    ("'ab'", Fault::BadByte, (1, 3)),
+    ("'\\q'", Fault::BadByte, (1, 2)),
+    ("'\\1234'", Fault::BadByte, (1, 6)),
+    ("'a\\xfff'", Fault::BadByte, (1, 3)),
+    ("\"a\\x\"", Fault::BadByte, (1, 3)),
+    ("a\n\t@ '", Fault::BadByte, (2, 2)),
+    ("/* x", Fault::Unclosed, (1, 1)),
+    ("/*/", Fault::Unclosed, (1, 1)),
+    ("'ab\n'", Fault::Unclosed, (1, 1)),
+    ("'\\\n'", Fault::Unclosed, (1, 1)),
+    ("\n\n  \"\\q\nb\"", Fault::Unclosed, (3, 3)),
+    ("int x = 18446744073709551616;", Fault::WideNumber, (1, 9)),
+    ("9223372036854775808", Fault::WideNumber, (1, 1)),
+    ("99999999999999999999x", Fault::WideNumber, (1, 1)),
+    ("'\\400'", Fault::WideNumber, (1, 2)),
+    ("\"\\x00100\"", Fault::WideNumber, (1, 2)),
+    ("#", Fault::BadLine, (1, 1)),
+    (" # 1 2", Fault::BadLine, (1, 2)),
+    ("#line5", Fault::BadLine, (1, 1)),
+    ("# 1\"x\"", Fault::BadLine, (1, 1)),
+    ("# 1 \"x", Fault::BadLine, (1, 1)),
+    ("# 2147483648 \"a\"", Fault::BadLine, (1, 1)),
+];
+
+// Of a table of texts and faults, the texts that aren't refused so.
+fn refused_otherwise(
+    alloc: Global,
+    table: &[(&str, Fault, (u32, u32))],
+) -> Result<String, AllocError> {
+    let mut found = String::new(alloc);
+    for (text, fault, (line, column)) in table {
+        let place = at(*line, *column);
+        let file = Name::from_slice(alloc, b"<input>")?;
+        if lexed(alloc, text.as_bytes()).err() != Some(refusal(*fault, place, file)) {
+            found.push_str(text)?;
+            found.push('\n')?;
         }
     }
+    Ok(found)
+}
+
+#[test]
+fn a_bad_text_is_refused_at_its_first_fault(rt: HostRuntime) -> Result<(), Fail> {
+    let found = refused_otherwise(rt.alloc(), &FAULTS)?;
+    assert_eq!(rt; found.as_str(), "");
     Ok(())
 }
 
@@ -204,37 +219,46 @@ fn linemarkers_give_places(rt: HostRuntime) -> Result<(), Fail> {
     Ok(())
 }
 
+/// Texts with words that are dropped, how many tokens they have, and the line and the column of their ends.
+const DROPPED: [(&str, usize, (u32, u32)); 11] = [
+    ("", 0, (1, 1)),
+    (" \t\r\n\x0b\x0c // x", 0, (2, 8)),
+    ("extern inline x __const;", 2, (1, 25)),
+    ("\"a\" /* b */ __extension__\n\"c\" 'd'", 2, (2, 8)),
+    (
+        "int __attribute__((a, (b))) x __attribute__ y (",
+        5,
+        (1, 48),
+    ),
+    (
+        "__attribute__ __attribute ( __attribute__ ( ) ) ( (",
+        3,
+        (1, 52),
+    ),
+    ("__attribute__ ( __attribute__ ( x ) y", 3, (1, 38)),
+    ("# pragma ' @\n#pragmatic\n;", 1, (3, 2)),
+    ("  # line 7 \n;", 1, (7, 2)),
+    ("# 9 \"\\<input>\" 3 4\n;", 1, (9, 2)),
+    (";\n# 9 \"x\"", 1, (2, 8)),
+];
+
+// Of a table of texts, counts and ends, the texts that have others.
+fn counted_otherwise(alloc: Global, table: &[(&str, usize, (u32, u32))]) -> Result<String, Fail> {
+    let mut found = String::new(alloc);
+    for (text, count, (line, column)) in table {
+        let Lexed { list, end, .. } = lexed(alloc, text.as_bytes())?;
+        if list.len() != *count || end.line != *line || end.column != *column {
+            found.push_str(text)?;
+            found.push('\n')?;
+        }
+    }
+    Ok(found)
+}
+
 #[test]
 fn dropped_words_leave_no_token(rt: HostRuntime) -> Result<(), Fail> {
-    for (text, count, end) in [
-        ("", 0, at(1, 1)),
-        (" \t\r\n\x0b\x0c // x", 0, at(2, 8)),
-        ("extern inline x __const;", 2, at(1, 25)),
-        ("\"a\" /* b */ __extension__\n\"c\" 'd'", 2, at(2, 8)),
-        (
-            "int __attribute__((a, (b))) x __attribute__ y (",
-            5,
-            at(1, 48),
-        ),
-        (
-            "__attribute__ __attribute ( __attribute__ ( ) ) ( (",
-            3,
-            at(1, 52),
-        ),
-        ("__attribute__ ( __attribute__ ( x ) y", 3, at(1, 38)),
-        ("# pragma ' @\n#pragmatic\n;", 1, at(3, 2)),
-        ("  # line 7 \n;", 1, at(7, 2)),
-        ("# 9 \"\\<input>\" 3 4\n;", 1, at(9, 2)),
-        (";\n# 9 \"x\"", 1, at(2, 8)),
-    ] {
-        let found = lexed(rt.alloc(), text.as_bytes())?;
-        assert_eq!(rt; found.list.len(), count, "{text}");
-        assert_eq!(rt;
-            (found.end.line, found.end.column),
-            (end.line, end.column),
-            "{text}"
-        );
-    }
+    let found = counted_otherwise(rt.alloc(), &DROPPED)?;
+    assert_eq!(rt; found.as_str(), "");
     Ok(())
 }
 

@@ -1,9 +1,7 @@
-//! Tables of single layers of the plain machine: inputs, operations and whole runs, with ample memory.
+//! Tables of single layers of the plain machine: inputs, operations and memory, with ample memory.
 #![tactic(auto)]
 
 #[cfg(test)]
 mod inputs;
 #[cfg(test)]
 mod operations;
-#[cfg(test)]
-mod runs;
