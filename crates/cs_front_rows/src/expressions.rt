@@ -1,100 +1,35 @@
 //! Expressions of C, and what the grammar says of them: a table of trees, and one of refusals.
 use cs_ast::raw::expression::{RawExpr, RawExprKind};
 use cs_ast::raw::written_type::{TypeWord, WrittenType};
-use cs_ast::{IntegerConstant, Keyword, LeftOut, Length, Mark, Place, Token, TokenKind};
+use cs_ast::{Place, Token};
 use cs_expr_parser::{ExprLevel, Phrase, expression};
 use cs_grammar::{Reason, SyntaxRefusal, TypedefNames};
-use cs_names::{Bytes, Name};
+use cs_lexer::tokens;
+use cs_names::Name;
 use std::alloc::{AllocError, Global};
 use std::test::Fail;
 
-fn mark_of(word: &str) -> Option<Mark> {
-    let mark = match word {
-        "[" => Mark::OpenBracket,
-        "]" => Mark::CloseBracket,
-        "(" => Mark::OpenParenthesis,
-        ")" => Mark::CloseParenthesis,
-        "{" => Mark::OpenBrace,
-        "." => Mark::Dot,
-        "->" => Mark::Arrow,
-        "++" => Mark::Increment,
-        "--" => Mark::Decrement,
-        "&" => Mark::Ampersand,
-        "*" => Mark::Star,
-        "+" => Mark::Plus,
-        "-" => Mark::Minus,
-        "!" => Mark::Exclamation,
-        "<<" => Mark::ShiftLeft,
-        "<" => Mark::Less,
-        "==" => Mark::EqualEqual,
-        "&&" => Mark::AndAnd,
-        "||" => Mark::BarBar,
-        "?" => Mark::Question,
-        ":" => Mark::Colon,
-        ";" => Mark::Semicolon,
-        "=" => Mark::Equal,
-        "+=" => Mark::PlusEqual,
-        "," => Mark::Comma,
-        "..." => Mark::Ellipsis,
-        _ => return None,
+// The tokens of a text, if it has some; the column of a token is its number.
+fn tokens_of(alloc: Global, text: &str) -> Result<Option<Vec<Token>>, AllocError> {
+    let bytes = text.as_bytes();
+    if bytes.len() > 4_194_304 {
+        return Ok(None);
+    }
+    let Ok(lexed) = tokens(alloc, bytes) else {
+        return Ok(None);
     };
-    Some(mark)
-}
-
-fn keyword_of(word: &str) -> Option<Keyword> {
-    let keyword = match word {
-        "char" => Keyword::Char,
-        "const" => Keyword::Const,
-        "enum" => Keyword::Enum,
-        "int" => Keyword::Int,
-        "long" => Keyword::Long,
-        "short" => Keyword::Short,
-        "unsigned" => Keyword::Unsigned,
-        "sizeof" => Keyword::Sizeof,
-        "static" => Keyword::Static,
-        "struct" => Keyword::Struct,
-        "void" => Keyword::Void,
-        _ => return None,
-    };
-    Some(keyword)
-}
-
-fn kind_of(alloc: Global, word: &str) -> Result<TokenKind, AllocError> {
-    if let Some(mark) = mark_of(word) {
-        return Ok(TokenKind::Mark(mark));
-    }
-    if let Some(keyword) = keyword_of(word) {
-        return Ok(TokenKind::Keyword(keyword));
-    }
-    match word {
-        "float" => Ok(TokenKind::LeftOut(LeftOut::Float)),
-        "1" => Ok(TokenKind::Number(IntegerConstant {
-            value: 1,
-            decimal: true,
-            unsigned: false,
-            length: Length::Plain,
-        })),
-        "'c'" => Ok(TokenKind::Character(99)),
-        "text" => Ok(TokenKind::Text(Bytes::from_slice(alloc, word.as_bytes())?)),
-        _ => Ok(TokenKind::Name(Name::from_slice(alloc, word.as_bytes())?)),
-    }
-}
-
-// The tokens of words with one space between them; the column of a token is its number.
-fn tokens_of(alloc: Global, words: &str) -> Result<Vec<Token>, AllocError> {
-    let mut tokens = Vec::new(alloc);
+    let mut numbered = Vec::new(alloc);
     let mut column = 0;
-    for word in words.split(' ') {
+    for Token { kind, .. } in lexed.list {
         let place = Place {
             file: 0,
             line: 1,
             column,
         };
-        let kind = kind_of(alloc, word)?;
-        tokens.push(Token { kind, place })?;
+        numbered.push(Token { kind, place })?;
         column = column.saturating_add(1);
     }
-    Ok(tokens)
+    Ok(Some(numbered))
 }
 
 fn type_text(out: &mut String, ty: &WrittenType) -> Result<(), AllocError> {
@@ -206,8 +141,9 @@ fn show_reason(reason: Reason) -> &'static str {
 // What the parser says of the words: the tree, its height, the number behind it and why the token there is refused, or the
 // refusal.
 fn answer(alloc: Global, words: &str, room: u32, level: ExprLevel) -> Result<String, AllocError> {
-    let all = tokens_of(alloc, words)?;
-    let tokens = all.as_slice();
+    let Some(tokens) = tokens_of(alloc, words)? else {
+        return String::from_str(alloc, "no tokens");
+    };
     if tokens.len() > 99 {
         return String::from_str(alloc, "too many tokens");
     }
@@ -219,7 +155,7 @@ fn answer(alloc: Global, words: &str, room: u32, level: ExprLevel) -> Result<Str
         line: 1,
         column: 99,
     };
-    let said = expression(alloc, tokens, end, 0, &names, room, level);
+    let said = expression(alloc, tokens.as_slice(), end, 0, &names, room, level);
     match &said {
         Ok(phrase) => phrase_text(alloc, phrase),
         Err(refusal) => refusal_text(alloc, refusal),
@@ -400,7 +336,7 @@ const TREES: [(&str, u32, ExprLevel, &str); 35] = [
         "cast@0 iiiii cast@7 3 11 syntax",
     ),
     (
-        "( struct s * ) text",
+        "( struct s * ) \"a\"",
         200,
         ExprLevel::Expr,
         "cast@0 s* t@5 2 6 syntax",
