@@ -1,6 +1,6 @@
 //! Constant expressions with the types and values that gcc gives them (`data/gcc.py`).
 
-use crate::said::constants_otherwise;
+use crate::said::{Question, said_otherwise};
 use cs_types::DataModel;
 use std::test::Fail;
 
@@ -148,21 +148,21 @@ const ILP32: [(&str, &str); 24] = [
 
 #[test]
 fn operators_have_gccs_types_and_values(rt: HostRuntime) -> Result<(), Fail> {
-    let found = constants_otherwise(rt.alloc(), DataModel::Lp64, &OPERATORS)?;
+    let found = said_otherwise(rt.alloc(), DataModel::Lp64, Question::Constant, &OPERATORS)?;
     assert_eq!(rt; found.as_str(), "");
     Ok(())
 }
 
 #[test]
 fn casts_have_gccs_types_and_values(rt: HostRuntime) -> Result<(), Fail> {
-    let found = constants_otherwise(rt.alloc(), DataModel::Lp64, &CASTS)?;
+    let found = said_otherwise(rt.alloc(), DataModel::Lp64, Question::Constant, &CASTS)?;
     assert_eq!(rt; found.as_str(), "");
     Ok(())
 }
 
 #[test]
 fn constants_of_32_bits_have_gccs_types_and_values(rt: HostRuntime) -> Result<(), Fail> {
-    let found = constants_otherwise(rt.alloc(), DataModel::Ilp32, &ILP32)?;
+    let found = said_otherwise(rt.alloc(), DataModel::Ilp32, Question::Constant, &ILP32)?;
     assert_eq!(rt; found.as_str(), "");
     Ok(())
 }

@@ -1,6 +1,6 @@
 //! Expressions that are refused, each code with its place, and neighbours of them that are taken.
 
-use crate::said::{constants_otherwise, types_otherwise};
+use crate::said::{Question, said_otherwise};
 use cs_types::DataModel;
 use std::test::Fail;
 
@@ -110,14 +110,14 @@ const CONSTANTS: [(&str, &str); 25] = [
 
 #[test]
 fn the_first_fault_is_told_with_its_place(rt: HostRuntime) -> Result<(), Fail> {
-    let found = types_otherwise(rt.alloc(), DataModel::Lp64, &TYPES)?;
+    let found = said_otherwise(rt.alloc(), DataModel::Lp64, Question::Type, &TYPES)?;
     assert_eq!(rt; found.as_str(), "");
     Ok(())
 }
 
 #[test]
 fn the_first_fault_in_a_constant_is_told_with_its_place(rt: HostRuntime) -> Result<(), Fail> {
-    let found = constants_otherwise(rt.alloc(), DataModel::Lp64, &CONSTANTS)?;
+    let found = said_otherwise(rt.alloc(), DataModel::Lp64, Question::Constant, &CONSTANTS)?;
     assert_eq!(rt; found.as_str(), "");
     Ok(())
 }

@@ -42,8 +42,8 @@ fn refusal(alloc: Global, refusal: &TypeRefusal) -> Result<String, AllocError> {
     }
 }
 
-/// The type and the value of a constant, or its refusal.
-pub fn constant(alloc: Global, model: DataModel, text: &str) -> Result<String, AllocError> {
+// The type and the value of a constant, or its refusal.
+fn constant(alloc: Global, model: DataModel, text: &str) -> Result<String, AllocError> {
     let Some(tree) = tree(alloc, text)? else {
         return String::from_str(alloc, "no expression");
     };
@@ -57,8 +57,8 @@ pub fn constant(alloc: Global, model: DataModel, text: &str) -> Result<String, A
     }
 }
 
-/// The type of an expression's value, or its refusal.
-pub fn type_of(alloc: Global, model: DataModel, text: &str) -> Result<String, AllocError> {
+// The type of an expression's value, or its refusal.
+fn type_of(alloc: Global, model: DataModel, text: &str) -> Result<String, AllocError> {
     let Some(tree) = tree(alloc, text)? else {
         return String::from_str(alloc, "no expression");
     };
@@ -70,32 +70,28 @@ pub fn type_of(alloc: Global, model: DataModel, text: &str) -> Result<String, Al
     }
 }
 
-/// Of a table of constants and what is said of them, those of which something else is said, with that.
-pub fn constants_otherwise(
-    alloc: Global,
-    model: DataModel,
-    table: &[(&str, &str)],
-) -> Result<String, AllocError> {
-    let mut found = String::new(alloc);
-    for (text, expected) in table {
-        let said = constant(alloc, model, text)?;
-        if said.as_str() != *expected {
-            let told = format!(in alloc; "{text} gives {said}")?;
-            found.push_str(told.as_str())?;
-        }
-    }
-    Ok(found)
+/// What is asked of an expression.
+#[derive(Clone, Copy)]
+pub enum Question {
+    /// The type and the value of a constant.
+    Constant,
+    /// The type of its value.
+    Type,
 }
 
-/// Of a table of expressions and the types of their values, those of which something else is said, with that.
-pub fn types_otherwise(
+/// Of a table of expressions and what is said of them, those of which something else is said, with that.
+pub fn said_otherwise(
     alloc: Global,
     model: DataModel,
+    question: Question,
     table: &[(&str, &str)],
 ) -> Result<String, AllocError> {
     let mut found = String::new(alloc);
     for (text, expected) in table {
-        let said = type_of(alloc, model, text)?;
+        let said = match question {
+            Question::Constant => constant(alloc, model, text)?,
+            Question::Type => type_of(alloc, model, text)?,
+        };
         if said.as_str() != *expected {
             let told = format!(in alloc; "{text} gives {said}")?;
             found.push_str(told.as_str())?;

@@ -1,6 +1,6 @@
 //! Expressions with the types that gcc gives their values (`data/gcc.py`).
 
-use crate::said::types_otherwise;
+use crate::said::{Question, said_otherwise};
 use cs_types::DataModel;
 use std::test::Fail;
 
@@ -90,9 +90,9 @@ const ILP32: [(&str, &str); 4] = [
 
 #[test]
 fn values_have_gccs_types(rt: HostRuntime) -> Result<(), Fail> {
-    let found = types_otherwise(rt.alloc(), DataModel::Lp64, &LP64)?;
+    let found = said_otherwise(rt.alloc(), DataModel::Lp64, Question::Type, &LP64)?;
     assert_eq!(rt; found.as_str(), "");
-    let found = types_otherwise(rt.alloc(), DataModel::Ilp32, &ILP32)?;
+    let found = said_otherwise(rt.alloc(), DataModel::Ilp32, Question::Type, &ILP32)?;
     assert_eq!(rt; found.as_str(), "");
     Ok(())
 }

@@ -1,21 +1,17 @@
 //! Expressions of C, and what the grammar says of them: a table of trees, and one of refusals.
+use crate::lexed::lexed;
 use cs_ast::raw::expression::{RawExpr, RawExprKind};
 use cs_ast::raw::written_type::{TypeWord, WrittenType};
 use cs_ast::{Place, Token};
 use cs_expr_parser::{ExprLevel, Phrase, expression};
 use cs_grammar::{Reason, SyntaxRefusal, TypedefNames};
-use cs_lexer::tokens;
 use cs_names::Name;
 use std::alloc::{AllocError, Global};
 use std::test::Fail;
 
 // The tokens of a text, if it has some; the column of a token is its number.
 fn tokens_of(alloc: Global, text: &str) -> Result<Option<Vec<Token>>, AllocError> {
-    let bytes = text.as_bytes();
-    if bytes.len() > 4_194_304 {
-        return Ok(None);
-    }
-    let Ok(lexed) = tokens(alloc, bytes) else {
+    let Ok(lexed) = lexed(alloc, text.as_bytes()) else {
         return Ok(None);
     };
     let mut numbered = Vec::new(alloc);

@@ -31,8 +31,8 @@ fn refusal(fault: Fault, place: Place, file: Name) -> LexRefusal {
     }
 }
 
-// The tokens of a text, whose length is tested.
-fn lexed(alloc: Global, text: &[u8]) -> Result<Lexed, LexRefusal> {
+/// The tokens of a text, whose length is tested.
+pub(crate) fn lexed(alloc: Global, text: &[u8]) -> Result<Lexed, LexRefusal> {
     if text.len() > 4_194_304 {
         return Err(LexRefusal::Memory);
     }

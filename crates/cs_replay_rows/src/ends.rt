@@ -6,7 +6,7 @@ use std::test::Fail;
 
 /// Words and a file with the line of how the run ends: each kind of fault, the order of checks at one access, budgets, and what an
 /// entry returns; what a function without a body writes; data models; inputs.
-const ENDS: [(&str, &str, &str); 58] = [
+const ENDS: [(&str, &str, &str); 68] = [
     (
         "replay f",
         "int f(int*p){return *p;}",
@@ -181,6 +181,56 @@ const ENDS: [(&str, &str, &str); 58] = [
         "replay --events 1 f",
         "int f(void){return 1+1+1;}",
         "over events <input>:1:23\n",
+    ),
+    (
+        "replay --visits 9 --events 12 f m=2",
+        "int f(int m){int i;i=0;while(i<3)i=i+1;return 10/m;}",
+        "done 5\n",
+    ),
+    (
+        "replay --visits 9 --events 11 f m=2",
+        "int f(int m){int i;i=0;while(i<3)i=i+1;return 10/m;}",
+        "over events <input>:1:49\n",
+    ),
+    (
+        "replay --visits 9 --events 11 f",
+        "int f(int m){int i;i=0;while(i<3)i=i+1;return 10/m;}",
+        "fault divide <input>:1:49\n",
+    ),
+    (
+        "replay --visits 9 --events 10 f",
+        "int f(int m){int i;i=0;while(i<3)i=i+1;return 10/m;}",
+        "over events <input>:1:24\n",
+    ),
+    (
+        "replay --visits 3 --events 9 f m=2",
+        "int f(int m){int i;i=0;while(i<3)i=i+1;return 10/m;}",
+        "over visits <input>:1:24\n",
+    ),
+    (
+        "replay --visits 3 --events 8 f m=2",
+        "int f(int m){int i;i=0;while(i<3)i=i+1;return 10/m;}",
+        "over events <input>:1:37\n",
+    ),
+    (
+        "replay --events 2 f m=5",
+        "int g(int m);int f(int m){return g(m+1);}int g(int m){goto in;while(0){in:return m;}return 0;}",
+        "done 6\n",
+    ),
+    (
+        "replay --events 1 f m=5",
+        "int g(int m);int f(int m){return g(m+1);}int g(int m){goto in;while(0){in:return m;}return 0;}",
+        "over events <input>:1:35\n",
+    ),
+    (
+        "replay f malloc#1=1",
+        "int f(void){int*p=malloc(4);free(p);return 1;}",
+        "done 1\n",
+    ),
+    (
+        "replay f malloc#1=1",
+        "int f(void){int*p=malloc(4);free(p);free(p);return 1;}",
+        "fault double-free <input>:1:41\n",
     ),
     ("replay f x=3", "int f(int x){return 10/x;}", "done 3\n"),
     (
