@@ -1,5 +1,5 @@
 //! Times the front end from outside: cuts standard input into tokens, parses them, types the tree and lowers the program, and says how
-//! many there were of each. The word `parse` or `type` ends it behind that stage.
+//! many there were of each. The word `parse` or `type` ends it after that stage.
 #![tactic(auto)]
 
 ghost use Rattle.std.specs.Prelude.{◌≤◌, length};
@@ -54,7 +54,7 @@ fn parsed(rt: &HostRuntime, lexed: &Lexed) -> io::Result<()> {
         Err(SyntaxRefusal::Syntax(place)) => {
             println!(rt; "syntax {}:{}", place.line, place.column)
         }
-        Err(SyntaxRefusal::LeftOut(place, _)) => {
+        Err(SyntaxRefusal::Unsupported(place, _)) => {
             println!(rt; "left out {}:{}", place.line, place.column)
         }
         Err(SyntaxRefusal::TooDeep(place)) => {

@@ -53,11 +53,11 @@ program_is_answered (Flow words) files program NoEntry text suits answer = absur
 program_is_answered (Replay words) files program NoEntry text suits answer =
     let both : None ≡ Some suits.0 = sym answer.0 ∙ suits.1 in
     absurd cc
-program_is_answered (Replay words) files program BadWords text suits answer = no_outcome BadWords answer.2.outcome (λ e. cc) (λ e. cc) answer.2.tells
-program_is_answered (Replay words) files program BadFile text suits answer = no_outcome BadFile answer.2.outcome (λ e. cc) (λ e. cc) answer.2.tells
-program_is_answered (Replay words) files program ReadFault text suits answer = no_outcome ReadFault answer.2.outcome (λ e. cc) (λ e. cc) answer.2.tells
-program_is_answered (Replay words) files program WriteFault text suits answer = no_outcome WriteFault answer.2.outcome (λ e. cc) (λ e. cc) answer.2.tells
-program_is_answered (Replay words) files program Memory text suits answer = no_outcome Memory answer.2.outcome (λ e. cc) (λ e. cc) answer.2.tells
+program_is_answered (Replay words) files program BadWords text suits answer = no_outcome BadWords answer.2.outcome (λ e. cc) (λ e. cc) answer.2.yields
+program_is_answered (Replay words) files program BadFile text suits answer = no_outcome BadFile answer.2.outcome (λ e. cc) (λ e. cc) answer.2.yields
+program_is_answered (Replay words) files program ReadFault text suits answer = no_outcome ReadFault answer.2.outcome (λ e. cc) (λ e. cc) answer.2.yields
+program_is_answered (Replay words) files program WriteFault text suits answer = no_outcome WriteFault answer.2.outcome (λ e. cc) (λ e. cc) answer.2.yields
+program_is_answered (Replay words) files program Memory text suits answer = no_outcome Memory answer.2.outcome (λ e. cc) (λ e. cc) answer.2.yields
 
 -- the file's program is one that suits the command, whichever tree it was made of
 accepted_is_answered : (command : Command) (file : List ℕ) (lexed : Lexed) (tree : List RawExternal) (status : Status) (text : List ℕ) → Parses file lexed tree → AreSuited command file lexed → Accepts command file status text → IsAnswered status
@@ -88,6 +88,6 @@ suited_is_answered command file lexed tree status text parsed suited accepts = a
 -- what is accepted has no other whole text than that of an answer
 pub acceptable_is_answered : (words : List (List ℕ)) (left : Option (List ℕ)) (status : Status) (text : List ℕ) → (acceptable : IsAcceptable words left) → IsFileAnswer acceptable.command left status text → IsAnswered status
 acceptable_is_answered words left status text acceptable answer =
-    let same : answer.0 ≡ acceptable.bytes = subst (λ l. IsLeft l answer.0) acceptable.told answer.1 in
+    let same : answer.0 ≡ acceptable.bytes = subst (λ l. IsLeft l answer.0) acceptable.reported answer.1 in
     suited_is_answered acceptable.command acceptable.bytes acceptable.lexed acceptable.tree status text acceptable.parsed acceptable.suits
     (subst (λ file. IsAnswer acceptable.command file status text) same answer.2)

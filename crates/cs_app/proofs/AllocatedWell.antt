@@ -9,8 +9,8 @@ use Rattle.cs_ast.specs.declared.typed.operator.Allocator.{Allocator}
 use Rattle.cs_ast.specs.declared.typed.operator.Allocator.TheVariants.{Malloc, Calloc}
 use Rattle.cs_ast.specs.TypedTree.{Typed, Of, Form, Number, Null, Text, Local, Global, Through, Index, Member, Arrow, Load, Address, Decay, Convert, Unary, Not, Binary, Compare, Sum, Difference, And, Or, Choice, Comma, Assign, Update, Move, Call, Allocate, Free, TypedList, NoMore, Further, Initial, Value, Parts, Bytes, Initials, NoPart, Part, Statement, Block, Declare, Run, If, IfElse, While, Do, For, Switch, Goto, Label, Break, Continue, Return, Statements, Empty, Then}
 use Rattle.cs_ast.specs.TypedProgram.{TypedProgram, Routine}
-use Rattle.cs_plain.specs.Expressions.{count_all}
-use Rattle.cs_plain.specs.Machine.{NOWHERE, no_routine}
+use Rattle.cs_meaning.specs.Expressions.{count_all}
+use Rattle.cs_meaning.specs.Machine.{NOWHERE, no_routine}
 use Rattle.cs_cfg.specs.Working.{allocator_takes}
 use Rattle.cs_lower.specs.Allocations.{HasArguments, FormHasArguments, AllHaveArguments, OptionHasArguments, InitialHasArguments, InitialsHaveArguments, OptionInitialHasArguments, StatementHasArguments, StatementsHaveArguments, AllocationsHaveArguments}
 use Rattle.cs_well_formed.specs.Expressions.{Setting, IsWell, IsWellForm, AreWell, AreValuesOf, sizes_of}

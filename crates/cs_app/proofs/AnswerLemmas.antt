@@ -48,7 +48,7 @@ answers_program command file lexed parsed program _ text h typed answer =
 no_answer_of_words : {A : Type 0} (command : Command) (files : List (List ℕ)) (program : TypedProgram) (text : List ℕ) → IsProgramAnswer command files program BadWords text → A
 no_answer_of_words (Analyze words) files program text answer = no_analysis BadWords (list_any has_report answer.2.results) (λ e. cc) (λ e. cc) answer.2.found
 no_answer_of_words (Flow words) files program text answer = absurd (let is = answer.0 in cc)
-no_answer_of_words (Replay words) files program text answer = no_outcome BadWords answer.2.outcome (λ e. cc) (λ e. cc) answer.2.tells
+no_answer_of_words (Replay words) files program text answer = no_outcome BadWords answer.2.outcome (λ e. cc) (λ e. cc) answer.2.yields
 
 -- ---- a file
 -- the line that refuses a tree that is no program answers the file that has it

@@ -7,12 +7,12 @@ use Rattle.std.proofs.lemmas.List.Quantifiers.{position-Some}
 use Rattle.std.proofs.lemmas.Option.{unwrap_or-slice_get}
 use Rattle.cs_ast.specs.declared.typed.program.Function.{Function}
 use Rattle.cs_ast.specs.TypedProgram.{TypedProgram, routine}
-use Rattle.cs_runs.specs.declared.outcome.Outcome.{Outcome}
-use Rattle.cs_runs.specs.declared.outcome.Outcome.TheVariants.{Done, Fault, Over}
-use Rattle.cs_runs.specs.declared.guess.Guess.{Guess}
-use Rattle.cs_runs.specs.Runs.{Log}
-use Rattle.cs_plain.specs.Machine.{NOWHERE, no_routine, routine_of}
-use Rattle.cs_plain.specs.PlainRuns.{RunGives}
+use Rattle.cs_events.specs.declared.outcome.Outcome.{Outcome}
+use Rattle.cs_events.specs.declared.outcome.Outcome.TheVariants.{Done, Fault, Over}
+use Rattle.cs_events.specs.declared.guess.Guess.{Guess}
+use Rattle.cs_events.specs.Runs.{Log}
+use Rattle.cs_meaning.specs.Machine.{NOWHERE, no_routine, routine_of}
+use Rattle.cs_meaning.specs.PlainRuns.{RunGives}
 use Rattle.cs_report.specs.ReplayLines.{replay_line}
 use Rattle.cs_words.specs.declared.command.ReplayWords.{ReplayWords}
 use Rattle.cs_app.specs.Trees.{is_entry, entry_of}
@@ -48,7 +48,7 @@ no_outcome status (Over budget place) not_clean not_found is = absurd (not_clean
 
 -- the line of the run answers the replay of the entry
 pub answers_replay : (files : List (List ℕ)) (program : TypedProgram) (words : ReplayWords) (entry : ℕ) (status : Status) (text : List ℕ) → entry_of words.entry program ≡ Some entry → IsReplayOf files program words entry status text → IsReplayAnswer files program words status text
-answers_replay files program words entry NoEntry text found replay = no_outcome NoEntry replay.outcome (λ e. cc) (λ e. cc) replay.tells
+answers_replay files program words entry NoEntry text found replay = no_outcome NoEntry replay.outcome (λ e. cc) (λ e. cc) replay.yields
 answers_replay files program words entry _ text found replay = (entry, found, replay)
 
 -- the line says that there is no entry
@@ -57,13 +57,13 @@ refuses_entry files program words status text none is line = subst (λ s. IsRepl
 
 -- a run that begins with no guesses, told by its line
 pub replay_is : (files : List (List ℕ)) (program : TypedProgram) (words : ReplayWords) (entry number : ℕ) (guesses : List Guess) (outcome : Outcome) (log : Log) (status : Status) (text : List ℕ) → number ≡ entry → guesses ≡ [] → RunGives program number (record { inputs = words.inputs; guesses = guesses }) words.budgets outcome log → text ≡ replay_line files outcome → status ≡ outcome_status outcome → IsReplayOf files program words entry status text
-replay_is files program words entry number guesses outcome log status text same none ends says tells = record {
+replay_is files program words entry number guesses outcome log status text same none ends says yields = record {
   outcome = outcome;
   log = log;
   ends = subst (λ n. RunGives program n (record { inputs = words.inputs; guesses = [] }) words.budgets outcome log) same
       (subst (λ gs. RunGives program number (record { inputs = words.inputs; guesses = gs }) words.budgets outcome log) none ends);
   says = says;
-  tells = tells;
+  yields = yields;
 }
 
 -- the entry that is found has a body

@@ -5,16 +5,16 @@ use Rattle.std.proofs.lemmas.List.Elements.{All-head, All-tail, All-map, All-wea
 use Rattle.cs_ast.specs.declared.place.Place.{Place}
 use Rattle.cs_ast.specs.Tree.{Definition}
 use Rattle.cs_ast.specs.TypedProgram.{TypedProgram}
-use Rattle.cs_small.specs.declared.small.Atom.{Atom}
-use Rattle.cs_small.specs.declared.small.Atom.TheVariants.{Parameter, Literal}
-use Rattle.cs_small.specs.declared.small.Answer.{Answer}
-use Rattle.cs_small.specs.declared.small.Answer.TheVariants.{Single, Quotient}
-use Rattle.cs_small.specs.declared.small.Guard.{Guard}
-use Rattle.cs_small.specs.Small.{Small, tree, atom_tree, answer_tree, body_trees, IsAtomWithin, IsAnswerWithin, IsGuardWithin, IsWithinLimits}
-use Rattle.cs_small.specs.Reading as reading
-use Rattle.cs_small.specs.Reading.{IsOfForm}
-use Rattle.cs_small.proofs.Limits.{map_some, functions_within}
-use Rattle.cs_analysis.specs.Shape.{IsAtom, IsAnswer, IsBody, count_of}
+use Rattle.cs_small_form.specs.declared.small.Atom.{Atom}
+use Rattle.cs_small_form.specs.declared.small.Atom.TheVariants.{Parameter, Literal}
+use Rattle.cs_small_form.specs.declared.small.Answer.{Answer}
+use Rattle.cs_small_form.specs.declared.small.Answer.TheVariants.{Single, Quotient}
+use Rattle.cs_small_form.specs.declared.small.Guard.{Guard}
+use Rattle.cs_small_form.specs.Small.{Small, tree, atom_tree, answer_tree, body_trees, IsAtomWithin, IsAnswerWithin, IsGuardWithin, IsWithinLimits}
+use Rattle.cs_small_form.specs.Reading as reading
+use Rattle.cs_small_form.specs.Reading.{IsOfForm}
+use Rattle.cs_small_form.proofs.Limits.{map_some, functions_within}
+use Rattle.cs_small_analysis.specs.Shape.{IsAtom, IsAnswer, IsBody, count_of}
 use Rattle.cs_app.specs.Entries.{IsAnalyzable}
 
 literal_is_int : (value : ℕ) → value < 2 ^ 31 → nat_lt value (2 ^ 31) ≡ true

@@ -3,18 +3,18 @@ use Rattle.std.specs.Prelude.{◌≡◌, ◌⊎◌, ℕ, List, [], ◌++◌, Opt
 use Rattle.std.specs.Fmt.{decimal}
 use Rattle.std.specs.Io.KnownBytes.{Appends}
 use Rattle.cs_io.specs.Count.{Rose}
-use Rattle.cs_io.specs.Told.{AppendsPart}
+use Rattle.cs_io.specs.Reported.{AppendsPart}
 use Rattle.cs_types.specs.declared.data_model.DataModel.{DataModel}
 use Rattle.cs_ast.specs.declared.raw.external.RawExternal.{RawExternal}
 use Rattle.cs_ast.specs.Tree.{Definition}
 use Rattle.cs_ast.specs.TypedProgram.{TypedProgram}
 use Rattle.cs_lexer.specs.declared.lexer.Lexed.{Lexed}
 use Rattle.cs_consts.specs.Verdicts.{Fine}
-use Rattle.cs_small.specs.Reading.{IsOfForm}
-use Rattle.cs_runs.specs.declared.outcome.Outcome.{Outcome}
-use Rattle.cs_runs.specs.declared.outcome.Outcome.TheVariants.{Done, Fault, Over}
-use Rattle.cs_runs.specs.Runs.{Log}
-use Rattle.cs_plain.specs.PlainRuns.{RunGives}
+use Rattle.cs_small_form.specs.Reading.{IsOfForm}
+use Rattle.cs_events.specs.declared.outcome.Outcome.{Outcome}
+use Rattle.cs_events.specs.declared.outcome.Outcome.TheVariants.{Done, Fault, Over}
+use Rattle.cs_events.specs.Runs.{Log}
+use Rattle.cs_meaning.specs.PlainRuns.{RunGives}
 use Rattle.cs_cfg.specs.FlowText.{program_flow}
 use Rattle.cs_report.specs.ReplayLines.{replay_line}
 use Rattle.cs_words.specs.declared.command.Command.{Command}
@@ -38,13 +38,13 @@ outcome_status (Fault kind place) = Found
 outcome_status (Done returned) = Clean
 outcome_status (Over budget place) = Clean
 
--- the text is the line of the outcome in which the plain machine's run of the entry ends, with these inputs and without guesses
+-- the text is the line of the outcome in which the reference machine's run of the entry ends, with these inputs and without guesses
 pub record IsReplayOf (files : List (List ℕ)) (program : TypedProgram) (words : ReplayWords) (entry : ℕ) (status : Status) (text : List ℕ) : Type 0 where
   pub outcome : Outcome
   pub log : Log
   pub ends : RunGives program entry (record { inputs = words.inputs; guesses = [] }) words.budgets outcome log
   pub says : text ≡ replay_line files outcome
-  pub tells : status ≡ outcome_status outcome
+  pub yields : status ≡ outcome_status outcome
 
 -- the replay of the entry that the words name, or the line that says that there is none
 abbrev pub IsReplayAnswer : List (List ℕ) → TypedProgram → ReplayWords → Status → List ℕ → Type 0
@@ -140,7 +140,7 @@ pub record IsAcceptable (words : List (List ℕ)) (file : Option (List ℕ)) : T
   pub command : Command
   pub meant : WordsMean words command
   pub bytes : List ℕ
-  pub told : file ≡ Some bytes
+  pub reported : file ≡ Some bytes
   pub lexed : Lexed
   pub tree : List RawExternal
   pub parsed : Parses bytes lexed tree

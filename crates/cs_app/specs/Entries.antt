@@ -7,7 +7,7 @@ use Rattle.cs_model.specs.declared.finding.EntryResult.{EntryResult}
 use Rattle.cs_model.specs.declared.outcome.Budgets.{Budgets}
 use Rattle.cs_model.specs.Findings.{IsGoodEntry}
 use Rattle.cs_model.specs.Texts.{entry_lines}
-use Rattle.cs_analysis.specs.Shape.{IsCoverable, LeavesRoom}
+use Rattle.cs_small_analysis.specs.Shape.{IsCoverable, LeavesRoom}
 use Rattle.cs_app.specs.declared.status.Status.{Status}
 use Rattle.cs_app.specs.declared.status.Status.TheVariants.{Clean, Found}
 
@@ -21,20 +21,20 @@ pub record IsAnalyzable (function : Definition) : Type 0 where
   pub room : LeavesRoom function DEFAULT_BUDGETS
 
 -- a result of the function with this number that is good under the default budgets, and meets none
-pub record IsResultOf (number : ℕ) (function : Definition) (told : EntryResult) : Type 0 where
-  pub numbered : told.entry ≡ number
-  pub good : IsGoodEntry function DEFAULT_BUDGETS told
-  pub no_budget_met : told.overs.items ≡ []
+pub record IsResultOf (number : ℕ) (function : Definition) (reported : EntryResult) : Type 0 where
+  pub numbered : reported.entry ≡ number
+  pub good : IsGoodEntry function DEFAULT_BUDGETS reported
+  pub no_budget_met : reported.overs.items ≡ []
 
 -- one result of each function, in order, the first of which has this number
 abbrev pub AreResultsFrom : ℕ → List Definition → List EntryResult → Type 0
 AreResultsFrom number [] [] = Unit {0}
-AreResultsFrom number (function ∷ functions) (told ∷ results) = IsResultOf number function told × AreResultsFrom (number + 1) functions results
+AreResultsFrom number (function ∷ functions) (reported ∷ results) = IsResultOf number function reported × AreResultsFrom (number + 1) functions results
 AreResultsFrom number _ _ = ⊥
 
 -- the lines of each result under the name of its function
 abbrev pub entries_text : List (List ℕ) → List Definition → List EntryResult → List ℕ
-entries_text files (function ∷ functions) (told ∷ results) = entry_lines files function.name told ++ entries_text files functions results
+entries_text files (function ∷ functions) (reported ∷ results) = entry_lines files function.name reported ++ entries_text files functions results
 entries_text files _ _ = []
 
 abbrev pub is_some_list : List Finding → Bool
@@ -43,7 +43,7 @@ is_some_list (report ∷ reports) = true
 
 -- the result has a report
 abbrev pub has_report : EntryResult → Bool
-has_report told = is_some_list told.reports.items
+has_report reported = is_some_list reported.reports.items
 
 -- found where there is a report, and else as before
 abbrev pub found_if : Status → List Finding → Status

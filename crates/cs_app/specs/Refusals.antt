@@ -34,7 +34,7 @@ line_in files words place = refusal_line words (slice_index_or files place.file 
 -- the line for tokens that are no file, the files by their numbers; want of memory has none
 abbrev pub IsSyntaxLine : List (List ℕ) → SyntaxRefusal → List ℕ → Type 0
 IsSyntaxLine files (syntax.Syntax place) text = text ≡ line_in files (codes "refused syntax ") place
-IsSyntaxLine files (syntax.LeftOut place word) text = text ≡ line_in files (codes "refused left-out " ++ word ++ codes " ") place
+IsSyntaxLine files (syntax.Unsupported place word) text = text ≡ line_in files (codes "refused left-out " ++ word ++ codes " ") place
 IsSyntaxLine files (syntax.TooDeep place) text = text ≡ line_in files (codes "refused too-deep ") place
 IsSyntaxLine files syntax.Memory text = ⊥
 

@@ -12,7 +12,7 @@ use Rattle.cs_decl_parser.specs.Files.{parts_of, IsTheFile}
 use Rattle.cs_decl_parser.specs.FilePlaces.{AreFilePlaced}
 use Rattle.cs_consts.specs.Verdicts.{Verdict, Fine}
 use Rattle.cs_typing.specs.Programs.{typed}
-use Rattle.cs_small.specs.Reading.{IsOfForm}
+use Rattle.cs_small_form.specs.Reading.{IsOfForm}
 
 -- the most bytes that a file may have
 abbrev pub MOST_BYTES : ℕ

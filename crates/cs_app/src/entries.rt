@@ -5,11 +5,11 @@ ghost use Rattle.cs_app.specs.Entries.{IsAnalyzable, IsAnalysisOf, found_if};
 
 use crate::answer::Answer;
 use crate::status::Status;
-use cs_analysis::analyze;
 use cs_ast::Function;
 use cs_model::Finding;
 use cs_names::Name;
 use cs_report::append_entry;
+use cs_small_analysis::analyze;
 use std::alloc::{AllocError, Global};
 
 /// The analyses of functions that it covers, whose places are in these files.
@@ -21,9 +21,9 @@ pub fn analyzed(alloc: Global, files: &[Name], functions: &[Function]) -> Result
     let mut status = Status::Clean;
     for (number, function) in functions.iter().enumerate() {
         let entry = number_of(number)?;
-        let told = analyze(alloc, entry, function)?;
-        append_entry(&mut text, files, &function.name, &told)?;
-        status = found_if(status, &told.reports);
+        let reported = analyze(alloc, entry, function)?;
+        append_entry(&mut text, files, &function.name, &reported)?;
+        status = found_if(status, &reported.reports);
     }
     Ok(Answer { status, text })
 }

@@ -17,7 +17,7 @@ use cs_ast::typed::program::Program;
 use cs_decl_parser::parse;
 use cs_lexer::{Lexed, tokens};
 use cs_names::Name;
-use cs_small::{FormRefusal, functions_of};
+use cs_small_form::{FormRefusal, functions_of};
 use cs_types::DataModel;
 use cs_typing::typed;
 use cs_words::Command;

@@ -47,7 +47,7 @@ pub fn refused_syntax(
 {
     match refusal {
         SyntaxRefusal::Syntax(place) => refused_in(alloc, b"refused syntax ", files, place),
-        SyntaxRefusal::LeftOut(place, word) => refused_word(alloc, &word, files, place),
+        SyntaxRefusal::Unsupported(place, word) => refused_word(alloc, &word, files, place),
         SyntaxRefusal::TooDeep(place) => refused_in(alloc, b"refused too-deep ", files, place),
         SyntaxRefusal::Memory => Err(AllocError),
     }

@@ -11,12 +11,12 @@ use crate::answer::Answer;
 use crate::entries::number_of;
 use crate::status::Status;
 use cs_ast::typed::program::{Function, Program};
-use cs_interpreter::Setting;
+use cs_events::Outcome;
 use cs_lower::lower;
 use cs_names::Name;
 use cs_replay::{ReplayRefusal, replay};
 use cs_report::append_replayed;
-use cs_runs::Outcome;
+use cs_run_state::Setting;
 use cs_words::ReplayWords;
 use std::alloc::{AllocError, Global};
 

@@ -4,7 +4,7 @@ use Rattle.cs_ast.specs.declared.raw.written_type.TypeWord.{TypeWord}
 use Rattle.cs_ast.specs.declared.raw.written_type.PointerWord.{PointerWord}
 use Rattle.cs_ast.specs.RawTree.{Written}
 
--- a declared name, with the pointers before it and the bounds behind it, which may be empty
+-- a declared name, with the pointers before it and the bounds after it, which may be empty
 pub record Declarator : Type 0 where
   pub pointers : List PointerWord
   pub name : List ℕ

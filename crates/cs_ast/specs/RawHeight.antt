@@ -1,7 +1,7 @@
 -- The height of a written expression: a leaf has height 1, any other node one more than its highest part. An argument list is
 -- a node of its own; a type between parentheses is none, and its words are a part of height 1.
 use Rattle.std.specs.Prelude.{ℕ, ◌+◌, max}
-use Rattle.cs_ast.specs.RawTree.{Written, WrittenList, Named, Numeral, Character, Literal, Enclosed, Index, Call, Member, Arrow, StepBehind, StepBefore, Prefix, SizeOf, SizeOfType, Cast, Infix, Choice, Assign, Comma, End, More}
+use Rattle.cs_ast.specs.RawTree.{Written, WrittenList, Named, Numeral, Character, Literal, Enclosed, Index, Call, Member, Arrow, StepAfter, StepBefore, Prefix, SizeOf, SizeOfType, Cast, Infix, Choice, Assign, Comma, End, More}
 
 abbrev mutual
   -- the height of a written expression
@@ -15,7 +15,7 @@ abbrev mutual
   height (Call function arguments) = 1 + max (height function) (1 + highest arguments)
   height (Member object name) = 1 + height object
   height (Arrow pointer name) = 1 + height pointer
-  height (StepBehind step object) = 1 + height object
+  height (StepAfter step object) = 1 + height object
   height (StepBefore step object) = 1 + height object
   height (Prefix operator operand) = 1 + height operand
   height (SizeOf operand) = 1 + height operand

@@ -20,7 +20,7 @@ mutual
     Call : (function : Written) (arguments : WrittenList) → Written
     Member : (object : Written) (name : List ℕ) → Written
     Arrow : (pointer : Written) (name : List ℕ) → Written
-    StepBehind : (step : Step) (object : Written) → Written
+    StepAfter : (step : Step) (object : Written) → Written
     StepBefore : (step : Step) (object : Written) → Written
     Prefix : (operator : PrefixOp) (operand : Written) → Written
     SizeOf : (operand : Written) → Written

@@ -3,7 +3,7 @@ use Rattle.std.specs.Prelude.{List, [], ◌∷◌}
 use Rattle.cs_ast.specs.declared.raw.expression.RawExpr.{RawExpr}
 use Rattle.cs_ast.specs.declared.raw.expression.RawExprKind.{RawExprKind, Row_of-RawExpr, end_of-RawExpr, more_of-RawExpr}
 use Rattle.cs_ast.specs.declared.raw.expression.RawExprKind.TheVariants as kind
-use Rattle.cs_ast.specs.RawTree.{Written, WrittenList, Named, Numeral, Character, Literal, Enclosed, Index, Call, Member, Arrow, StepBehind, StepBefore, Prefix, SizeOf, SizeOfType, Cast, Infix, Choice, Assign, Comma, End, More}
+use Rattle.cs_ast.specs.RawTree.{Written, WrittenList, Named, Numeral, Character, Literal, Enclosed, Index, Call, Member, Arrow, StepAfter, StepBefore, Prefix, SizeOf, SizeOfType, Cast, Infix, Choice, Assign, Comma, End, More}
 
 abbrev mutual
   -- a written expression
@@ -17,7 +17,7 @@ abbrev mutual
   written_kind (kind.Call' p place function shape row) = Call (written_kind function) (written_row row)
   written_kind (kind.Member' p place object name) = Member (written_kind object) name.name
   written_kind (kind.Arrow' p place pointer name) = Arrow (written_kind pointer) name.name
-  written_kind (kind.StepBehind' step p place object) = StepBehind step (written_kind object)
+  written_kind (kind.StepAfter' step p place object) = StepAfter step (written_kind object)
   written_kind (kind.StepBefore' step p place object) = StepBefore step (written_kind object)
   written_kind (kind.Prefix' operator p place operand) = Prefix operator (written_kind operand)
   written_kind (kind.SizeOf' p place operand) = SizeOf (written_kind operand)

@@ -11,7 +11,7 @@ use Rattle.cs_ast.specs.declared.typed.program.Local.{Local}
 use Rattle.cs_ast.specs.TypedTree.{Initial, Statement}
 use Rattle.cs_ast.specs.TypedView.{initial, statement}
 
--- a parameter or a local of a function; the block behind a parameter that was written with a bound has so many elements
+-- a parameter or a local of a function; the block after a parameter that was written with a bound has so many elements
 pub record Variable : Type 0 where
   pub name : List ℕ
   pub ty : Shape

@@ -13,4 +13,4 @@ pub use expression::{BinOp, CmpOp, Expr, ExprKind};
 pub use function::{Function, Local};
 pub use place::Place;
 pub use statement::{Stmt, StmtKind};
-pub use token::{IntegerConstant, Keyword, LeftOut, Length, Mark, Token, TokenKind};
+pub use token::{IntegerConstant, Keyword, Length, Punctuator, Token, TokenKind, Unsupported};

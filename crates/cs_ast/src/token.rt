@@ -16,8 +16,8 @@ pub enum TokenKind {
     /// A keyword that the grammar takes.
     Keyword(Keyword),
     /// A word of C that is left out: no production takes it.
-    LeftOut(LeftOut),
-    /// The word `__attribute__` without a closed parenthesis behind it: no production takes it.
+    Unsupported(Unsupported),
+    /// The word `__attribute__` without a closed parenthesis after it: no production takes it.
     Attribute,
     /// An identifier (C11 6.4.2).
     Name(Name),
@@ -28,7 +28,7 @@ pub enum TokenKind {
     /// A string literal (C11 6.4.5), by its bytes without the zero byte.
     Text(Bytes),
     /// A punctuator (C11 6.4.6).
-    Mark(Mark),
+    Punctuator(Punctuator),
 }
 
 /// An integer constant: its value, and what its type depends on beside the value.
@@ -82,7 +82,7 @@ pub enum Keyword {
 
 /// The words of C and of its common extensions that are left out, one for each spelling.
 #[derive(Clone, Copy, Debug, PartialEq, Eq)]
-pub enum LeftOut {
+pub enum Unsupported {
     Float,
     Double,
     Union,
@@ -113,7 +113,7 @@ pub enum LeftOut {
     /// `__asm__`
     AsmBetween,
     /// `__asm`
-    AsmBehind,
+    AsmAfter,
     /// `typeof`
     Typeof,
     /// `__typeof__`
@@ -123,7 +123,7 @@ pub enum LeftOut {
 
 /// The punctuators.
 #[derive(Clone, Copy, Debug, PartialEq, Eq)]
-pub enum Mark {
+pub enum Punctuator {
     /// `[`
     OpenBracket,
     /// `]`

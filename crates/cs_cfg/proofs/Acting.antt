@@ -10,24 +10,24 @@ use Rattle.cs_model.specs.declared.standing.Standing.{Standing}
 use Rattle.cs_model.specs.declared.standing.Standing.TheVariants.{Live, Freed, Ended}
 use Rattle.std.specs.Ordering.{int_eq}
 use Rattle.std.specs.Prelude.{ℤ, pos, ⊤}
-use Rattle.cs_runs.specs.declared.outcome.RunBudgets.{RunBudgets}
-use Rattle.cs_runs.specs.Operations.{is_true}
-use Rattle.cs_runs.specs.Objects.{Object, StartBlock, GlobalObject, LiteralObject, LocalObject, HeapBlock, Cell, NumberCell, NullCell, PointerCell, UnsetCell}
-use Rattle.cs_runs.specs.Acts.{Goes}
-use Rattle.cs_runs.specs.Simulation.{Tells, both_go, both_stop, both_ask, both_allocate}
-use Rattle.cs_plain.specs.Types.{size_of, type_of, target_of, integer_of}
-use Rattle.cs_plain.specs.Initials.{number_in, directed}
-use Rattle.cs_plain.specs.Memory.{Block, Fill, UnsetFill, ZeroFill}
+use Rattle.cs_events.specs.declared.outcome.RunBudgets.{RunBudgets}
+use Rattle.cs_events.specs.Operations.{is_true}
+use Rattle.cs_events.specs.Objects.{Object, StartBlock, GlobalObject, LiteralObject, LocalObject, HeapBlock, Cell, NumberCell, NullCell, PointerCell, UnsetCell}
+use Rattle.cs_events.specs.Acts.{Goes}
+use Rattle.cs_events.specs.Simulation.{Yields, both_go, both_stop, both_ask, both_allocate}
+use Rattle.cs_meaning.specs.Types.{size_of, type_of, target_of, integer_of}
+use Rattle.cs_meaning.specs.Initials.{number_in, directed}
+use Rattle.cs_meaning.specs.Memory.{Block, Fill, UnsetFill, ZeroFill}
 use Rattle.cs_types.specs.DataModel.{size_type_of}
 use Rattle.cs_ast.specs.declared.typed.operator.BinOp.TheVariants.{Mul}
-use Rattle.cs_plain.specs.Access.{Access, access_of}
-use Rattle.cs_plain.specs.Machine.{Operand, Scalar, Nothing as NoOperand, CallFrame, State, push, pop, pop_many, with_memory, operand_at, cell_at}
-use Rattle.cs_plain.specs.Calls.{allocated, allocate, release, release_block, release_known, release_object}
-use Rattle.cs_plain.specs.Expressions.{pointer_age, amount_age, given, number_at, stores_to, act_form}
+use Rattle.cs_meaning.specs.Access.{Access, access_of}
+use Rattle.cs_meaning.specs.Machine.{Operand, Scalar, Nothing as NoOperand, CallFrame, State, push, pop, pop_many, with_memory, operand_at, cell_at}
+use Rattle.cs_meaning.specs.Calls.{allocated, allocate, release, release_block, release_known, release_object}
+use Rattle.cs_meaning.specs.Expressions.{pointer_age, amount_age, given, number_at, stores_to, act_form}
 use Rattle.cs_cfg.specs.Graph.{Work, Point, Code}
 use Rattle.cs_cfg.specs.Working.{CodeState, allocator_takes, takes, do_work}
 use Rattle.cs_cfg.specs.Standing.{work_of}
-use Rattle.cs_cfg.proofs.Alike.{tells_if, tells_shows, tells_load, tells_store, tells_truth, tells_operate, tells_convert_number, tells_convert, tells_sum, tells_compare, tells_difference, tells_arrow}
+use Rattle.cs_cfg.proofs.Alike.{yields_if, yields_shows, yields_load, yields_store, yields_truth, yields_operate, yields_convert_number, yields_convert, yields_sum, yields_compare, yields_difference, yields_arrow}
 
 -- the state of the code's run at a point, with these callers, and with all else as in a state of the machine
 abbrev pub as_code : Point → List (CallFrame Point) → State → CodeState
@@ -67,10 +67,10 @@ module _ (R : State → CodeState → Type 0) (code : Code) (program : TypedProg
   Leaves m p callers depth = (next : State) → After m next depth → R next (as_code p callers next)
 
   -- an operation tells what an expression does with its parts, where there are as many operands as it takes, and more
-  abbrev pub TellsBy : Place → Shape → Form → Option Work → State → Point → List (CallFrame Point) → ℕ → Type 0
-  TellsBy at ty form None m p callers number = ⊤
-  TellsBy at ty form (Some work) m p callers number =
-      length m.frame.stack ≡ takes work + number → Leaves m p callers (suc number) → Tells R (act_form program budgets at ty form m) (do_work code program budgets at work (as_code p callers m))
+  abbrev pub YieldsBy : Place → Shape → Form → Option Work → State → Point → List (CallFrame Point) → ℕ → Type 0
+  YieldsBy at ty form None m p callers number = ⊤
+  YieldsBy at ty form (Some work) m p callers number =
+      length m.frame.stack ≡ takes work + number → Leaves m p callers (suc number) → Yields R (act_form program budgets at ty form m) (do_work code program budgets at work (as_code p callers m))
 
   -- an operand more in place of some others
   pub put : (m next : State) (p : Point) (callers : List (CallFrame Point)) (count number : ℕ) (operand : Operand) → length m.frame.stack ≡ count + number → Leaves m p callers (suc number) →
@@ -79,83 +79,83 @@ module _ (R : State → CodeState → Type 0) (code : Code) (program : TypedProg
   put m next p callers count number operand e h function frame todo visits called stack =
       h next (record { function = function; number = frame; todo = todo; visits = visits; callers = called; deep = ap length stack ∙ ap suc (dropped count number m.frame.stack e) })
 
-  release_tells : (at : Place) (cell : Cell) (m : State) (p : Point) (callers : List (CallFrame Point)) (number : ℕ) → length m.frame.stack ≡ 1 + number → Leaves m p callers (suc number) →
-      Tells R (release at cell (pop m)) (release at cell (pop (as_code p callers m)))
-  release_tells at NullCell m p callers number e h = tells_shows R at _ (both_go (put m _ p callers 1 number NoOperand e h refl refl refl refl refl refl))
-  release_tells at (PointerCell object offset) m p callers number e h = tells_shows R at _ (object_tells object)
+  release_yields : (at : Place) (cell : Cell) (m : State) (p : Point) (callers : List (CallFrame Point)) (number : ℕ) → length m.frame.stack ≡ 1 + number → Leaves m p callers (suc number) →
+      Yields R (release at cell (pop m)) (release at cell (pop (as_code p callers m)))
+  release_yields at NullCell m p callers number e h = yields_shows R at _ (both_go (put m _ p callers 1 number NoOperand e h refl refl refl refl refl refl))
+  release_yields at (PointerCell object offset) m p callers number e h = yields_shows R at _ (object_yields object)
     where
-      block_tells : (standing : Standing) (object : Object) → Tells R (release_block at standing object offset (pop m)) (release_block at standing object offset (pop (as_code p callers m)))
-      block_tells Live object = tells_if R (int_eq offset (pos 0)) (both_go (put m _ p callers 1 number NoOperand e h refl refl refl refl refl refl)) both_stop
-      block_tells Freed object = both_stop
-      block_tells Ended object = both_stop
+      block_yields : (standing : Standing) (object : Object) → Yields R (release_block at standing object offset (pop m)) (release_block at standing object offset (pop (as_code p callers m)))
+      block_yields Live object = yields_if R (int_eq offset (pos 0)) (both_go (put m _ p callers 1 number NoOperand e h refl refl refl refl refl refl)) both_stop
+      block_yields Freed object = both_stop
+      block_yields Ended object = both_stop
 
-      known_tells : (block : Option Block) (object : Object) → Tells R (release_known at block object offset (pop m)) (release_known at block object offset (pop (as_code p callers m)))
-      known_tells None object = both_stop
-      known_tells (Some block) object = block_tells block.standing object
+      known_yields : (block : Option Block) (object : Object) → Yields R (release_known at block object offset (pop m)) (release_known at block object offset (pop (as_code p callers m)))
+      known_yields None object = both_stop
+      known_yields (Some block) object = block_yields block.standing object
 
-      object_tells : (object : Object) → Tells R (release_object at object offset (pop m)) (release_object at object offset (pop (as_code p callers m)))
-      object_tells (StartBlock path) = known_tells (m.memory (StartBlock path)) (StartBlock path)
-      object_tells (HeapBlock allocation) = known_tells (m.memory (HeapBlock allocation)) (HeapBlock allocation)
-      object_tells (GlobalObject global) = both_stop
-      object_tells (LiteralObject literal) = both_stop
-      object_tells (LocalObject frame declaration) = both_stop
-  release_tells at (NumberCell n) m p callers number e h = both_go (put m _ p callers 1 number NoOperand e h refl refl refl refl refl refl)
-  release_tells at UnsetCell m p callers number e h = both_go (put m _ p callers 1 number NoOperand e h refl refl refl refl refl refl)
+      object_yields : (object : Object) → Yields R (release_object at object offset (pop m)) (release_object at object offset (pop (as_code p callers m)))
+      object_yields (StartBlock path) = known_yields (m.memory (StartBlock path)) (StartBlock path)
+      object_yields (HeapBlock allocation) = known_yields (m.memory (HeapBlock allocation)) (HeapBlock allocation)
+      object_yields (GlobalObject global) = both_stop
+      object_yields (LiteralObject literal) = both_stop
+      object_yields (LocalObject frame declaration) = both_stop
+  release_yields at (NumberCell n) m p callers number e h = both_go (put m _ p callers 1 number NoOperand e h refl refl refl refl refl refl)
+  release_yields at UnsetCell m p callers number e h = both_go (put m _ p callers 1 number NoOperand e h refl refl refl refl refl refl)
 
   given_put : (m : State) (p : Point) (callers : List (CallFrame Point)) (count number : ℕ) (element : Shape) (bytes : ℤ) (fill : Fill) (given : Bool) → length m.frame.stack ≡ count + number → Leaves m p callers (suc number) →
       R (allocated element bytes fill given (pop_many count m)) (allocated element bytes fill given (pop_many count (as_code p callers m)))
   given_put m p callers count number element bytes fill true e h = put m _ p callers count number _ e h refl refl refl refl refl refl
   given_put m p callers count number element bytes fill false e h = put m _ p callers count number _ e h refl refl refl refl refl refl
 
-  allocate_tells : (at : Place) (allocator : Allocator) (element : Shape) (m : State) (p : Point) (callers : List (CallFrame Point)) (number : ℕ) →
-      length m.frame.stack ≡ allocator_takes allocator + number → Leaves m p callers (suc number) → Tells R (allocate program at allocator element m) (allocate program at allocator element (as_code p callers m))
-  allocate_tells at Malloc element m p callers number e h = both_allocate (λ given. both_go (given_put m p callers 1 number element (number_in (cell_at m 0)) UnsetFill given e h))
-  allocate_tells at Calloc element m p callers number e h =
-      both_ask (λ holds. tells_if R (is_true holds)
-      (tells_operate R program.model at Mul (size_type_of program.model) (number_in (cell_at m 1)) (number_in (cell_at m 0)) (λ bytes. both_allocate (λ given. both_go (given_put m p callers 2 number element bytes ZeroFill given e h))))
+  allocate_yields : (at : Place) (allocator : Allocator) (element : Shape) (m : State) (p : Point) (callers : List (CallFrame Point)) (number : ℕ) →
+      length m.frame.stack ≡ allocator_takes allocator + number → Leaves m p callers (suc number) → Yields R (allocate program at allocator element m) (allocate program at allocator element (as_code p callers m))
+  allocate_yields at Malloc element m p callers number e h = both_allocate (λ given. both_go (given_put m p callers 1 number element (number_in (cell_at m 0)) UnsetFill given e h))
+  allocate_yields at Calloc element m p callers number e h =
+      both_ask (λ holds. yields_if R (is_true holds)
+      (yields_operate R program.model at Mul (size_type_of program.model) (number_in (cell_at m 1)) (number_in (cell_at m 0)) (λ bytes. both_allocate (λ given. both_go (given_put m p callers 2 number element bytes ZeroFill given e h))))
       (both_go (given_put m p callers 2 number element (pos 0) ZeroFill false e h)))
 
   stores_tell : (at : Place) (access : Access) (age : ℕ) (operand : Operand) (count : ℕ) (left : Operand) (m : State) (p : Point) (callers : List (CallFrame Point)) (number : ℕ) → length m.frame.stack ≡ count + number → Leaves m p callers (suc number) →
-      Tells R (stores_to program at access age operand count left m) (stores_to program at access age operand count left (as_code p callers m))
+      Yields R (stores_to program at access age operand count left m) (stores_to program at access age operand count left (as_code p callers m))
   stores_tell at access age operand count left m p callers number e h =
-      tells_store R program m.memory m.frame.number at access (cell_at m age) operand
+      yields_store R program m.memory m.frame.number at access (cell_at m age) operand
       {f = λ memory. Goes (push left (with_memory memory (pop_many count m)))} {g = λ memory. Goes (push left (with_memory memory (pop_many count (as_code p callers m))))}
       (λ memory. both_go (put m (push left (with_memory memory (pop_many count m))) p callers count number left e h refl refl refl refl refl refl))
 
   pub acts_tell : (at : Place) (ty : Shape) (form : Form) (m : State) (p : Point) (callers : List (CallFrame Point)) (number : ℕ) →
       -- a call is told elsewhere
-      ((function : ℕ) (arguments : TypedList) → TellsBy at ty (Call function arguments) (work_of program ty (Call function arguments)) m p callers number) →
-      TellsBy at ty form (work_of program ty form) m p callers number
+      ((function : ℕ) (arguments : TypedList) → YieldsBy at ty (Call function arguments) (work_of program ty (Call function arguments)) m p callers number) →
+      YieldsBy at ty form (work_of program ty form) m p callers number
   acts_tell at ty (Number n) m p callers number calls = λ e h. both_go (put m _ p callers 0 number _ e h refl refl refl refl refl refl)
   acts_tell at ty Null m p callers number calls = λ e h. both_go (put m _ p callers 0 number _ e h refl refl refl refl refl refl)
   acts_tell at ty (Text literal) m p callers number calls = λ e h. both_go (put m _ p callers 0 number _ e h refl refl refl refl refl refl)
   acts_tell at ty (Local declaration) m p callers number calls = λ e h. both_go (put m _ p callers 0 number _ e h refl refl refl refl refl refl)
   acts_tell at ty (Global global) m p callers number calls = λ e h. both_go (put m _ p callers 0 number _ e h refl refl refl refl refl refl)
   acts_tell at ty (Member a offset) m p callers number calls = λ e h. both_go (put m _ p callers 1 number _ e h refl refl refl refl refl refl)
-  acts_tell at ty (Arrow a offset) m p callers number calls = λ e h. tells_arrow R at (cell_at m 0) offset (λ cell. both_go (put m _ p callers 1 number _ e h refl refl refl refl refl refl))
+  acts_tell at ty (Arrow a offset) m p callers number calls = λ e h. yields_arrow R at (cell_at m 0) offset (λ cell. both_go (put m _ p callers 1 number _ e h refl refl refl refl refl refl))
   acts_tell at ty (Load a) m p callers number calls = λ e h.
-      tells_load R program m.memory m.frame.number (access_of a) (cell_at m 0) (λ memory operand. both_go (put m _ p callers 1 number operand e h refl refl refl refl refl refl))
-  acts_tell at ty (Convert a) m p callers number calls = λ e h. tells_convert R program.model at (type_of a) ty (operand_at m 0) (λ operand. both_go (put m _ p callers 1 number operand e h refl refl refl refl refl refl))
+      yields_load R program m.memory m.frame.number (access_of a) (cell_at m 0) (λ memory operand. both_go (put m _ p callers 1 number operand e h refl refl refl refl refl refl))
+  acts_tell at ty (Convert a) m p callers number calls = λ e h. yields_convert R program.model at (type_of a) ty (operand_at m 0) (λ operand. both_go (put m _ p callers 1 number operand e h refl refl refl refl refl refl))
   acts_tell at ty (Unary op a) m p callers number calls = λ e h. both_ask (λ n. both_go (put m _ p callers 1 number _ e h refl refl refl refl refl refl))
-  acts_tell at ty (Not a) m p callers number calls = λ e h. tells_truth R at (cell_at m 0) (λ holds. tells_shows R at _ (both_go (put m _ p callers 1 number _ e h refl refl refl refl refl refl)))
+  acts_tell at ty (Not a) m p callers number calls = λ e h. yields_truth R at (cell_at m 0) (λ holds. yields_shows R at _ (both_go (put m _ p callers 1 number _ e h refl refl refl refl refl refl)))
   acts_tell at ty (Binary op a b) m p callers number calls = λ e h.
-      tells_operate R program.model at op (integer_of ty) (number_at m 1) (number_at m 0) (λ n. both_go (put m _ p callers 2 number _ e h refl refl refl refl refl refl))
-  acts_tell at ty (Compare op a b) m p callers number calls = λ e h. tells_compare R at op (cell_at m 1) (cell_at m 0) (λ n. both_go (put m _ p callers 2 number _ e h refl refl refl refl refl refl))
+      yields_operate R program.model at op (integer_of ty) (number_at m 1) (number_at m 0) (λ n. both_go (put m _ p callers 2 number _ e h refl refl refl refl refl refl))
+  acts_tell at ty (Compare op a b) m p callers number calls = λ e h. yields_compare R at op (cell_at m 1) (cell_at m 0) (λ n. both_go (put m _ p callers 2 number _ e h refl refl refl refl refl refl))
   acts_tell at ty (Difference a b) m p callers number calls = λ e h.
-      tells_difference R at (cell_at m 1) (cell_at m 0) (size_of program (target_of (type_of a))) (λ n. both_go (put m _ p callers 2 number _ e h refl refl refl refl refl refl))
+      yields_difference R at (cell_at m 1) (cell_at m 0) (size_of program (target_of (type_of a))) (λ n. both_go (put m _ p callers 2 number _ e h refl refl refl refl refl refl))
   acts_tell at ty (Index a i order) m p callers number calls = λ e h.
-      tells_sum R program.model at (cell_at m (pointer_age order)) (number_at m (amount_age order)) (size_of program ty) (λ cell. both_go (put m _ p callers 2 number _ e h refl refl refl refl refl refl))
+      yields_sum R program.model at (cell_at m (pointer_age order)) (number_at m (amount_age order)) (size_of program ty) (λ cell. both_go (put m _ p callers 2 number _ e h refl refl refl refl refl refl))
   acts_tell at ty (Sum a n direction order) m p callers number calls = λ e h.
-      tells_sum R program.model at (cell_at m (pointer_age order)) (directed direction (number_at m (amount_age order))) (size_of program (target_of ty)) (λ cell. both_go (put m _ p callers 2 number _ e h refl refl refl refl refl refl))
+      yields_sum R program.model at (cell_at m (pointer_age order)) (directed direction (number_at m (amount_age order))) (size_of program (target_of ty)) (λ cell. both_go (put m _ p callers 2 number _ e h refl refl refl refl refl refl))
   acts_tell at ty (Assign a b) m p callers number calls = λ e h. stores_tell at (access_of a) 1 (operand_at m 0) 2 (operand_at m 0) m p callers number e h
   acts_tell at ty (Update op a b works_in gives) m p callers number calls = λ e h.
-      tells_operate R program.model at op works_in (number_at m 1) (number_at m 0) (λ n.
-      tells_convert_number R program.model at (integer works_in) (integer_of (type_of a)) n (λ stored.
+      yields_operate R program.model at op works_in (number_at m 1) (number_at m 0) (λ n.
+      yields_convert_number R program.model at (integer works_in) (integer_of (type_of a)) n (λ stored.
       stores_tell at (access_of a) 3 (Scalar (NumberCell stored)) 4 (given gives (operand_at m 2) (Scalar (NumberCell stored))) m p callers number e h))
   acts_tell at ty (Move a n direction gives) m p callers number calls = λ e h.
-      tells_sum R program.model at (cell_at m 1) (directed direction (number_at m 0)) (size_of program (target_of (type_of a))) (λ cell.
+      yields_sum R program.model at (cell_at m 1) (directed direction (number_at m 0)) (size_of program (target_of (type_of a))) (λ cell.
       stores_tell at (access_of a) 2 (Scalar cell) 3 (given gives (operand_at m 1) (Scalar cell)) m p callers number e h)
-  acts_tell at ty (Free a) m p callers number calls = λ e h. release_tells at (cell_at m 0) m p callers number e h
+  acts_tell at ty (Free a) m p callers number calls = λ e h. release_yields at (cell_at m 0) m p callers number e h
   acts_tell at ty (Through a) m p callers number calls = tt
   acts_tell at ty (Address a) m p callers number calls = tt
   acts_tell at ty (Decay a) m p callers number calls = tt
@@ -164,4 +164,4 @@ module _ (R : State → CodeState → Type 0) (code : Code) (program : TypedProg
   acts_tell at ty (Choice a b c) m p callers number calls = tt
   acts_tell at ty (Comma a b) m p callers number calls = tt
   acts_tell at ty (Call function arguments) m p callers number calls = calls function arguments
-  acts_tell at ty (Allocate allocator arguments element) m p callers number calls = allocate_tells at allocator element m p callers number
+  acts_tell at ty (Allocate allocator arguments element) m p callers number calls = allocate_yields at allocator element m p callers number

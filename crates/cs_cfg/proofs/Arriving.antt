@@ -2,34 +2,34 @@
 use Rattle.std.proofs.Common.{ℕ, zero, suc, ◌+◌, List, ◌∷◌, refl}
 use Rattle.cs_ast.specs.TypedTree.{Statement, Statements, Empty, Then}
 use Rattle.cs_ast.specs.TypedProgram.{TypedProgram, Routine}
-use Rattle.cs_plain.specs.Machine.{Item, Again, Out}
-use Rattle.cs_plain.specs.Marks.{marks}
-use Rattle.cs_plain.specs.Jumps.{executes}
-use Rattle.cs_plain.specs.Statements.{executes_from}
+use Rattle.cs_meaning.specs.Machine.{Item, Again, Out}
+use Rattle.cs_meaning.specs.Marks.{marks}
+use Rattle.cs_meaning.specs.Jumps.{executes}
+use Rattle.cs_meaning.specs.Statements.{executes_from}
 use Rattle.cs_cfg.specs.Graph.{Point, Flow}
 use Rattle.cs_cfg.specs.Placing.{Joins, there}
 use Rattle.cs_cfg.specs.Executing.{all_at, from_at}
 use Rattle.cs_cfg.proofs.Moving.{joins_on}
-use Rattle.cs_cfg.specs.Standing.{Behind, loops_at, stands_at}
+use Rattle.cs_cfg.specs.Standing.{Following, loops_at, stands_at}
 
 module _ (program : TypedProgram) (flow : Flow) (routine : Routine) (labels : ℕ → Point) where
   -- jumps alone lead to where the things to do stand
-  abbrev pub Arrives : List Item → Point → Point → Behind
+  abbrev pub Arrives : List Item → Point → Point → Following
   Arrives items out again depth p = (r : Point) × Joins program flow p r × stands_at program flow routine labels items out again depth r
 
   -- more jumps before
   pub arrives_from : {p q : Point} (items : List Item) (out again : Point) (depth : ℕ) → Joins program flow p q → Arrives items out again depth q → Arrives items out again depth p
   arrives_from items out again depth way s = (s.0, joins_on way s.1, s.2)
 
-  -- behind the body of a loop
-  pub again_stands : (s : Statement) (mark : ℕ) (items : List Item) (head after_body behind out again : Point) →
-      loops_at program flow routine labels s mark head after_body behind → Arrives items out again 0 behind →
-      stands_at program flow routine labels (Again s mark ∷ Out ∷ items) behind after_body 0 after_body
-  again_stands s mark items head after_body behind out again loop rest = (refl, refl, (head, loop, (again, (behind, there, (refl, refl, (out, rest))))))
+  -- after the body of a loop
+  pub again_stands : (s : Statement) (mark : ℕ) (items : List Item) (head after_body following out again : Point) →
+      loops_at program flow routine labels s mark head after_body following → Arrives items out again 0 following →
+      stands_at program flow routine labels (Again s mark ∷ Out ∷ items) following after_body 0 after_body
+  again_stands s mark items head after_body following out again loop rest = (refl, refl, (head, loop, (again, (following, there, (refl, refl, (out, rest))))))
 
-  -- behind a `switch` and behind a loop
-  pub out_stands : (items : List Item) (behind out again : Point) → Arrives items out again 0 behind → stands_at program flow routine labels (Out ∷ items) behind again 0 behind
-  out_stands items behind out again rest = (refl, refl, (out, rest))
+  -- after a `switch` and after a loop
+  pub out_stands : (items : List Item) (following out again : Point) → Arrives items out again 0 following → stands_at program flow routine labels (Out ∷ items) following again 0 following
+  out_stands items following out again rest = (refl, refl, (out, rest))
 
   -- statements in a row
   pub row_arrives : (statements : Statements) (mark : ℕ) (items : List Item) (out again p q : Point) →

@@ -1,15 +1,15 @@
--- Words for small graphs by hand, and for how runs of code end beside those of the plain machine.
+-- Words for small graphs by hand, and for how runs of code end beside those of the reference machine.
 use Rattle.std.proofs.Common.{ℕ, true, false, Option, Some, None}
 use Rattle.cs_types.specs.Shape.{Shape}
 use Rattle.cs_ast.specs.TypedProgram.{TypedProgram}
-use Rattle.cs_runs.specs.declared.outcome.Outcome.{Outcome}
-use Rattle.cs_runs.specs.declared.outcome.RunBudgets.{RunBudgets}
-use Rattle.cs_runs.specs.Runs.{Log, empty, Performed, Continues, Finishes}
-use Rattle.cs_runs.specs.Counted.{followed}
-use Rattle.cs_plain.specs.Access.{Access}
-use Rattle.cs_plain.specs.Steps.{step}
-use Rattle.cs_plain.specs.PlainRuns.{PlainRun, setting_of, start_of}
-use Rattle.cs_plain.proofs.Building.{at}
+use Rattle.cs_events.specs.declared.outcome.Outcome.{Outcome}
+use Rattle.cs_events.specs.declared.outcome.RunBudgets.{RunBudgets}
+use Rattle.cs_events.specs.Runs.{Log, empty, Performed, Continues, Finishes}
+use Rattle.cs_events.specs.Counted.{followed}
+use Rattle.cs_meaning.specs.Access.{Access}
+use Rattle.cs_meaning.specs.Steps.{step}
+use Rattle.cs_meaning.specs.PlainRuns.{PlainRun, setting_of, start_of}
+use Rattle.cs_meaning.proofs.Building.{at}
 use Rattle.cs_cfg.specs.Graph.{Work, Operation, Code}
 use Rattle.cs_cfg.specs.CodeSteps.{code_step, code_start}
 

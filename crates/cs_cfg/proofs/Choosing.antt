@@ -1,12 +1,12 @@
 -- What an expression does with its parts is no control point; `&&`, `||` and `?:` bring in no control points but their own, where the
--- point behind was made a block, and their ways. For the builder of a graph.
+-- point after was made a block, and their ways. For the builder of a graph.
 use Rattle.std.specs.Prelude.{⊤}
 use Rattle.std.proofs.Common.{◌≡◌, Option, Some, None, ℕ, pos, List, [], ◌∷◌, ◌++◌, refl}
 use Rattle.cs_types.specs.Shape.{Shape}
 use Rattle.cs_ast.specs.declared.place.Place.{Place}
 use Rattle.cs_ast.specs.TypedTree.{Typed, Of, Form, Number, Null, Text, Local, Global, Index, Member, Arrow, Load, Convert, Unary, Not, Binary, Compare, Sum, Difference, And, Or, Choice, Assign, Update, Move, Call, Allocate, Free}
 use Rattle.cs_ast.specs.TypedProgram.{TypedProgram}
-use Rattle.cs_runs.specs.declared.point.PointKind.TheVariants as point
+use Rattle.cs_events.specs.declared.point.PointKind.TheVariants as point
 use Rattle.cs_cfg.specs.Graph as graph
 use Rattle.cs_cfg.specs.Graph.{Work, Point, Flow}
 use Rattle.cs_cfg.specs.ControlPoints.{Next, met, first, tested, ControlPoint, points, points_of}
@@ -53,15 +53,15 @@ pub brings_use : {flow : Flow} {some : List ControlPoint} {old new : List Point}
 brings_use (Of at ty (Call function arguments)) number q rest = brings_past at number graph.Use q refl rest
 brings_use (Of at ty other) number q rest = rest
 
-module _ (program : TypedProgram) (flow : Flow) (at : Place) (ty : Shape) (number block : ℕ) (behind : Next) (p q : Point) (m : MeetsNext flow q behind) {old sealed with_way with_both new : List Point} where
-  -- the point behind is made a block, to which both ways jump; then comes the right part, then the truth that is known, then the left part
+module _ (program : TypedProgram) (flow : Flow) (at : Place) (ty : Shape) (number block : ℕ) (following : Next) (p q : Point) (m : MeetsNext flow q following) {old sealed with_way with_both new : List Point} where
+  -- the point after is made a block, to which both ways jump; then comes the right part, then the truth that is known, then the left part
   pub and_brings : (a b : Typed) (it : evaluates_form program flow at ty (And a b) number p q) → Brings flow [] (q ∷ old) sealed →
-      Brings flow (points b behind) (does at number graph.Judge (jump_to block) ∷ sealed) with_way → Brings flow [] (does at number (graph.Number (pos 0)) (jump_to block) ∷ with_way) with_both →
-      Brings flow (points a (met point.Branch at)) (split at number it.0 it.1 ∷ with_both) (p ∷ new) → Brings flow (points_of at (And a b) behind) (q ∷ old) (p ∷ new)
+      Brings flow (points b following) (does at number graph.Judge (jump_to block) ∷ sealed) with_way → Brings flow [] (does at number (graph.Number (pos 0)) (jump_to block) ∷ with_way) with_both →
+      Brings flow (points a (met point.Branch at)) (split at number it.0 it.1 ∷ with_both) (p ∷ new) → Brings flow (points_of at (And a b) following) (q ∷ old) (p ∷ new)
   and_brings a b it end right other left = record {
     keeps = λ all includes fit.
         let before = points a (met point.Branch at) in
-        let own = tested at (first b behind) behind ∷ points b behind in
+        let own = tested at (first b following) following ∷ points b following in
         let has = includes_second before own includes in
         let way = right.keeps all (includes_others has) (fit_silent at number graph.Judge (jump_to block) refl (fit_jump block (end.keeps all includes_none fit))) in
         let both = other.keeps all includes_none (fit_silent at number (graph.Number (pos 0)) (jump_to block) refl (fit_jump block way)) in
@@ -70,12 +70,12 @@ module _ (program : TypedProgram) (flow : Flow) (at : Place) (ty : Shape) (numbe
   }
 
   pub or_brings : (a b : Typed) (it : evaluates_form program flow at ty (Or a b) number p q) → Brings flow [] (q ∷ old) sealed →
-      Brings flow (points b behind) (does at number graph.Judge (jump_to block) ∷ sealed) with_way → Brings flow [] (does at number (graph.Number (pos 1)) (jump_to block) ∷ with_way) with_both →
-      Brings flow (points a (met point.Branch at)) (split at number it.0 it.1 ∷ with_both) (p ∷ new) → Brings flow (points_of at (Or a b) behind) (q ∷ old) (p ∷ new)
+      Brings flow (points b following) (does at number graph.Judge (jump_to block) ∷ sealed) with_way → Brings flow [] (does at number (graph.Number (pos 1)) (jump_to block) ∷ with_way) with_both →
+      Brings flow (points a (met point.Branch at)) (split at number it.0 it.1 ∷ with_both) (p ∷ new) → Brings flow (points_of at (Or a b) following) (q ∷ old) (p ∷ new)
   or_brings a b it end right other left = record {
     keeps = λ all includes fit.
         let before = points a (met point.Branch at) in
-        let own = tested at behind (first b behind) ∷ points b behind in
+        let own = tested at following (first b following) ∷ points b following in
         let has = includes_second before own includes in
         let way = right.keeps all (includes_others has) (fit_silent at number graph.Judge (jump_to block) refl (fit_jump block (end.keeps all includes_none fit))) in
         let both = other.keeps all includes_none (fit_silent at number (graph.Number (pos 1)) (jump_to block) refl (fit_jump block way)) in
@@ -85,15 +85,15 @@ module _ (program : TypedProgram) (flow : Flow) (at : Place) (ty : Shape) (numbe
 
   -- one of the two parts first, and then the other
   pub choice_brings : (a b c : Typed) (it : evaluates_form program flow at ty (Choice a b c) number p q) → Brings flow [] (q ∷ old) sealed →
-      Brings flow (points b behind) (jump_to block ∷ sealed) with_way → Brings flow (points c behind) (jump_to block ∷ with_way) with_both →
-      Brings flow (points a (met point.Branch at)) (split at number it.0 it.1 ∷ with_both) (p ∷ new) → Brings flow (points_of at (Choice a b c) behind) (q ∷ old) (p ∷ new)
+      Brings flow (points b following) (jump_to block ∷ sealed) with_way → Brings flow (points c following) (jump_to block ∷ with_way) with_both →
+      Brings flow (points a (met point.Branch at)) (split at number it.0 it.1 ∷ with_both) (p ∷ new) → Brings flow (points_of at (Choice a b c) following) (q ∷ old) (p ∷ new)
   choice_brings a b c it end one two left = record {
     keeps = λ all includes fit.
         let before = points a (met point.Branch at) in
-        let own = tested at (first b behind) (first c behind) ∷ (points b behind ++ points c behind) in
+        let own = tested at (first b following) (first c following) ∷ (points b following ++ points c following) in
         let has = includes_second before own includes in
-        let way = one.keeps all (includes_first (points b behind) (points c behind) (includes_others has)) (fit_jump block (end.keeps all includes_none fit)) in
-        let both = two.keeps all (includes_second (points b behind) (points c behind) (includes_others has)) (fit_jump block way) in
+        let way = one.keeps all (includes_first (points b following) (points c following) (includes_others has)) (fit_jump block (end.keeps all includes_none fit)) in
+        let both = two.keeps all (includes_second (points b following) (points c following) (includes_others has)) (fit_jump block way) in
         left.keeps all (includes_first before own includes)
         (fit_split at number it.0 it.1 (includes_one has) (joined_meets program flow b number _ q it.3 m) (joined_meets program flow c number _ q it.4 m) both);
   }

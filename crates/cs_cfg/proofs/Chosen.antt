@@ -4,10 +4,10 @@ use Rattle.cs_types.specs.Shape.{Shape}
 use Rattle.cs_ast.specs.declared.place.Place.{Place}
 use Rattle.cs_ast.specs.TypedTree.{Typed, Of, Form, And, Or, Choice}
 use Rattle.cs_ast.specs.TypedProgram.{TypedProgram}
-use Rattle.cs_runs.specs.declared.outcome.RunBudgets.{RunBudgets}
-use Rattle.cs_runs.specs.Objects.{NumberCell}
-use Rattle.cs_plain.specs.Machine.{Item, Evaluate, Choose, Judge, CallFrame, State, to_do, push_cell, pop}
-use Rattle.cs_plain.specs.Expressions.{goes_on_to, goes_to}
+use Rattle.cs_events.specs.declared.outcome.RunBudgets.{RunBudgets}
+use Rattle.cs_events.specs.Objects.{NumberCell}
+use Rattle.cs_meaning.specs.Machine.{Item, Evaluate, Choose, Judge, CallFrame, State, to_do, push_cell, pop}
+use Rattle.cs_meaning.specs.Expressions.{goes_on_to, goes_to}
 use Rattle.cs_cfg.specs.Graph as graph
 use Rattle.cs_cfg.specs.Graph.{Point, Code, block_of}
 use Rattle.cs_cfg.specs.Working.{takes}
@@ -25,8 +25,8 @@ module _ (code : Code) (program : TypedProgram) {function : ℕ} (home : Home co
       let r = placed.0 in
       let v = does at number graph.Judge r in
       let e : suc number ≡ takes graph.Judge + number = omega arith in
-      let behind = jumps_to code program home items (suc number) placed.2 s in
-      (v, placed.1, right_there code program home (Judge at ∷ items) (suc number) v (works code program home at graph.Judge items (suc number) number v r e refl behind))
+      let following = jumps_to code program home items (suc number) placed.2 s in
+      (v, placed.1, right_there code program home (Judge at ∷ items) (suc number) v (works code program home at graph.Judge items (suc number) number v r e refl following))
 
   -- the second or the third part of `?:`
   joined_stands : (b : Typed) (items : List Item) (number : ℕ) (p q : Point) → joined program home.flow b number p q →
@@ -51,9 +51,9 @@ module _ (code : Code) (program : TypedProgram) (budgets : RunBudgets) where
       let fewer = dropped 1 number m.frame.stack e in
       let r = placed.0 in
       let next = push_cell (NumberCell n) (pop (to_do items m)) in
-      let behind = jumps_to code program home items (suc number) placed.2 s in
+      let following = jumps_to code program home items (suc number) placed.2 s in
       let enough : length (drop 1 m.frame.stack) ≡ takes (graph.Number n) + number = fewer ∙ omega arith in
-      let related = now (aligned code program next home r callers (with_depth code program home items r (sym (ap suc fewer)) behind) waiting) in
+      let related = now (aligned code program next home r callers (with_depth code program home items r (sym (ap suc fewer)) following) waiting) in
       subst (λ x. Related code program budgets next (as_code x callers (pop m))) (sym placed.1)
       (soon (code_works code program budgets at (graph.Number n) number r callers (pop m) enough) related)
 

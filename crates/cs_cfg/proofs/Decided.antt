@@ -3,12 +3,12 @@ use Rattle.std.proofs.Common.{◌≡◌, ℕ, suc, ◌+◌, Bool, true, false, L
 use Rattle.cs_ast.specs.declared.place.Place.{Place}
 use Rattle.cs_ast.specs.TypedTree.{Typed, Statement, If, IfElse, While, Do, For, Statements}
 use Rattle.cs_ast.specs.TypedProgram.{TypedProgram}
-use Rattle.cs_runs.specs.declared.outcome.RunBudgets.{RunBudgets}
-use Rattle.cs_runs.specs.Acts.{Goes}
-use Rattle.cs_plain.specs.Operators.{branch}
-use Rattle.cs_plain.specs.Machine.{Item, Execute, Decide, Turn, Again, CallFrame, State, to_do, pop, cell_at, routine_of}
-use Rattle.cs_plain.specs.Marks.{marks, marks_in}
-use Rattle.cs_plain.specs.Steps.{do_item}
+use Rattle.cs_events.specs.declared.outcome.RunBudgets.{RunBudgets}
+use Rattle.cs_events.specs.Acts.{Goes}
+use Rattle.cs_meaning.specs.Operators.{branch}
+use Rattle.cs_meaning.specs.Machine.{Item, Execute, Decide, Turn, Again, CallFrame, State, to_do, pop, cell_at, routine_of}
+use Rattle.cs_meaning.specs.Marks.{marks, marks_in}
+use Rattle.cs_meaning.specs.Steps.{do_item}
 use Rattle.cs_cfg.specs.Graph.{Point, Code, block_of}
 use Rattle.cs_cfg.specs.Placing.{split, Joins, there}
 use Rattle.cs_cfg.specs.Standing.{decides_at}
@@ -40,14 +40,14 @@ module _ (code : Code) (program : TypedProgram) (budgets : RunBudgets) (m : Stat
     Decides s = decides_at program home.flow (routine_of program m.frame.function) home.lowers.labels s mark home.out home.again (λ d q. onward code program home items d q) p →
         Answer code program budgets (to_do (Decide s mark ∷ items) m) (as_code p callers m)
 
-    -- what is to be done behind the statement, behind jumps
-    behind_jumps : {x y : Point} → Joins program home.flow x y → onward code program home items 0 y → Leads items x
-    behind_jumps way rest = (home.out, (home.again, jumps_to code program home items 0 way rest))
+    -- what is to be done after the statement, after jumps
+    after_jumps : {x y : Point} → Joins program home.flow x y → onward code program home items 0 y → Leads items x
+    after_jumps way rest = (home.out, (home.again, jumps_to code program home items 0 way rest))
 
     pub if_decides : (at : Place) (test : Typed) (body : Statement) → Decides (If at test body)
     if_decides at test body it = split_answers (Decide (If at test body) mark) items at it.0 it.1 it.2 p (λ holds. if holds then Execute body mark ∷ items else items) single it.3 it.4 refl elim [
       | true ↦ (home.out, (home.again, (block_of home.flow it.1, there, (refl, (it.5.1.0, it.5.1.1, jumps_to code program home items 0 it.5.1.2 it.5.3)))))
-      | false ↦ behind_jumps it.5.2 it.5.3
+      | false ↦ after_jumps it.5.2 it.5.3
     ]
 
     pub if_else_decides : (at : Place) (test : Typed) (body other : Statement) → Decides (IfElse at test body other)
@@ -62,7 +62,7 @@ module _ (code : Code) (program : TypedProgram) (budgets : RunBudgets) (m : Stat
         let way = it.3 in
         split_answers (Decide (While at test body) mark) items at way.0 way.1 way.2 p (λ holds. if holds then Execute body (mark + 1) ∷ (Again (While at test body) mark ∷ items) else items) single way.3 way.4 refl elim [
           | true ↦ (home.out, (it.0, (block_of home.flow way.1, there, (refl, (way.5.0.0, way.5.0.1, (it.0, way.5.0.2, (refl, refl, (it.0, (refl, it.1), (home.again, it.2)))))))))
-          | false ↦ behind_jumps way.5.1 it.2
+          | false ↦ after_jumps way.5.1 it.2
         ]
 
     pub do_decides : (at : Place) (body : Statement) (test : Typed) → Decides (Do at body test)
@@ -70,7 +70,7 @@ module _ (code : Code) (program : TypedProgram) (budgets : RunBudgets) (m : Stat
         let way = it.4 in
         split_answers (Decide (Do at body test) mark) items at way.0 way.1 way.2 p (λ holds. if holds then Turn (Do at body test) mark ∷ items else items) single way.3 way.4 refl elim [
           | true ↦ (home.out, (home.again, (it.0, way.5.0, (refl, (it.1, it.2, it.3)))))
-          | false ↦ behind_jumps way.5.1 it.3
+          | false ↦ after_jumps way.5.1 it.3
         ]
 
     pub for_decides : (at : Place) (first : Statements) (test last : Option Typed) (body : Statement) → Decides (For at first test last body)
@@ -79,5 +79,5 @@ module _ (code : Code) (program : TypedProgram) (budgets : RunBudgets) (m : Stat
         let loop = For at first test last body in
         split_answers (Decide loop mark) items at way.0 way.1 way.2 p (λ holds. if holds then Execute body (mark + 1 + marks_in first) ∷ (Again loop mark ∷ items) else items) single way.3 way.4 refl elim [
           | true ↦ (home.out, (it.1, (block_of home.flow way.1, there, (refl, (way.5.0.0, way.5.0.1, (it.1, way.5.0.2, (refl, refl, (it.0, it.2, (home.again, it.3)))))))))
-          | false ↦ behind_jumps way.5.1 it.3
+          | false ↦ after_jumps way.5.1 it.3
         ]

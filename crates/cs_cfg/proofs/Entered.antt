@@ -2,9 +2,9 @@
 use Rattle.std.proofs.Common.{◌≡◌, ℕ, Some, unwrap_or, replicate, refl, sym, ap, ◌∙◌, subst}
 use Rattle.cs_ast.specs.TypedTree.{Statement, Block, Empty}
 use Rattle.cs_ast.specs.TypedProgram.{TypedProgram, Routine}
-use Rattle.cs_plain.specs.Machine.{routine_of, body_of}
-use Rattle.cs_plain.specs.Marks.{marks}
-use Rattle.cs_plain.specs.Calls.{new_frame}
+use Rattle.cs_meaning.specs.Machine.{routine_of, body_of}
+use Rattle.cs_meaning.specs.Marks.{marks}
+use Rattle.cs_meaning.specs.Calls.{new_frame}
 use Rattle.cs_cfg.specs.Graph.{Flow, Code, block_of, flow_of}
 use Rattle.cs_cfg.specs.Working.{code_frame}
 use Rattle.cs_cfg.specs.Placing.{does, there}
@@ -24,7 +24,7 @@ module _ (code : Code) (program : TypedProgram) where
   frame_begins function number body flow has_body has_flow lowers =
       let routine = routine_of program function in
       let same = executed routine body has_body in
-      let executes = subst (λ b. executes_at program flow routine lowers.labels b 0 finishing finishing lowers.inside lowers.behind) (sym same) lowers.executes in
+      let executes = subst (λ b. executes_at program flow routine lowers.labels b 0 finishing finishing lowers.inside lowers.following) (sym same) lowers.executes in
       record {
         function = refl;
         number = refl;
@@ -52,7 +52,7 @@ module _ (code : Code) (program : TypedProgram) where
               (
                 refl,
                 (
-                  lowers.behind,
+                  lowers.following,
                   executes,
                   (does routine.closes 0 (graph.Close lowers.nothing) leaving, lowers.ends, (refl, (lowers.nothing, sym lowers.gives, refl), (finishing, there, (refl, there, there)))),
                 ),

@@ -6,13 +6,13 @@ use Rattle.cs_ast.specs.declared.typed.operator.Order.TheVariants.{PointerFirst,
 use Rattle.cs_ast.specs.TypedTree.{Typed, Of, Form, Number, Null, Text, Local, Global, Through, Index, Member, Arrow, Load, Address, Decay, Convert, Unary, Not, Binary, Compare, Sum, Difference, And, Or, Choice, Comma, Assign, Update, Move, Call, Allocate, Free, TypedList, NoMore, Further}
 use Rattle.cs_ast.specs.TypedProgram.{TypedProgram}
 use Rattle.cs_ast.specs.declared.typed.operator.Direction.TheVariants.{Forward}
-use Rattle.cs_runs.specs.declared.outcome.RunBudgets.{RunBudgets}
-use Rattle.cs_runs.specs.Simulation.{alone}
-use Rattle.cs_plain.specs.Types.{size_of, type_of, integer_of}
-use Rattle.cs_plain.specs.Access.{access_of}
-use Rattle.cs_plain.specs.Machine.{Item, Evaluate, EvaluateUnused, Act, Fetch, Choose, Use, Drop, to_do}
-use Rattle.cs_plain.specs.Expressions as lists
-use Rattle.cs_plain.specs.Expressions.{uses, count_all}
+use Rattle.cs_events.specs.declared.outcome.RunBudgets.{RunBudgets}
+use Rattle.cs_events.specs.Simulation.{alone}
+use Rattle.cs_meaning.specs.Types.{size_of, type_of, integer_of}
+use Rattle.cs_meaning.specs.Access.{access_of}
+use Rattle.cs_meaning.specs.Machine.{Item, Evaluate, EvaluateUnused, Act, Fetch, Choose, Use, Drop, to_do}
+use Rattle.cs_meaning.specs.Expressions as lists
+use Rattle.cs_meaning.specs.Expressions.{uses, count_all}
 use Rattle.cs_cfg.specs.Graph as graph
 use Rattle.cs_cfg.specs.Graph.{Work, Point, Code}
 use Rattle.cs_cfg.specs.Working.{takes}
@@ -65,10 +65,10 @@ module _ (code : Code) (program : TypedProgram) {function : ℕ} (home : Home co
       subst (λ x. stands code program home items depth x) (sym placed) (subst (λ d. stands code program home items d q) none s)
   in_row (Further e others) items depth p q placed s =
       let more : count_all (Further e others) + depth ≡ count_all others + suc depth = omega arith in
-      let behind = lists.evaluates_all others items in (
+      let following = lists.evaluates_all others items in (
         placed.0,
         placed.1,
-        right_there code program home behind (suc depth) placed.0
+        right_there code program home following (suc depth) placed.0
             (in_row others items (suc depth) placed.0 q placed.2 (subst (λ d. stands code program home items d q) more s)),
       )
 
@@ -142,11 +142,11 @@ module _ (code : Code) (program : TypedProgram) {function : ℕ} (home : Home co
       let none : depth ≡ 0 + depth = omega arith in
       let r = placed.0 in
       let v = does at depth graph.Drop r in
-      let behind = Evaluate b ∷ items in (
+      let following = Evaluate b ∷ items in (
         v,
         placed.1,
-        right_there code program home (Drop ∷ behind) (suc depth) v
-            (at, (depth, r, one_more, refl, with_depth code program home behind r none (right_there code program home behind depth r (q, placed.2, s)))),
+        right_there code program home (Drop ∷ following) (suc depth) v
+            (at, (depth, r, one_more, refl, with_depth code program home following r none (right_there code program home following depth r (q, placed.2, s)))),
       )
   parts_stand at ty (Assign a b) items depth p q placed s = of_two a b at (graph.Store (access_of a)) (Act (Of at ty (Assign a b))) items depth p placed.0 q (λ n r w. w) refl placed.1 placed.2 s
   parts_stand at ty (Update op a b works_in gives) items depth p q placed s =

@@ -5,22 +5,22 @@ use Rattle.cs_ast.specs.declared.place.Place.{Place}
 use Rattle.cs_ast.specs.declared.typed.statement.Case.{Case}
 use Rattle.cs_ast.specs.TypedTree.{Typed, Statement, Block, Run, If, IfElse, While, Do, For, Switch, Goto, Label, Break, Continue, Return, Statements}
 use Rattle.cs_ast.specs.TypedProgram.{TypedProgram}
-use Rattle.cs_runs.specs.declared.outcome.RunBudgets.{RunBudgets}
-use Rattle.cs_runs.specs.declared.point.PointKind.{PointKind}
-use Rattle.cs_runs.specs.declared.point.PointKind.TheVariants as point
-use Rattle.cs_runs.specs.Acts.{Goes}
-use Rattle.cs_runs.specs.Simulation.{Tells, alone, both_go, both_stop, both_touch}
-use Rattle.cs_plain.specs.Machine.{Nothing, Item, Evaluate, EvaluateUnused, Drop, Execute, Decide, Turn, Out, Give, CallFrame, State, to_do, push, routine_of, body_of}
-use Rattle.cs_plain.specs.Marks.{with_visits, reached_again, reach_mark}
-use Rattle.cs_plain.specs.Jumps.{executes, broken_out, continued, Landing, landing}
-use Rattle.cs_plain.specs.Statements.{lands}
-use Rattle.cs_plain.specs.Steps.{at_end, do_item}
+use Rattle.cs_events.specs.declared.outcome.RunBudgets.{RunBudgets}
+use Rattle.cs_events.specs.declared.point.PointKind.{PointKind}
+use Rattle.cs_events.specs.declared.point.PointKind.TheVariants as point
+use Rattle.cs_events.specs.Acts.{Goes}
+use Rattle.cs_events.specs.Simulation.{Yields, alone, both_go, both_stop, both_touch}
+use Rattle.cs_meaning.specs.Machine.{Nothing, Item, Evaluate, EvaluateUnused, Drop, Execute, Decide, Turn, Out, Give, CallFrame, State, to_do, push, routine_of, body_of}
+use Rattle.cs_meaning.specs.Marks.{with_visits, reached_again, reach_mark}
+use Rattle.cs_meaning.specs.Jumps.{executes, broken_out, continued, Landing, landing}
+use Rattle.cs_meaning.specs.Statements.{lands}
+use Rattle.cs_meaning.specs.Steps.{at_end, do_item}
 use Rattle.cs_cfg.specs.Graph as graph
 use Rattle.cs_cfg.specs.Graph.{Point, Flow, Code, block_of}
 use Rattle.cs_cfg.specs.Placing.{does, split, there}
 use Rattle.cs_cfg.specs.Executing.{leaving, finishing, executes_at}
 use Rattle.cs_cfg.proofs.Acting.{as_code}
-use Rattle.cs_cfg.proofs.Alike.{tells_if}
+use Rattle.cs_cfg.proofs.Alike.{yields_if}
 use Rattle.cs_cfg.proofs.Related.{CallersStand, Related, now}
 use Rattle.cs_cfg.proofs.Moving.{Home, onward, jumps_to, with_depth, aligned, Answer, arrives, work_answers}
 use Rattle.cs_cfg.proofs.Entered.{executed}
@@ -42,19 +42,19 @@ module _ (code : Code) (program : TypedProgram) (budgets : RunBudgets) where
   module _ (m : State) (home : Home code program m.frame.function) (callers : List (CallFrame Point)) (waiting : CallersStand code program m.callers callers) (empty : length m.frame.stack ≡ 0) where
     -- a mark is reached alike
     again_reached : (at : Place) (kind : PointKind) (mark : ℕ) (rest : List Item) (q : Point) → onward code program home rest 0 q → (count : Option ℕ) →
-        Tells (Related code program budgets) (reached_again budgets at kind mark count (to_do rest m)) (reached_again budgets at kind mark count (as_code q callers m))
+        Yields (Related code program budgets) (reached_again budgets at kind mark count (to_do rest m)) (reached_again budgets at kind mark count (as_code q callers m))
     again_reached at kind mark rest q s None = both_stop
     again_reached at kind mark rest q s (Some count) =
         let next = with_visits mark (count + 1) (to_do rest m) in
-        tells_if (Related code program budgets) (nat_lt count budgets.visits)
+        yields_if (Related code program budgets) (nat_lt count budgets.visits)
         (both_touch (both_go (now (aligned code program next home q callers (with_depth code program home rest q (sym empty) s) waiting)))) both_stop
 
     pub mark_reached : (at : Place) (kind : PointKind) (mark : ℕ) (rest : List Item) (q : Point) → onward code program home rest 0 q →
-        Tells (Related code program budgets) (reach_mark budgets at kind mark (to_do rest m)) (reach_mark budgets at kind mark (as_code q callers m))
+        Yields (Related code program budgets) (reach_mark budgets at kind mark (to_do rest m)) (reach_mark budgets at kind mark (as_code q callers m))
     mark_reached at kind mark rest q s = again_reached at kind mark rest q s (slice_get m.frame.visits mark)
 
-  -- the end of the body stands behind it
-  end_arrives : {function : ℕ} (home : Home code program function) → onward code program (home_with home finishing finishing) (at_end (routine_of program function)) 0 home.lowers.behind
+  -- the end of the body stands after it
+  end_arrives : {function : ℕ} (home : Home code program function) → onward code program (home_with home finishing finishing) (at_end (routine_of program function)) 0 home.lowers.following
   end_arrives {function = function} home =
       let routine = routine_of program function in
       (does routine.closes 0 (graph.Close home.lowers.nothing) leaving, home.lowers.ends, (refl, (home.lowers.nothing, sym home.lowers.gives, refl), (finishing, there, (refl, there, there))))
@@ -65,8 +65,8 @@ module _ (code : Code) (program : TypedProgram) (budgets : RunBudgets) where
   landed {function = function} home wanted l e =
       let routine = routine_of program function in
       let is_body : home.body ≡ body_of routine = sym (executed routine home.body home.has_body) in
-      goto_lands program home.flow routine home.lowers.labels wanted (at_end routine) l finishing finishing home.lowers.inside home.lowers.behind
-      (subst (λ body. executes_at program home.flow routine home.lowers.labels body 0 finishing finishing home.lowers.inside home.lowers.behind) is_body home.lowers.executes) (end_arrives home) e
+      goto_lands program home.flow routine home.lowers.labels wanted (at_end routine) l finishing finishing home.lowers.inside home.lowers.following
+      (subst (λ body. executes_at program home.flow routine home.lowers.labels body 0 finishing finishing home.lowers.inside home.lowers.following) is_body home.lowers.executes) (end_arrives home) e
 
   module _ (m : State) (home : Home code program m.frame.function) (callers : List (CallFrame Point)) (waiting : CallersStand code program m.callers callers) (empty : length m.frame.stack ≡ 0)
       (mark : ℕ) (items : List Item) (p q : Point) (rest : onward code program home items 0 q) where
@@ -79,7 +79,7 @@ module _ (code : Code) (program : TypedProgram) (budgets : RunBudgets) where
         Answer code program budgets (to_do (Execute s mark ∷ items) m) (as_code p callers m)
     goes_to_parts s parts out again e s' = silently (Execute s mark) items parts m (home_with home out again) p callers empty e s' waiting
 
-    -- behind a `break` out of a statement
+    -- after a `break` out of a statement
     outside : onward code program (home_with home q home.again) (Out ∷ items) 0 q
     outside = (q, there, out_stands program home.flow (routine_of program m.frame.function) home.lowers.labels items q home.out home.again rest)
 
@@ -129,16 +129,16 @@ module _ (code : Code) (program : TypedProgram) (budgets : RunBudgets) where
         let land = landed home wanted l e in
         let stays = goto_stays program home.flow routine home.lowers.labels wanted (at_end routine) l p q e it in
         let way = goto_jumps program home.flow routine home.lowers.labels wanted (at_end routine) l p q e it in
-        let told = mark_reached m (home_with home land.out land.again) callers waiting empty l.at point.Label l.mark l.todo land.inside land.stands in
+        let reported = mark_reached m (home_with home land.out land.again) callers waiting empty l.at point.Label l.mark l.todo land.inside land.stands in
         arrives code program budgets (to_do (Execute (Goto at wanted) mark ∷ items) m) home p label callers way (empty, (q, stays, rest)) waiting
         (work_answers code program budgets (Execute (Goto at wanted) mark) items m l.at (graph.Reach point.Label l.mark) 0 label land.inside callers empty land.reaches
-        (subst (λ found. Tells (Related code program budgets) (lands budgets found (to_do items m)) (reach_mark budgets l.at point.Label l.mark (as_code land.inside callers m))) (sym e) told))
+        (subst (λ found. Yields (Related code program budgets) (lands budgets found (to_do items m)) (reach_mark budgets l.at point.Label l.mark (as_code land.inside callers m))) (sym e) reported))
 
     pub label_answers : (at : Place) (label : ℕ) (body : Statement) → Executes (Label at label body)
     label_answers at label body it =
-        let told = mark_reached m home callers waiting empty at point.Label mark (Execute body (mark + 1) ∷ items) it.1 (it.1, there, (refl, (q, it.5, rest))) in
+        let reported = mark_reached m home callers waiting empty at point.Label mark (Execute body (mark + 1) ∷ items) it.1 (it.1, there, (refl, (q, it.5, rest))) in
         arrives code program budgets (to_do (Execute (Label at label body) mark ∷ items) m) home p it.0 callers it.2 (empty, (q, (it.0, it.1, there, it.3, it.4, it.5), rest)) waiting
-        (work_answers code program budgets (Execute (Label at label body) mark) items m at (graph.Reach point.Label mark) 0 it.0 it.1 callers empty it.3 told)
+        (work_answers code program budgets (Execute (Label at label body) mark) items m at (graph.Reach point.Label mark) 0 it.0 it.1 callers empty it.3 reported)
 
     pub break_answers : (at : Place) → Executes (Break at)
     break_answers at it =

@@ -5,8 +5,8 @@ use Rattle.std.specs.List.{All}
 use Rattle.std.proofs.Common.{◌≡◌, ℕ, true, false, List, [], ◌∷◌, ◌++◌, length, Some, None, if◌then◌else◌, arith, refl, sym, ap, ◌∙◌, subst, inl, inr}
 use Rattle.std.proofs.lemmas.List.Elements.{All-nil, All-cons, All-head, All-tail, All-append, All-weaker, All-contains, All-contains_itself, Contains-append_left, Contains-append_right}
 use Rattle.cs_ast.specs.declared.place.Place.{Place}
-use Rattle.cs_runs.specs.declared.point.PointKind.{PointKind}
-use Rattle.cs_runs.specs.declared.point.PointKind.TheVariants as point
+use Rattle.cs_events.specs.declared.point.PointKind.{PointKind}
+use Rattle.cs_events.specs.declared.point.PointKind.TheVariants as point
 use Rattle.cs_cfg.specs.Graph.{Work, Operation, SwitchCase, BlockEnd, Jump, Branch, Switch, Point, Flow, block_of}
 use Rattle.cs_cfg.specs.ControlPoints.{Met, Next, the_point, Exit, Onward, TruthOf, CaseOf, way, ControlPoint, passed, tested, last_point}
 use Rattle.cs_cfg.specs.GraphPoints.{met_in, goes_on, IsMet, by_operation, by_branch, Leads, onward, on_truth, on_case, on_no_case, MeetsNext, IsRest}
@@ -68,16 +68,16 @@ module _ {flow : Flow} where
       here Onward r it = absurd it
       here (CaseOf case) r it = absurd it
 
--- what is left of a block is all of it, or something of what is behind its first operation
-abbrev RestBehind : List Operation → BlockEnd → Point → Type 0
-RestBehind [] end p = ⊥
-RestBehind (operation ∷ operations) end p = IsRest (record { operations = operations; end = end }) p
+-- what is left of a block is all of it, or something of what is after its first operation
+abbrev RestAfter : List Operation → BlockEnd → Point → Type 0
+RestAfter [] end p = ⊥
+RestAfter (operation ∷ operations) end p = IsRest (record { operations = operations; end = end }) p
 
 tail_of : List Operation → List Operation
 tail_of [] = []
 tail_of (operation ∷ operations) = operations
 
-rest_is : (operations : List Operation) (end : BlockEnd) (p : Point) (done : List Operation) → operations ≡ done ++ p.operations → end ≡ p.end → (record { operations = operations; end = end } ≡ p) ⊎ RestBehind operations end p
+rest_is : (operations : List Operation) (end : BlockEnd) (p : Point) (done : List Operation) → operations ≡ done ++ p.operations → end ≡ p.end → (record { operations = operations; end = end } ≡ p) ⊎ RestAfter operations end p
 unfolding tail_of
 rest_is operations end p [] e f = inl (λ i. record { operations = e i; end = f i })
 rest_is [] end p (first ∷ done) e f = cc
@@ -92,7 +92,7 @@ module _ {flow : Flow} {points : List ControlPoint} where
       cases p m is (inl here) =
           let none : None ≡ Some m = sym silent ∙ ap met_of here ∙ is_met is in
           cc
-      cases p m is (inr behind) = fits.each p m behind is
+      cases p m is (inr following) = fits.each p m following is
 
   -- one that is a control point which fits
   pub block_point : {one : ControlPoint} (at : Place) (number : ℕ) (work : Work) (q : Point) → Contains points one → Fits flow one (does at number work q) → BlockFits flow points q → BlockFits flow points (does at number work q)
@@ -103,7 +103,7 @@ module _ {flow : Flow} {points : List ControlPoint} where
           let both : Some (the_point one.kind one.at) ≡ Some m = sym (is_met fit.meets) ∙ ap met_of here ∙ is_met is in
           let same : the_point one.kind one.at ≡ m = cc in
           (one, among, same, subst (Fits flow one) here fit)
-      cases p m is (inr behind) = fits.each p m behind is
+      cases p m is (inr following) = fits.each p m following is
 
   -- an end that is none, as a jump
   pub block_end : (end : BlockEnd) → met_at [] end ≡ None → BlockFits flow points (record { operations = []; end = end })
@@ -113,7 +113,7 @@ module _ {flow : Flow} {points : List ControlPoint} where
       cases p m is (inl here) =
           let none : None ≡ Some m = sym silent ∙ ap met_of here ∙ is_met is in
           cc
-      cases p m is (inr behind) = absurd behind
+      cases p m is (inr following) = absurd following
 
   -- one that is a control point which fits
   pub block_choice : {one : ControlPoint} (end : BlockEnd) → Contains points one → Fits flow one (record { operations = []; end = end }) → BlockFits flow points (record { operations = []; end = end })
@@ -124,7 +124,7 @@ module _ {flow : Flow} {points : List ControlPoint} where
           let both : Some (the_point one.kind one.at) ≡ Some m = sym (is_met fit.meets) ∙ ap met_of here ∙ is_met is in
           let same : the_point one.kind one.at ≡ m = cc in
           (one, among, same, subst (Fits flow one) here fit)
-      cases p m is (inr behind) = absurd behind
+      cases p m is (inr following) = absurd following
 
   -- lists of blocks
   pub fit_none : AllFit flow points []

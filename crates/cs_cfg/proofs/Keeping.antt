@@ -5,7 +5,7 @@ use Rattle.std.proofs.Common.{◌≡◌, ℕ, zero, suc, List, [], ◌∷◌, �
 use Rattle.std.proofs.lemmas.List.Elements.{Contains-append_right}
 use Rattle.cs_ast.specs.declared.place.Place.{Place}
 use Rattle.cs_ast.specs.TypedProgram.{TypedProgram}
-use Rattle.cs_runs.specs.declared.point.PointKind.TheVariants as point
+use Rattle.cs_events.specs.declared.point.PointKind.TheVariants as point
 use Rattle.cs_cfg.specs.Graph.{Work, Operation, BlockEnd, Branch, Switch, Finish, Point, before, no_point, Flow, block_of}
 use Rattle.cs_cfg.specs.ControlPoints.{Met, met}
 use Rattle.cs_cfg.specs.GraphPoints.{met_by, IsMet, by_operation, by_branch, by_switch, IsRest, Occurs}
@@ -31,7 +31,7 @@ is_met by_switch = refl
 pub whole : (block : Point) → IsRest block block
 whole block = record { done = []; left = refl; ends = refl }
 
--- what is left behind an operation
+-- what is left after an operation
 pub rest_past : (block : Point) (operation : Operation) (p : Point) → IsRest block (before operation p) → IsRest block p
 rest_past block operation p rest = record { done = rest.done ++ operation ∷ []; left = rest.left ∙ sym (append_assoc rest.done (operation ∷ []) p.operations); ends = rest.ends }
 
@@ -39,11 +39,11 @@ rest_past block operation p rest = record { done = rest.done ++ operation ∷ []
 contains_at : (blocks : List Point) (number : ℕ) → Contains blocks (unwrap_or (slice_get blocks number) no_point) ⊎ (unwrap_or (slice_get blocks number) no_point ≡ no_point)
 contains_at [] number = inr refl
 contains_at (first ∷ others) zero = inl (0, omega arith, refl)
-contains_at (first ∷ others) (suc number) = behind (contains_at others number)
+contains_at (first ∷ others) (suc number) = following (contains_at others number)
   where
-    behind : {p : Point} → Contains others p ⊎ (p ≡ no_point) → Contains (first ∷ others) p ⊎ (p ≡ no_point)
-    behind (inl among) = inl (Contains-append_right (first ∷ []) others _ among)
-    behind (inr none) = inr none
+    following : {p : Point} → Contains others p ⊎ (p ≡ no_point) → Contains (first ∷ others) p ⊎ (p ≡ no_point)
+    following (inl among) = inl (Contains-append_right (first ∷ []) others _ among)
+    following (inr none) = inr none
 
 -- and there no control point is met
 nothing_met : (done operations : List Operation) (end : BlockEnd) (m : Met) → [] ≡ done ++ operations → Finish ≡ end → met_at operations end ≡ Some m → ⊥
@@ -85,7 +85,7 @@ module _ {program : TypedProgram} {flow : Flow} where
   stays_met there e = refl
   stays_met (jumps way) e = cc
 
-  -- behind an operation
+  -- after an operation
   pub kept_past : (at : Place) (number : ℕ) (work : Work) (q : Point) → Kept program flow (does at number work q) → Kept program flow q
   kept_past at number work q kept =
       let operation : Operation = record { at = at; temporary = number; work = work } in

@@ -1,13 +1,13 @@
 -- Where a label stands in what a graph executes, a `goto` lands: the point to which it leads reaches the label's mark, and what the
--- plain machine has to do from there stands behind it (C11 6.8.6.1).
+-- reference machine has to do from there stands after it (C11 6.8.6.1).
 use Rattle.std.proofs.Common.{◌≡◌, ℕ, ◌+◌, ◌==◌, Bool, true, false, List, [], ◌∷◌, Option, Some, None, option_map, if◌then◌else◌, refl, ap, ◌∙◌, subst, eqb-true}
 use Rattle.cs_ast.specs.declared.place.Place.{Place}
 use Rattle.cs_ast.specs.TypedTree.{Statement, Block, Declare, Run, If, IfElse, While, Do, For, Switch, Goto, Label, Break, Continue, Return, Statements, Empty, Then}
 use Rattle.cs_ast.specs.TypedProgram.{TypedProgram, Routine}
-use Rattle.cs_runs.specs.declared.point.PointKind.TheVariants as point
-use Rattle.cs_plain.specs.Machine.{Item, Execute, Again, Out, body_of}
-use Rattle.cs_plain.specs.Marks.{marks, marks_in}
-use Rattle.cs_plain.specs.Jumps.{executes, Landing, first_of_two, landing, landing_in}
+use Rattle.cs_events.specs.declared.point.PointKind.TheVariants as point
+use Rattle.cs_meaning.specs.Machine.{Item, Execute, Again, Out, body_of}
+use Rattle.cs_meaning.specs.Marks.{marks, marks_in}
+use Rattle.cs_meaning.specs.Jumps.{executes, Landing, first_of_two, landing, landing_in}
 use Rattle.cs_cfg.specs.Graph as graph
 use Rattle.cs_cfg.specs.Graph.{Point, Flow, block_of}
 use Rattle.cs_cfg.specs.Placing.{does, Joins, there}
@@ -35,7 +35,7 @@ module _ {A : Type 0} (see : ℕ → Place → A) where
   label_seen false l l' one other e f = f
 
   mutual
-    -- whatever is to be done behind a statement, the same is seen of a label in it
+    -- whatever is to be done after a statement, the same is seen of a label in it
     pub seen_alike : (wanted : ℕ) (s : Statement) (mark : ℕ) (items items' : List Item) → seen_of see (landing wanted s mark items) ≡ seen_of see (landing wanted s mark items')
     seen_alike wanted (Block at statements) mark items items' = seen_alike_in wanted statements mark items items'
     seen_alike wanted (Declare at declaration initial) mark items items' = refl
@@ -77,7 +77,7 @@ first_is (Some l') other l e take skip = take e
 first_is None other l e take skip = skip e
 
 module _ (program : TypedProgram) (flow : Flow) (routine : Routine) (labels : ℕ → Point) where
-  -- a label's mark is reached at a point, to which its `goto`s lead where it is the first of its name, and behind it stands what is to be done
+  -- a label's mark is reached at a point, to which its `goto`s lead where it is the first of its name, and after it stands what is to be done
   pub record Lands (wanted : ℕ) (l : Landing) : Type 0 where
     pub head : Point
     pub inside : Point
@@ -92,7 +92,7 @@ module _ (program : TypedProgram) (flow : Flow) (routine : Routine) (labels : �
       is_led_to program flow routine labels (landing label (body_of routine) 0 []) mark (labels label) head → executes_at program flow routine labels body (mark + 1) out again inside q →
       Arrives program flow routine labels items out again 0 q → (landing wanted body (mark + 1) items ≡ Some l → Lands wanted l) →
       (found : Bool) → (label == wanted) ≡ found → (if found then Some (record { mark = mark; at = at; todo = Execute body (mark + 1) ∷ items }) else landing wanted body (mark + 1) items) ≡ Some l → Lands wanted l
-  at_label wanted label mark at body items l head inside q out again reaches led it behind deeper true same e =
+  at_label wanted label mark at body items l head inside q out again reaches led it following deeper true same e =
       let here : Landing = record { mark = mark; at = at; todo = Execute body (mark + 1) ∷ items } in
       let is_here : here ≡ l = cc in
       let named : label ≡ wanted = eqb-true label wanted same in
@@ -103,9 +103,9 @@ module _ (program : TypedProgram) (flow : Flow) (routine : Routine) (labels : �
         led = subst (λ name. is_led_to program flow routine labels (landing name (body_of routine) 0 []) mark (labels name) head) named led;
         out = out;
         again = again;
-        stands = (inside, there, (refl, (q, it, behind)));
+        stands = (inside, there, (refl, (q, it, following)));
       })
-  at_label wanted label mark at body items l head inside q out again reaches led it behind deeper false same e = deeper e
+  at_label wanted label mark at body items l head inside q out again reaches led it following deeper false same e = deeper e
 
   mutual
     -- a label in a statement
@@ -164,10 +164,10 @@ module _ (program : TypedProgram) (flow : Flow) (routine : Routine) (labels : �
     pub again : Point
     pub stands : Arrives program flow routine labels l.todo out again 0 inside
 
-  pub goto_lands : (wanted : ℕ) (items : List Item) (l : Landing) (out again inside behind : Point) → executes_at program flow routine labels (body_of routine) 0 out again inside behind →
-      Arrives program flow routine labels items out again 0 behind → landing wanted (body_of routine) 0 items ≡ Some l → Landed wanted l
-  goto_lands wanted items l out again inside behind it rest e =
-      let lands = lands_in wanted (body_of routine) 0 items l out again inside behind it rest e in
+  pub goto_lands : (wanted : ℕ) (items : List Item) (l : Landing) (out again inside following : Point) → executes_at program flow routine labels (body_of routine) 0 out again inside following →
+      Arrives program flow routine labels items out again 0 following → landing wanted (body_of routine) 0 items ≡ Some l → Landed wanted l
+  goto_lands wanted items l out again inside following it rest e =
+      let lands = lands_in wanted (body_of routine) 0 items l out again inside following it rest e in
       let marked = marked_alike wanted (body_of routine) 0 [] items ∙ ap mark_of e in
       let led = led_same wanted (landing wanted (body_of routine) 0 []) l lands.head marked lands.led in
       record { inside = lands.inside; reaches = led ∙ lands.reaches; out = lands.out; again = lands.again; stands = lands.stands }

@@ -2,15 +2,15 @@
 use Rattle.std.proofs.Common.{◌≡◌, ℕ, suc, ◌+◌, List, [], ◌∷◌, length, arith, refl, sym, ap, subst}
 use Rattle.cs_ast.specs.declared.place.Place.{Place}
 use Rattle.cs_ast.specs.TypedProgram.{TypedProgram}
-use Rattle.cs_runs.specs.declared.outcome.RunBudgets.{RunBudgets}
-use Rattle.cs_runs.specs.declared.point.PointKind.TheVariants as point
-use Rattle.cs_runs.specs.Objects.{UnsetCell}
-use Rattle.cs_runs.specs.Touches.{Meets}
-use Rattle.cs_runs.specs.Acts.{Goes, Touches}
-use Rattle.cs_runs.specs.Simulation.{Tells, together, both_go, both_stop, both_touch}
-use Rattle.cs_plain.specs.Machine.{Operand, Scalar, Item, Out, Begin, End, Give, Leave, CallFrame, Frame, State, to_do, push, operand_at}
-use Rattle.cs_plain.specs.Calls.{leave_to, leave}
-use Rattle.cs_plain.specs.Steps.{do_item}
+use Rattle.cs_events.specs.declared.outcome.RunBudgets.{RunBudgets}
+use Rattle.cs_events.specs.declared.point.PointKind.TheVariants as point
+use Rattle.cs_events.specs.Objects.{UnsetCell}
+use Rattle.cs_events.specs.Touches.{Meets}
+use Rattle.cs_events.specs.Acts.{Goes, Touches}
+use Rattle.cs_events.specs.Simulation.{Yields, together, both_go, both_stop, both_touch}
+use Rattle.cs_meaning.specs.Machine.{Operand, Scalar, Item, Out, Begin, End, Give, Leave, CallFrame, Frame, State, to_do, push, operand_at}
+use Rattle.cs_meaning.specs.Calls.{leave_to, leave}
+use Rattle.cs_meaning.specs.Steps.{do_item}
 use Rattle.cs_cfg.specs.Graph as graph
 use Rattle.cs_cfg.specs.Graph.{Point, Flow, Code}
 use Rattle.cs_cfg.specs.CodeSteps.{code_step}
@@ -44,7 +44,7 @@ module _ (code : Code) (program : TypedProgram) (budgets : RunBudgets) where
 
   -- a frame is left alike
   left_to : (value : Operand) (m : State) (p : Point) (callers : List (CallFrame Point)) (frames : List Frame) (others : List (CallFrame Point)) → CallersStand code program frames others →
-      Tells (Related code program budgets) (leave_to frames value m) (leave_to others value (as_code p callers m))
+      Yields (Related code program budgets) (leave_to frames value m) (leave_to others value (as_code p callers m))
   left_to value m p callers [] [] nobody = both_stop
   left_to value m p callers [] (other ∷ others) waiting = elim waiting [ ]
   left_to value m p callers (frame ∷ frames) [] waiting = elim waiting [ ]
@@ -75,10 +75,10 @@ module _ (code : Code) (program : TypedProgram) (budgets : RunBudgets) where
     pub end_answers : (at : Place) (value : Operand) (items : List Item) (p : Point) → stands code program home (End at value ∷ items) (length m.frame.stack) p → Answer code program budgets (to_do (End at value ∷ items) m) (as_code p callers m)
     end_answers at value items p it =
         let next = to_do (Leave ∷ []) (push value m) in
-        let told : Tells (Related code program budgets) (do_item program budgets (End at value) (to_do items m)) (Touches (Meets point.End at) (Goes (push value (as_code leaving callers m))))
+        let reported : Yields (Related code program budgets) (do_item program budgets (End at value) (to_do items m)) (Touches (Meets point.End at) (Goes (push value (as_code leaving callers m))))
         = both_touch (both_go (now (aligned code program next (home_with code program budgets home finishing finishing) leaving callers (leaves_next (suc (length m.frame.stack)) (omega arith)) waiting))) in
         work_answers code program budgets (End at value) items m at (graph.Close it.1.0) 0 p leaving callers it.0 it.1.2
-        (subst (λ x. Tells (Related code program budgets) (do_item program budgets (End at value) (to_do items m)) (Touches (Meets point.End at) (Goes (push x (as_code leaving callers m))))) it.1.1 told)
+        (subst (λ x. Yields (Related code program budgets) (do_item program budgets (End at value) (to_do items m)) (Touches (Meets point.End at) (Goes (push x (as_code leaving callers m))))) it.1.1 reported)
 
     -- a `return`
     pub give_answers : (at : Place) (items : List Item) (p : Point) → stands code program home (Give at ∷ items) (length m.frame.stack) p → Answer code program budgets (to_do (Give at ∷ items) m) (as_code p callers m)
@@ -92,4 +92,4 @@ module _ (code : Code) (program : TypedProgram) (budgets : RunBudgets) where
         let value = operand_at m 0 in
         let one : code_step code program budgets (as_code leaving callers m) ≡ leave value (as_code leaving callers m) = ap (λ t. leave (operand_at t 0) (as_code leaving callers m)) (uncut 1 leaving callers m it.0) in
         subst (λ x. Answer code program budgets (to_do (Leave ∷ items) m) (as_code x callers m)) (sym it.1)
-        (together (subst (Tells (Related code program budgets) (leave value (to_do items m))) (sym one) (left_to value (to_do items m) leaving callers m.callers callers waiting)))
+        (together (subst (Yields (Related code program budgets) (leave value (to_do items m))) (sym one) (left_to value (to_do items m) leaving callers m.callers callers waiting)))

@@ -38,6 +38,6 @@ pub mod Choosing
 pub mod Bringing
 pub mod Pieces
 mod Unreached
-mod Told
+mod Reported
 mod Touched
 mod Spots

@@ -1,13 +1,13 @@
--- Loops in the simulation: their heads are reached, and behind their bodies the code goes back to them (C11 6.8.5).
+-- Loops in the simulation: their heads are reached, and after their bodies the code goes back to them (C11 6.8.5).
 use Rattle.std.proofs.Common.{◌≡◌, ℕ, ◌+◌, List, ◌∷◌, length, Option, Some, None, refl, sym, subst}
 use Rattle.cs_ast.specs.declared.place.Place.{Place}
 use Rattle.cs_ast.specs.TypedTree.{Typed, Statement, While, Do, For, Statements}
 use Rattle.cs_ast.specs.TypedProgram.{TypedProgram}
-use Rattle.cs_runs.specs.declared.outcome.RunBudgets.{RunBudgets}
-use Rattle.cs_runs.specs.declared.point.PointKind.TheVariants as point
-use Rattle.cs_plain.specs.Machine.{Item, Evaluate, Execute, Decide, Turn, Again, CallFrame, State, to_do, routine_of}
-use Rattle.cs_plain.specs.Marks.{marks_in}
-use Rattle.cs_plain.specs.Statements.{last_part, again}
+use Rattle.cs_events.specs.declared.outcome.RunBudgets.{RunBudgets}
+use Rattle.cs_events.specs.declared.point.PointKind.TheVariants as point
+use Rattle.cs_meaning.specs.Machine.{Item, Evaluate, Execute, Decide, Turn, Again, CallFrame, State, to_do, routine_of}
+use Rattle.cs_meaning.specs.Marks.{marks_in}
+use Rattle.cs_meaning.specs.Statements.{last_part, again}
 use Rattle.cs_cfg.specs.Graph as graph
 use Rattle.cs_cfg.specs.Graph.{Point, Flow, Code, block_of}
 use Rattle.cs_cfg.specs.Placing.{does, split, there}
@@ -29,33 +29,33 @@ module _ (code : Code) (program : TypedProgram) (budgets : RunBudgets) (m : Stat
         let loop = it.1 in
         let one = loop.2.0 in
         let other = loop.2.1 in
-        let told = mark_reached code program budgets m home callers waiting empty at point.Head mark (Evaluate test ∷ Decide (While at test body) mark ∷ items) loop.0
+        let reported = mark_reached code program budgets m home callers waiting empty at point.Head mark (Evaluate test ∷ Decide (While at test body) mark ∷ items) loop.0
         (loop.0, there, (split at 0 one other, loop.2.2, (split at 0 one other, there, (refl, (p, loop, rest, (0, one, other, refl, refl, loop.2.3)))))) in
-        work_answers code program budgets (Turn (While at test body) mark) items m at (graph.Reach point.Head mark) 0 p loop.0 callers empty loop.1 told
+        work_answers code program budgets (Turn (While at test body) mark) items m at (graph.Reach point.Head mark) 0 p loop.0 callers empty loop.1 reported
 
     do_turns : (at : Place) (body : Statement) (test : Typed) → Turns (Do at body test)
     do_turns at body test it =
-        let told = mark_reached code program budgets m (home_with code program budgets home home.out after_body) callers waiting empty at point.Head mark (Execute body (mark + 1) ∷ Again (Do at body test) mark ∷ items) it.0
+        let reported = mark_reached code program budgets m (home_with code program budgets home home.out after_body) callers waiting empty at point.Head mark (Execute body (mark + 1) ∷ Again (Do at body test) mark ∷ items) it.0
         (it.0, there, (refl, (it.2.0, it.2.1, (after_body, it.2.2, (refl, refl, (p, it, (home.again, rest))))))) in
-        work_answers code program budgets (Turn (Do at body test) mark) items m at (graph.Reach point.Head mark) 0 p it.0 callers empty it.1 told
+        work_answers code program budgets (Turn (Do at body test) mark) items m at (graph.Reach point.Head mark) 0 p it.0 callers empty it.1 reported
 
     for_turns : (at : Place) (first : Statements) (test last : Option Typed) (body : Statement) → Turns (For at first test last body)
     for_turns at first None last body it =
         let loop = For at first None last body in
         let inside = mark + 1 + marks_in first in
         let body_stands = subst (λ x. part_to program home.flow (part_of program home.flow (routine_of program m.frame.function) home.lowers.labels body inside) home.out after_body x after_body) (sym it.3.0) it.4 in
-        let told = mark_reached code program budgets m (home_with code program budgets home home.out after_body) callers waiting empty at point.Head mark (Execute body inside ∷ Again loop mark ∷ items) it.0
+        let reported = mark_reached code program budgets m (home_with code program budgets home home.out after_body) callers waiting empty at point.Head mark (Execute body inside ∷ Again loop mark ∷ items) it.0
         (it.0, there, (refl, (body_stands.0, body_stands.1, (after_body, body_stands.2, (refl, refl, (p, it, (home.again, rest))))))) in
-        work_answers code program budgets (Turn loop mark) items m at (graph.Reach point.Head mark) 0 p it.0 callers empty it.2 told
+        work_answers code program budgets (Turn loop mark) items m at (graph.Reach point.Head mark) 0 p it.0 callers empty it.2 reported
     for_turns at first (Some test) last body it =
         let loop = For at first (Some test) last body in
         let inside = mark + 1 + marks_in first in
         let one = it.3.0 in
         let other = it.3.1 in
         let body_stands = subst (λ x. part_to program home.flow (part_of program home.flow (routine_of program m.frame.function) home.lowers.labels body inside) home.out after_body x after_body) (sym it.3.3.0) it.4 in
-        let told = mark_reached code program budgets m home callers waiting empty at point.Head mark (Evaluate test ∷ Decide loop mark ∷ items) it.0
+        let reported = mark_reached code program budgets m home callers waiting empty at point.Head mark (Evaluate test ∷ Decide loop mark ∷ items) it.0
         (it.0, there, (split at 0 one other, it.3.2, (split at 0 one other, there, (refl, (p, after_body, it, rest, (0, one, other, refl, refl, (body_stands, it.3.3.1))))))) in
-        work_answers code program budgets (Turn loop mark) items m at (graph.Reach point.Head mark) 0 p it.0 callers empty it.2 told
+        work_answers code program budgets (Turn loop mark) items m at (graph.Reach point.Head mark) 0 p it.0 callers empty it.2 reported
 
   -- the head of a loop
   pub turn_answers : (s : Statement) (mark : ℕ) (items : List Item) (p after_body : Point) → onward code program home items 0 home.out →
@@ -66,7 +66,7 @@ module _ (code : Code) (program : TypedProgram) (budgets : RunBudgets) (m : Stat
   turn_answers other mark items p after_body rest it = absurd it
 
   module _ (mark : ℕ) (items : List Item) (p outer head : Point) (rest : onward code program (home_with code program budgets home home.out outer) items 0 home.out) where
-    -- behind the last part of a `for`
+    -- after the last part of a `for`
     last_onward : (last : Option Typed) (loop : Statement) → last_at program home.flow last p head → loops_at program home.flow (routine_of program m.frame.function) home.lowers.labels loop mark head p home.out →
         onward code program (home_with code program budgets home home.out outer) (last_part last (Turn loop mark ∷ items)) 0 p
     last_onward None loop way it = (head, way, (refl, (p, it, rest)))
@@ -74,7 +74,7 @@ module _ (code : Code) (program : TypedProgram) (budgets : RunBudgets) (m : Stat
         let dropping = does way.0 0 graph.Drop way.1 in
         (p, there, (dropping, way.2, (dropping, there, (way.0, (0, way.1, refl, refl, (head, way.3, (refl, (p, it, rest))))))))
 
-    -- behind the body of a loop
+    -- after the body of a loop
     again_onward : (s : Statement) → loops_at program home.flow (routine_of program m.frame.function) home.lowers.labels s mark head p home.out →
         onward code program (home_with code program budgets home home.out outer) (again s mark items) 0 p
     again_onward (While at test body) it =

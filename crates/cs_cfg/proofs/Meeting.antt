@@ -1,13 +1,13 @@
 -- What is met next from a point on follows from where code is placed: an expression, or a statement, is entered at its first control
--- point, or at what is met behind it. For the control points of placed code.
+-- point, or at what is met after it. For the control points of placed code.
 use Rattle.std.proofs.Common.{◌≡◌, ℕ, suc, ◌+◌, ℤ, List, [], Some, None, refl, sym, subst}
 use Rattle.cs_types.specs.Shape.{Shape, void, integer, pointer, array, struct}
 use Rattle.cs_ast.specs.declared.place.Place.{Place}
 use Rattle.cs_ast.specs.declared.typed.operator.Order.TheVariants.{PointerFirst, AmountFirst}
 use Rattle.cs_ast.specs.TypedTree.{Typed, Of, Form, Number, Null, Text, Local, Global, Through, Index, Member, Arrow, Load, Address, Decay, Convert, Unary, Not, Binary, Compare, Sum, Difference, And, Or, Choice, Comma, Assign, Update, Move, Call, Allocate, Free, TypedList, NoMore, Further}
 use Rattle.cs_ast.specs.TypedProgram.{TypedProgram}
-use Rattle.cs_runs.specs.declared.point.PointKind.TheVariants as point
-use Rattle.cs_plain.specs.Types.{type_of}
+use Rattle.cs_events.specs.declared.point.PointKind.TheVariants as point
+use Rattle.cs_meaning.specs.Types.{type_of}
 use Rattle.cs_cfg.specs.Graph as graph
 use Rattle.cs_cfg.specs.Graph.{Work, SwitchCase, Point, Flow}
 use Rattle.cs_cfg.specs.ControlPoints.{Next, Met, met, first, first_of, first_in}
@@ -105,7 +105,7 @@ module _ (program : TypedProgram) (flow : Flow) where
     all_meet NoMore number p q it m = same_meets it m
     all_meet (Further e others) number p q it m = used_meets e number p it.0 it.1 (all_meet others (suc number) it.0 q it.2 m)
 
-  -- and then jumps, as behind both ways of `&&`, `||` and `?:`
+  -- and then jumps, as after both ways of `&&`, `||` and `?:`
   pub joined_meets : (e : Typed) (number : ℕ) (p q : Point) {next : Next} → joined program flow e number p q → MeetsNext flow q next → MeetsNext flow p (first e next)
   joined_meets (Of at ty form) number p q it m = form_meets at ty form number p _ it.1 (use_meets (Of at ty form) number it.0 (joins_meet it.2 m))
 

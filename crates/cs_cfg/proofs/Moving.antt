@@ -4,19 +4,19 @@ use Rattle.std.proofs.Common.{◌≡◌, ℕ, suc, ◌+◌, ◌-◌, List, ◌�
 use Rattle.cs_ast.specs.declared.place.Place.{Place}
 use Rattle.cs_ast.specs.TypedTree.{Statement}
 use Rattle.cs_ast.specs.TypedProgram.{TypedProgram}
-use Rattle.cs_runs.specs.declared.outcome.RunBudgets.{RunBudgets}
-use Rattle.cs_runs.specs.Acts.{Goes}
-use Rattle.cs_runs.specs.Simulation.{Tells, both_go, Answers, together, first, Simulates}
-use Rattle.cs_plain.specs.Machine.{Operand, Item, CallFrame, Frame, State, to_do, with_stack, pop, cell_at, routine_of}
-use Rattle.cs_plain.specs.Operators.{branch}
-use Rattle.cs_plain.specs.Steps.{do_item, step}
+use Rattle.cs_events.specs.declared.outcome.RunBudgets.{RunBudgets}
+use Rattle.cs_events.specs.Acts.{Goes}
+use Rattle.cs_events.specs.Simulation.{Yields, both_go, Answers, together, first, Simulates}
+use Rattle.cs_meaning.specs.Machine.{Operand, Item, CallFrame, Frame, State, to_do, with_stack, pop, cell_at, routine_of}
+use Rattle.cs_meaning.specs.Operators.{branch}
+use Rattle.cs_meaning.specs.Steps.{do_item, step}
 use Rattle.cs_cfg.specs.Graph.{Work, Point, Flow, Code, no_flow, block_of, flow_of}
 use Rattle.cs_cfg.specs.Working.{CodeState, takes, cut, do_work}
 use Rattle.cs_cfg.specs.CodeSteps.{enters, code_step}
 use Rattle.cs_cfg.specs.Placing.{does, split, Joins, there, jumps}
-use Rattle.cs_cfg.specs.Standing.{Behind, worked, stands_at}
+use Rattle.cs_cfg.specs.Standing.{Following, worked, stands_at}
 use Rattle.cs_cfg.specs.Placed.{LowersBody}
-use Rattle.cs_cfg.proofs.Alike.{tells_branch}
+use Rattle.cs_cfg.proofs.Alike.{yields_branch}
 use Rattle.cs_cfg.proofs.Acting.{as_code, Leaves}
 use Rattle.cs_cfg.proofs.Related.{FrameStands, CallersStand, Aligned, Related, now, soon}
 
@@ -44,11 +44,11 @@ module _ (code : Code) (program : TypedProgram) where
     pub again : Point
 
   -- a point of the graph does all that is to be done
-  abbrev pub stands : {function : ℕ} → Home function → List Item → Behind
+  abbrev pub stands : {function : ℕ} → Home function → List Item → Following
   stands {function = function} home items depth p = stands_at program home.flow (routine_of program function) home.lowers.labels items home.out home.again depth p
 
-  -- the same behind jumps
-  abbrev pub onward : {function : ℕ} → Home function → List Item → Behind
+  -- the same after jumps
+  abbrev pub onward : {function : ℕ} → Home function → List Item → Following
   onward home items depth q = (r : Point) × Joins program home.flow q r × stands home items depth r
 
   pub right_there : {function : ℕ} (home : Home function) (items : List Item) (depth : ℕ) (p : Point) → stands home items depth p → onward home items depth p
@@ -92,8 +92,8 @@ module _ (code : Code) (program : TypedProgram) where
   home_of s = record { body = s.body; has_body = s.has_body; flow = s.flow; has_flow = s.has_flow; lowers = s.lowers; out = s.out; again = s.again }
 
   -- the code's state is told by the machine's, the point and the callers
-  pub told_by : {m : State} {t : CodeState} → Aligned code program m t → t ≡ as_code t.frame.todo t.callers m
-  told_by {m = m} {t = t} a = λ i. record {
+  pub reported_by : {m : State} {t : CodeState} → Aligned code program m t → t ≡ as_code t.frame.todo t.callers m
+  reported_by {m = m} {t = t} a = λ i. record {
     frame = record { function = a.frame.function i; number = a.frame.number i; todo = t.frame.todo; stack = a.frame.stack i; visits = a.frame.visits i };
     callers = t.callers;
     memory = a.memory i;
@@ -132,7 +132,7 @@ module _ (code : Code) (program : TypedProgram) where
         stands home m.frame.todo (length m.frame.stack) here → CallersStand code program m.callers callers → Answer m (as_code here callers m)) → Answer m t
     answers_here m t a h =
         let home = home_of a.frame in
-        subst (Answer m) (sym (told_by a))
+        subst (Answer m) (sym (reported_by a))
         (arrives m home t.frame.todo a.frame.here t.callers a.frame.joins a.frame.stands a.callers (h home a.frame.here t.callers a.frame.stands a.callers))
 
     -- where the code's run stands right where the first thing to do is done, the machine and the run answer one another
@@ -157,19 +157,19 @@ module _ (code : Code) (program : TypedProgram) where
     -- an operation tells what the first thing to do does
     pub work_answers : (item : Item) (items : List Item) (m : State) (at : Place) (work : Work) (number : ℕ) (p q : Point) (callers : List (CallFrame Point)) →
         length m.frame.stack ≡ takes work + number → p ≡ does at number work q →
-        Tells (Related code program budgets) (do_item program budgets item (to_do items m)) (do_work code program budgets at work (as_code q callers m)) →
+        Yields (Related code program budgets) (do_item program budgets item (to_do items m)) (do_work code program budgets at work (as_code q callers m)) →
         Answer (to_do (item ∷ items) m) (as_code p callers m)
-    work_answers item items m at work number p q callers deep e tells =
+    work_answers item items m at work number p q callers deep e yields =
         subst (λ x. Answer (to_do (item ∷ items) m) (as_code x callers m)) (sym e)
-        (together (subst (Tells (Related code program budgets) (do_item program budgets item (to_do items m))) (sym (code_works at work number q callers m deep)) tells))
+        (together (subst (Yields (Related code program budgets) (do_item program budgets item (to_do items m))) (sym (code_works at work number q callers m deep)) yields))
 
     -- the same where the relation of states says which operation it is
     pub worked_answers : (item : Item) (items : List Item) (m : State) (home : Home m.frame.function) (at : Place) (work : Work) (count : ℕ) (here : Point) (callers : List (CallFrame Point)) →
         worked at work count (onward home items) (length m.frame.stack) here →
         ((number : ℕ) (q : Point) → length m.frame.stack ≡ takes work + number → onward home items (count + number) q →
-        Tells (Related code program budgets) (do_item program budgets item (to_do items m)) (do_work code program budgets at work (as_code q callers m))) →
+        Yields (Related code program budgets) (do_item program budgets item (to_do items m)) (do_work code program budgets at work (as_code q callers m))) →
         Answer (to_do (item ∷ items) m) (as_code here callers m)
-    worked_answers item items m home at work count here callers s tells = work_answers item items m at work s.0 here s.1 callers s.2 s.3 (tells s.0 s.1 s.2 s.4)
+    worked_answers item items m home at work count here callers s yields = work_answers item items m at work s.0 here s.1 callers s.2 s.3 (yields s.0 s.1 s.2 s.4)
 
     -- a test of the newest temporary
     code_branches : (at : Place) (number one other : ℕ) (callers : List (CallFrame Point)) (m : State) (home : Home m.frame.function) → length m.frame.stack ≡ suc number →
@@ -189,7 +189,7 @@ module _ (code : Code) (program : TypedProgram) where
         Answer (to_do (item ∷ items) m) (as_code here callers m)
     branch_answers item items m home at number one other here callers next deep placed does_so related =
         let R = Related code program budgets in
-        let tells = tells_branch R at (cell_at m 0) {f = λ holds. Goes (next holds)} {g = λ holds. Goes (as_code (block_of home.flow (if holds then one else other)) callers (pop m))} (λ holds. both_go (related holds)) in
-        let code_tells = subst (Tells R (branch at (cell_at m 0) (λ holds. Goes (next holds)))) (sym (code_branches at number one other callers m home deep)) tells in
+        let yields = yields_branch R at (cell_at m 0) {f = λ holds. Goes (next holds)} {g = λ holds. Goes (as_code (block_of home.flow (if holds then one else other)) callers (pop m))} (λ holds. both_go (related holds)) in
+        let code_yields = subst (Yields R (branch at (cell_at m 0) (λ holds. Goes (next holds)))) (sym (code_branches at number one other callers m home deep)) yields in
         subst (λ x. Answer (to_do (item ∷ items) m) (as_code x callers m)) (sym placed)
-        (together (subst (λ act. Tells R act (code_step code program budgets (as_code (split at number one other) callers m))) (sym does_so) code_tells))
+        (together (subst (λ act. Yields R act (code_step code program budgets (as_code (split at number one other) callers m))) (sym does_so) code_yields))

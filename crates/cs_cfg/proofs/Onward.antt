@@ -1,4 +1,4 @@
--- What is so of acts, whatever is looked up, asked and reached on the way, is so of each operation where it is so of what comes behind.
+-- What is so of acts, whatever is looked up, asked and reached on the way, is so of each operation where it is so of what comes after.
 use Rattle.std.proofs.Common.{ℕ, ◌+◌, ◌*◌, ℤ, pos, int_le, int_lt, int_eq, ◌&&◌, ◌||◌, Bool, true, false, List, [], ◌∷◌, Option, Some, None, if◌then◌else◌}
 use Rattle.std.specs.Prelude.{⊤}
 use Rattle.cs_types.specs.Shape.{Shape, void, integer, pointer, array, struct}
@@ -13,18 +13,18 @@ use Rattle.cs_ast.specs.declared.typed.operator.CmpOp.{CmpOp}
 use Rattle.cs_ast.specs.TypedProgram.{TypedProgram}
 use Rattle.cs_model.specs.declared.standing.Standing.{Standing}
 use Rattle.cs_model.specs.declared.standing.Standing.TheVariants.{Live, Freed, Ended}
-use Rattle.cs_runs.specs.declared.event.Label.{Label}
-use Rattle.cs_runs.specs.declared.operation.Operation.{Operation}
-use Rattle.cs_runs.specs.declared.outcome.Outcome.{Outcome}
-use Rattle.cs_runs.specs.declared.outcome.Outcome.TheVariants.{Done, Fault, Over}
-use Rattle.cs_runs.specs.Operations.{is_true}
-use Rattle.cs_runs.specs.Objects.{Object, Cell, NumberCell, NullCell, PointerCell, UnsetCell}
-use Rattle.cs_runs.specs.Acts.{Act, Stops, Reads, Asks, Allocates, Reaches}
-use Rattle.cs_plain.specs.Types.{scalar_offsets}
-use Rattle.cs_plain.specs.Memory.{Block, Memory, Found, Holds, Unknown, found_in}
-use Rattle.cs_plain.specs.Access.{Access, shows_then, ordered, stands, fits, reach_in, reach, direct, locate_object, receive, read, read_all, set_then, value_at}
-use Rattle.cs_plain.specs.Operators.{takes_all, is_pointer, in_one_object, related, both_null, asks_order, look, truth, operate, convert_number, convert, move_null, sum, equality, in_relation, compare, difference, arrow}
-use Rattle.cs_plain.specs.Machine.{Operand, Scalar, Whole, Nothing}
+use Rattle.cs_events.specs.declared.event.Label.{Label}
+use Rattle.cs_events.specs.declared.operation.Operation.{Operation}
+use Rattle.cs_events.specs.declared.outcome.Outcome.{Outcome}
+use Rattle.cs_events.specs.declared.outcome.Outcome.TheVariants.{Done, Fault, Over}
+use Rattle.cs_events.specs.Operations.{is_true}
+use Rattle.cs_events.specs.Objects.{Object, Cell, NumberCell, NullCell, PointerCell, UnsetCell}
+use Rattle.cs_events.specs.Acts.{Act, Stops, Reads, Asks, Allocates, Reaches}
+use Rattle.cs_meaning.specs.Types.{scalar_offsets}
+use Rattle.cs_meaning.specs.Memory.{Block, Memory, Found, Holds, Unknown, found_in}
+use Rattle.cs_meaning.specs.Access.{Access, shows_then, ordered, stands, fits, reach_in, reach, direct, locate_object, receive, read, read_all, set_then, value_at}
+use Rattle.cs_meaning.specs.Operators.{takes_all, is_pointer, in_one_object, related, both_null, asks_order, look, truth, operate, convert_number, convert, move_null, sum, equality, in_relation, compare, difference, arrow}
+use Rattle.cs_meaning.specs.Machine.{Operand, Scalar, Whole, Nothing}
 
 -- the run isn't done with this outcome
 abbrev pub IsNoReturn : Outcome → Type 0
@@ -33,7 +33,7 @@ IsNoReturn (Fault kind at) = ⊤
 IsNoReturn (Over budget at) = ⊤
 
 -- what is so of the end of a run with a fault or over a budget, and of what looks up, asks, allocates or reaches where it is so of what
--- comes behind
+-- comes after
 pub record Inherited {S : Type 0} (P : Act S → Type 0) : Type 0 where
   pub stops : {outcome : Outcome} → IsNoReturn outcome → P (Stops outcome)
   pub reads : {path : Path} {f : ℤ → Act S} → ((number : ℤ) → P (f number)) → P (Reads path f)

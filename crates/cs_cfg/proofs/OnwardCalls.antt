@@ -10,14 +10,14 @@ use Rattle.cs_ast.specs.declared.typed.operator.BinOp.TheVariants.{Mul}
 use Rattle.cs_ast.specs.TypedProgram.{TypedProgram, Routine}
 use Rattle.cs_model.specs.declared.standing.Standing.{Standing}
 use Rattle.cs_model.specs.declared.standing.Standing.TheVariants.{Live, Freed, Ended}
-use Rattle.cs_runs.specs.declared.outcome.RunBudgets.{RunBudgets}
-use Rattle.cs_runs.specs.Operations.{is_true}
-use Rattle.cs_runs.specs.Objects.{Object, StartBlock, GlobalObject, LiteralObject, LocalObject, HeapBlock, Cell, NumberCell, NullCell, PointerCell, UnsetCell}
-use Rattle.cs_runs.specs.Acts.{Act, Goes}
-use Rattle.cs_plain.specs.Memory.{Block, Memory, Unknown}
-use Rattle.cs_plain.specs.Machine.{Operand, Scalar, Whole, Nothing, CallFrame, Running, cell_of}
-use Rattle.cs_plain.specs.Calls.{wrote_path, result_path, write_through, write_arguments, outside_result, call_outside, enter_as, allocate, release_block, release_known, release_object, release}
-use Rattle.cs_plain.specs.Expressions.{use_result}
+use Rattle.cs_events.specs.declared.outcome.RunBudgets.{RunBudgets}
+use Rattle.cs_events.specs.Operations.{is_true}
+use Rattle.cs_events.specs.Objects.{Object, StartBlock, GlobalObject, LiteralObject, LocalObject, HeapBlock, Cell, NumberCell, NullCell, PointerCell, UnsetCell}
+use Rattle.cs_events.specs.Acts.{Act, Goes}
+use Rattle.cs_meaning.specs.Memory.{Block, Memory, Unknown}
+use Rattle.cs_meaning.specs.Machine.{Operand, Scalar, Whole, Nothing, CallFrame, Running, cell_of}
+use Rattle.cs_meaning.specs.Calls.{wrote_path, result_path, write_through, write_arguments, outside_result, call_outside, enter_as, allocate, release_block, release_known, release_object, release}
+use Rattle.cs_meaning.specs.Expressions.{use_result}
 use Rattle.cs_cfg.proofs.Onward.{Inherited, Each, EachOfTwo, keeps_if, keeps_shows, keeps_receive, keeps_set, keeps_operate}
 
 module _ {S : Type 0} {P : Act S → Type 0} (inherited : Inherited P) where

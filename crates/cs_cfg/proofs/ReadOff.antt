@@ -5,10 +5,10 @@ use Rattle.std.proofs.Common.{◌≡◌, ℕ, [], Option, Some, None, refl, sym,
 use Rattle.std.proofs.lemmas.List.Elements.{All-contains}
 use Rattle.cs_ast.specs.TypedTree.{Statement}
 use Rattle.cs_ast.specs.TypedProgram.{TypedProgram, Routine}
-use Rattle.cs_runs.specs.declared.point.PointKind.TheVariants as point
-use Rattle.cs_plain.specs.Machine.{body_of, routine_of}
-use Rattle.cs_plain.specs.Jumps.{Landing, landing}
-use Rattle.cs_plain.specs.Steps.{at_end}
+use Rattle.cs_events.specs.declared.point.PointKind.TheVariants as point
+use Rattle.cs_meaning.specs.Machine.{body_of, routine_of}
+use Rattle.cs_meaning.specs.Jumps.{Landing, landing}
+use Rattle.cs_meaning.specs.Steps.{at_end}
 use Rattle.cs_cfg.specs.Graph as graph
 use Rattle.cs_cfg.specs.Graph.{Point, Flow, Code, block_of, flow_of}
 use Rattle.cs_cfg.specs.ControlPoints.{Met, Next, the_point, met, Exit, way, Way, ControlPoint, at_label, starts, end_of, landed, body_targets, control_points}
@@ -36,25 +36,25 @@ met_there on_no_case = by_switch
 
 module _ (program : TypedProgram) (flow : Flow) (routine : Routine) (body : Statement) (has_body : routine.body ≡ Some body) (lowers : LowersBody program routine body flow) where
   -- the body of the function, as it is found
-  executes_body : executes_at program flow routine lowers.labels (body_of routine) 0 finishing finishing lowers.inside lowers.behind
-  executes_body = subst (λ b. executes_at program flow routine lowers.labels b 0 finishing finishing lowers.inside lowers.behind) (sym (executed routine body has_body)) lowers.executes
+  executes_body : executes_at program flow routine lowers.labels (body_of routine) 0 finishing finishing lowers.inside lowers.following
+  executes_body = subst (λ b. executes_at program flow routine lowers.labels b 0 finishing finishing lowers.inside lowers.following) (sym (executed routine body has_body)) lowers.executes
 
-  -- what is to be done at the end of the body stands behind it
-  ends_arrive : Arrives program flow routine lowers.labels (at_end routine) finishing finishing 0 lowers.behind
+  -- what is to be done at the end of the body stands after it
+  ends_arrive : Arrives program flow routine lowers.labels (at_end routine) finishing finishing 0 lowers.following
   ends_arrive = (does routine.closes 0 (graph.Close lowers.nothing) leaving, lowers.ends, (refl, (lowers.nothing, sym lowers.gives, refl), (finishing, there, (refl, there, there))))
 
   -- a label that is there is met where its `goto`s lead
   label_met : (label : ℕ) (l : Landing) (found : Option Landing) → landing label (body_of routine) 0 (at_end routine) ≡ found → place_of (Some l) ≡ place_of found → MeetsNext flow (lowers.labels label) (met point.Label l.at)
   label_met label l None e same = cc
   label_met label l (Some l') e same =
-      let land = goto_lands program flow routine lowers.labels label (at_end routine) l' finishing finishing lowers.inside lowers.behind executes_body ends_arrive e in
+      let land = goto_lands program flow routine lowers.labels label (at_end routine) l' finishing finishing lowers.inside lowers.following executes_body ends_arrive e in
       let place : l'.at ≡ l.at = cc in
       subst (λ at. MeetsNext flow (lowers.labels label) (met point.Label at)) place (same_meets land.reaches (point_meets l'.at 0 (graph.Reach point.Label l'.mark) land.inside refl))
 
-  goto_meets : (label : ℕ) (found : Option Landing) → landing label (body_of routine) 0 [] ≡ found → (p q : Point) (behind : Next) → goes_to program flow routine lowers.labels found (lowers.labels label) p q →
-      MeetsNext flow q behind → MeetsNext flow p (at_label (landed found) behind)
-  goto_meets label None e p q behind it m = joins_meet it m
-  goto_meets label (Some l) e p q behind it m =
+  goto_meets : (label : ℕ) (found : Option Landing) → landing label (body_of routine) 0 [] ≡ found → (p q : Point) (following : Next) → goes_to program flow routine lowers.labels found (lowers.labels label) p q →
+      MeetsNext flow q following → MeetsNext flow p (at_label (landed found) following)
+  goto_meets label None e p q following it m = joins_meet it m
+  goto_meets label (Some l) e p q following it m =
       joins_meet it.0 (label_met label l (landing label (body_of routine) 0 (at_end routine)) refl (ap place_of (sym e) ∙ placed_alike label (body_of routine) 0 [] (at_end routine)))
 
   -- jumps lead where the targets of the body say
@@ -62,15 +62,15 @@ module _ (program : TypedProgram) (flow : Flow) (routine : Routine) (body : Stat
   aims = record {
     out_meets = never;
     again_meets = never;
-    labels_meet = λ label p q behind it m. goto_meets label (landing label (body_of routine) 0 []) refl p q behind it m;
+    labels_meet = λ label p q following it m. goto_meets label (landing label (body_of routine) 0 []) refl p q following it m;
   }
 
-  -- what is met behind the body, and where it begins
-  end_met : MeetsNext flow lowers.behind (end_of routine)
+  -- what is met after the body, and where it begins
+  end_met : MeetsNext flow lowers.following (end_of routine)
   end_met = joins_meet lowers.ends (point_meets routine.closes 0 (graph.Close lowers.nothing) leaving refl)
 
   pub body_meets : MeetsNext flow lowers.inside (starts (body_targets routine) (body_of routine) (end_of routine))
-  body_meets = starts_meet program flow routine lowers.labels (body_of routine) 0 finishing finishing lowers.inside lowers.behind aims executes_body end_met
+  body_meets = starts_meet program flow routine lowers.labels (body_of routine) 0 finishing finishing lowers.inside lowers.following aims executes_body end_met
 
   -- each control point is in the graph, with all of its ways
   all_shown : Shown flow (control_points routine)
@@ -78,7 +78,7 @@ module _ (program : TypedProgram) (flow : Flow) (routine : Routine) (body : Stat
       let enters = graph.Meet point.Enter in
       let closes = graph.Close lowers.nothing in
       let begins = kept_same lowers.begins (kept_block flow.entry) in
-      let inside = statements.executed program flow routine lowers.labels (body_of routine) 0 finishing finishing lowers.inside lowers.behind aims executes_body end_met (kept_past routine.at 0 enters lowers.inside begins) in
+      let inside = statements.executed program flow routine lowers.labels (body_of routine) 0 finishing finishing lowers.inside lowers.following aims executes_body end_met (kept_past routine.at 0 enters lowers.inside begins) in
       let ends = kept_joins lowers.ends inside.kept in
       shown_more (shows_passed 0 enters lowers.inside begins refl refl body_meets) (shown_both inside.shown (shown_more (shows_last 0 closes leaving ends refl) shown_none))
 

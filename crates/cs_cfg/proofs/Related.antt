@@ -2,9 +2,9 @@
 use Rattle.std.proofs.Common.{◌≡◌, ℕ, suc, List, [], ◌∷◌, length, Some}
 use Rattle.cs_ast.specs.TypedTree.{Statement}
 use Rattle.cs_ast.specs.TypedProgram.{TypedProgram}
-use Rattle.cs_runs.specs.declared.outcome.RunBudgets.{RunBudgets}
-use Rattle.cs_runs.specs.Acts.{Goes}
-use Rattle.cs_plain.specs.Machine.{CallFrame, Frame, State, routine_of}
+use Rattle.cs_events.specs.declared.outcome.RunBudgets.{RunBudgets}
+use Rattle.cs_events.specs.Acts.{Goes}
+use Rattle.cs_meaning.specs.Machine.{CallFrame, Frame, State, routine_of}
 use Rattle.cs_cfg.specs.Graph.{Point, Flow, Code, flow_of}
 use Rattle.cs_cfg.specs.Working.{CodeState}
 use Rattle.cs_cfg.specs.CodeSteps.{code_step}

@@ -1,17 +1,17 @@
--- Where a run is done, the code's run has come to a state that returns what the plain machine's does, with the same memory.
+-- Where a run is done, the code's run has come to a state that returns what the reference machine's does, with the same memory.
 use Rattle.std.specs.Prelude.{◌⊎◌}
 use Rattle.std.proofs.Common.{◌≡◌, inl, inr, ℕ, List, [], ◌∷◌, length, Some, refl, sym, ap, ◌∙◌, subst}
 use Rattle.cs_ast.specs.TypedTree.{Statement}
 use Rattle.cs_ast.specs.TypedProgram.{TypedProgram}
-use Rattle.cs_runs.specs.declared.outcome.Outcome.{Outcome}
-use Rattle.cs_runs.specs.declared.outcome.Outcome.TheVariants.{Done}
-use Rattle.cs_runs.specs.declared.outcome.Returned.{Returned}
-use Rattle.cs_runs.specs.declared.outcome.RunBudgets.{RunBudgets}
-use Rattle.cs_runs.specs.Acts.{Act, Goes}
-use Rattle.cs_runs.specs.Runs.{Setting, Log, Continues, Finishes, perform, Leads, stays, goes, EndsFrom}
-use Rattle.cs_plain.specs.Machine.{Item, Leave, State, to_do, operand_at, routine_of}
-use Rattle.cs_plain.specs.Steps.{do_item, step_with, step}
-use Rattle.cs_plain.specs.PlainRuns.{PlainRun, setting_of, RunGives}
+use Rattle.cs_events.specs.declared.outcome.Outcome.{Outcome}
+use Rattle.cs_events.specs.declared.outcome.Outcome.TheVariants.{Done}
+use Rattle.cs_events.specs.declared.outcome.Returned.{Returned}
+use Rattle.cs_events.specs.declared.outcome.RunBudgets.{RunBudgets}
+use Rattle.cs_events.specs.Acts.{Act, Goes}
+use Rattle.cs_events.specs.Runs.{Setting, Log, Continues, Finishes, perform, Leads, stays, goes, EndsFrom}
+use Rattle.cs_meaning.specs.Machine.{Item, Leave, State, to_do, operand_at, routine_of}
+use Rattle.cs_meaning.specs.Steps.{do_item, step_with, step}
+use Rattle.cs_meaning.specs.PlainRuns.{PlainRun, setting_of, RunGives}
 use Rattle.cs_cfg.specs.Graph.{Point, Flow, Code, flow_of}
 use Rattle.cs_cfg.specs.Working.{CodeState, cut}
 use Rattle.cs_cfg.specs.CodeSteps.{step_at, code_step, CodeGives}
@@ -19,7 +19,7 @@ use Rattle.cs_cfg.specs.Placing.{Joins, there, jumps}
 use Rattle.cs_cfg.specs.Lowered.{returned_with, returned_value, end_value, code_returned, RunsAlike, ReadsOff, IsLowered}
 use Rattle.cs_cfg.specs.Placed.{IsPlaced}
 use Rattle.cs_cfg.proofs.Related.{Aligned, Related, now, soon}
-use Rattle.cs_cfg.proofs.Moving.{uncut, Home, stands, home_of, told_by}
+use Rattle.cs_cfg.proofs.Moving.{uncut, Home, stands, home_of, reported_by}
 use Rattle.cs_cfg.proofs.Returning.{NeverReturns, never_done}
 use Rattle.cs_cfg.proofs.Staying.{IsLeave, stays_or_leaves}
 use Rattle.cs_cfg.proofs.Runs.{both_end, code_ends, code_ends_only, code_pends, code_pends_only}
@@ -73,7 +73,7 @@ module _ (code : Code) (program : TypedProgram) (budgets : RunBudgets) (setting 
   returns_same [] m t home log end what a it finish = ap (λ (p : Point). end_value p.end t) (sym it.0)
   returns_same (Leave ∷ items) m t home log end what a it finish =
       let at_end : end_value t.frame.todo.end t ≡ operand_at (cut 1 t) 0 = ap (λ (p : Point). end_value p.end t) it.1 in
-      sym (at_end ∙ ap (λ x. operand_at (cut 1 x) 0) (told_by code program a) ∙ ap (λ x. operand_at x 0) (uncut 1 t.frame.todo t.callers m it.0))
+      sym (at_end ∙ ap (λ x. operand_at (cut 1 x) 0) (reported_by code program a) ∙ ap (λ x. operand_at x 0) (uncut 1 t.frame.todo t.callers m it.0))
   returns_same (item ∷ items) m t home log end what a it finish = absurd (leaves_last item items m log end what (λ leaves. leaves) finish)
 
   -- in related last states the same is returned, and memory is the same

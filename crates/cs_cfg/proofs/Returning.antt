@@ -1,21 +1,21 @@
--- No operation returns from a run where what comes behind it doesn't: at most it ends the run with a fault, or over a budget.
+-- No operation returns from a run where what comes after it doesn't: at most it ends the run with a fault, or over a budget.
 use Rattle.std.proofs.Common.{◌≡◌, ℕ, ℤ, Bool, true, false, Option, Some, None, if◌then◌else◌}
 use Rattle.cs_ast.specs.declared.place.Place.{Place}
 use Rattle.cs_ast.specs.TypedProgram.{TypedProgram}
-use Rattle.cs_runs.specs.Operations.{is_true}
-use Rattle.cs_runs.specs.Objects.{Object, Cell}
-use Rattle.cs_runs.specs.Touches.{Touch}
-use Rattle.cs_runs.specs.Acts.{Act, Goes, Stops, Reads, Asks, Allocates, Reaches, Touches}
-use Rattle.cs_runs.specs.declared.outcome.Outcome.{Outcome}
-use Rattle.cs_runs.specs.declared.outcome.Outcome.TheVariants.{Done, Fault, Over}
-use Rattle.cs_runs.specs.declared.operation.Operation.{Operation}
+use Rattle.cs_events.specs.Operations.{is_true}
+use Rattle.cs_events.specs.Objects.{Object, Cell}
+use Rattle.cs_events.specs.Touches.{Touch}
+use Rattle.cs_events.specs.Acts.{Act, Goes, Stops, Reads, Asks, Allocates, Reaches, Touches}
+use Rattle.cs_events.specs.declared.outcome.Outcome.{Outcome}
+use Rattle.cs_events.specs.declared.outcome.Outcome.TheVariants.{Done, Fault, Over}
+use Rattle.cs_events.specs.declared.operation.Operation.{Operation}
 use Rattle.cs_inputs.specs.declared.path.Path.{Path}
-use Rattle.cs_runs.specs.declared.outcome.Returned.{Returned}
-use Rattle.cs_runs.specs.declared.outcome.Budget.TheVariants.{Events}
-use Rattle.cs_runs.specs.Runs.{Setting, Log, Performed, Finishes, perform, with_event, with_read, with_touch, has_room, operation_event, number_of, allocation_event, access_event}
-use Rattle.cs_plain.specs.Memory.{Memory, is_constant}
-use Rattle.cs_plain.specs.Access.{Access, touches_then, load_object, store_object}
-use Rattle.cs_plain.specs.Machine.{Operand}
+use Rattle.cs_events.specs.declared.outcome.Returned.{Returned}
+use Rattle.cs_events.specs.declared.outcome.Budget.TheVariants.{Events}
+use Rattle.cs_events.specs.Runs.{Setting, Log, Performed, Finishes, perform, with_event, with_read, with_touch, has_room, operation_event, number_of, allocation_event, access_event}
+use Rattle.cs_meaning.specs.Memory.{Memory, is_constant}
+use Rattle.cs_meaning.specs.Access.{Access, touches_then, load_object, store_object}
+use Rattle.cs_meaning.specs.Machine.{Operand}
 use Rattle.cs_cfg.proofs.Onward.{IsNoReturn, Inherited, Each, EachOfTwo, keeps_if, keeps_locate, keeps_value}
 
 module _ {S : Type 0} where

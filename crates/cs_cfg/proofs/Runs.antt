@@ -1,17 +1,17 @@
--- The runs of code that is placed end as those of the plain machine do, and the same is pending in them.
+-- The runs of code that is placed end as those of the reference machine do, and the same is pending in them.
 use Rattle.std.proofs.Common.{◌≡◌, ℕ, Option, Some, None, unwrap_or, refl, sym, subst}
 use Rattle.cs_ast.specs.TypedTree.{Statement}
 use Rattle.cs_ast.specs.TypedProgram.{TypedProgram}
-use Rattle.cs_runs.specs.declared.outcome.Outcome.{Outcome}
-use Rattle.cs_runs.specs.declared.outcome.RunBudgets.{RunBudgets}
-use Rattle.cs_runs.specs.Runs.{Log, empty}
-use Rattle.cs_runs.specs.Pending.{Pending}
-use Rattle.cs_runs.specs.Silence.{Ending}
-use Rattle.cs_runs.proofs.Simulations.{EndsTogether, ends_too, pends_too, ends_back, pends_back}
-use Rattle.cs_plain.specs.Machine.{routine_of}
-use Rattle.cs_plain.specs.Steps.{step}
-use Rattle.cs_plain.specs.PlainRuns.{PlainRun, setting_of, start_of, RunGives, RunIsPending}
-use Rattle.cs_plain.proofs.PlainEndings.{run_ends}
+use Rattle.cs_events.specs.declared.outcome.Outcome.{Outcome}
+use Rattle.cs_events.specs.declared.outcome.RunBudgets.{RunBudgets}
+use Rattle.cs_events.specs.Runs.{Log, empty}
+use Rattle.cs_events.specs.Pending.{Pending}
+use Rattle.cs_events.specs.Silence.{Ending}
+use Rattle.cs_events.proofs.Simulations.{EndsTogether, ends_too, pends_too, ends_back, pends_back}
+use Rattle.cs_meaning.specs.Machine.{routine_of}
+use Rattle.cs_meaning.specs.Steps.{step}
+use Rattle.cs_meaning.specs.PlainRuns.{PlainRun, setting_of, start_of, RunGives, RunIsPending}
+use Rattle.cs_meaning.proofs.PlainEndings.{run_ends}
 use Rattle.cs_cfg.specs.Graph.{Flow, Code, no_flow, flow_of}
 use Rattle.cs_cfg.specs.Working.{code_frame}
 use Rattle.cs_cfg.specs.CodeSteps.{code_step, code_start, CodeGives, CodeIsPending}

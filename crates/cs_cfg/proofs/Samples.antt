@@ -1,4 +1,4 @@
--- Samples: the text of a flow, and small graphs by hand whose runs end as those of the plain machine.
+-- Samples: the text of a flow, and small graphs by hand whose runs end as those of the reference machine.
 use Rattle.std.proofs.Common.{◌≡◌, ℕ, pos, true, false, [], ◌∷◌, map, Some, None, refl}
 use Rattle.std.specs.List.{range_with_len}
 use Rattle.cs_types.specs.declared.int_type.IntType.TheVariants.{Int}
@@ -12,11 +12,11 @@ use Rattle.cs_ast.specs.TypedTree as tree
 use Rattle.cs_ast.specs.TypedTree.{Typed, Of}
 use Rattle.cs_ast.specs.TypedProgram.{TypedProgram, Routine}
 use Rattle.cs_model.specs.declared.kind.Kind.TheVariants as kind
-use Rattle.cs_runs.specs.declared.outcome.Outcome.TheVariants.{Done, Fault}
-use Rattle.cs_runs.specs.declared.outcome.Returned.TheVariants as returned
-use Rattle.cs_runs.specs.declared.point.PointKind.TheVariants as point
-use Rattle.cs_runs.specs.Runs as runs
-use Rattle.cs_plain.proofs.Building.{at, int, to_int, literal, local, loaded, value, sequence, named, defined, functions, given, USUAL, plain}
+use Rattle.cs_events.specs.declared.outcome.Outcome.TheVariants.{Done, Fault}
+use Rattle.cs_events.specs.declared.outcome.Returned.TheVariants as returned
+use Rattle.cs_events.specs.declared.point.PointKind.TheVariants as point
+use Rattle.cs_events.specs.Runs as runs
+use Rattle.cs_meaning.proofs.Building.{at, int, to_int, literal, local, loaded, value, sequence, named, defined, functions, given, USUAL, plain}
 use Rattle.cs_cfg.specs.Graph.{Code, Flow, Number, Local, Sum, Load, Compare, Store, FetchNumber, Update, Drop, Clear, Reach, Meet, Close, Jump, Branch, Return}
 use Rattle.cs_cfg.specs.declared.touch.Touch.TheVariants as touch
 use Rattle.cs_cfg.specs.Touching.{touch_at}

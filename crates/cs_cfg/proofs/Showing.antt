@@ -6,8 +6,8 @@ use Rattle.std.proofs.lemmas.List.Elements.{All-nil, All-cons, All-append}
 use Rattle.cs_ast.specs.declared.place.Place.{Place}
 use Rattle.cs_ast.specs.TypedTree.{Typed, Of, Call}
 use Rattle.cs_ast.specs.TypedProgram.{TypedProgram}
-use Rattle.cs_runs.specs.declared.point.PointKind.{PointKind}
-use Rattle.cs_runs.specs.declared.point.PointKind.TheVariants as point
+use Rattle.cs_events.specs.declared.point.PointKind.{PointKind}
+use Rattle.cs_events.specs.declared.point.PointKind.TheVariants as point
 use Rattle.cs_cfg.specs.Graph as graph
 use Rattle.cs_cfg.specs.Graph.{Work, Point, Flow, block_of}
 use Rattle.cs_cfg.specs.ControlPoints.{Next, the_point, way, Onward, TruthOf, Way, ControlPoint, passed, tested, last_point}
@@ -41,7 +41,7 @@ module _ {flow : Flow} where
   pub shown_both : {xs ys : List ControlPoint} → Shown flow xs → Shown flow ys → Shown flow (xs ++ ys)
   shown_both {xs = xs} {ys = ys} first rest = record { all = All-append (Shows flow) xs ys first.all rest.all }
 
--- a point of the graph has been come to, behind which so much of the list is in the graph
+-- a point of the graph has been come to, after which so much of the list is in the graph
 pub record Walked (program : TypedProgram) (flow : Flow) (q : Point) (points : List ControlPoint) : Type 0 where
   pub kept : Kept program flow q
   pub shown : Shown flow points
@@ -50,11 +50,11 @@ module _ {program : TypedProgram} {flow : Flow} where
   pub walked_none : {q : Point} → Kept program flow q → Walked program flow q []
   walked_none kept = record { kept = kept; shown = shown_none }
 
-  -- behind an operation
+  -- after an operation
   pub walked_past : (at : Place) (number : ℕ) (work : Work) (q : Point) {points : List ControlPoint} → Walked program flow (does at number work q) points → Walked program flow q points
   walked_past at number work q walked = record { kept = kept_past at number work q walked.kept; shown = walked.shown }
 
-  -- behind the use of a value
+  -- after the use of a value
   pub walked_use : (e : Typed) (number : ℕ) (q : Point) {points : List ControlPoint} → Walked program flow (used_then e number q) points → Walked program flow q points
   walked_use (Of at ty (Call function arguments)) number q walked = walked_past at number graph.Use q walked
   walked_use (Of at ty other) number q walked = walked

@@ -104,7 +104,7 @@ module _ (program : TypedProgram) (flow : Flow) where
     form_walks at ty (Allocate allocator arguments element) number p q it m kept = walked_past at number _ q (all_walk arguments number p _ it.1 (does_meets at number _ q refl m) kept)
     form_walks at ty (Free a) number p q it m kept = then_does a number p at number _ q it (does_meets at number _ q refl m) kept
 
-    -- and then jumps, as behind both ways of `&&`, `||` and `?:`
+    -- and then jumps, as after both ways of `&&`, `||` and `?:`
     joined_walks : (e : Typed) (number : ℕ) (p q : Point) {next : Next} → joined program flow e number p q → MeetsNext flow q next → Kept program flow p → Walked program flow q (points e next)
     joined_walks (Of at ty form) number p q it m kept =
         walked_joins it.2 (walked_use (Of at ty form) number it.0 (form_walks at ty form number p _ it.1 (use_meets (Of at ty form) number it.0 (joins_meet it.2 m)) kept))

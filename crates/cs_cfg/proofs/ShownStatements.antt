@@ -4,12 +4,12 @@ use Rattle.std.proofs.Common.{ℕ, ◌+◌, List, [], ◌∷◌, Option, Some, N
 use Rattle.cs_ast.specs.declared.place.Place.{Place}
 use Rattle.cs_ast.specs.TypedTree.{Typed, Initial, Value, Parts, Bytes, Statement, Block, Declare, Run, If, IfElse, While, Do, For, Switch, Goto, Label, Break, Continue, Return, Statements, Empty, Then, count_of}
 use Rattle.cs_ast.specs.TypedProgram.{TypedProgram, Routine}
-use Rattle.cs_runs.specs.declared.point.PointKind.TheVariants as point
-use Rattle.cs_plain.specs.Initials.{Piece, Evaluated, Spelled, pieces}
-use Rattle.cs_plain.specs.Machine.{body_of}
-use Rattle.cs_plain.specs.Jumps.{Landing, landing}
-use Rattle.cs_plain.specs.Marks.{marks, marks_in}
-use Rattle.cs_plain.specs.Statements.{default_item}
+use Rattle.cs_events.specs.declared.point.PointKind.TheVariants as point
+use Rattle.cs_meaning.specs.Initials.{Piece, Evaluated, Spelled, pieces}
+use Rattle.cs_meaning.specs.Machine.{body_of}
+use Rattle.cs_meaning.specs.Jumps.{Landing, landing}
+use Rattle.cs_meaning.specs.Marks.{marks, marks_in}
+use Rattle.cs_meaning.specs.Statements.{default_item}
 use Rattle.cs_cfg.specs.Graph as graph
 use Rattle.cs_cfg.specs.Graph.{Work, Point, Flow, block_of}
 use Rattle.cs_cfg.specs.ControlPoints.{Next, met, tested, ControlPoint, points, points_initial, points_some, Targets, for_tested, for_points, flows, flows_in, in_switch}
@@ -42,21 +42,21 @@ module _ (program : TypedProgram) (flow : Flow) where
       let walked = used_walks program flow test 0 p _ it (split_meets at 0 one other) kept in
       record { itself = shows_tested at 0 one other walked.kept m m'; inside = walked.shown }
 
-  -- the test of a `for`, if it has one; the body is in the graph, and what stands behind the loop
+  -- the test of a `for`, if it has one; the body is in the graph, and what stands after the loop
   record ForTestShown (at : Place) (test : Option Typed) (inside q : Point) (body_next next : Next) : Type 0 where
     body : Kept program flow inside
-    behind : Kept program flow q
+    following : Kept program flow q
     itself : Shown flow (for_tested at test body_next next)
     points_in_it : Shown flow (for_points at test)
 
   for_test_shown : (at : Place) (test : Option Typed) (p inside q : Point) {body_next next : Next} → for_test_at program flow at test p inside q → Kept program flow p →
       MeetsNext flow inside body_next → MeetsNext flow q next → ForTestShown at test inside q body_next next
-  for_test_shown at None p inside q it kept m m' = record { body = kept_same it.0 kept; behind = kept_is it.1; itself = shown_none; points_in_it = shown_none }
+  for_test_shown at None p inside q it kept m m' = record { body = kept_same it.0 kept; following = kept_is it.1; itself = shown_none; points_in_it = shown_none }
   for_test_shown at (Some test) p inside q it kept m m' =
       let one = it.0 in
       let other = it.1 in
       let shown = test_shown at test p one other it.2 kept (same_meets it.3.0 m) (joins_meet it.3.1 m') in
-      record { body = kept_same it.3.0 (kept_block one); behind = kept_joins it.3.1 (kept_block other); itself = shown_more shown.itself shown_none; points_in_it = shown.inside }
+      record { body = kept_same it.3.0 (kept_block one); following = kept_joins it.3.1 (kept_block other); itself = shown_more shown.itself shown_none; points_in_it = shown.inside }
 
   -- the last part of a `for`
   last_walks : (last : Option Typed) (p head : Point) {next : Next} → last_at program flow last p head → MeetsNext flow head next → Kept program flow p → Walked program flow head (points_some last next)
@@ -95,10 +95,10 @@ module _ (program : TypedProgram) (flow : Flow) where
     returns_shown at None p it kept = walked_none (kept_past at 0 graph.Nothing _ (kept_same it kept))
     returns_shown at (Some e) p it kept = used_walks program flow e 0 p _ it (point_meets at 1 (graph.Meet point.Return) leaving refl) kept
 
-    -- behind a `goto`
-    behind_goto : (found : Option Landing) (label p q : Point) → goes_to program flow routine labels found label p q → Kept program flow p → Kept program flow q
-    behind_goto None label p q it kept = kept_joins it kept
-    behind_goto (Some l) label p q it kept = kept_is it.1
+    -- after a `goto`
+    after_goto : (found : Option Landing) (label p q : Point) → goes_to program flow routine labels found label p q → Kept program flow p → Kept program flow q
+    after_goto None label p q it kept = kept_joins it kept
+    after_goto (Some l) label p q it kept = kept_is it.1
 
     mutual
       -- a statement
@@ -110,9 +110,9 @@ module _ (program : TypedProgram) (flow : Flow) where
       executed (Run at e) mark out again p q aims it m kept = walked_past at 0 graph.Drop q (walks program flow e 0 p _ it (does_meets at 0 graph.Drop q refl m) kept)
       executed (If at test body) mark out again p q aims it m kept =
           let way = it.3.0 in
-          let behind = joins_meet way.2 m in
-          let shown = test_shown at test p it.0 it.1 it.2 kept (starts_meet program flow routine labels body mark out again _ way.0 aims way.1 behind) (joins_meet it.3.1 m) in
-          let inside = executed body mark out again _ way.0 aims way.1 behind (kept_block it.0) in
+          let following = joins_meet way.2 m in
+          let shown = test_shown at test p it.0 it.1 it.2 kept (starts_meet program flow routine labels body mark out again _ way.0 aims way.1 following) (joins_meet it.3.1 m) in
+          let inside = executed body mark out again _ way.0 aims way.1 following (kept_block it.0) in
           also shown.itself (record { kept = kept_joins way.2 inside.kept; shown = shown_both shown.inside inside.shown })
       executed (IfElse at test body other) mark out again p q aims it m kept =
           let one = it.3.0 in
@@ -168,7 +168,7 @@ module _ (program : TypedProgram) (flow : Flow) where
           let inside = executed body number q last_part loop.1 way.0 aims' way.1 (joins_meet way.2 ends) shown.body in
           let end = last_walks last last_part head loop.5 turns (kept_joins way.2 inside.kept) in
           also (shows_passed 0 work loop.0 at_head refl refl (for_test_meets program flow routine labels at test loop.0 loop.1 q loop.3 body_meets))
-          (record { kept = shown.behind; shown = shown_both (shown_both (shown_both (shown_both shown.itself first_part.shown) shown.points_in_it) end.shown) inside.shown })
+          (record { kept = shown.following; shown = shown_both (shown_both (shown_both (shown_both shown.itself first_part.shown) shown.points_in_it) end.shown) inside.shown })
       executed (Switch at value cases statements) {to = to} mark out again p q {next = next} aims it m kept =
           let entries = it.2 in
           let aims' = aims_in_switch program flow routine labels q aims m in
@@ -177,7 +177,7 @@ module _ (program : TypedProgram) (flow : Flow) where
           let inside = all_executed statements mark q again (entries 0) q aims' (from_first program flow routine labels statements mark q again (entries 0) q (it.4 0)) m (kept_is it.7) in
           also (shows_switched program flow routine labels entries (in_switch to next) statements next enters at it.0 it.1 _ (same_meets it.6 (enters (default_item cases (count_of statements)))) cases value_shown.kept it.5)
           (record { kept = inside.kept; shown = shown_both value_shown.shown inside.shown })
-      executed (Goto at label) mark out again p q aims it m kept = walked_none (behind_goto (landing label (body_of routine) 0 []) (labels label) p q it kept)
+      executed (Goto at label) mark out again p q aims it m kept = walked_none (after_goto (landing label (body_of routine) 0 []) (labels label) p q it kept)
       executed (Label at label body) mark out again p q aims it m kept =
           let work = graph.Reach point.Label mark in
           let at_label = kept_same it.3 (kept_joins it.2 kept) in

@@ -1,12 +1,12 @@
--- The run of code that is placed follows the plain machine step by step: related states answer one another, whatever is to be done first.
+-- The run of code that is placed follows the reference machine step by step: related states answer one another, whatever is to be done first.
 use Rattle.std.proofs.Common.{◌≡◌, ℕ, List, [], ◌∷◌, length, refl}
 use Rattle.cs_ast.specs.TypedTree.{Statement, Block, Declare, Run, If, IfElse, While, Do, For, Switch, Goto, Label, Break, Continue, Return}
 use Rattle.cs_ast.specs.TypedProgram.{TypedProgram}
-use Rattle.cs_runs.specs.declared.outcome.RunBudgets.{RunBudgets}
-use Rattle.cs_runs.specs.Simulation.{Simulates}
-use Rattle.cs_plain.specs.Machine.{Item, Evaluate, EvaluateUnused, Act, Fetch, Choose, Judge, Use, Drop, Store, Spell, Execute, Decide, Turn, Again, Out, Begin, End, Give, Leave, CallFrame, State, to_do, routine_of, body_of}
-use Rattle.cs_plain.specs.Jumps.{landing}
-use Rattle.cs_plain.specs.Steps.{at_end, step}
+use Rattle.cs_events.specs.declared.outcome.RunBudgets.{RunBudgets}
+use Rattle.cs_events.specs.Simulation.{Simulates}
+use Rattle.cs_meaning.specs.Machine.{Item, Evaluate, EvaluateUnused, Act, Fetch, Choose, Judge, Use, Drop, Store, Spell, Execute, Decide, Turn, Again, Out, Begin, End, Give, Leave, CallFrame, State, to_do, routine_of, body_of}
+use Rattle.cs_meaning.specs.Jumps.{landing}
+use Rattle.cs_meaning.specs.Steps.{at_end, step}
 use Rattle.cs_cfg.specs.Graph.{Point, Code}
 use Rattle.cs_cfg.specs.CodeSteps.{code_step}
 use Rattle.cs_cfg.specs.Executing.{executes_at}

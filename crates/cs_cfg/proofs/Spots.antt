@@ -8,16 +8,16 @@ use Rattle.cs_cfg.specs.Graph.{Operation, Point, Flow, Code, flow_of}
 use Rattle.cs_cfg.specs.GraphPoints.{IsRest, Occurs}
 use Rattle.cs_cfg.specs.Touching.{rest_from, point_in, point_at}
 
--- what is left behind so many operations
-left_behind : (done operations : List Operation) → rest_from (length done) (done ++ operations) ≡ Some operations
-left_behind [] operations = refl
-left_behind (operation ∷ done) operations = left_behind done operations
+-- what is left after so many operations
+left_following : (done operations : List Operation) → rest_from (length done) (done ++ operations) ≡ Some operations
+left_following [] operations = refl
+left_following (operation ∷ done) operations = left_following done operations
 
 -- what is left of a block is at a number in it
 rest_at : (block p : Point) (rest : IsRest block p) → point_in block (length rest.done) ≡ Some p
 rest_at block p rest =
     ap (λ operations. option_map (λ left. record { operations = left; end = block.end }) (rest_from (length rest.done) operations)) rest.left
-    ∙ ap (option_map (λ left. record { operations = left; end = block.end })) (left_behind rest.done p.operations)
+    ∙ ap (option_map (λ left. record { operations = left; end = block.end })) (left_following rest.done p.operations)
     ∙ ap (λ end. Some (record { operations = p.operations; end = end })) rest.ends
 
 pub has_spot : (code : Code) (function : ℕ) (flow : Flow) (p : Point) → flow_of code function ≡ Some flow → Occurs flow p →

@@ -3,11 +3,11 @@ use Rattle.std.proofs.Common.{ℕ, zero, suc, ◌+◌, List, [], ◌∷◌, Opti
 use Rattle.cs_ast.specs.declared.place.Place.{Place}
 use Rattle.cs_ast.specs.TypedTree.{Typed, Initial, Value, Parts, Bytes, Statement, Block, Declare, Run, If, IfElse, While, Do, For, Switch, Goto, Label, Break, Continue, Return, Statements, Empty, Then}
 use Rattle.cs_ast.specs.TypedProgram.{TypedProgram, Routine}
-use Rattle.cs_runs.specs.declared.point.PointKind.TheVariants as point
-use Rattle.cs_plain.specs.Initials.{Piece, Evaluated, Spelled, pieces}
-use Rattle.cs_plain.specs.Machine.{body_of}
-use Rattle.cs_plain.specs.Marks.{marks}
-use Rattle.cs_plain.specs.Jumps.{landing}
+use Rattle.cs_events.specs.declared.point.PointKind.TheVariants as point
+use Rattle.cs_meaning.specs.Initials.{Piece, Evaluated, Spelled, pieces}
+use Rattle.cs_meaning.specs.Machine.{body_of}
+use Rattle.cs_meaning.specs.Marks.{marks}
+use Rattle.cs_meaning.specs.Jumps.{landing}
 use Rattle.cs_cfg.specs.Graph as graph
 use Rattle.cs_cfg.specs.Graph.{Work, Point, Flow, block_of}
 use Rattle.cs_cfg.specs.ControlPoints.{Next, met, first_initial, first_some, Targets, for_test, at_label, starts, starts_in, starts_from, in_loop, in_switch}
@@ -59,8 +59,8 @@ module _ (program : TypedProgram) (flow : Flow) (routine : Routine) (labels : �
   pub record Aims (to : Targets) (out again : Point) : Type 0 where
     pub out_meets : MeetsNext flow out to.out
     pub again_meets : MeetsNext flow again to.again
-    pub labels_meet : (label : ℕ) (p q : Point) (behind : Next) → goes_to program flow routine labels (landing label (body_of routine) 0 []) (labels label) p q →
-        MeetsNext flow q behind → MeetsNext flow p (at_label (to.labels label) behind)
+    pub labels_meet : (label : ℕ) (p q : Point) (following : Next) → goes_to program flow routine labels (landing label (body_of routine) 0 []) (labels label) p q →
+        MeetsNext flow q following → MeetsNext flow p (at_label (to.labels label) following)
 
   -- in a loop, and in a `switch`
   pub aims_in_loop : {to : Targets} {out again : Point} (out' again' : Point) {out_next again_next : Next} → Aims to out again → MeetsNext flow out' out_next → MeetsNext flow again' again_next → Aims (in_loop to out_next again_next) out' again'

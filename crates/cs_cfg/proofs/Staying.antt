@@ -1,27 +1,27 @@
--- Whatever the plain machine has to do first, it doesn't return from the run with it, unless it leaves a frame.
+-- Whatever the reference machine has to do first, it doesn't return from the run with it, unless it leaves a frame.
 use Rattle.std.specs.Prelude.{⊤, ◌⊎◌}
 use Rattle.std.proofs.Common.{inl, inr, ℕ, ◌+◌, nat_lt, Bool, List, length, Option, Some, None, slice_get}
 use Rattle.cs_types.specs.Shape.{Shape, integer}
 use Rattle.cs_ast.specs.declared.place.Place.{Place}
 use Rattle.cs_ast.specs.TypedTree.{Typed, Of, Form, Number, Null, Text, Local, Global, Index, Member, Arrow, Load, Convert, Unary, Not, Binary, Compare, Sum, Difference, And, Or, Choice, Assign, Update, Move, Call, Allocate, Free, Initial, Value, Parts, Bytes, Statement, Declare, If, IfElse, While, Do, For, Switch, Goto, Label}
 use Rattle.cs_ast.specs.TypedProgram.{TypedProgram, Routine}
-use Rattle.cs_runs.specs.declared.outcome.RunBudgets.{RunBudgets}
-use Rattle.cs_runs.specs.declared.point.PointKind.{PointKind}
-use Rattle.cs_runs.specs.declared.point.PointKind.TheVariants as point
-use Rattle.cs_runs.specs.Objects.{Cell, NumberCell}
-use Rattle.cs_runs.specs.Touches.{Stores, Clears}
-use Rattle.cs_runs.specs.Acts.{Goes}
-use Rattle.cs_plain.specs.Types.{size_of, type_of, target_of, integer_of}
-use Rattle.cs_plain.specs.Initials.{number_in, directed}
-use Rattle.cs_plain.specs.Access.{access_of}
-use Rattle.cs_plain.specs.Operators.{branch}
-use Rattle.cs_plain.specs.Machine.{Operand, Scalar, Item, Evaluate, EvaluateUnused, Act as Acting, Fetch, Choose, Judge, Use, Drop, Store, Spell, Execute, Decide, Turn, Again, Out, Begin, End, Give, Leave, State, push, push_cell, with_memory, operand_at, cell_at, cell_of, newest, pop_many, routine_of, body_of}
-use Rattle.cs_plain.specs.Marks.{reached_again}
-use Rattle.cs_plain.specs.Jumps.{Landing, landing}
-use Rattle.cs_plain.specs.Calls.{call_routine}
-use Rattle.cs_plain.specs.Expressions.{pointer_age, amount_age, given, number_at, stores, act_form, fetch_form, choose_form}
-use Rattle.cs_plain.specs.Statements.{if_scalar, local_type, declare, lands, execute, turn, decide}
-use Rattle.cs_plain.specs.Steps.{at_end, do_item}
+use Rattle.cs_events.specs.declared.outcome.RunBudgets.{RunBudgets}
+use Rattle.cs_events.specs.declared.point.PointKind.{PointKind}
+use Rattle.cs_events.specs.declared.point.PointKind.TheVariants as point
+use Rattle.cs_events.specs.Objects.{Cell, NumberCell}
+use Rattle.cs_events.specs.Touches.{Stores, Clears}
+use Rattle.cs_events.specs.Acts.{Goes}
+use Rattle.cs_meaning.specs.Types.{size_of, type_of, target_of, integer_of}
+use Rattle.cs_meaning.specs.Initials.{number_in, directed}
+use Rattle.cs_meaning.specs.Access.{access_of}
+use Rattle.cs_meaning.specs.Operators.{branch}
+use Rattle.cs_meaning.specs.Machine.{Operand, Scalar, Item, Evaluate, EvaluateUnused, Act as Acting, Fetch, Choose, Judge, Use, Drop, Store, Spell, Execute, Decide, Turn, Again, Out, Begin, End, Give, Leave, State, push, push_cell, with_memory, operand_at, cell_at, cell_of, newest, pop_many, routine_of, body_of}
+use Rattle.cs_meaning.specs.Marks.{reached_again}
+use Rattle.cs_meaning.specs.Jumps.{Landing, landing}
+use Rattle.cs_meaning.specs.Calls.{call_routine}
+use Rattle.cs_meaning.specs.Expressions.{pointer_age, amount_age, given, number_at, stores, act_form, fetch_form, choose_form}
+use Rattle.cs_meaning.specs.Statements.{if_scalar, local_type, declare, lands, execute, turn, decide}
+use Rattle.cs_meaning.specs.Steps.{at_end, do_item}
 use Rattle.cs_cfg.proofs.Onward.{keeps_if, keeps_shows, keeps_truth, keeps_operate, keeps_convert_number, keeps_convert, keeps_sum, keeps_compare, keeps_difference, keeps_arrow}
 use Rattle.cs_cfg.proofs.OnwardCalls.{keeps_release, keeps_allocate, keeps_outside, keeps_use}
 use Rattle.cs_cfg.proofs.Returning.{NeverReturns, goes, stops, asks, touches, never, stays_touches, stays_load, stays_store}

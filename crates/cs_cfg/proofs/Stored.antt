@@ -4,24 +4,24 @@ use Rattle.cs_types.specs.Shape.{Shape}
 use Rattle.cs_ast.specs.declared.place.Place.{Place}
 use Rattle.cs_ast.specs.TypedTree.{Initial, Value, Parts, Bytes, Declare}
 use Rattle.cs_ast.specs.TypedProgram.{TypedProgram, Routine}
-use Rattle.cs_runs.specs.declared.outcome.RunBudgets.{RunBudgets}
-use Rattle.cs_runs.specs.Touches.{Clears, Stores}
-use Rattle.cs_runs.specs.Objects.{LocalObject}
-use Rattle.cs_runs.specs.Acts.{Goes}
-use Rattle.cs_runs.specs.Simulation.{Tells, both_go}
-use Rattle.cs_plain.specs.Types.{type_of, is_scalar}
-use Rattle.cs_plain.specs.Initials.{Piece, Evaluated, Spelled, pieces}
-use Rattle.cs_plain.specs.Memory.{UnsetFill, ZeroFill, changed}
-use Rattle.cs_plain.specs.Access.{write_operand, write_bytes}
-use Rattle.cs_plain.specs.Machine.{Item, Evaluate, Store, Spell, Execute, CallFrame, State, to_do, pop, with_memory, operand_at, routine_of}
-use Rattle.cs_plain.specs.Steps.{do_item}
-use Rattle.cs_plain.specs.Statements.{if_scalar, local_type, refilled, stores_pieces}
+use Rattle.cs_events.specs.declared.outcome.RunBudgets.{RunBudgets}
+use Rattle.cs_events.specs.Touches.{Clears, Stores}
+use Rattle.cs_events.specs.Objects.{LocalObject}
+use Rattle.cs_events.specs.Acts.{Goes}
+use Rattle.cs_events.specs.Simulation.{Yields, both_go}
+use Rattle.cs_meaning.specs.Types.{type_of, is_scalar}
+use Rattle.cs_meaning.specs.Initials.{Piece, Evaluated, Spelled, pieces}
+use Rattle.cs_meaning.specs.Memory.{UnsetFill, ZeroFill, changed}
+use Rattle.cs_meaning.specs.Access.{write_operand, write_bytes}
+use Rattle.cs_meaning.specs.Machine.{Item, Evaluate, Store, Spell, Execute, CallFrame, State, to_do, pop, with_memory, operand_at, routine_of}
+use Rattle.cs_meaning.specs.Steps.{do_item}
+use Rattle.cs_meaning.specs.Statements.{if_scalar, local_type, refilled, stores_pieces}
 use Rattle.cs_cfg.specs.Graph as graph
 use Rattle.cs_cfg.specs.Graph.{Point, Flow, Code}
 use Rattle.cs_cfg.specs.Placing.{does, there}
 use Rattle.cs_cfg.specs.Executing.{type_in, stores_at, declares_at}
 use Rattle.cs_cfg.proofs.Acting.{as_code, dropped}
-use Rattle.cs_cfg.proofs.Alike.{tells_touches}
+use Rattle.cs_cfg.proofs.Alike.{yields_touches}
 use Rattle.cs_cfg.proofs.Related.{CallersStand, Related, now}
 use Rattle.cs_cfg.proofs.Moving.{Home, stands, onward, with_depth, aligned, Answer, work_answers}
 use Rattle.cs_cfg.proofs.Arriving.{Arrives}
@@ -48,9 +48,9 @@ module _ (code : Code) (program : TypedProgram) (budgets : RunBudgets) (m : Stat
         let next = to_do (stores_pieces at declaration ones items) (refilled ZeroFill declaration m) in
         let s = pieces_arrive program home.flow (routine_of program m.frame.function) home.lowers.labels at declaration ones items home.out home.again r q it rest in
         let deep = with_depth code program home (stores_pieces at declaration ones items) r (sym empty) s in
-        let told : Tells (Related code program budgets) (Goes next) (Goes (as_code r callers next)) = both_go (now (aligned code program next home r callers deep waiting)) in
+        let reported : Yields (Related code program budgets) (Goes next) (Goes (as_code r callers next)) = both_go (now (aligned code program next home r callers deep waiting)) in
         work_answers code program budgets (Execute (Declare at declaration (Some initial)) mark) items m at (graph.Zero declaration) 0 p r callers empty here
-        (subst (λ act. Tells (Related code program budgets) act (Goes (as_code r callers next))) (sym e) told)
+        (subst (λ act. Yields (Related code program budgets) act (Goes (as_code r callers next))) (sym e) reported)
 
     -- a declaration
     pub declare_answers : (at : Place) (declaration : ℕ) (initial : Option Initial) → declares_at program home.flow (routine_of program m.frame.function) home.lowers.labels at declaration initial p q →
@@ -59,7 +59,7 @@ module _ (code : Code) (program : TypedProgram) (budgets : RunBudgets) (m : Stat
         let next = refilled UnsetFill declaration (to_do items m) in
         let scalar = is_scalar (type_in (routine_of program m.frame.function) declaration) in
         work_answers code program budgets (Execute (Declare at declaration None) mark) items m at (graph.Clear declaration scalar) 0 p q callers empty it
-        (tells_touches (Related code program budgets) (λ local. Clears m.frame.number local at) (if_scalar (local_type program declaration m) declaration)
+        (yields_touches (Related code program budgets) (λ local. Clears m.frame.number local at) (if_scalar (local_type program declaration m) declaration)
         (both_go (now (aligned code program next home q callers (with_depth code program home items q (sym empty) rest) waiting))))
     declare_answers at declaration (Some (Value e)) it =
         let stored = does at 0 (graph.StoreLocal declaration 0 (type_of e) (is_scalar (type_in (routine_of program m.frame.function) declaration))) q in
@@ -79,7 +79,7 @@ module _ (code : Code) (program : TypedProgram) (budgets : RunBudgets) (m : Stat
       let next = with_memory memory (pop (to_do items m)) in
       let scalar = is_scalar (type_in (routine_of program m.frame.function) declaration) in
       work_answers code program budgets (Store at declaration offset ty) items m at (graph.StoreLocal declaration offset ty scalar) it.1.0 p it.1.1 callers deep it.1.3
-      (tells_touches (Related code program budgets) (λ local. Stores m.frame.number local at) (if_scalar (local_type program declaration m) declaration)
+      (yields_touches (Related code program budgets) (λ local. Stores m.frame.number local at) (if_scalar (local_type program declaration m) declaration)
       (both_go (now (aligned code program next home it.1.1 callers (with_depth code program home items it.1.1 left it.1.4) waiting))))
 
   -- bytes are stored in a declared object

@@ -1,27 +1,27 @@
--- A `switch` in the code goes the way of the case that the plain machine takes (C11 6.8.4.2). For the simulation.
+-- A `switch` in the code goes the way of the case that the reference machine takes (C11 6.8.4.2). For the simulation.
 use Rattle.std.proofs.Common.{◌≡◌, ℕ, ◌+◌, ℤ, Bool, true, false, List, [], ◌∷◌, length, drop, Option, Some, None, unwrap_or, if◌then◌else◌, arith, refl, sym, ap, ◌∙◌, subst}
 use Rattle.std.specs.Ordering.{int_eq}
 use Rattle.cs_ast.specs.declared.place.Place.{Place}
 use Rattle.cs_ast.specs.declared.typed.statement.Case.{Case}
 use Rattle.cs_ast.specs.TypedTree.{Typed, Switch, Statements, count_of}
 use Rattle.cs_ast.specs.TypedProgram.{TypedProgram, Routine}
-use Rattle.cs_runs.specs.declared.event.Label.TheVariants as label
-use Rattle.cs_runs.specs.declared.point.PointKind.TheVariants as point
-use Rattle.cs_runs.specs.declared.outcome.RunBudgets.{RunBudgets}
-use Rattle.cs_runs.specs.Touches.{Meets}
-use Rattle.cs_runs.specs.Acts.{Goes, Touches}
-use Rattle.cs_runs.specs.Simulation.{Tells, together, both_go, both_touch}
-use Rattle.cs_plain.specs.Initials.{number_in}
-use Rattle.cs_plain.specs.Access.{shows_then}
-use Rattle.cs_plain.specs.Machine.{Item, Decide, CallFrame, State, to_do, pop, cell_at, routine_of}
-use Rattle.cs_plain.specs.Statements.{Chosen, stands_for, has_value, case_of, default_item, values_in, chosen_case, switch_to, executes_from}
+use Rattle.cs_events.specs.declared.event.Label.TheVariants as label
+use Rattle.cs_events.specs.declared.point.PointKind.TheVariants as point
+use Rattle.cs_events.specs.declared.outcome.RunBudgets.{RunBudgets}
+use Rattle.cs_events.specs.Touches.{Meets}
+use Rattle.cs_events.specs.Acts.{Goes, Touches}
+use Rattle.cs_events.specs.Simulation.{Yields, together, both_go, both_touch}
+use Rattle.cs_meaning.specs.Initials.{number_in}
+use Rattle.cs_meaning.specs.Access.{shows_then}
+use Rattle.cs_meaning.specs.Machine.{Item, Decide, CallFrame, State, to_do, pop, cell_at, routine_of}
+use Rattle.cs_meaning.specs.Statements.{Chosen, stands_for, has_value, case_of, default_item, values_in, chosen_case, switch_to, executes_from}
 use Rattle.cs_cfg.specs.Graph as graph
 use Rattle.cs_cfg.specs.Graph.{SwitchCase, Point, Flow, Code, block_of}
 use Rattle.cs_cfg.specs.CodeSteps.{Way, way_of, goes_way, code_step}
 use Rattle.cs_cfg.specs.Executing.{case_leads, cases_lead}
 use Rattle.cs_cfg.specs.Standing.{decides_at}
 use Rattle.cs_cfg.proofs.Acting.{as_code, dropped}
-use Rattle.cs_cfg.proofs.Alike.{tells_shows}
+use Rattle.cs_cfg.proofs.Alike.{yields_shows}
 use Rattle.cs_cfg.proofs.Related.{CallersStand, Related, now}
 use Rattle.cs_cfg.proofs.Moving.{uncut, Home, onward, with_depth, aligned, enters_block, Answer}
 use Rattle.cs_cfg.proofs.Arriving.{rest_arrives}
@@ -88,10 +88,10 @@ module _ (code : Code) (program : TypedProgram) (budgets : RunBudgets) (m : Stat
       let rest = executes_from chosen.item statements mark items in
       let s = rest_arrives program home.flow routine home.lowers.labels chosen.item statements mark items home.out home.again (it.2 chosen.item) home.out (it.4 chosen.item) it.7 in
       let acts = λ (number : ℕ) (q : Point). Touches (Meets point.Switch at) (shows_then at (label.Case number) (Goes (as_code q callers (pop m)))) in
-      let told : Tells (Related code program budgets) (switch_to at statements mark chosen (pop (to_do items m))) (acts chosen.number (it.2 chosen.item))
-      = both_touch (tells_shows (Related code program budgets) at (label.Case chosen.number)
+      let reported : Yields (Related code program budgets) (switch_to at statements mark chosen (pop (to_do items m))) (acts chosen.number (it.2 chosen.item))
+      = both_touch (yields_shows (Related code program budgets) at (label.Case chosen.number)
       (both_go (now (aligned code program (to_do rest (pop m)) home (it.2 chosen.item) callers (with_depth code program home rest (it.2 chosen.item) left s) waiting)))) in
       let same : acts way.number (block_of home.flow way.block) ≡ acts chosen.number (it.2 chosen.item) = ap (λ k. acts k (block_of home.flow way.block)) pick.number ∙ ap (acts chosen.number) pick.leads in
-      let code_acts = subst (Tells (Related code program budgets) (switch_to at statements mark chosen (pop (to_do items m)))) (sym (switches_so at it.0 it.1 single ∙ same)) told in
+      let code_acts = subst (Yields (Related code program budgets) (switch_to at statements mark chosen (pop (to_do items m)))) (sym (switches_so at it.0 it.1 single ∙ same)) reported in
       subst (λ x. Answer code program budgets (to_do (Decide (Switch at value cases statements) mark ∷ items) m) (as_code x callers m)) (sym it.3)
-      (together (subst (λ c. Tells (Related code program budgets) (switch_to at statements mark c (pop (to_do items m))) (code_step code program budgets (as_code here callers m))) (sym (chosen_else cases statements (case_of cases number 0))) code_acts))
+      (together (subst (λ c. Yields (Related code program budgets) (switch_to at statements mark c (pop (to_do items m))) (code_step code program budgets (as_code here callers m))) (sym (chosen_else cases statements (case_of cases number 0))) code_acts))

@@ -1,4 +1,4 @@
--- Each step of the code's run touches what is told of the point from which it comes: for the law `steps_touch_as_told`.
+-- Each step of the code's run touches what is told of the point from which it comes: for the law `steps_touch_as_reported`.
 use Rattle.std.proofs.Common.{◌≡◌, ℕ, nat_lt, ℤ, Bool, true, false, List, [], ◌∷◌, ◌++◌, inl, inr, Option, Some, None, slice_get, if◌then◌else◌, refl, sym, ap, ◌∙◌, subst}
 use Rattle.std.specs.Prelude.{option_map}
 use Rattle.std.specs.Option.{option_and_then}
@@ -7,27 +7,27 @@ use Rattle.cs_types.specs.Shape.{integer}
 use Rattle.cs_inputs.specs.declared.path.Path.{Path}
 use Rattle.cs_ast.specs.declared.place.Place.{Place}
 use Rattle.cs_ast.specs.TypedProgram.{TypedProgram, Routine}
-use Rattle.cs_runs.specs.declared.operation.Operation.{Operation as Asked}
-use Rattle.cs_runs.specs.declared.outcome.Outcome.{Outcome}
-use Rattle.cs_runs.specs.declared.outcome.Outcome.TheVariants.{Over}
-use Rattle.cs_runs.specs.declared.outcome.Budget.TheVariants.{Events}
-use Rattle.cs_runs.specs.declared.outcome.RunBudgets.{RunBudgets}
-use Rattle.cs_runs.specs.declared.point.PointKind.{PointKind}
-use Rattle.cs_runs.specs.Operations.{is_true}
-use Rattle.cs_runs.specs.Objects.{Object, Cell, NumberCell}
-use Rattle.cs_runs.specs.Touches.{Touch}
-use Rattle.cs_runs.specs.Acts.{Act, Goes, Stops, Reads, Asks, Allocates, Reaches, Touches}
-use Rattle.cs_runs.specs.Runs.{Setting, Log, Performed, Continues, Finishes, perform, with_event, with_read, with_touch, has_room, operation_event, number_of, allocation_event, access_event}
-use Rattle.cs_plain.specs.Initials.{number_in, directed}
-use Rattle.cs_plain.specs.Types.{integer_of}
-use Rattle.cs_plain.specs.Memory.{Memory, is_constant}
-use Rattle.cs_plain.specs.Access.{Access, touches_then, load_object, store_object}
-use Rattle.cs_plain.specs.Machine.{Operand, Scalar, CallFrame, to_do, push, push_cell, pop_many, with_memory, operand_at, cell_of, cell_at, newest, routine_of}
-use Rattle.cs_plain.specs.Marks.{reached_again}
-use Rattle.cs_plain.specs.Calls.{leave_to}
-use Rattle.cs_plain.specs.Expressions.{pointer_age, amount_age, given, number_at, stores_to}
+use Rattle.cs_events.specs.declared.operation.Operation.{Operation as Asked}
+use Rattle.cs_events.specs.declared.outcome.Outcome.{Outcome}
+use Rattle.cs_events.specs.declared.outcome.Outcome.TheVariants.{Over}
+use Rattle.cs_events.specs.declared.outcome.Budget.TheVariants.{Events}
+use Rattle.cs_events.specs.declared.outcome.RunBudgets.{RunBudgets}
+use Rattle.cs_events.specs.declared.point.PointKind.{PointKind}
+use Rattle.cs_events.specs.Operations.{is_true}
+use Rattle.cs_events.specs.Objects.{Object, Cell, NumberCell}
+use Rattle.cs_events.specs.Touches.{Touch}
+use Rattle.cs_events.specs.Acts.{Act, Goes, Stops, Reads, Asks, Allocates, Reaches, Touches}
+use Rattle.cs_events.specs.Runs.{Setting, Log, Performed, Continues, Finishes, perform, with_event, with_read, with_touch, has_room, operation_event, number_of, allocation_event, access_event}
+use Rattle.cs_meaning.specs.Initials.{number_in, directed}
+use Rattle.cs_meaning.specs.Types.{integer_of}
+use Rattle.cs_meaning.specs.Memory.{Memory, is_constant}
+use Rattle.cs_meaning.specs.Access.{Access, touches_then, load_object, store_object}
+use Rattle.cs_meaning.specs.Machine.{Operand, Scalar, CallFrame, to_do, push, push_cell, pop_many, with_memory, operand_at, cell_of, cell_at, newest, routine_of}
+use Rattle.cs_meaning.specs.Marks.{reached_again}
+use Rattle.cs_meaning.specs.Calls.{leave_to}
+use Rattle.cs_meaning.specs.Expressions.{pointer_age, amount_age, given, number_at, stores_to}
 use Rattle.cs_cfg.specs.declared.code.Spot.{Spot}
-use Rattle.cs_cfg.specs.declared.touch.Touch as told
+use Rattle.cs_cfg.specs.declared.touch.Touch as reported
 use Rattle.cs_cfg.specs.declared.touch.Touch.TheVariants as touch
 use Rattle.cs_cfg.specs.Graph.{Work, Number, Null, Text, Local, Global, Nothing, Sum, Member, Arrow, Load, Convert, Unary, Not, Binary, Compare, Difference, Judge, Store, FetchNumber, Update, FetchPointer, Move, Call, Allocate, Free, Use, Drop, Clear, Zero, StoreLocal, Spell, Reach, Meet, Close, Operation, BlockEnd, Jump, Branch, Switch, Return, Finish, Point, Flow, Code, flow_of}
 use Rattle.cs_cfg.specs.Working.{CodeState, cut, code_frame, call_flow, do_work}
@@ -58,7 +58,7 @@ module _ {S : Type 0} where
   in_room true at log what done h = h
   in_room false at log what done h = inl refl
 
-  -- one touch, and nothing behind it
+  -- one touch, and nothing after it
   one_touch : (before : List Touch) (one : Touch) (done : Performed S) → HasTouched (before ++ one ∷ []) None done → HasTouched before (Some one) done
   one_touch before one (Continues next log) e = e ∙ append-nil (before ++ one ∷ [])
   one_touch before one (Finishes outcome log) (inl e) = inr e
@@ -78,10 +78,10 @@ module _ {S : Type 0} where
   touched setting log (touches {one = one} h) = one_touch log.touches one _ (touched setting (with_touch log one) h)
 
   -- what is told of a local of a frame
-  touches_local : (frame : ℕ) (tells : ℕ → told.Touch) (local : Option ℕ) {a : Act S} → TouchesJust None a →
-      TouchesJust (option_map (in_frame frame) (option_map tells local)) (touches_then (λ declaration. in_frame frame (tells declaration)) local a)
-  touches_local frame tells None h = h
-  touches_local frame tells (Some declaration) h = touches h
+  touches_local : (frame : ℕ) (yields : ℕ → reported.Touch) (local : Option ℕ) {a : Act S} → TouchesJust None a →
+      TouchesJust (option_map (in_frame frame) (option_map yields local)) (touches_then (λ declaration. in_frame frame (yields declaration)) local a)
+  touches_local frame yields None h = h
+  touches_local frame yields (Some declaration) h = touches h
 
   touches_load : (program : TypedProgram) (memory : Memory) (frame : ℕ) (access : Access) (cell : Cell) {f : Memory → Operand → Act S} → EachOfTwo silent f →
       TouchesJust (option_map (in_frame frame) (touch_of_load access)) (load_object program memory frame access cell f)
@@ -112,15 +112,15 @@ touches_call program budgets at function routine (Some flow) arguments m = keeps
 
 module _ (code : Code) (program : TypedProgram) (budgets : RunBudgets) where
   -- what an operation does touches what is told of it, as a touch of the frame that runs
-  abbrev AsTold : Place → Work → CodeState → Type 0
-  AsTold at work m = TouchesJust (option_map (in_frame m.frame.number) (touch_of_work at work)) (do_work code program budgets at work m)
+  abbrev AsReported : Place → Work → CodeState → Type 0
+  AsReported at work m = TouchesJust (option_map (in_frame m.frame.number) (touch_of_work at work)) (do_work code program budgets at work m)
 
   touches_stores : (at : Place) (access : Access) (age : ℕ) (operand : Operand) (count : ℕ) (left : Operand) (m : CodeState) →
       TouchesJust (option_map (in_frame m.frame.number) (touch_of_store at access)) (stores_to program at access age operand count left m)
   touches_stores at access age operand count left m =
       touches_store program m.memory m.frame.number at access (cell_at m age) operand (λ memory. goes {s = push left (with_memory memory (pop_many count m))})
 
-  work_touches : (at : Place) (work : Work) (m : CodeState) → AsTold at work m
+  work_touches : (at : Place) (work : Work) (m : CodeState) → AsReported at work m
   work_touches at (Number n) m = goes
   work_touches at Null m = goes
   work_touches at (Text literal) m = goes
@@ -179,8 +179,8 @@ module _ (code : Code) (program : TypedProgram) (budgets : RunBudgets) where
   first_touches (operation ∷ operations) end m =
       work_touches operation.at operation.work (cut _ (to_do (record { operations = operations; end = end }) m))
 
-  pub steps_as_told : (spot : Spot) (setting : Setting) (m : CodeState) (log : Log) → point_at code spot ≡ Some m.frame.todo →
+  pub steps_as_reported : (spot : Spot) (setting : Setting) (m : CodeState) (log : Log) → point_at code spot ≡ Some m.frame.todo →
       HasTouched log.touches (option_map (in_frame m.frame.number) (touch_at code spot)) (perform setting log (code_step code program budgets m))
-  steps_as_told spot setting m log e =
+  steps_as_reported spot setting m log e =
       let stepped = touched setting log (first_touches m.frame.todo.operations m.frame.todo.end m) in
       subst (λ what. HasTouched log.touches (option_map (in_frame m.frame.number) what) (perform setting log (code_step code program budgets m))) (sym (ap (option_and_then touch_from) e)) stepped

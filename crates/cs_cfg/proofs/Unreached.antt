@@ -3,9 +3,9 @@ use Rattle.std.proofs.Common.{◌≡◌, ℕ, zero, suc, true, [], ◌∷◌, So
 use Rattle.cs_types.specs.Shape.{void}
 use Rattle.cs_ast.specs.TypedTree.{Statement, Block, Label, Return, Empty}
 use Rattle.cs_ast.specs.TypedProgram.{TypedProgram, Routine}
-use Rattle.cs_runs.specs.declared.point.PointKind.TheVariants as point
-use Rattle.cs_plain.specs.Machine.{routine_of}
-use Rattle.cs_plain.proofs.Building.{at, sequence, defined, functions}
+use Rattle.cs_events.specs.declared.point.PointKind.TheVariants as point
+use Rattle.cs_meaning.specs.Machine.{routine_of}
+use Rattle.cs_meaning.proofs.Building.{at, sequence, defined, functions}
 use Rattle.cs_cfg.specs.Graph as graph
 use Rattle.cs_cfg.specs.Graph.{Point, Flow, Code, flow_of}
 use Rattle.cs_cfg.specs.ControlPoints.{met, passed, last_point, control_points}
@@ -35,7 +35,7 @@ points : control_points routine ≡
     passed point.Enter (at 6) (met point.Return (at 14)) ∷ (last_point point.Return (at 14) ∷ (passed point.Label (at 21) (met point.End (at 24)) ∷ (last_point point.End (at 24) ∷ [])))
 points = refl
 
--- behind the label, at the label, at the `return`, and where the function begins
+-- after the label, at the label, at the `return`, and where the function begins
 abbrev closes : Point
 closes = does (at 24) 0 (graph.Close true) leaving
 
@@ -61,7 +61,7 @@ lowers : LowersBody program routine body flow
 lowers = record {
   labels = λ label. labelled;
   inside = returns;
-  behind = closes;
+  following = closes;
   nothing = true;
   begins = refl;
   executes = (labelled, (labelled, (refl, (0, there)), there), (closes, (closes, (labelled, closes, there, refl, (λ first. refl), there), there), there));

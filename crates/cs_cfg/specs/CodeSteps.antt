@@ -5,22 +5,22 @@ use Rattle.cs_inputs.specs.declared.path.Path.{Path}
 use Rattle.cs_inputs.specs.Inputs.{number_at as input_at}
 use Rattle.cs_ast.specs.declared.place.Place.{Place}
 use Rattle.cs_ast.specs.TypedProgram.{TypedProgram, Routine}
-use Rattle.cs_runs.specs.declared.event.Label.TheVariants as label
-use Rattle.cs_runs.specs.declared.outcome.Outcome.{Outcome}
-use Rattle.cs_runs.specs.declared.outcome.RunBudgets.{RunBudgets}
-use Rattle.cs_runs.specs.declared.point.PointKind.TheVariants as point
-use Rattle.cs_runs.specs.Objects.{UnsetCell}
-use Rattle.cs_runs.specs.Touches.{Meets}
-use Rattle.cs_runs.specs.Acts.{Act, Goes, Touches}
-use Rattle.cs_runs.specs.Runs.{Log, Ends}
-use Rattle.cs_runs.specs.Pending.{Pending, IsPending}
-use Rattle.cs_plain.specs.Initials.{number_in}
-use Rattle.cs_plain.specs.Access.{shows_then}
-use Rattle.cs_plain.specs.Operators.{branch}
-use Rattle.cs_plain.specs.Machine.{Scalar, to_do, pop, operand_at, cell_at, routine_of}
-use Rattle.cs_plain.specs.Calls.{with_locals, leave}
-use Rattle.cs_plain.specs.Steps.{static_memory, received, with_received, parameters_of}
-use Rattle.cs_plain.specs.PlainRuns.{PlainRun, setting_of}
+use Rattle.cs_events.specs.declared.event.Label.TheVariants as label
+use Rattle.cs_events.specs.declared.outcome.Outcome.{Outcome}
+use Rattle.cs_events.specs.declared.outcome.RunBudgets.{RunBudgets}
+use Rattle.cs_events.specs.declared.point.PointKind.TheVariants as point
+use Rattle.cs_events.specs.Objects.{UnsetCell}
+use Rattle.cs_events.specs.Touches.{Meets}
+use Rattle.cs_events.specs.Acts.{Act, Goes, Touches}
+use Rattle.cs_events.specs.Runs.{Log, Ends}
+use Rattle.cs_events.specs.Pending.{Pending, IsPending}
+use Rattle.cs_meaning.specs.Initials.{number_in}
+use Rattle.cs_meaning.specs.Access.{shows_then}
+use Rattle.cs_meaning.specs.Operators.{branch}
+use Rattle.cs_meaning.specs.Machine.{Scalar, to_do, pop, operand_at, cell_at, routine_of}
+use Rattle.cs_meaning.specs.Calls.{with_locals, leave}
+use Rattle.cs_meaning.specs.Steps.{static_memory, received, with_received, parameters_of}
+use Rattle.cs_meaning.specs.PlainRuns.{PlainRun, setting_of}
 use Rattle.cs_cfg.specs.Graph.{Operation, SwitchCase, BlockEnd, Jump, Branch, Switch, Return, Finish, Code, no_flow, flow_of, block_in}
 use Rattle.cs_cfg.specs.Working.{CodeState, takes, cut, code_frame, do_work}
 

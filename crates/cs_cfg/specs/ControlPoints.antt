@@ -1,16 +1,16 @@
 -- The control points of a function, read off its statements: each with the ways out of it, and the next control point that the
--- machine meets on each way, whatever the values are. A recursion over the syntax; what is met behind a part is an argument.
+-- machine meets on each way, whatever the values are. A recursion over the syntax; what is met after a part is an argument.
 use Rattle.std.specs.Prelude.{ℕ, zero, suc, ◌+◌, ℤ, Bool, true, false, List, [], ◌∷◌, ◌++◌, Option, Some, None}
 use Rattle.cs_ast.specs.declared.place.Place.{Place}
 use Rattle.cs_ast.specs.declared.typed.operator.Order.TheVariants.{PointerFirst, AmountFirst}
 use Rattle.cs_ast.specs.declared.typed.statement.Case.{Case}
 use Rattle.cs_ast.specs.TypedTree.{Typed, Of, Form, Number, Null, Text, Local, Global, Through, Index, Member, Arrow, Load, Address, Decay, Convert, Unary, Not, Binary, Compare, Sum, Difference, And, Or, Choice, Comma, Assign, Update, Move, Call, Allocate, Free, TypedList, NoMore, Further, Initial, Value, Parts, Bytes, Initials, NoPart, Part, Statement, Block, Declare, Run, If, IfElse, While, Do, For, Switch, Goto, Label, Break, Continue, Return, Statements, Empty, Then, count_of}
 use Rattle.cs_ast.specs.TypedProgram.{Routine}
-use Rattle.cs_runs.specs.declared.point.PointKind.{PointKind}
-use Rattle.cs_runs.specs.declared.point.PointKind.TheVariants as point
-use Rattle.cs_plain.specs.Machine.{body_of}
-use Rattle.cs_plain.specs.Jumps.{Landing, landing}
-use Rattle.cs_plain.specs.Statements.{has_value, default_item}
+use Rattle.cs_events.specs.declared.point.PointKind.{PointKind}
+use Rattle.cs_events.specs.declared.point.PointKind.TheVariants as point
+use Rattle.cs_meaning.specs.Machine.{body_of}
+use Rattle.cs_meaning.specs.Jumps.{Landing, landing}
+use Rattle.cs_meaning.specs.Statements.{has_value, default_item}
 
 -- a control point that is met
 pub record Met : Type 0 where
@@ -23,7 +23,7 @@ pub data Exit : Type 0 where
   TruthOf : (holds : Bool) → Exit
   CaseOf : (number : ℕ) → Exit
 
--- what is met next: nothing where the frame is left without a control point, as behind a `break` that stands in no loop
+-- what is met next: nothing where the frame is left without a control point, as after a `break` that stands in no loop
 abbrev pub Next : Type 0
 Next = Option Met
 
@@ -55,125 +55,125 @@ passed kind at next = record { kind = kind; at = at; ways = way Onward next ∷ 
 abbrev pub tested : Place → Next → Next → ControlPoint
 tested at one other = record { kind = point.Branch; at = at; ways = way (TruthOf true) one ∷ (way (TruthOf false) other ∷ []) }
 
--- a point behind which nothing of the function is met
+-- a point after which nothing of the function is met
 abbrev pub last_point : PointKind → Place → ControlPoint
 last_point kind at = record { kind = kind; at = at; ways = [] }
 
 abbrev mutual
   -- what is met first where an expression is evaluated, and then this is met
   pub first : Typed → Next → Next
-  first (Of at ty form) behind = first_of at form behind
+  first (Of at ty form) following = first_of at form following
 
   pub first_of : Place → Form → Next → Next
-  first_of at (Number n) behind = behind
-  first_of at Null behind = behind
-  first_of at (Text literal) behind = behind
-  first_of at (Local declaration) behind = behind
-  first_of at (Global global) behind = behind
-  first_of at (Through a) behind = first a behind
-  first_of at (Index a i PointerFirst) behind = first a (first i behind)
-  first_of at (Index a i AmountFirst) behind = first i (first a behind)
-  first_of at (Member a offset) behind = first a behind
-  first_of at (Arrow a offset) behind = first a behind
-  first_of at (Load a) behind = first a behind
-  first_of at (Address a) behind = first a behind
-  first_of at (Decay a) behind = first a behind
-  first_of at (Convert a) behind = first a behind
-  first_of at (Unary op a) behind = first a behind
-  first_of at (Not a) behind = first a behind
-  first_of at (Binary op a b) behind = first a (first b behind)
-  first_of at (Compare op a b) behind = first a (first b behind)
-  first_of at (Sum a n direction PointerFirst) behind = first a (first n behind)
-  first_of at (Sum a n direction AmountFirst) behind = first n (first a behind)
-  first_of at (Difference a b) behind = first a (first b behind)
-  first_of at (And a b) behind = first a (met point.Branch at)
-  first_of at (Or a b) behind = first a (met point.Branch at)
-  first_of at (Choice a b c) behind = first a (met point.Branch at)
-  first_of at (Comma a b) behind = first a (first b behind)
-  first_of at (Assign a b) behind = first a (first b behind)
-  first_of at (Update op a b works_in gives) behind = first a (first b behind)
-  first_of at (Move a n direction gives) behind = first a (first n behind)
-  first_of at (Call function arguments) behind = first_in arguments behind
-  first_of at (Allocate allocator arguments element) behind = first_in arguments behind
-  first_of at (Free a) behind = first a behind
+  first_of at (Number n) following = following
+  first_of at Null following = following
+  first_of at (Text literal) following = following
+  first_of at (Local declaration) following = following
+  first_of at (Global global) following = following
+  first_of at (Through a) following = first a following
+  first_of at (Index a i PointerFirst) following = first a (first i following)
+  first_of at (Index a i AmountFirst) following = first i (first a following)
+  first_of at (Member a offset) following = first a following
+  first_of at (Arrow a offset) following = first a following
+  first_of at (Load a) following = first a following
+  first_of at (Address a) following = first a following
+  first_of at (Decay a) following = first a following
+  first_of at (Convert a) following = first a following
+  first_of at (Unary op a) following = first a following
+  first_of at (Not a) following = first a following
+  first_of at (Binary op a b) following = first a (first b following)
+  first_of at (Compare op a b) following = first a (first b following)
+  first_of at (Sum a n direction PointerFirst) following = first a (first n following)
+  first_of at (Sum a n direction AmountFirst) following = first n (first a following)
+  first_of at (Difference a b) following = first a (first b following)
+  first_of at (And a b) following = first a (met point.Branch at)
+  first_of at (Or a b) following = first a (met point.Branch at)
+  first_of at (Choice a b c) following = first a (met point.Branch at)
+  first_of at (Comma a b) following = first a (first b following)
+  first_of at (Assign a b) following = first a (first b following)
+  first_of at (Update op a b works_in gives) following = first a (first b following)
+  first_of at (Move a n direction gives) following = first a (first n following)
+  first_of at (Call function arguments) following = first_in arguments following
+  first_of at (Allocate allocator arguments element) following = first_in arguments following
+  first_of at (Free a) following = first a following
 
   pub first_in : TypedList → Next → Next
-  first_in NoMore behind = behind
-  first_in (Further e others) behind = first e (first_in others behind)
+  first_in NoMore following = following
+  first_in (Further e others) following = first e (first_in others following)
 
 abbrev mutual
   -- the control points of an expression, in the order in which they stand in the file
   pub points : Typed → Next → List ControlPoint
-  points (Of at ty form) behind = points_of at form behind
+  points (Of at ty form) following = points_of at form following
 
   pub points_of : Place → Form → Next → List ControlPoint
-  points_of at (Number n) behind = []
-  points_of at Null behind = []
-  points_of at (Text literal) behind = []
-  points_of at (Local declaration) behind = []
-  points_of at (Global global) behind = []
-  points_of at (Through a) behind = points a behind
-  points_of at (Index a i PointerFirst) behind = points a (first i behind) ++ points i behind
-  points_of at (Index a i AmountFirst) behind = points i (first a behind) ++ points a behind
-  points_of at (Member a offset) behind = points a behind
-  points_of at (Arrow a offset) behind = points a behind
-  points_of at (Load a) behind = points a behind
-  points_of at (Address a) behind = points a behind
-  points_of at (Decay a) behind = points a behind
-  points_of at (Convert a) behind = points a behind
-  points_of at (Unary op a) behind = points a behind
-  points_of at (Not a) behind = points a behind
-  points_of at (Binary op a b) behind = points a (first b behind) ++ points b behind
-  points_of at (Compare op a b) behind = points a (first b behind) ++ points b behind
-  points_of at (Sum a n direction PointerFirst) behind = points a (first n behind) ++ points n behind
-  points_of at (Sum a n direction AmountFirst) behind = points n (first a behind) ++ points a behind
-  points_of at (Difference a b) behind = points a (first b behind) ++ points b behind
-  points_of at (And a b) behind = points a (met point.Branch at) ++ tested at (first b behind) behind ∷ points b behind
-  points_of at (Or a b) behind = points a (met point.Branch at) ++ tested at behind (first b behind) ∷ points b behind
-  points_of at (Choice a b c) behind = points a (met point.Branch at) ++ tested at (first b behind) (first c behind) ∷ (points b behind ++ points c behind)
-  points_of at (Comma a b) behind = points a (first b behind) ++ points b behind
-  points_of at (Assign a b) behind = points a (first b behind) ++ points b behind
-  points_of at (Update op a b works_in gives) behind = points a (first b behind) ++ points b behind
-  points_of at (Move a n direction gives) behind = points a (first n behind) ++ points n behind
-  points_of at (Call function arguments) behind = points_in arguments behind
-  points_of at (Allocate allocator arguments element) behind = points_in arguments behind
-  points_of at (Free a) behind = points a behind
+  points_of at (Number n) following = []
+  points_of at Null following = []
+  points_of at (Text literal) following = []
+  points_of at (Local declaration) following = []
+  points_of at (Global global) following = []
+  points_of at (Through a) following = points a following
+  points_of at (Index a i PointerFirst) following = points a (first i following) ++ points i following
+  points_of at (Index a i AmountFirst) following = points i (first a following) ++ points a following
+  points_of at (Member a offset) following = points a following
+  points_of at (Arrow a offset) following = points a following
+  points_of at (Load a) following = points a following
+  points_of at (Address a) following = points a following
+  points_of at (Decay a) following = points a following
+  points_of at (Convert a) following = points a following
+  points_of at (Unary op a) following = points a following
+  points_of at (Not a) following = points a following
+  points_of at (Binary op a b) following = points a (first b following) ++ points b following
+  points_of at (Compare op a b) following = points a (first b following) ++ points b following
+  points_of at (Sum a n direction PointerFirst) following = points a (first n following) ++ points n following
+  points_of at (Sum a n direction AmountFirst) following = points n (first a following) ++ points a following
+  points_of at (Difference a b) following = points a (first b following) ++ points b following
+  points_of at (And a b) following = points a (met point.Branch at) ++ tested at (first b following) following ∷ points b following
+  points_of at (Or a b) following = points a (met point.Branch at) ++ tested at following (first b following) ∷ points b following
+  points_of at (Choice a b c) following = points a (met point.Branch at) ++ tested at (first b following) (first c following) ∷ (points b following ++ points c following)
+  points_of at (Comma a b) following = points a (first b following) ++ points b following
+  points_of at (Assign a b) following = points a (first b following) ++ points b following
+  points_of at (Update op a b works_in gives) following = points a (first b following) ++ points b following
+  points_of at (Move a n direction gives) following = points a (first n following) ++ points n following
+  points_of at (Call function arguments) following = points_in arguments following
+  points_of at (Allocate allocator arguments element) following = points_in arguments following
+  points_of at (Free a) following = points a following
 
   pub points_in : TypedList → Next → List ControlPoint
-  points_in NoMore behind = []
-  points_in (Further e others) behind = points e (first_in others behind) ++ points_in others behind
+  points_in NoMore following = []
+  points_in (Further e others) following = points e (first_in others following) ++ points_in others following
 
 abbrev mutual
   -- the same of an initializer, whose parts are stored one after another
   pub first_initial : Initial → Next → Next
-  first_initial (Value e) behind = first e behind
-  first_initial (Parts parts) behind = first_parts parts behind
-  first_initial (Bytes bytes) behind = behind
+  first_initial (Value e) following = first e following
+  first_initial (Parts parts) following = first_parts parts following
+  first_initial (Bytes bytes) following = following
 
   pub first_parts : Initials → Next → Next
-  first_parts NoPart behind = behind
-  first_parts (Part one others) behind = first_initial one (first_parts others behind)
+  first_parts NoPart following = following
+  first_parts (Part one others) following = first_initial one (first_parts others following)
 
 abbrev mutual
   pub points_initial : Initial → Next → List ControlPoint
-  points_initial (Value e) behind = points e behind
-  points_initial (Parts parts) behind = points_parts parts behind
-  points_initial (Bytes bytes) behind = []
+  points_initial (Value e) following = points e following
+  points_initial (Parts parts) following = points_parts parts following
+  points_initial (Bytes bytes) following = []
 
   pub points_parts : Initials → Next → List ControlPoint
-  points_parts NoPart behind = []
-  points_parts (Part one others) behind = points_initial one (first_parts others behind) ++ points_parts others behind
+  points_parts NoPart following = []
+  points_parts (Part one others) following = points_initial one (first_parts others following) ++ points_parts others following
 
 -- the same of what may be there
 abbrev pub first_some : Option Typed → Next → Next
-first_some None behind = behind
-first_some (Some e) behind = first e behind
+first_some None following = following
+first_some (Some e) following = first e following
 
 abbrev pub points_some : Option Typed → Next → List ControlPoint
-points_some None behind = []
-points_some (Some e) behind = points e behind
+points_some None following = []
+points_some (Some e) following = points e following
 
--- where jumps lead: what is met behind the nearest loop or `switch`, what `continue` leads to, and each label that is there
+-- where jumps lead: what is met after the nearest loop or `switch`, what `continue` leads to, and each label that is there
 pub record Targets : Type 0 where
   pub out : Next
   pub again : Next
@@ -186,8 +186,8 @@ for_test at (Some test) body = first test (met point.Branch at)
 
 -- the test of a `for`, if there is one
 abbrev pub for_tested : Place → Option Typed → Next → Next → List ControlPoint
-for_tested at None body behind = []
-for_tested at (Some test) body behind = tested at body behind ∷ []
+for_tested at None body following = []
+for_tested at (Some test) body following = tested at body following ∷ []
 
 abbrev pub for_points : Place → Option Typed → List ControlPoint
 for_points at None = []
@@ -202,37 +202,37 @@ in_switch to out = record to { out = out }
 
 -- a `goto` meets its label; one whose label isn't there leads on (C11 6.8.6.1)
 abbrev pub at_label : Next → Next → Next
-at_label None behind = behind
-at_label (Some label) behind = Some label
+at_label None following = following
+at_label (Some label) following = Some label
 
 abbrev mutual
   -- what is met first where a statement is executed, and then this is met (C11 6.8)
   pub starts : Targets → Statement → Next → Next
-  starts to (Block at statements) behind = starts_in to statements behind
-  starts to (Declare at declaration None) behind = behind
-  starts to (Declare at declaration (Some initial)) behind = first_initial initial behind
-  starts to (Run at e) behind = first e behind
-  starts to (If at test body) behind = first test (met point.Branch at)
-  starts to (IfElse at test body other) behind = first test (met point.Branch at)
-  starts to (While at test body) behind = met point.Head at
-  starts to (Do at body test) behind = met point.Head at
-  starts to (For at beginning test last body) behind = starts_in (in_switch to behind) beginning (met point.Head at)
-  starts to (Switch at value cases statements) behind = first value (met point.Switch at)
-  starts to (Goto at label) behind = at_label (to.labels label) behind
-  starts to (Label at label body) behind = met point.Label at
-  starts to (Break at) behind = to.out
-  starts to (Continue at) behind = to.again
-  starts to (Return at value) behind = first_some value (met point.Return at)
+  starts to (Block at statements) following = starts_in to statements following
+  starts to (Declare at declaration None) following = following
+  starts to (Declare at declaration (Some initial)) following = first_initial initial following
+  starts to (Run at e) following = first e following
+  starts to (If at test body) following = first test (met point.Branch at)
+  starts to (IfElse at test body other) following = first test (met point.Branch at)
+  starts to (While at test body) following = met point.Head at
+  starts to (Do at body test) following = met point.Head at
+  starts to (For at beginning test last body) following = starts_in (in_switch to following) beginning (met point.Head at)
+  starts to (Switch at value cases statements) following = first value (met point.Switch at)
+  starts to (Goto at label) following = at_label (to.labels label) following
+  starts to (Label at label body) following = met point.Label at
+  starts to (Break at) following = to.out
+  starts to (Continue at) following = to.again
+  starts to (Return at value) following = first_some value (met point.Return at)
 
   pub starts_in : Targets → Statements → Next → Next
-  starts_in to Empty behind = behind
-  starts_in to (Then one others) behind = starts to one (starts_in to others behind)
+  starts_in to Empty following = following
+  starts_in to (Then one others) following = starts to one (starts_in to others following)
 
 -- what is met first from the statement with a number on
 abbrev pub starts_from : Targets → ℕ → Statements → Next → Next
-starts_from to number Empty behind = behind
-starts_from to zero (Then one others) behind = starts_in to (Then one others) behind
-starts_from to (suc number) (Then one others) behind = starts_from to number others behind
+starts_from to number Empty following = following
+starts_from to zero (Then one others) following = starts_in to (Then one others) following
+starts_from to (suc number) (Then one others) following = starts_from to number others following
 
 -- the way of a case, if it has a value, before the ways of others
 abbrev pub with_case : Option ℤ → ℕ → Next → List Way → List Way
@@ -241,9 +241,9 @@ with_case (Some value) number next others = way (CaseOf number) next ∷ others
 
 -- the ways of a `switch`: those of its cases with a value, counted from a number on, and then that of any other number
 abbrev pub case_ways : Targets → List Case → ℕ → Statements → Next → Next → List Way
-case_ways to [] number statements behind otherwise = way (CaseOf number) otherwise ∷ []
-case_ways to (one ∷ cases) number statements behind otherwise =
-    with_case one.value number (starts_from to one.item statements behind) (case_ways to cases (number + has_value one.value) statements behind otherwise)
+case_ways to [] number statements following otherwise = way (CaseOf number) otherwise ∷ []
+case_ways to (one ∷ cases) number statements following otherwise =
+    with_case one.value number (starts_from to one.item statements following) (case_ways to cases (number + has_value one.value) statements following otherwise)
 
 abbrev pub switched : Place → List Way → ControlPoint
 switched at ways = record { kind = point.Switch; at = at; ways = ways }
@@ -251,40 +251,40 @@ switched at ways = record { kind = point.Switch; at = at; ways = ways }
 abbrev mutual
   -- the control points of a statement, in the order in which they stand in the file; the head of a loop comes before its test
   pub flows : Targets → Statement → Next → List ControlPoint
-  flows to (Block at statements) behind = flows_in to statements behind
-  flows to (Declare at declaration None) behind = []
-  flows to (Declare at declaration (Some initial)) behind = points_initial initial behind
-  flows to (Run at e) behind = points e behind
-  flows to (If at test body) behind = tested at (starts to body behind) behind ∷ (points test (met point.Branch at) ++ flows to body behind)
-  flows to (IfElse at test body other) behind =
-      tested at (starts to body behind) (starts to other behind) ∷ (points test (met point.Branch at) ++ flows to body behind ++ flows to other behind)
-  flows to (While at test body) behind =
+  flows to (Block at statements) following = flows_in to statements following
+  flows to (Declare at declaration None) following = []
+  flows to (Declare at declaration (Some initial)) following = points_initial initial following
+  flows to (Run at e) following = points e following
+  flows to (If at test body) following = tested at (starts to body following) following ∷ (points test (met point.Branch at) ++ flows to body following)
+  flows to (IfElse at test body other) following =
+      tested at (starts to body following) (starts to other following) ∷ (points test (met point.Branch at) ++ flows to body following ++ flows to other following)
+  flows to (While at test body) following =
       passed point.Head at (first test (met point.Branch at))
-      ∷ (tested at (starts (in_loop to behind (met point.Head at)) body (met point.Head at)) behind
-      ∷ (points test (met point.Branch at) ++ flows (in_loop to behind (met point.Head at)) body (met point.Head at)))
-  flows to (Do at body test) behind =
-      passed point.Head at (starts (in_loop to behind (first test (met point.Branch at))) body (first test (met point.Branch at)))
-      ∷ (tested at (met point.Head at) behind
-      ∷ (flows (in_loop to behind (first test (met point.Branch at))) body (first test (met point.Branch at)) ++ points test (met point.Branch at)))
-  flows to (For at beginning test last body) behind =
-      passed point.Head at (for_test at test (starts (in_loop to behind (first_some last (met point.Head at))) body (first_some last (met point.Head at))))
-      ∷ (for_tested at test (starts (in_loop to behind (first_some last (met point.Head at))) body (first_some last (met point.Head at))) behind
-      ++ flows_in (in_switch to behind) beginning (met point.Head at)
+      ∷ (tested at (starts (in_loop to following (met point.Head at)) body (met point.Head at)) following
+      ∷ (points test (met point.Branch at) ++ flows (in_loop to following (met point.Head at)) body (met point.Head at)))
+  flows to (Do at body test) following =
+      passed point.Head at (starts (in_loop to following (first test (met point.Branch at))) body (first test (met point.Branch at)))
+      ∷ (tested at (met point.Head at) following
+      ∷ (flows (in_loop to following (first test (met point.Branch at))) body (first test (met point.Branch at)) ++ points test (met point.Branch at)))
+  flows to (For at beginning test last body) following =
+      passed point.Head at (for_test at test (starts (in_loop to following (first_some last (met point.Head at))) body (first_some last (met point.Head at))))
+      ∷ (for_tested at test (starts (in_loop to following (first_some last (met point.Head at))) body (first_some last (met point.Head at))) following
+      ++ flows_in (in_switch to following) beginning (met point.Head at)
       ++ for_points at test
       ++ points_some last (met point.Head at)
-      ++ flows (in_loop to behind (first_some last (met point.Head at))) body (first_some last (met point.Head at)))
-  flows to (Switch at value cases statements) behind =
-      switched at (case_ways (in_switch to behind) cases 0 statements behind (starts_from (in_switch to behind) (default_item cases (count_of statements)) statements behind))
-      ∷ (points value (met point.Switch at) ++ flows_in (in_switch to behind) statements behind)
-  flows to (Goto at label) behind = []
-  flows to (Label at label body) behind = passed point.Label at (starts to body behind) ∷ flows to body behind
-  flows to (Break at) behind = []
-  flows to (Continue at) behind = []
-  flows to (Return at value) behind = last_point point.Return at ∷ points_some value (met point.Return at)
+      ++ flows (in_loop to following (first_some last (met point.Head at))) body (first_some last (met point.Head at)))
+  flows to (Switch at value cases statements) following =
+      switched at (case_ways (in_switch to following) cases 0 statements following (starts_from (in_switch to following) (default_item cases (count_of statements)) statements following))
+      ∷ (points value (met point.Switch at) ++ flows_in (in_switch to following) statements following)
+  flows to (Goto at label) following = []
+  flows to (Label at label body) following = passed point.Label at (starts to body following) ∷ flows to body following
+  flows to (Break at) following = []
+  flows to (Continue at) following = []
+  flows to (Return at value) following = last_point point.Return at ∷ points_some value (met point.Return at)
 
   pub flows_in : Targets → Statements → Next → List ControlPoint
-  flows_in to Empty behind = []
-  flows_in to (Then one others) behind = flows to one (starts_in to others behind) ++ flows_in to others behind
+  flows_in to Empty following = []
+  flows_in to (Then one others) following = flows to one (starts_in to others following) ++ flows_in to others following
 
 -- the end of a function's body
 abbrev pub end_of : Routine → Next

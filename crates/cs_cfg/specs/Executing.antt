@@ -1,17 +1,17 @@
--- Where a point of the code executes a statement, and behind it the graph goes on at a point. No temporary is in use there.
+-- Where a point of the code executes a statement, and after it the graph goes on at a point. No temporary is in use there.
 use Rattle.std.specs.Prelude.{◌≡◌, ℤ, ℕ, zero, suc, ◌+◌, ⊤, List, [], ◌∷◌, Option, Some, None, unwrap_or, option_map, slice_get}
 use Rattle.cs_types.specs.Shape.{Shape, void}
 use Rattle.cs_ast.specs.declared.place.Place.{Place}
 use Rattle.cs_ast.specs.declared.typed.statement.Case.{Case}
 use Rattle.cs_ast.specs.TypedTree.{Typed, Initial, Value, Parts, Bytes, Statement, Block, Declare, Run, If, IfElse, While, Do, For, Switch, Goto, Label, Break, Continue, Return, Statements, Empty, Then, count_of}
 use Rattle.cs_ast.specs.TypedProgram.{TypedProgram, Routine, Variable}
-use Rattle.cs_runs.specs.declared.point.PointKind.TheVariants as point
-use Rattle.cs_plain.specs.Types.{type_of, is_scalar}
-use Rattle.cs_plain.specs.Initials.{Piece, Evaluated, Spelled, pieces}
-use Rattle.cs_plain.specs.Machine.{body_of}
-use Rattle.cs_plain.specs.Marks.{marks, marks_in}
-use Rattle.cs_plain.specs.Jumps.{Landing, landing}
-use Rattle.cs_plain.specs.Statements.{default_item}
+use Rattle.cs_events.specs.declared.point.PointKind.TheVariants as point
+use Rattle.cs_meaning.specs.Types.{type_of, is_scalar}
+use Rattle.cs_meaning.specs.Initials.{Piece, Evaluated, Spelled, pieces}
+use Rattle.cs_meaning.specs.Machine.{body_of}
+use Rattle.cs_meaning.specs.Marks.{marks, marks_in}
+use Rattle.cs_meaning.specs.Jumps.{Landing, landing}
+use Rattle.cs_meaning.specs.Statements.{default_item}
 use Rattle.cs_cfg.specs.Graph as graph
 use Rattle.cs_cfg.specs.Graph.{SwitchCase, Point, Flow, block_of}
 use Rattle.cs_cfg.specs.Placing.{does, split, Joins, evaluates, used}
@@ -28,7 +28,7 @@ leaving = record { operations = []; end = graph.Return 0 }
 abbrev pub finishing : Point
 finishing = record { operations = []; end = graph.Finish }
 
--- what a loop's body, or any statement, is at a point: where `break` and `continue` lead, the point, and the one behind it
+-- what a loop's body, or any statement, is at a point: where `break` and `continue` lead, the point, and the one after it
 abbrev pub Part : Type 1
 Part = Point → Point → Point → Point → Type 0
 
@@ -49,13 +49,13 @@ module _ (program : TypedProgram) (flow : Flow) where
   abbrev pub tests_at : Place → Typed → Point → (Point → Point → Type 0) → Type 0
   tests_at at test p Ways = (one other : ℕ) × used program flow test 0 p (split at 0 one other) × Ways (block_of flow one) (block_of flow other)
 
-  -- a `while` with this head, behind which stands a point (C11 6.8.5.1)
+  -- a `while` with this head, after which stands a point (C11 6.8.5.1)
   abbrev pub while_loop : Place → Typed → ℕ → Part → Point → Point → Type 0
   while_loop at test mark body head q =
       (r : Point) × (head ≡ does at 0 (graph.Reach point.Head mark) r)
       × tests_at at test r (λ one other. part_to body q head one head × Joins program flow other q)
 
-  -- a `do` with this head, and with this point behind its body (C11 6.8.5.2)
+  -- a `do` with this head, and with this point after its body (C11 6.8.5.2)
   abbrev pub do_loop : Place → Typed → ℕ → Part → Point → Point → Point → Type 0
   do_loop at test mark body head again q =
       (r : Point) × (head ≡ does at 0 (graph.Reach point.Head mark) r) × part_to body q again r again
@@ -71,7 +71,7 @@ module _ (program : TypedProgram) (flow : Flow) where
   for_test_at at None r body q = (r ≡ body) × IsKept q
   for_test_at at (Some test) r body q = tests_at at test r (λ one other. (one ≡ body) × Joins program flow other q)
 
-  -- a `for` with this head, and with this point behind its body (C11 6.8.5.3)
+  -- a `for` with this head, and with this point after its body (C11 6.8.5.3)
   abbrev pub for_loop : Place → Option Typed → Option Typed → ℕ → Part → Point → Point → Point → Type 0
   for_loop at test last mark body head again q =
       (r inside : Point) × (head ≡ does at 0 (graph.Reach point.Head mark) r) × for_test_at at test r inside q
@@ -128,8 +128,8 @@ module _ (program : TypedProgram) (flow : Flow) where
       executes_at (Run at e) mark out again p q = evaluates program flow e 0 p (does at 0 graph.Drop q)
       executes_at (If at test body) mark out again p q =
           tests_at at test p (λ one other. part_to (λ o a x y. executes_at body mark o a x y) out again one q × Joins program flow other q)
-      executes_at (IfElse at test body behind) mark out again p q =
-          tests_at at test p (λ one other. part_to (λ o a x y. executes_at body mark o a x y) out again one q × part_to (λ o a x y. executes_at behind (mark + marks body) o a x y) out again other q)
+      executes_at (IfElse at test body following) mark out again p q =
+          tests_at at test p (λ one other. part_to (λ o a x y. executes_at body mark o a x y) out again one q × part_to (λ o a x y. executes_at following (mark + marks body) o a x y) out again other q)
       executes_at (While at test body) mark out again p q =
           (head : Point) × Joins program flow p head × while_loop at test mark (λ o a x y. executes_at body (mark + 1) o a x y) head q
       executes_at (Do at body test) mark out again p q =

@@ -3,7 +3,7 @@
 use Rattle.std.specs.Prelude.{◌≡◌, ℕ, ⊤, List, Contains, Option, Some, None}
 use Rattle.std.specs.List.{All}
 use Rattle.cs_ast.specs.TypedProgram.{TypedProgram, Routine}
-use Rattle.cs_plain.specs.Machine.{routine_of}
+use Rattle.cs_meaning.specs.Machine.{routine_of}
 use Rattle.cs_cfg.specs.Graph.{Point, Flow, Code, flow_of}
 use Rattle.cs_cfg.specs.ControlPoints.{Met, the_point, Exit, Next, way, ControlPoint, control_points}
 use Rattle.cs_cfg.specs.GraphPoints.{IsMet, Leads, MeetsNext, IsRest}

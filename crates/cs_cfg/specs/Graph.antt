@@ -10,8 +10,8 @@ use Rattle.cs_ast.specs.declared.typed.operator.Direction.{Direction}
 use Rattle.cs_ast.specs.declared.typed.operator.Gives.{Gives}
 use Rattle.cs_ast.specs.declared.typed.operator.Order.{Order}
 use Rattle.cs_ast.specs.declared.typed.operator.Allocator.{Allocator}
-use Rattle.cs_runs.specs.declared.point.PointKind.{PointKind}
-use Rattle.cs_plain.specs.Access.{Access}
+use Rattle.cs_events.specs.declared.point.PointKind.{PointKind}
+use Rattle.cs_meaning.specs.Access.{Access}
 
 -- what an operation does with its operands
 pub data Work : Type 0 where

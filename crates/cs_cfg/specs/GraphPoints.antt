@@ -1,8 +1,8 @@
 -- The control points of the graph of a function, and what is met next on each way out of them, by its blocks alone.
 use Rattle.std.specs.Prelude.{◌≡◌, ℕ, Bool, true, false, List, [], ◌++◌, length, Contains, Option, Some, None, slice_get, if◌then◌else◌}
 use Rattle.cs_ast.specs.declared.place.Place.{Place}
-use Rattle.cs_runs.specs.declared.point.PointKind.{PointKind}
-use Rattle.cs_runs.specs.declared.point.PointKind.TheVariants as point
+use Rattle.cs_events.specs.declared.point.PointKind.{PointKind}
+use Rattle.cs_events.specs.declared.point.PointKind.TheVariants as point
 use Rattle.cs_cfg.specs.Graph.{Work, Reach, Meet, Close, Operation, SwitchCase, Jump, Branch, Switch, Finish, Point, before, Flow, block_of}
 use Rattle.cs_cfg.specs.ControlPoints.{Met, Next, the_point, met, Exit, Onward, TruthOf, CaseOf, Way, ControlPoint}
 
@@ -16,7 +16,7 @@ met_in at other = None
 abbrev pub met_by : Operation → Option Met
 met_by operation = met_in operation.at operation.work
 
--- whether something of the function may be met behind a control point
+-- whether something of the function may be met after a control point
 abbrev pub goes_on : PointKind → Bool
 goes_on point.Return = false
 goes_on point.End = false

@@ -12,7 +12,7 @@ use Rattle.cs_cfg.specs.declared.code.Mark.{Mark}
 use Rattle.cs_cfg.specs.declared.code.BlockEnd as e
 use Rattle.cs_cfg.specs.declared.code.BlockEnd.TheVariants as ends
 use Rattle.cs_cfg.specs.declared.code.SwitchCase as s
-use Rattle.cs_plain.specs.Access.{Access}
+use Rattle.cs_meaning.specs.Access.{Access}
 use Rattle.cs_cfg.specs.Graph.{Work, Number, Null, Text, Local, Global, Nothing, Sum, Member, Arrow, Load, Convert, Unary, Not, Binary, Compare, Difference, Judge, Store, FetchNumber, Update, FetchPointer, Move, Call, Allocate, Free, Use, Drop, Clear, Zero, StoreLocal, Spell, Reach, Meet, Close, Operation, SwitchCase, BlockEnd, Jump, Branch, Switch, Return, Finish, Point, Flow, Code}
 
 abbrev pub access : a.Access → Access

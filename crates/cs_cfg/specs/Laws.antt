@@ -1,8 +1,8 @@
 -- What is so of all code, and of code that executes the bodies of a program's functions.
 use Rattle.std.specs.Prelude.{◌≡◌, ℕ, Some, option_map}
 use Rattle.cs_ast.specs.TypedProgram.{TypedProgram}
-use Rattle.cs_runs.specs.declared.outcome.RunBudgets.{RunBudgets}
-use Rattle.cs_runs.specs.Runs.{Setting, Log, perform}
+use Rattle.cs_events.specs.declared.outcome.RunBudgets.{RunBudgets}
+use Rattle.cs_events.specs.Runs.{Setting, Log, perform}
 use Rattle.cs_cfg.specs.declared.code.Spot.{Spot}
 use Rattle.cs_cfg.specs.Graph.{Point, Flow, Code, flow_of}
 use Rattle.cs_cfg.specs.GraphPoints.{Occurs}
@@ -13,7 +13,7 @@ use Rattle.cs_cfg.specs.Working.{CodeState}
 use Rattle.cs_cfg.specs.CodeSteps.{code_step}
 use Rattle.cs_cfg.specs.Touching.{point_at, touch_at, in_frame, HasTouched}
 
--- placed code runs as the plain machine does
+-- placed code runs as the reference machine does
 abbrev pub PlacedCodeRunsAlike : Type 0
 PlacedCodeRunsAlike = (code : Code) (program : TypedProgram) → IsPlaced code program → RunsAlike code program
 
@@ -28,7 +28,7 @@ PointsAreAtSpots = (code : Code) (function : ℕ) (flow : Flow) (p : Point) → 
 
 -- the step of the code's run from a spot touches what is told of the spot, in the frame that runs: just this where the run goes on, and
 -- at most this where it ends
-abbrev pub StepsTouchAsTold : Type 0
-StepsTouchAsTold = (code : Code) (program : TypedProgram) (budgets : RunBudgets) (spot : Spot) (setting : Setting) (m : CodeState) (log : Log) →
+abbrev pub StepsTouchAsReported : Type 0
+StepsTouchAsReported = (code : Code) (program : TypedProgram) (budgets : RunBudgets) (spot : Spot) (setting : Setting) (m : CodeState) (log : Log) →
     point_at code spot ≡ Some m.frame.todo →
     HasTouched log.touches (option_map (in_frame m.frame.number) (touch_at code spot)) (perform setting log (code_step code program budgets m))

@@ -2,15 +2,15 @@
 use Rattle.std.specs.Prelude.{◌≡◌, ℕ, List, [], ◌∷◌, ◌+◌, Bool, true, false, Option, Some, None, ⊤}
 use Rattle.cs_ast.specs.TypedTree.{Statement}
 use Rattle.cs_ast.specs.TypedProgram.{TypedProgram, Routine}
-use Rattle.cs_runs.specs.declared.outcome.Outcome.{Outcome}
-use Rattle.cs_runs.specs.declared.outcome.Outcome.TheVariants.{Done}
-use Rattle.cs_runs.specs.declared.outcome.Returned.{Returned}
-use Rattle.cs_runs.specs.declared.outcome.RunBudgets.{RunBudgets}
-use Rattle.cs_runs.specs.Objects.{UnsetCell}
-use Rattle.cs_runs.specs.Runs.{Log}
-use Rattle.cs_runs.specs.Pending.{Pending}
-use Rattle.cs_plain.specs.Machine.{Operand, Scalar, Item, State, operand_at, routine_of}
-use Rattle.cs_plain.specs.PlainRuns.{PlainRun, RunGives, RunIsPending}
+use Rattle.cs_events.specs.declared.outcome.Outcome.{Outcome}
+use Rattle.cs_events.specs.declared.outcome.Outcome.TheVariants.{Done}
+use Rattle.cs_events.specs.declared.outcome.Returned.{Returned}
+use Rattle.cs_events.specs.declared.outcome.RunBudgets.{RunBudgets}
+use Rattle.cs_events.specs.Objects.{UnsetCell}
+use Rattle.cs_events.specs.Runs.{Log}
+use Rattle.cs_events.specs.Pending.{Pending}
+use Rattle.cs_meaning.specs.Machine.{Operand, Scalar, Item, State, operand_at, routine_of}
+use Rattle.cs_meaning.specs.PlainRuns.{PlainRun, RunGives, RunIsPending}
 use Rattle.cs_cfg.specs.Graph.{BlockEnd, Return, Flow, Code, flow_of}
 use Rattle.cs_cfg.specs.Working.{CodeState, cut}
 use Rattle.cs_cfg.specs.CodeSteps.{CodeGives, CodeIsPending}
@@ -46,7 +46,7 @@ abbrev pub ReadsOff : Routine → Option Flow → Type 0
 ReadsOff routine None = ⊤
 ReadsOff routine (Some flow) = HasPoints flow (control_points routine)
 
--- runs of the code end as those of the plain machine do, with the same events, paths read and touches; the same is pending at each event
+-- runs of the code end as those of the reference machine do, with the same events, paths read and touches; the same is pending at each event
 pub record RunsAlike (code : Code) (program : TypedProgram) : Type 0 where
   -- the run of the code ends so where the machine's run does, with the same log
   pub ends : (entry : ℕ) (body : Statement) (run : PlainRun) (budgets : RunBudgets) (outcome : Outcome) (log : Log) →
@@ -64,7 +64,7 @@ pub record RunsAlike (code : Code) (program : TypedProgram) : Type 0 where
       (one : RunGives program entry run budgets (Done what) log) (other : CodeGives code program entry run budgets (Done what) log) →
       (returned_value one.last ≡ code_returned other.last) × (one.last.memory ≡ other.last.memory)
 
--- the code is the lowering of a program: it runs as the plain machine does, and its control points are those of the statements
+-- the code is the lowering of a program: it runs as the reference machine does, and its control points are those of the statements
 pub record IsLowered (code : Code) (program : TypedProgram) : Type 0 where
   pub graphs : HasGraphs code program
   pub runs : RunsAlike code program

@@ -2,10 +2,10 @@
 use Rattle.std.specs.Prelude.{◌≡◌, ℕ, Bool, Some}
 use Rattle.cs_ast.specs.TypedTree.{Statement}
 use Rattle.cs_ast.specs.TypedProgram.{TypedProgram, Routine}
-use Rattle.cs_runs.specs.declared.point.PointKind.TheVariants as point
-use Rattle.cs_plain.specs.Machine.{routine_of}
-use Rattle.cs_plain.specs.Marks.{marks}
-use Rattle.cs_plain.specs.Calls.{falls_off}
+use Rattle.cs_events.specs.declared.point.PointKind.TheVariants as point
+use Rattle.cs_meaning.specs.Machine.{routine_of}
+use Rattle.cs_meaning.specs.Marks.{marks}
+use Rattle.cs_meaning.specs.Calls.{falls_off}
 use Rattle.cs_cfg.specs.Graph as graph
 use Rattle.cs_cfg.specs.Graph.{Point, Flow, Code, block_of, flow_of}
 use Rattle.cs_cfg.specs.Working.{closed_with}
@@ -17,13 +17,13 @@ use Rattle.cs_cfg.specs.Lowered.{HasGraphs}
 pub record LowersBody (program : TypedProgram) (routine : Routine) (body : Statement) (flow : Flow) : Type 0 where
   -- the points to which each label's `goto`s lead
   pub labels : ℕ → Point
-  -- where the body begins, and what stands behind it
+  -- where the body begins, and what stands after it
   pub inside : Point
-  pub behind : Point
+  pub following : Point
   pub nothing : Bool
   pub begins : block_of flow flow.entry ≡ does routine.at 0 (graph.Meet point.Enter) inside
-  pub executes : executes_at program flow routine labels body 0 finishing finishing inside behind
-  pub ends : Joins program flow behind (does routine.closes 0 (graph.Close nothing) leaving)
+  pub executes : executes_at program flow routine labels body 0 finishing finishing inside following
+  pub ends : Joins program flow following (does routine.closes 0 (graph.Close nothing) leaving)
   pub gives : closed_with nothing ≡ falls_off routine.returns
   pub counts : flow.marks ≡ marks body
 

@@ -1,4 +1,4 @@
--- Where code lowers syntax: this point evaluates this expression, or executes this statement, and behind it the graph goes on at that
+-- Where code lowers syntax: this point evaluates this expression, or executes this statement, and after it the graph goes on at that
 -- point. A recursion over the syntax. The temporaries below a number are in use; statements stand where none are.
 use Rattle.std.specs.Prelude.{◌≡◌, ℕ, suc, ◌+◌, ℤ, pos, []}
 use Rattle.cs_types.specs.Shape.{Shape, void}
@@ -7,16 +7,16 @@ use Rattle.cs_ast.specs.declared.typed.operator.Order.TheVariants.{PointerFirst,
 use Rattle.cs_ast.specs.declared.typed.operator.Direction.TheVariants.{Forward}
 use Rattle.cs_ast.specs.TypedTree.{Typed, Of, Form, Number, Null, Text, Local, Global, Through, Index, Member, Arrow, Load, Address, Decay, Convert, Unary, Not, Binary, Compare, Sum, Difference, And, Or, Choice, Comma, Assign, Update, Move, Call, Allocate, Free, TypedList, NoMore, Further}
 use Rattle.cs_ast.specs.TypedProgram.{TypedProgram}
-use Rattle.cs_plain.specs.Types.{size_of, type_of, target_of, integer_of}
-use Rattle.cs_plain.specs.Access.{access_of}
-use Rattle.cs_plain.specs.Expressions.{count_all}
+use Rattle.cs_meaning.specs.Types.{size_of, type_of, target_of, integer_of}
+use Rattle.cs_meaning.specs.Access.{access_of}
+use Rattle.cs_meaning.specs.Expressions.{count_all}
 use Rattle.cs_cfg.specs.Graph as graph
 use Rattle.cs_cfg.specs.Graph.{Work, Operation, SwitchCase, Point, before, Flow, block_of}
 use Rattle.cs_cfg.specs.Working.{allocator_takes}
 
 -- an operation, and then a point
 abbrev pub does : Place → ℕ → Work → Point → Point
-does at temporary work behind = before (record { at = at; temporary = temporary; work = work }) behind
+does at temporary work following = before (record { at = at; temporary = temporary; work = work }) following
 
 -- a test of a temporary, and nothing before it
 abbrev pub split : Place → ℕ → ℕ → ℕ → Point
@@ -24,8 +24,8 @@ split at temporary one other = record { operations = []; end = graph.Branch at t
 
 -- the result of a call is looked at where it is used; no other value has to be
 abbrev pub used_then : Typed → ℕ → Point → Point
-used_then (Of at ty (Call function arguments)) number behind = does at number graph.Use behind
-used_then other number behind = behind
+used_then (Of at ty (Call function arguments)) number following = does at number graph.Use following
+used_then other number following = following
 
 -- so many bytes has what a pointer of this type points to
 abbrev pub step_of : TypedProgram → Shape → ℕ

@@ -1,4 +1,4 @@
--- Where a state of the code's run stands for a state of the plain machine: the point that it has come to does what the machine has
+-- Where a state of the code's run stands for a state of the reference machine: the point that it has come to does what the machine has
 -- still to do. A recursion over the list of things to do.
 use Rattle.std.specs.Prelude.{◌≡◌, ℕ, suc, ◌+◌, pos, Bool, List, Option, Some, None, [], ◌∷◌}
 use Rattle.cs_types.specs.Shape.{Shape}
@@ -6,13 +6,13 @@ use Rattle.cs_ast.specs.declared.place.Place.{Place}
 use Rattle.cs_ast.specs.declared.typed.operator.Direction.TheVariants.{Forward}
 use Rattle.cs_ast.specs.TypedTree.{Typed, Of, Form, Number, Null, Text, Local, Global, Index, Member, Arrow, Load, Convert, Unary, Not, Binary, Compare, Sum, Difference, And, Or, Choice, Assign, Update, Move, Call, Allocate, Free, Statement, If, IfElse, While, Do, For, Switch, count_of}
 use Rattle.cs_ast.specs.TypedProgram.{TypedProgram, Routine}
-use Rattle.cs_runs.specs.declared.point.PointKind.TheVariants as point
-use Rattle.cs_plain.specs.Types.{size_of, type_of, integer_of, is_scalar}
-use Rattle.cs_plain.specs.Access.{access_of}
-use Rattle.cs_plain.specs.Machine.{Item, Evaluate, EvaluateUnused, Act, Fetch, Choose, Judge, Use, Drop, Store, Spell, Execute, Decide, Turn, Again, Out, Begin, End, Give, Leave}
-use Rattle.cs_plain.specs.Marks.{marks, marks_in}
-use Rattle.cs_plain.specs.Expressions.{count_all}
-use Rattle.cs_plain.specs.Statements.{default_item}
+use Rattle.cs_events.specs.declared.point.PointKind.TheVariants as point
+use Rattle.cs_meaning.specs.Types.{size_of, type_of, integer_of, is_scalar}
+use Rattle.cs_meaning.specs.Access.{access_of}
+use Rattle.cs_meaning.specs.Machine.{Item, Evaluate, EvaluateUnused, Act, Fetch, Choose, Judge, Use, Drop, Store, Spell, Execute, Decide, Turn, Again, Out, Begin, End, Give, Leave}
+use Rattle.cs_meaning.specs.Marks.{marks, marks_in}
+use Rattle.cs_meaning.specs.Expressions.{count_all}
+use Rattle.cs_meaning.specs.Statements.{default_item}
 use Rattle.cs_cfg.specs.Graph as graph
 use Rattle.cs_cfg.specs.Graph.{Work, SwitchCase, Point, Flow, Code, no_flow, block_of, flow_of}
 use Rattle.cs_cfg.specs.Working.{takes, closed_with}
@@ -20,16 +20,16 @@ use Rattle.cs_cfg.specs.Placing.{does, split, step_of, Joins, evaluates, used, j
 use Rattle.cs_cfg.specs.Executing.{type_in, leaving, finishing, Part, part_to, while_loop, do_loop, for_loop, cases_lead, executes_at, from_at}
 
 -- what stands at a point once so many temporaries are in use
-abbrev pub Behind : Type 1
-Behind = ℕ → Point → Type 0
+abbrev pub Following : Type 1
+Following = ℕ → Point → Type 0
 
 -- no point does this
-abbrev pub nowhere : Behind
+abbrev pub nowhere : Following
 nowhere depth p = ⊥
 
 -- an operation, which leaves so many temporaries in place of its operands
-abbrev pub worked : Place → Work → ℕ → Behind → Behind
-worked at work leaves behind depth p = (number : ℕ) × (q : Point) × (depth ≡ takes work + number) × (p ≡ does at number work q) × behind (leaves + number) q
+abbrev pub worked : Place → Work → ℕ → Following → Following
+worked at work leaves following depth p = (number : ℕ) × (q : Point) × (depth ≡ takes work + number) × (p ≡ does at number work q) × following (leaves + number) q
 
 -- the operation that does what an expression does with its parts, if it does something with them
 abbrev pub work_of : TypedProgram → Shape → Form → Option Work
@@ -58,97 +58,97 @@ work_of program ty (Free a) = Some graph.Free
 work_of program ty other = None
 
 -- that operation, whose operands are the newest temporaries
-abbrev pub acts_by : Place → Option Work → Behind → Behind
-acts_by at None behind = nowhere
-acts_by at (Some work) behind = worked at work 1 behind
+abbrev pub acts_by : Place → Option Work → Following → Following
+acts_by at None following = nowhere
+acts_by at (Some work) following = worked at work 1 following
 
 module _ (program : TypedProgram) (flow : Flow) where
-  abbrev pub acts_at : Typed → Behind → Behind
-  acts_at (Of at ty form) behind = acts_by at (work_of program ty form) behind
+  abbrev pub acts_at : Typed → Following → Following
+  acts_at (Of at ty form) following = acts_by at (work_of program ty form) following
 
   -- the load of an update
-  abbrev pub fetches_form : Place → Form → Behind → Behind
-  fetches_form at (Update op a b works_in gives) behind = worked at (graph.FetchNumber (access_of a) works_in) 3 behind
-  fetches_form at (Move a n direction gives) behind = worked at (graph.FetchPointer (access_of a)) 2 behind
-  fetches_form at other behind = nowhere
+  abbrev pub fetches_form : Place → Form → Following → Following
+  fetches_form at (Update op a b works_in gives) following = worked at (graph.FetchNumber (access_of a) works_in) 3 following
+  fetches_form at (Move a n direction gives) following = worked at (graph.FetchPointer (access_of a)) 2 following
+  fetches_form at other following = nowhere
 
-  abbrev pub fetches_at : Typed → Behind → Behind
-  fetches_at (Of at ty form) behind = fetches_form at form behind
+  abbrev pub fetches_at : Typed → Following → Following
+  fetches_at (Of at ty form) following = fetches_form at form following
 
   -- a test of the newest temporary, and what stands at the beginning of its two ways, over so many temporaries
-  abbrev pub splits : Place → (ℕ → Point → Point → Type 0) → Behind
+  abbrev pub splits : Place → (ℕ → Point → Point → Type 0) → Following
   splits at Ways depth p = (number one other : ℕ) × (depth ≡ suc number) × (p ≡ split at number one other) × Ways number (block_of flow one) (block_of flow other)
 
   -- the way that the first part of `&&`, `||` or `?:` says
-  abbrev pub chooses_form : Place → Form → Behind → Behind
-  chooses_form at (And a b) behind = splits at (λ number one other. (q : Point) × judged program flow at b number one q × known program flow at (pos 0) number other q × behind (suc number) q)
-  chooses_form at (Or a b) behind = splits at (λ number one other. (q : Point) × known program flow at (pos 1) number one q × judged program flow at b number other q × behind (suc number) q)
-  chooses_form at (Choice a b c) behind = splits at (λ number one other. (q : Point) × joined program flow b number one q × joined program flow c number other q × behind (suc number) q)
-  chooses_form at other behind = nowhere
+  abbrev pub chooses_form : Place → Form → Following → Following
+  chooses_form at (And a b) following = splits at (λ number one other. (q : Point) × judged program flow at b number one q × known program flow at (pos 0) number other q × following (suc number) q)
+  chooses_form at (Or a b) following = splits at (λ number one other. (q : Point) × known program flow at (pos 1) number one q × judged program flow at b number other q × following (suc number) q)
+  chooses_form at (Choice a b c) following = splits at (λ number one other. (q : Point) × joined program flow b number one q × joined program flow c number other q × following (suc number) q)
+  chooses_form at other following = nowhere
 
-  abbrev pub chooses_at : Typed → Behind → Behind
-  chooses_at (Of at ty form) behind = chooses_form at form behind
+  abbrev pub chooses_at : Typed → Following → Following
+  chooses_at (Of at ty form) following = chooses_form at form following
 
   module _ (routine : Routine) (labels : ℕ → Point) where
     -- a statement as a part of another
     abbrev pub part_of : Statement → ℕ → Part
     part_of s mark out again p q = executes_at program flow routine labels s mark out again p q
 
-    -- a loop with a head, with a point behind its body, and with a point behind the loop
+    -- a loop with a head, with a point after its body, and with a point after the loop
     abbrev pub loops_at : Statement → ℕ → Point → Point → Point → Type 0
     loops_at (While at test body) mark head again q = (again ≡ head) × while_loop program flow at test mark (part_of body (mark + 1)) head q
     loops_at (Do at body test) mark head again q = do_loop program flow at test mark (part_of body (mark + 1)) head again q
     loops_at (For at first test last body) mark head again q = for_loop program flow at test last mark (part_of body (mark + 1 + marks_in first)) head again q
     loops_at other mark head again q = ⊥
 
-    -- the way that the test of a statement, or the value of a `switch`, says; `out` is where `break` leads in it, which is behind a loop
-    abbrev pub decides_at : Statement → ℕ → Point → Point → Behind → Point → Type 0
-    decides_at (If at test body) mark out again behind p =
-        splits at (λ number one other. (q : Point) × part_to program flow (part_of body mark) out again one q × Joins program flow other q × behind 0 q) 1 p
-    decides_at (IfElse at test body else_body) mark out again behind p =
-        splits at (λ number one other. (q : Point) × part_to program flow (part_of body mark) out again one q × part_to program flow (part_of else_body (mark + marks body)) out again other q × behind 0 q) 1 p
-    decides_at (While at test body) mark out again behind p =
-        (head : Point) × while_loop program flow at test mark (part_of body (mark + 1)) head out × behind 0 out
+    -- the way that the test of a statement, or the value of a `switch`, says; `out` is where `break` leads in it, which is after a loop
+    abbrev pub decides_at : Statement → ℕ → Point → Point → Following → Point → Type 0
+    decides_at (If at test body) mark out again following p =
+        splits at (λ number one other. (q : Point) × part_to program flow (part_of body mark) out again one q × Joins program flow other q × following 0 q) 1 p
+    decides_at (IfElse at test body else_body) mark out again following p =
+        splits at (λ number one other. (q : Point) × part_to program flow (part_of body mark) out again one q × part_to program flow (part_of else_body (mark + marks body)) out again other q × following 0 q) 1 p
+    decides_at (While at test body) mark out again following p =
+        (head : Point) × while_loop program flow at test mark (part_of body (mark + 1)) head out × following 0 out
         × splits at (λ number one other. part_to program flow (part_of body (mark + 1)) out head one head × Joins program flow other out) 1 p
-    decides_at (Do at body test) mark out again behind p =
-        (head test_at : Point) × do_loop program flow at test mark (part_of body (mark + 1)) head test_at out × behind 0 out
+    decides_at (Do at body test) mark out again following p =
+        (head test_at : Point) × do_loop program flow at test mark (part_of body (mark + 1)) head test_at out × following 0 out
         × splits at (λ number one other. Joins program flow one head × Joins program flow other out) 1 p
-    decides_at (For at first test last body) mark out again behind p =
-        (head last_part : Point) × for_loop program flow at test last mark (part_of body (mark + 1 + marks_in first)) head last_part out × behind 0 out
+    decides_at (For at first test last body) mark out again following p =
+        (head last_part : Point) × for_loop program flow at test last mark (part_of body (mark + 1 + marks_in first)) head last_part out × following 0 out
         × splits at (λ number one other. part_to program flow (part_of body (mark + 1 + marks_in first)) out last_part one last_part × Joins program flow other out) 1 p
-    decides_at (Switch at value cases statements) mark out again behind p =
+    decides_at (Switch at value cases statements) mark out again following p =
         (ways : List SwitchCase) × (otherwise : ℕ) × (entries : ℕ → Point)
         × (p ≡ record { operations = []; end = graph.Switch at 0 ways otherwise })
         × ((item : ℕ) → from_at program flow routine labels item statements mark out again (entries item) out)
-        × cases_lead program flow routine labels entries cases ways × (block_of flow otherwise ≡ entries (default_item cases (count_of statements))) × behind 0 out
-    decides_at other mark out again behind p = ⊥
+        × cases_lead program flow routine labels entries cases ways × (block_of flow otherwise ≡ entries (default_item cases (count_of statements))) × following 0 out
+    decides_at other mark out again following p = ⊥
 
-    -- the point does the first thing to do, with as many temporaries in use as the depth says, and what is behind stands behind it
-    abbrev pub item_at : Item → Point → Point → Behind → Behind
-    item_at (Evaluate e) out again behind depth p = (q : Point) × used program flow e depth p q × behind (suc depth) q
-    item_at (EvaluateUnused e) out again behind depth p = (q : Point) × evaluates program flow e depth p q × behind (suc depth) q
-    item_at (Act e) out again behind depth p = acts_at e behind depth p
-    item_at (Fetch e) out again behind depth p = fetches_at e behind depth p
-    item_at (Choose e) out again behind depth p = chooses_at e behind depth p
-    item_at (Judge at) out again behind depth p = worked at graph.Judge 1 behind depth p
-    item_at (Use at) out again behind depth p = worked at graph.Use 1 behind depth p
-    item_at Drop out again behind depth p = (at : Place) × worked at graph.Drop 0 behind depth p
-    item_at (Store at declaration offset ty) out again behind depth p =
-        (depth ≡ 1) × worked at (graph.StoreLocal declaration offset ty (is_scalar (type_in routine declaration))) 0 behind 1 p
-    item_at (Spell declaration offset bytes) out again behind depth p = (depth ≡ 0) × ((at : Place) × worked at (graph.Spell declaration offset bytes) 0 behind 0 p)
-    item_at (Execute s mark) out again behind depth p = (depth ≡ 0) × ((q : Point) × part_of s mark out again p q × behind 0 q)
-    item_at (Decide s mark) out again behind depth p = (depth ≡ 1) × decides_at s mark out again behind p
-    item_at (Turn s mark) out again behind depth p = (depth ≡ 0) × ((after_body : Point) × loops_at s mark p after_body out × behind 0 out)
-    item_at (Again s mark) out again behind depth p = (depth ≡ 0) × (again ≡ p) × ((head : Point) × loops_at s mark head p out × behind 0 out)
-    item_at Out out again behind depth p = (depth ≡ 0) × (p ≡ out) × behind 0 p
-    item_at (Begin at) out again behind depth p = (depth ≡ 0) × worked at (graph.Meet point.Enter) 0 behind 0 p
-    item_at (End at value) out again behind depth p =
-        (depth ≡ 0) × ((nothing : Bool) × (value ≡ closed_with nothing) × (p ≡ does at 0 (graph.Close nothing) leaving)) × behind 0 finishing
-    item_at (Give at) out again behind depth p = (depth ≡ 1) × (p ≡ does at 1 (graph.Meet point.Return) leaving) × ((q : Point) × behind 0 q)
-    item_at Leave out again behind depth p = (depth ≡ 1) × (p ≡ leaving) × ((q : Point) × behind 0 q)
+    -- the point does the first thing to do, with as many temporaries in use as the depth says, and what is after stands after it
+    abbrev pub item_at : Item → Point → Point → Following → Following
+    item_at (Evaluate e) out again following depth p = (q : Point) × used program flow e depth p q × following (suc depth) q
+    item_at (EvaluateUnused e) out again following depth p = (q : Point) × evaluates program flow e depth p q × following (suc depth) q
+    item_at (Act e) out again following depth p = acts_at e following depth p
+    item_at (Fetch e) out again following depth p = fetches_at e following depth p
+    item_at (Choose e) out again following depth p = chooses_at e following depth p
+    item_at (Judge at) out again following depth p = worked at graph.Judge 1 following depth p
+    item_at (Use at) out again following depth p = worked at graph.Use 1 following depth p
+    item_at Drop out again following depth p = (at : Place) × worked at graph.Drop 0 following depth p
+    item_at (Store at declaration offset ty) out again following depth p =
+        (depth ≡ 1) × worked at (graph.StoreLocal declaration offset ty (is_scalar (type_in routine declaration))) 0 following 1 p
+    item_at (Spell declaration offset bytes) out again following depth p = (depth ≡ 0) × ((at : Place) × worked at (graph.Spell declaration offset bytes) 0 following 0 p)
+    item_at (Execute s mark) out again following depth p = (depth ≡ 0) × ((q : Point) × part_of s mark out again p q × following 0 q)
+    item_at (Decide s mark) out again following depth p = (depth ≡ 1) × decides_at s mark out again following p
+    item_at (Turn s mark) out again following depth p = (depth ≡ 0) × ((after_body : Point) × loops_at s mark p after_body out × following 0 out)
+    item_at (Again s mark) out again following depth p = (depth ≡ 0) × (again ≡ p) × ((head : Point) × loops_at s mark head p out × following 0 out)
+    item_at Out out again following depth p = (depth ≡ 0) × (p ≡ out) × following 0 p
+    item_at (Begin at) out again following depth p = (depth ≡ 0) × worked at (graph.Meet point.Enter) 0 following 0 p
+    item_at (End at value) out again following depth p =
+        (depth ≡ 0) × ((nothing : Bool) × (value ≡ closed_with nothing) × (p ≡ does at 0 (graph.Close nothing) leaving)) × following 0 finishing
+    item_at (Give at) out again following depth p = (depth ≡ 1) × (p ≡ does at 1 (graph.Meet point.Return) leaving) × ((q : Point) × following 0 q)
+    item_at Leave out again following depth p = (depth ≡ 1) × (p ≡ leaving) × ((q : Point) × following 0 q)
 
     -- the point does all that is to be done; `break` and `continue` lead to the two others
-    abbrev pub stands_at : List Item → Point → Point → Behind
+    abbrev pub stands_at : List Item → Point → Point → Following
     stands_at [] out again depth p = (p ≡ finishing) × Joins program flow out finishing × Joins program flow again finishing
     stands_at (Out ∷ items) out again depth p = item_at Out out again (λ d q. (outer : Point) × ((r : Point) × Joins program flow q r × stands_at items outer again d r)) depth p
     stands_at (Again s mark ∷ items) out again depth p = item_at (Again s mark) out again (λ d q. (outer : Point) × ((r : Point) × Joins program flow q r × stands_at items out outer d r)) depth p

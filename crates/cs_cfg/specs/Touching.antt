@@ -2,10 +2,10 @@
 use Rattle.std.specs.Prelude.{◌≡◌, ℕ, zero, suc, true, List, [], ◌∷◌, ◌++◌, ◌⊎◌, Option, Some, None, option_map, slice_get}
 use Rattle.std.specs.Option.{option_and_then, option_to_list}
 use Rattle.cs_ast.specs.declared.place.Place.{Place}
-use Rattle.cs_runs.specs.declared.point.PointKind.TheVariants as point
-use Rattle.cs_runs.specs.Touches as run
-use Rattle.cs_runs.specs.Runs.{Performed, Continues, Finishes}
-use Rattle.cs_plain.specs.Access.{Access}
+use Rattle.cs_events.specs.declared.point.PointKind.TheVariants as point
+use Rattle.cs_events.specs.Touches as run
+use Rattle.cs_events.specs.Runs.{Performed, Continues, Finishes}
+use Rattle.cs_meaning.specs.Access.{Access}
 use Rattle.cs_cfg.specs.declared.code.Spot.{Spot}
 use Rattle.cs_cfg.specs.declared.touch.Touch.{Touch}
 use Rattle.cs_cfg.specs.declared.touch.Touch.TheVariants as touch
@@ -43,7 +43,7 @@ touch_of_end (Branch at temporary one other) = Some (touch.Point point.Branch at
 touch_of_end (Switch at temporary cases otherwise) = Some (touch.Point point.Switch at)
 touch_of_end other = None
 
--- what is left of a list from the element with a number on; behind the last one that is nothing
+-- what is left of a list from the element with a number on; after the last one that is nothing
 abbrev pub rest_from : ℕ → List Operation → Option (List Operation)
 rest_from zero operations = Some operations
 rest_from (suc number) [] = None
@@ -81,5 +81,5 @@ in_frame frame (touch.Clear declaration at) = run.Clears frame declaration at
 
 -- what a step touched beside what was touched before: just this where it goes on, and at most this where it ends the run
 abbrev pub HasTouched : {S : Type 0} → List run.Touch → Option run.Touch → Performed S → Type 0
-HasTouched before told (Continues next log) = log.touches ≡ before ++ option_to_list told
-HasTouched before told (Finishes outcome log) = (log.touches ≡ before) ⊎ (log.touches ≡ before ++ option_to_list told)
+HasTouched before reported (Continues next log) = log.touches ≡ before ++ option_to_list reported
+HasTouched before reported (Finishes outcome log) = (log.touches ≡ before) ⊎ (log.touches ≡ before ++ option_to_list reported)

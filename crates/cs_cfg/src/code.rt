@@ -2,7 +2,7 @@
 
 use crate::operation::Operation;
 use cs_ast::Place;
-use cs_runs::PointKind;
+use cs_events::PointKind;
 
 /// The code of a program: for each of its functions the flow graph, where it has a body.
 #[derive(Drop)]

@@ -1,7 +1,7 @@
 //! Laws of code and its runs: what holds for all programs.
-ghost use Rattle.cs_cfg.specs.Laws.{PlacedCodeIsLowered, PlacedCodeRunsAlike, PointsAreAtSpots, StepsTouchAsTold};
+ghost use Rattle.cs_cfg.specs.Laws.{PlacedCodeIsLowered, PlacedCodeRunsAlike, PointsAreAtSpots, StepsTouchAsReported};
 
-/// Code whose graphs execute the bodies of a program's functions runs as the plain machine does: for every entry with a body, all
+/// Code whose graphs execute the bodies of a program's functions runs as the reference machine does: for every entry with a body, all
 /// inputs, guesses and budgets, both runs end alike, with the same events, paths read and touches, and neither ends where the other
 /// doesn't; the same is pending at each event; and both return the same value and leave the same memory.
 pub fn placed_code_runs_alike()
@@ -22,6 +22,6 @@ pub fn points_are_at_spots()
 
 /// A step of a run of any code touches what `Code::touch` tells of the spot from which it comes, in the frame that runs: just this, once,
 /// where the run goes on, and at most this where it ends.
-pub fn steps_touch_as_told()
-    ensures { StepsTouchAsTold }
+pub fn steps_touch_as_reported()
+    ensures { StepsTouchAsReported }
 {}

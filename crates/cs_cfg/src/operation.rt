@@ -2,11 +2,11 @@
 
 use cs_ast::Place;
 use cs_ast::typed::operator::{Allocator, BinOp, CmpOp, Direction, Gives, Order, UnOp};
+use cs_events::PointKind;
 use cs_names::Bytes;
-use cs_runs::PointKind;
 use cs_types::{CType, IntType};
 
-/// An operation. Its operands are the temporaries with its number and the numbers behind it, in the order in which they were
+/// An operation. Its operands are the temporaries with its number and the numbers after it, in the order in which they were
 /// evaluated; its results are put in their place. Temporaries with greater numbers are dropped.
 #[derive(Drop)]
 pub struct Operation {
@@ -34,7 +34,7 @@ pub enum Work {
     Sum(u64, Direction, Order),
     /// The place so many bytes further on (C11 6.5.2.3).
     Member(u64),
-    /// The same behind a pointer.
+    /// The same after a pointer.
     Arrow(u64),
     /// The value of an object whose place is the operand (C11 6.3.2.1).
     Load(Access),
@@ -54,11 +54,11 @@ pub enum Work {
     Judge,
     /// A store of the second operand at the first one (C11 6.5.16.1).
     Store(Access),
-    /// The load of an update of a number: behind the place come the value and the value in the type of the operator.
+    /// The load of an update of a number: after the place come the value and the value in the type of the operator.
     FetchNumber(Access, IntType),
     /// An update: the operands are the place, the value before, the same in the type of the operator, and the right operand.
     Update(BinOp, Access, IntType, Gives),
-    /// The load of an update of a pointer: behind the place comes the value.
+    /// The load of an update of a pointer: after the place comes the value.
     FetchPointer(Access),
     /// A pointer that has moved is stored: the operands are the place, the value before, and the amount of elements of so many bytes.
     Move(Access, u64, Direction, Gives),

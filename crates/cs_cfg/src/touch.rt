@@ -6,7 +6,7 @@ ghost use Rattle.cs_cfg.specs.Touching.{touch_at, touch_in, touch_of, touch_of_e
 use crate::code::{Block, BlockEnd, Code, Spot};
 use crate::operation::{Access, Operation, Work};
 use cs_ast::Place;
-use cs_runs::PointKind;
+use cs_events::PointKind;
 
 /// A control point of some kind, or what happens to the scalar local with a declaration's number, each at its place.
 #[derive(Clone, Copy, Debug, PartialEq, Eq)]
@@ -20,7 +20,7 @@ pub enum Touch {
 impl Code {
     /// What the step of any run from a spot touches. Where nothing is touched, or there is no such spot, it is `None`.
     pub fn touch(&self, spot: Spot) -> Option<Touch>
-        ensures told { result ≡ touch_at (code self.now) spot }
+        ensures reported { result ≡ touch_at (code self.now) spot }
     {
         let flow = self.flows.get(spot.function as usize)?.as_ref()?;
         let block = flow.blocks.get(spot.block as usize)?;
@@ -31,7 +31,7 @@ impl Code {
 impl Block {
     // What stands at a number in the block touches: its mark, an operation or its end.
     fn touch(&self, number: usize) -> Option<Touch>
-        ensures told { result ≡ touch_in (block self.now) number }
+        ensures reported { result ≡ touch_in (block self.now) number }
     {
         match self.mark {
             Some(mark) if number == 0 => Some(Touch::Point(mark.kind, mark.place)),
@@ -43,7 +43,7 @@ impl Block {
 
 // The same in a block without a mark.
 fn unmarked_touch(operations: &[Operation], end: &BlockEnd, number: usize) -> Option<Touch>
-    ensures told { result ≡ touch_in (record { operations = map operation operations.now; end = block_end end.now }) number }
+    ensures reported { result ≡ touch_in (record { operations = map operation operations.now; end = block_end end.now }) number }
 {
     match operations.get(number) {
         Some(operation) => operation.touch(),
@@ -55,7 +55,7 @@ fn unmarked_touch(operations: &[Operation], end: &BlockEnd, number: usize) -> Op
 impl Operation {
     // What the operation touches.
     fn touch(&self) -> Option<Touch>
-        ensures told { result ≡ touch_of (operation self.now) }
+        ensures reported { result ≡ touch_of (operation self.now) }
     {
         match &self.work {
             Work::Load(access) => access.load(),
@@ -79,7 +79,7 @@ impl Operation {
 impl Access {
     // A load, at the place of the object, is a touch where the object is a scalar local.
     fn load(&self) -> Option<Touch>
-        ensures told { result ≡ touch_of_load (access self.now) }
+        ensures reported { result ≡ touch_of_load (access self.now) }
     {
         let declaration = self.local?;
         Some(Touch::Load(declaration, self.place))
@@ -87,7 +87,7 @@ impl Access {
 
     // A store, at the place of what stores.
     fn store(&self, place: Place) -> Option<Touch>
-        ensures told { result ≡ touch_of_store place (access self.now) }
+        ensures reported { result ≡ touch_of_store place (access self.now) }
     {
         let declaration = self.local?;
         Some(Touch::Store(declaration, place))
@@ -97,7 +97,7 @@ impl Access {
 impl BlockEnd {
     // What the end of a block touches.
     fn touch(&self) -> Option<Touch>
-        ensures told { result ≡ touch_of_end (block_end self.now) }
+        ensures reported { result ≡ touch_of_end (block_end self.now) }
     {
         match self {
             BlockEnd::Branch(place, _, _, _) => Some(Touch::Point(PointKind::Branch, *place)),

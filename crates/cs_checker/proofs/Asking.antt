@@ -25,15 +25,15 @@ rest_step olds news i old new rest more same_length =
     ∙ rest_of_same (get_or news i old) (get_or olds i old) (drop (i + 1) news) (drop (i + 1) olds) (sym (drop_more news i old more) ∙ rest ∙ drop_more olds i old more_old)
 
 module _ {C : Type 0} (kind : C → Kind) (count : C → ℕ) (subject : Subject) where
-  pub asked_behind : (olds news : List C) (answers : List Answer) (old new : C) (answer : Answer)
+  pub asked_after : (olds news : List C) (answers : List Answer) (old new : C) (answer : Answer)
       → IsAsked kind count subject olds news answers → IsAnsweredBy (kind old) (kind new) (count old) (count new) subject answer
       → IsAsked kind count subject (olds ++ old ∷ []) (news ++ new ∷ []) (answers ++ answer ∷ [])
-  asked_behind [] [] [] old new answer asked by = (by, tt)
-  asked_behind [] [] (a ∷ answers) old new answer asked by = absurd asked
-  asked_behind [] (n ∷ news) answers old new answer asked by = absurd asked
-  asked_behind (o ∷ olds) [] answers old new answer asked by = absurd asked
-  asked_behind (o ∷ olds) (n ∷ news) [] old new answer asked by = absurd asked
-  asked_behind (o ∷ olds) (n ∷ news) (a ∷ answers) old new answer asked by = (asked.0, asked_behind olds news answers old new answer asked.1 by)
+  asked_after [] [] [] old new answer asked by = (by, tt)
+  asked_after [] [] (a ∷ answers) old new answer asked by = absurd asked
+  asked_after [] (n ∷ news) answers old new answer asked by = absurd asked
+  asked_after (o ∷ olds) [] answers old new answer asked by = absurd asked
+  asked_after (o ∷ olds) (n ∷ news) [] old new answer asked by = absurd asked
+  asked_after (o ∷ olds) (n ∷ news) (a ∷ answers) old new answer asked by = (asked.0, asked_after olds news answers old new answer asked.1 by)
 
   pub kinds_kept : (olds news : List C) (answers : List Answer) → IsAsked kind count subject olds news answers → map kind news ≡ map kind olds
   kinds_kept [] [] [] asked = refl
@@ -52,7 +52,7 @@ module _ {C : Type 0} (kind : C → Kind) (count : C → ℕ) (subject : Subject
       let more_old : i < length olds = omega arith in
       let first : get_or news i d ≡ get_or olds i d = first_of_same (get_or news i d) (get_or olds i d) (drop (i + 1) news) (drop (i + 1) olds) (sym (drop_more news i d more) ∙ rest ∙ drop_more olds i d more_old) in
       let olds_split : take (i + 1) olds ≡ take i olds ++ get_or news i d ∷ [] = take_more olds i d more_old ∙ ap (λ x. take i olds ++ x ∷ []) (sym first) in
-      rw (olds_split, take_more_set news i new more, grown) (asked_behind (take i olds) (take i news) answers (get_or news i d) new answer asked by)
+      rw (olds_split, take_more_set news i new more, grown) (asked_after (take i olds) (take i news) answers (get_or news i d) new answer asked by)
 
   -- all were asked
   pub asked_all : (olds news : List C) (answers : List Answer) (i n : ℕ) → IsAsked kind count subject (take i olds) (take i news) answers

@@ -55,6 +55,6 @@ some_holds (None ∷ conds) numbers = some_holds conds numbers
 some_holds (Some cond ∷ conds) numbers = holds cond numbers || some_holds conds numbers
 
 -- wherever the operation's terms have values, one of the conditions holds exactly if the operation ends in a fault of this kind
-abbrev pub TellsFaults : Kind → Subject → List (Option Cond) → Type 0
-TellsFaults kind subject conds =
+abbrev pub YieldsFaults : Kind → Subject → List (Option Cond) → Type 0
+YieldsFaults kind subject conds =
     (numbers : Valuation) → HasValues subject numbers → some_holds conds numbers ≡ is_faulty_for kind subject numbers

@@ -3,7 +3,7 @@ use Rattle.std.specs.Prelude.{◌≡◌, ◌⊎◌, ℕ, ◌+◌, ◌-◌, ◌^�
 use Rattle.cs_model.specs.declared.kind.Kind.{Kind}
 use Rattle.cs_checker.specs.declared.subject.Subject.{Subject}
 use Rattle.cs_checker.specs.declared.answer.Answer.{Answer}
-use Rattle.cs_checker.specs.Answers.{TellsFaults, HasTermsFor}
+use Rattle.cs_checker.specs.Answers.{YieldsFaults, HasTermsFor}
 
 -- the count is one more, or it stays at its last value
 abbrev pub CountsOne : ℕ → ℕ → Type 0
@@ -13,7 +13,7 @@ CountsOne old new = (new ≡ old + 1) ⊎ ((old ≡ 2 ^ 64 - 1) × (new ≡ old)
 pub record IsAnsweredBy (kind kind_after : Kind) (count count_after : ℕ) (subject : Subject) (answer : Answer) : Type 0 where
   pub kept : kind_after ≡ kind
   pub counted : CountsOne count count_after
-  pub faults : TellsFaults kind subject answer.conds
+  pub faults : YieldsFaults kind subject answer.conds
   pub terms : HasTermsFor subject answer.conds
 
 -- each checker was asked once, and the answers stand in the order of the checkers

@@ -11,7 +11,7 @@ use std::alloc::{AllocError, Global};
 pub trait Checker: Drop {
     ghost use Rattle.std.specs.Prelude.{◌≡◌, ℕ};
     ghost use Rattle.cs_model.specs.declared.kind.Kind.{Kind};
-    ghost use Rattle.cs_checker.specs.Answers.{TellsFaults, HasTermsFor};
+    ghost use Rattle.cs_checker.specs.Answers.{YieldsFaults, HasTermsFor};
     ghost use Rattle.cs_checker.specs.Asked.{CountsOne};
 
     ghost kind_of: { Self → Kind };
@@ -24,7 +24,7 @@ pub trait Checker: Drop {
 
     /// The conditions under which the operation ends in a fault of this kind.
     fn examine(&mut self, subject: &Subject) -> Answer
-        ensures faults { TellsFaults (kind_of self.old) subject.now result.conds }
+        ensures faults { YieldsFaults (kind_of self.old) subject.now result.conds }
         ensures terms { HasTermsFor subject.now result.conds }
         ensures kind { kind_of self.new ≡ kind_of self.old }
         ensures count { CountsOne (count_of self.old) (count_of self.new) };
@@ -34,7 +34,7 @@ pub trait Checker: Drop {
         ensures { result ≡ count_of self.now };
 }
 
-/// Puts a checker behind the others.
+/// Puts a checker after the others.
 pub fn add(
     checkers: &mut Vec<Box<dyn Checker>>,
     checker: Box<dyn Checker>,

@@ -7,13 +7,13 @@ use Rattle.std.proofs.lemmas.Bool.Decides.{Decides-int_eq}
 use Rattle.cs_ranges.specs.declared.range_set.Interval.{Interval}
 use Rattle.cs_ranges.specs.Interval.{IsInside, in_interval}
 use Rattle.cs_ranges.specs.RangeSet.{contains}
-use Rattle.cs_ranges.proofs.Members.{in_interval_tells, contains-cons, contains-single}
+use Rattle.cs_ranges.proofs.Members.{in_interval_yields, contains-cons, contains-single}
 
 pair : (i j : Interval) (x : ℤ) → contains (i ∷ j ∷ []) x ≡ (in_interval i x || in_interval j x)
 pair i j x = contains-cons i (j ∷ []) x ∙ ap (λ b. in_interval i x || b) (contains-single j x)
 
-eq_tells : (x y : ℤ) → ((int_eq x y ≡ true) × (x ≡ y)) ⊎ ((int_eq x y ≡ false) × (x ≡ y → ⊥))
-eq_tells x y = by (int_eq x y) refl
+eq_yields : (x y : ℤ) → ((int_eq x y ≡ true) × (x ≡ y)) ⊎ ((int_eq x y ≡ false) × (x ≡ y → ⊥))
+eq_yields x y = by (int_eq x y) refl
   where
     by : (b : Bool) → int_eq x y ≡ b → ((int_eq x y ≡ true) × (x ≡ y)) ⊎ ((int_eq x y ≡ false) × (x ≡ y → ⊥))
     by true t = inl (t, (Decides-int_eq x y).0 t)
@@ -22,17 +22,17 @@ eq_tells x y = by (int_eq x y) refl
 module _ (i j : Interval) (x : ℤ) where
   -- just 0
   pub only_zero : i.low ≡ pos 0 → i.high ≡ pos 0 → j.low ≡ pos 1 → j.high ≡ pos 0 → contains (i ∷ j ∷ []) x ≡ int_eq x (pos 0)
-  only_zero low high from upto = pair i j x ∙ grind (arith, ints, in_interval_tells i x, in_interval_tells j x, eq_tells x (pos 0))
+  only_zero low high from upto = pair i j x ∙ grind (arith, ints, in_interval_yields i x, in_interval_yields j x, eq_yields x (pos 0))
 
   -- all but 0
   pub not_zero : i.low ≡ neg_ℤ (pos (2 ^ 126)) → i.high ≡ negsuc 0 → j.low ≡ pos 1 → j.high ≡ pos (2 ^ 126) → IsInside x → contains (i ∷ j ∷ []) x ≡ not (int_eq x (pos 0))
-  not_zero low high from upto inside = pair i j x ∙ grind (arith, ints, in_interval_tells i x, in_interval_tells j x, eq_tells x (pos 0))
+  not_zero low high from upto inside = pair i j x ∙ grind (arith, ints, in_interval_yields i x, in_interval_yields j x, eq_yields x (pos 0))
 
   -- what is below 0
   pub below_zero : i.low ≡ neg_ℤ (pos (2 ^ 126)) → i.high ≡ negsuc 0 → j.low ≡ pos 1 → j.high ≡ pos 0 → IsInside x → contains (i ∷ j ∷ []) x ≡ int_lt x (pos 0)
-  below_zero low high from upto inside = pair i j x ∙ grind (arith, ints, in_interval_tells i x, in_interval_tells j x)
+  below_zero low high from upto inside = pair i j x ∙ grind (arith, ints, in_interval_yields i x, in_interval_yields j x)
 
   -- what no operand of this width can be shifted by
   pub outside_width : (width : ℕ) → i.low ≡ neg_ℤ (pos (2 ^ 126)) → i.high ≡ negsuc 0 → j.low ≡ pos width → j.high ≡ pos (2 ^ 126) → IsInside x
       → contains (i ∷ j ∷ []) x ≡ (int_lt x (pos 0) || int_le (pos width) x)
-  outside_width width low high from upto inside = pair i j x ∙ grind (arith, ints, in_interval_tells i x, in_interval_tells j x)
+  outside_width width low high from upto inside = pair i j x ∙ grind (arith, ints, in_interval_yields i x, in_interval_yields j x)

@@ -1,7 +1,7 @@
 //! Frees of what no allocation gave (C11 7.22.3.3).
 ghost use Rattle.std.specs.Prelude.{◌≡◌};
 ghost use Rattle.cs_model.specs.declared.kind.Kind.TheVariants.{BadFree};
-ghost use Rattle.cs_checker.specs.Answers.{TellsFaults, HasTermsFor};
+ghost use Rattle.cs_checker.specs.Answers.{YieldsFaults, HasTermsFor};
 
 use crate::intervals::{NEGATIVE, POSITIVE};
 use cs_checker::{Answer, Checker, Subject};
@@ -45,7 +45,7 @@ impl Checker for BadFreeChecker {
 }
 
 fn released(block: Freeable, offset: Lin) -> Answer
-    ensures faults { TellsFaults BadFree (Subject.Release block offset) result.conds }
+    ensures faults { YieldsFaults BadFree (Subject.Release block offset) result.conds }
     ensures terms { HasTermsFor (Subject.Release block offset) result.conds }
 {
     match block {

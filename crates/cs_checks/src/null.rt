@@ -1,7 +1,7 @@
 //! Accesses through null, and null moved (C11 6.5.3.2, 6.5.6).
 ghost use Rattle.std.specs.Prelude.{◌≡◌};
 ghost use Rattle.cs_model.specs.declared.kind.Kind.TheVariants.{Null};
-ghost use Rattle.cs_checker.specs.Answers.{TellsFaults, HasTermsFor};
+ghost use Rattle.cs_checker.specs.Answers.{YieldsFaults, HasTermsFor};
 
 use crate::intervals::{NEGATIVE, POSITIVE};
 use cs_checker::{Answer, Checker, Subject};
@@ -46,7 +46,7 @@ impl Checker for NullChecker {
 }
 
 fn moved(null: bool, amount: Lin) -> Answer
-    ensures faults { TellsFaults Null (Subject.Move null amount) result.conds }
+    ensures faults { YieldsFaults Null (Subject.Move null amount) result.conds }
     ensures terms { HasTermsFor (Subject.Move null amount) result.conds }
 {
     if null {

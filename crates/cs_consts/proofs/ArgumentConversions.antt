@@ -37,27 +37,27 @@ types_from : (types : List CType) (k j : ℕ) (ty : CType) → j ≡ k + 1 → k
 types_from types k j ty is within read =
     ap (map (λ (t : CType). shape_of t)) (drop-cons types k ty within ∙ ap (λ x. x ∷ drop (suc k) types) (sym read) ∙ ap (λ i. ty ∷ drop i types) (sym (add-one k) ∙ sym is))
 
--- the last of the arguments that are left stands before those behind it
-pub one_less : (all left rest behind : List Expr) (value : Expr) → all ≡ left ++ behind → left ≡ rest ++ value ∷ [] → all ≡ rest ++ (value ∷ behind)
-one_less all left rest behind value split is = split ∙ ap (λ xs. xs ++ behind) is ∙ append_assoc rest (value ∷ []) behind
+-- the last of the arguments that are left stands before those after it
+pub one_less : (all left rest following : List Expr) (value : Expr) → all ≡ left ++ following → left ≡ rest ++ value ∷ [] → all ≡ rest ++ (value ∷ following)
+one_less all left rest following value split is = split ∙ ap (λ xs. xs ++ following) is ∙ append_assoc rest (value ∷ []) following
 
-module _ (model : DataModel) (at : Place) (types : List CType) (k j : ℕ) (ty : CType) (value : Expr) (behind list : List Expr) (refused : Option TypeCode) (is : j ≡ k + 1) (within : k < length types) (read : ty ≡ get_or types k ty) (so_far : converted_list model at (map (λ (t : CType). shape_of t) (drop j types)) (typed_list behind) ≡ outcome at refused (typed_list (reverse list))) where
-  pub value_converts : (v : Expr) (more : List Expr) → converted model at (typed value) (shape_of ty) (shape_of value.ty) ≡ Fine (typed v) → more ≡ list ++ v ∷ [] → converted_list model at (map (λ (t : CType). shape_of t) (drop k types)) (typed_list (value ∷ behind)) ≡ outcome at refused (typed_list (reverse more))
+module _ (model : DataModel) (at : Place) (types : List CType) (k j : ℕ) (ty : CType) (value : Expr) (following list : List Expr) (refused : Option TypeCode) (is : j ≡ k + 1) (within : k < length types) (read : ty ≡ get_or types k ty) (so_far : converted_list model at (map (λ (t : CType). shape_of t) (drop j types)) (typed_list following) ≡ outcome at refused (typed_list (reverse list))) where
+  pub value_converts : (v : Expr) (more : List Expr) → converted model at (typed value) (shape_of ty) (shape_of value.ty) ≡ Fine (typed v) → more ≡ list ++ v ∷ [] → converted_list model at (map (λ (t : CType). shape_of t) (drop k types)) (typed_list (value ∷ following)) ≡ outcome at refused (typed_list (reverse more))
   value_converts v more h pushed =
-      ap (λ ts. converted_list model at ts (typed_list (value ∷ behind))) (types_from types k j ty is within read)
-      ∙ argument_converts model at (shape_of ty) (map (λ (t : CType). shape_of t) (drop j types)) (typed value) (typed_list behind) refused (typed_list (reverse list)) so_far (typed v) h
+      ap (λ ts. converted_list model at ts (typed_list (value ∷ following))) (types_from types k j ty is within read)
+      ∙ argument_converts model at (shape_of ty) (map (λ (t : CType). shape_of t) (drop j types)) (typed value) (typed_list following) refused (typed_list (reverse list)) so_far (typed v) h
       ∙ ap (λ xs. outcome at refused (typed_list xs)) (sym (ap reverse pushed ∙ reverse-append list (v ∷ [])))
 
-  pub value_refused : (code : TypeCode) (place : Place) → converted model at (typed value) (shape_of ty) (shape_of value.ty) ≡ Fault code place → converted_list model at (map (λ (t : CType). shape_of t) (drop k types)) (typed_list (value ∷ behind)) ≡ outcome at (Some (least code refused)) (typed_list (reverse list))
+  pub value_refused : (code : TypeCode) (place : Place) → converted model at (typed value) (shape_of ty) (shape_of value.ty) ≡ Fault code place → converted_list model at (map (λ (t : CType). shape_of t) (drop k types)) (typed_list (value ∷ following)) ≡ outcome at (Some (least code refused)) (typed_list (reverse list))
   value_refused code place h =
-      ap (λ ts. converted_list model at ts (typed_list (value ∷ behind))) (types_from types k j ty is within read)
-      ∙ argument_refused model at (shape_of ty) (map (λ (t : CType). shape_of t) (drop j types)) (typed value) (typed_list behind) refused (typed_list (reverse list)) so_far code place h
+      ap (λ ts. converted_list model at ts (typed_list (value ∷ following))) (types_from types k j ty is within read)
+      ∙ argument_refused model at (shape_of ty) (map (λ (t : CType). shape_of t) (drop j types)) (typed value) (typed_list following) refused (typed_list (reverse list)) so_far code place h
 
 -- no argument is left
-pub all_converted : (model : DataModel) (at : Place) (types : List CType) (k : ℕ) (all left behind list : List Expr) (refused : Option TypeCode) → k ≡ 0 → left ≡ [] → all ≡ left ++ behind → converted_list model at (map (λ (t : CType). shape_of t) (drop k types)) (typed_list behind) ≡ outcome at refused (typed_list (reverse list)) → converted_list model at (map (λ (t : CType). shape_of t) types) (typed_list all) ≡ outcome at refused (typed_list (reverse list))
-all_converted model at types k all left behind list refused none empty split so_far =
-    ap (λ xs. converted_list model at (map (λ (t : CType). shape_of t) types) (typed_list xs)) (split ∙ ap (λ xs. xs ++ behind) empty)
-    ∙ ap (λ i. converted_list model at (map (λ (t : CType). shape_of t) (drop i types)) (typed_list behind)) (sym none)
+pub all_converted : (model : DataModel) (at : Place) (types : List CType) (k : ℕ) (all left following list : List Expr) (refused : Option TypeCode) → k ≡ 0 → left ≡ [] → all ≡ left ++ following → converted_list model at (map (λ (t : CType). shape_of t) (drop k types)) (typed_list following) ≡ outcome at refused (typed_list (reverse list)) → converted_list model at (map (λ (t : CType). shape_of t) types) (typed_list all) ≡ outcome at refused (typed_list (reverse list))
+all_converted model at types k all left following list refused none empty split so_far =
+    ap (λ xs. converted_list model at (map (λ (t : CType). shape_of t) types) (typed_list xs)) (split ∙ ap (λ xs. xs ++ following) empty)
+    ∙ ap (λ i. converted_list model at (map (λ (t : CType). shape_of t) (drop i types)) (typed_list following)) (sym none)
     ∙ so_far
 
 -- `free` takes one argument alone

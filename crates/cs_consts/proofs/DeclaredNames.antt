@@ -13,7 +13,7 @@ use Rattle.cs_consts.specs.declared.entries.Entry.{Entry}
 use Rattle.cs_consts.specs.Meanings.{Meaning, Declaration, meaning_of, declaration_of}
 use Rattle.cs_consts.specs.declared.scope.TagMeaning.{TagMeaning}
 use Rattle.cs_consts.specs.Scopes.{newest, tagged}
-use Rattle.cs_consts.specs.Entries.{declarations_in, newest_place, place_at, Indexed, HasEntered, is_behind, tag_of, tags_in}
+use Rattle.cs_consts.specs.Entries.{declarations_in, newest_place, place_at, Indexed, HasEntered, is_after, tag_of, tags_in}
 
 -- a declaration stands at a place, and says this
 pub record Found (ds : List Declaration) (m : Option Meaning) (i : ℕ) : Type 0 where
@@ -54,12 +54,12 @@ record Cut {A : Type 0} (es first : List A) (x : A) : Type 0 where
   rest : List A
   is : es ≡ first ++ x ∷ rest
 
-cut_push : {A : Type 0} (es first behind : List A) (e x : A) → es ++ e ∷ [] ≡ first ++ x ∷ behind → ((first ≡ es) × (x ≡ e)) ⊎ Cut es first x
-cut_push [] [] behind e x h = inl (refl, cc)
-cut_push [] (y ∷ []) behind e x h = absurd cc
-cut_push [] (y ∷ z ∷ first) behind e x h = absurd cc
-cut_push (y ∷ es) [] behind e x h = inr (record { rest = es; is = cc })
-cut_push (y ∷ es) (z ∷ first) behind e x h = further (cut_push es first behind e x cc)
+cut_push : {A : Type 0} (es first following : List A) (e x : A) → es ++ e ∷ [] ≡ first ++ x ∷ following → ((first ≡ es) × (x ≡ e)) ⊎ Cut es first x
+cut_push [] [] following e x h = inl (refl, cc)
+cut_push [] (y ∷ []) following e x h = absurd cc
+cut_push [] (y ∷ z ∷ first) following e x h = absurd cc
+cut_push (y ∷ es) [] following e x h = inr (record { rest = es; is = cc })
+cut_push (y ∷ es) (z ∷ first) following e x h = further (cut_push es first following e x cc)
   where
     further : ((first ≡ es) × (x ≡ e)) ⊎ Cut es first x → ((z ∷ first ≡ y ∷ es) × (x ≡ e)) ⊎ Cut (y ∷ es) (z ∷ first) x
     further (inl p) = let same : first ≡ es = p.0 in inl (cc, p.1)
@@ -74,14 +74,14 @@ still_indexed old new es more e name place indexed same is before added entered 
       ∙ ap (λ i. cond (pointwise nat_eq e.declaration.name other) (Some i) (place_at old other)) is
       ∙ ap (λ p. cond (pointwise nat_eq e.declaration.name other) (Some (length es)) p) (indexed.each other)
       ∙ sym (entry_place-push other es e));
-  before = λ first behind x split. last first behind x (cut_push es first behind e x (sym added ∙ split));
+  before = λ first following x split. last first following x (cut_push es first following e x (sym added ∙ split));
 }
   where
-    last : (first behind : List Entry) (x : Entry) → ((first ≡ es) × (x ≡ e)) ⊎ Cut es first x → x.before ≡ newest_place x.declaration.name (declarations_in first)
-    last first behind x (inl p) =
+    last : (first following : List Entry) (x : Entry) → ((first ≡ es) × (x ≡ e)) ⊎ Cut es first x → x.before ≡ newest_place x.declaration.name (declarations_in first)
+    last first following x (inl p) =
         ap (λ (y : Entry). y.before) p.1 ∙ before ∙ indexed.each name ∙ ap (λ n. newest_place n (declarations_in es)) same
         ∙ ap (λ (y : Entry). newest_place y.declaration.name (declarations_in es)) (sym p.1) ∙ ap (λ l. newest_place x.declaration.name (declarations_in l)) (sym p.0)
-    last first behind x (inr c) = indexed.before first c.rest x c.is
+    last first following x (inr c) = indexed.before first c.rest x c.is
 
 -- the same places
 pub indexed_as : {S : Type 0} (old new : IndexMap (List ℕ) (Option ℕ) S) (es same : List Entry) → Indexed old es → same ≡ es → ((other : List ℕ) → place_at new other ≡ place_at old other) → Indexed new same
@@ -96,7 +96,7 @@ last_place places es rest e indexed split =
 pub indexed_less : {S : Type 0} (old new : IndexMap (List ℕ) (Option ℕ) S) (es rest : List Entry) (e : Entry) → Indexed old es → es ≡ rest ++ e ∷ [] → HasEntered old new e.declaration.name e.before → Indexed new rest
 indexed_less old new es rest e indexed split entered = record {
   each = λ other. entered other ∙ left other (pointwise nat_eq e.declaration.name other) refl;
-  before = λ first behind x cut. indexed.before first (behind ++ e ∷ []) x (split ∙ ap (λ l. l ++ e ∷ []) cut ∙ append_assoc first (x ∷ behind) (e ∷ []));
+  before = λ first following x cut. indexed.before first (following ++ e ∷ []) x (split ∙ ap (λ l. l ++ e ∷ []) cut ∙ append_assoc first (x ∷ following) (e ∷ []));
 }
   where
     left : (other : List ℕ) (here : Bool) → pointwise nat_eq e.declaration.name other ≡ here → cond here e.before (place_at old other) ≡ newest_place other (declarations_in rest)
@@ -121,15 +121,15 @@ found_is es m i e h read =
     let there : Some h.declaration ≡ Some (declaration_of (get_or es i e).declaration) = sym h.at ∙ slice_get-map (λ (x : Entry). declaration_of x.declaration) es i ∙ ap (option_map (λ (x : Entry). declaration_of x.declaration)) (slice_get-get_or es i e within) in
     ap (λ (x : Entry). Some (meaning_of x.declaration.meaning)) read ∙ sym (ap (option_map (λ (d : Declaration). d.meaning)) there) ∙ sym h.says
 
--- a name is declared behind the first declarations just where its place is none of theirs
-one_behind : (outer : ℕ) (p : Option ℕ) (here : Bool) → is_behind (suc outer) (option_or (option_map suc p) (cond here (Some 0) None)) ≡ is_behind outer p
-one_behind outer (Some place) here = leb-suc-suc outer place
-one_behind outer None true = leb-suc-zero outer
-one_behind outer None false = refl
+-- a name is declared after the first declarations just where its place is none of theirs
+one_after : (outer : ℕ) (p : Option ℕ) (here : Bool) → is_after (suc outer) (option_or (option_map suc p) (cond here (Some 0) None)) ≡ is_after outer p
+one_after outer (Some place) here = leb-suc-suc outer place
+one_after outer None true = leb-suc-zero outer
+one_after outer None false = refl
 
-all_behind : (p : Option ℕ) → is_behind 0 p ≡ is_some p
-all_behind (Some place) = leb-zero place
-all_behind None = refl
+all_after : (p : Option ℕ) → is_after 0 p ≡ is_some p
+all_after (Some place) = leb-zero place
+all_after None = refl
 
 same_some : (p : Option ℕ) (m : Option Meaning) (here : Bool) (said : Meaning) → is_some p ≡ is_some m → is_some (option_or (option_map suc p) (cond here (Some 0) None)) ≡ is_some (option_or m (cond here (Some said) None))
 same_some (Some i) (Some m) here said h = refl
@@ -142,13 +142,13 @@ some_where_placed : (name : List ℕ) (ds : List Declaration) → is_some (newes
 some_where_placed name [] = refl
 some_where_placed name (d ∷ ds) = same_some (newest_place name ds) (newest name ds) (pointwise nat_eq d.name name) d.meaning (some_where_placed name ds)
 
-declared_behind : (name : List ℕ) (ds : List Declaration) (outer : ℕ) → is_behind outer (newest_place name ds) ≡ is_some (newest name (drop outer ds))
-declared_behind name ds zero = all_behind (newest_place name ds) ∙ some_where_placed name ds
-declared_behind name [] (suc outer) = refl
-declared_behind name (d ∷ ds) (suc outer) = one_behind outer (newest_place name ds) (pointwise nat_eq d.name name) ∙ declared_behind name ds outer
+declared_after : (name : List ℕ) (ds : List Declaration) (outer : ℕ) → is_after outer (newest_place name ds) ≡ is_some (newest name (drop outer ds))
+declared_after name ds zero = all_after (newest_place name ds) ∙ some_where_placed name ds
+declared_after name [] (suc outer) = refl
+declared_after name (d ∷ ds) (suc outer) = one_after outer (newest_place name ds) (pointwise nat_eq d.name name) ∙ declared_after name ds outer
 
-pub behind_says : {S : Type 0} (places : IndexMap (List ℕ) (Option ℕ) S) (es : List Entry) (name : List ℕ) (outer : ℕ) (p : Option ℕ) → Indexed places es → p ≡ place_at places name → is_behind outer p ≡ is_some (newest name (drop outer (declarations_in es)))
-behind_says places es name outer p indexed is = ap (is_behind outer) (is ∙ indexed.each name) ∙ declared_behind name (declarations_in es) outer
+pub after_says : {S : Type 0} (places : IndexMap (List ℕ) (Option ℕ) S) (es : List Entry) (name : List ℕ) (outer : ℕ) (p : Option ℕ) → Indexed places es → p ≡ place_at places name → is_after outer p ≡ is_some (newest name (drop outer (declarations_in es)))
+after_says places es name outer p indexed is = ap (is_after outer) (is ∙ indexed.each name) ∙ declared_after name (declarations_in es) outer
 
 -- the first of the first ones
 pub take_less : {A : Type 0} (n m : ℕ) (xs : List A) → n ≤ m → take n (take m xs) ≡ take n xs

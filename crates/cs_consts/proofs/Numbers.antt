@@ -13,7 +13,7 @@ use Rattle.cs_types.specs.IntType.{has_sign, least_of, greatest_of, InRange, IsI
 use Rattle.cs_types.specs.Wrap.{near_quotient, wrap_quotient, wrapped}
 use Rattle.cs_consts.specs.Constants.{is_zero, given, without}
 use Rattle.cs_consts.proofs.DeclaredNames.{newest_found}
-use Rattle.cs_consts.proofs.Productions.{tells_as}
+use Rattle.cs_consts.proofs.Productions.{yields_as}
 use Rattle.cs_consts.proofs.ProductionRows.{formed-Call}
 
 -- the ends of a type's range are ends of the range of C's integers, or within it

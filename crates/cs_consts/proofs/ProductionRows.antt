@@ -14,11 +14,11 @@ use Rattle.cs_consts.specs.declared.purpose.Purpose.TheVariants.{Constant}
 use Rattle.cs_consts.specs.Verdicts.{Verdict, lift, lift2}
 use Rattle.cs_consts.specs.TypeNames.{complete_at}
 use Rattle.cs_consts.specs.Calls.{called, parameters_of}
-use Rattle.cs_consts.specs.Typing.{Literals, literals_behind, literals_behind_row, literals_behind_list, row_length, formed, done, operand_in, further, arguments_formed, arguments_listed, number_before, numbers_formed, numbers_listed, call_or_not, call_formed, cast_formed, measured_arrays, base_in}
+use Rattle.cs_consts.specs.Typing.{Literals, literals_after, literals_after_row, literals_after_list, row_length, formed, done, operand_in, further, arguments_formed, arguments_listed, number_before, numbers_formed, numbers_listed, call_or_not, call_formed, cast_formed, measured_arrays, base_in}
 
-literals-row : (ls : Literals) (n : _) (row : Row_of-RawExpr n) → literals_behind_list ls (items-the_row-RawExpr n row) ≡ literals_behind_row ls row
+literals-row : (ls : Literals) (n : _) (row : Row_of-RawExpr n) → literals_after_list ls (items-the_row-RawExpr n row) ≡ literals_after_row ls row
 literals-row ls n end_of-RawExpr = refl
-literals-row ls n (more_of-RawExpr place k rest) = literals-row (literals_behind ls k) _ rest
+literals-row ls n (more_of-RawExpr place k rest) = literals-row (literals_after ls k) _ rest
 
 length-row : (n : _) (row : Row_of-RawExpr n) → length (items-the_row-RawExpr n row) ≡ row_length row
 length-row n end_of-RawExpr = refl
@@ -27,11 +27,11 @@ length-row n (more_of-RawExpr place k rest) = ap suc (length-row _ rest)
 arguments-row : (c : Context) (p : Purpose) (ls : Literals) (types : List Shape) (n : _) (row : Row_of-RawExpr n) → arguments_listed c p ls types (items-the_row-RawExpr n row) ≡ arguments_formed c p ls types row
 arguments-row c p ls types n end_of-RawExpr = refl
 arguments-row c p ls [] n (more_of-RawExpr place k rest) = refl
-arguments-row c p ls (ty ∷ types) n (more_of-RawExpr place k rest) = ap (lift2 further _) (arguments-row c p (literals_behind ls k) types _ rest)
+arguments-row c p ls (ty ∷ types) n (more_of-RawExpr place k rest) = ap (lift2 further _) (arguments-row c p (literals_after ls k) types _ rest)
 
 numbers-row : (c : Context) (ls : Literals) (n : _) (row : Row_of-RawExpr n) → numbers_listed c ls (items-the_row-RawExpr n row) ≡ numbers_formed c ls row
 numbers-row c ls n end_of-RawExpr = refl
-numbers-row c ls n (more_of-RawExpr place k rest) = ap (lift2 number_before _) (numbers-row c (literals_behind ls k) _ rest)
+numbers-row c ls n (more_of-RawExpr place k rest) = ap (lift2 number_before _) (numbers-row c (literals_after ls k) _ rest)
 
 -- the row of an expression's arguments or bounds
 abbrev row_of : RawExprKind → (n : Count) × Row_of-RawExpr n
@@ -48,20 +48,20 @@ formed-Call c p ls target at function arguments =
     ap (λ n. call_or_not c at target (called c.scope.declarations function.value.kind) n callee (arguments_formed c p ls (parameters_of (called c.scope.declarations function.value.kind)) row.1)) (sym (length-row row.0 row.1) ∙ ap length same)
     ∙ ap (call_or_not c at target (called c.scope.declarations function.value.kind) (length arguments.items) callee) (sym (arguments-row c p ls (parameters_of (called c.scope.declarations function.value.kind)) row.0 row.1) ∙ ap (arguments_listed c p ls (parameters_of (called c.scope.declarations function.value.kind))) same)
 
-pub literals-Call : (ls : Literals) (function : Box RawExpr Global) (arguments : Vec RawExpr Global) → literals_behind ls (kind.Call function arguments) ≡ literals_behind_list ls arguments.items
+pub literals-Call : (ls : Literals) (function : Box RawExpr Global) (arguments : Vec RawExpr Global) → literals_after ls (kind.Call function arguments) ≡ literals_after_list ls arguments.items
 literals-Call ls function arguments =
     let row = row_of (kind.Call function arguments) in
-    sym (literals-row ls row.0 row.1) ∙ ap (literals_behind_list ls) (items_hidden-the_row-RawExpr-0 arguments)
+    sym (literals-row ls row.0 row.1) ∙ ap (literals_after_list ls) (items_hidden-the_row-RawExpr-0 arguments)
 
 pub formed-SizeOfType : (c : Context) (p : Purpose) (ls : Literals) (target : Option Shape) (at : Place) (ty : WrittenType) (bounds : Vec RawExpr Global) → formed c p ls target at (kind.SizeOfType ty bounds) ≡ lift2 (measured_arrays c at) (lift (complete_at c.table.list at) (base_in c at ty)) (numbers_listed c ls bounds.items)
 formed-SizeOfType c p ls target at ty bounds =
     let row = row_of (kind.SizeOfType ty bounds) in
     ap (lift2 (measured_arrays c at) (lift (complete_at c.table.list at) (base_in c at ty))) (sym (numbers-row c ls row.0 row.1) ∙ ap (numbers_listed c ls) (items_hidden-the_row-RawExpr-0 bounds))
 
-pub literals-SizeOfType : (ls : Literals) (ty : WrittenType) (bounds : Vec RawExpr Global) → literals_behind ls (kind.SizeOfType ty bounds) ≡ literals_behind_list ls bounds.items
+pub literals-SizeOfType : (ls : Literals) (ty : WrittenType) (bounds : Vec RawExpr Global) → literals_after ls (kind.SizeOfType ty bounds) ≡ literals_after_list ls bounds.items
 literals-SizeOfType ls ty bounds =
     let row = row_of (kind.SizeOfType ty bounds) in
-    sym (literals-row ls row.0 row.1) ∙ ap (literals_behind_list ls) (items_hidden-the_row-RawExpr-0 bounds)
+    sym (literals-row ls row.0 row.1) ∙ ap (literals_after_list ls) (items_hidden-the_row-RawExpr-0 bounds)
 
 pub formed-Cast : (c : Context) (p : Purpose) (ls : Literals) (target : Option Shape) (at : Place) (ty : WrittenType) (bounds : Vec RawExpr Global) (operand : Box RawExpr Global) → formed c p ls target at (kind.Cast ty bounds operand) ≡ cast_formed c p ls at ty (length bounds.items) operand.value
 formed-Cast c p ls target at ty bounds operand =

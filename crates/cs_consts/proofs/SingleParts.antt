@@ -9,12 +9,12 @@ use Rattle.cs_ast.specs.declared.typed.operator.Gives.{Gives}
 use Rattle.cs_ast.specs.TypedTree.{Typed}
 use Rattle.cs_consts.specs.declared.context.Context.{Context}
 use Rattle.cs_consts.specs.declared.refusal.TypeRefusal.{TypeRefusal}
-use Rattle.cs_consts.specs.Verdicts.{Verdict, Fine, lift, lift2, IsRefused, Tells}
+use Rattle.cs_consts.specs.Verdicts.{Verdict, Fine, lift, lift2, IsRefused, Yields}
 use Rattle.cs_consts.specs.Stores.{updatable}
 use Rattle.cs_consts.specs.TypeNames.{complete_at}
 use Rattle.cs_consts.specs.Typing.{stepped_object, measured_arrays}
 use Rattle.cs_consts.proofs.Lifting.{lift-fine, lift2-fine, lift-refused, lift2-refused-first, lift2-refused-second}
-use Rattle.cs_consts.proofs.Productions.{tells_as, refused_as}
+use Rattle.cs_consts.proofs.Productions.{yields_as, refused_as}
 
 pub lift_is : {A B : Type 0} (rule : A → Verdict B) (v : Verdict A) (a : A) → v ≡ Fine a → lift rule v ≡ rule a
 lift_is rule v a e = ap (lift rule) e ∙ lift-fine rule a
@@ -23,11 +23,11 @@ pub lift2_is : {A B C : Type 0} (rule : A → B → Verdict C) (v : Verdict A) (
 lift2_is rule v w a b e f = ap (λ x. lift2 rule x w) e ∙ ap (lift2 rule (Fine a)) f ∙ lift2-fine rule a b
 
 -- one part, of which the rule tells the rest
-pub part_taken : (rule : Typed → Verdict Typed) (v : Verdict Typed) (e : Typed) (result : Result Expr TypeRefusal) → v ≡ Fine e → Tells (rule e) result → Tells (lift rule v) result
-part_taken rule v e result f h = tells_as result (lift_is rule v e f) h
+pub part_taken : (rule : Typed → Verdict Typed) (v : Verdict Typed) (e : Typed) (result : Result Expr TypeRefusal) → v ≡ Fine e → Yields (rule e) result → Yields (lift rule v) result
+part_taken rule v e result f h = yields_as result (lift_is rule v e f) h
 
-pub parts_taken : (rule : Typed → Typed → Verdict Typed) (v w : Verdict Typed) (a b : Typed) (result : Result Expr TypeRefusal) → v ≡ Fine a → w ≡ Fine b → Tells (rule a b) result → Tells (lift2 rule v w) result
-parts_taken rule v w a b result e f h = tells_as result (lift2_is rule v w a b e f) h
+pub parts_taken : (rule : Typed → Typed → Verdict Typed) (v w : Verdict Typed) (a b : Typed) (result : Result Expr TypeRefusal) → v ≡ Fine a → w ≡ Fine b → Yields (rule a b) result → Yields (lift2 rule v w) result
+parts_taken rule v w a b result e f h = yields_as result (lift2_is rule v w a b e f) h
 
 pub second_stops : (rule : Typed → Typed → Verdict Typed) (v w : Verdict Typed) (a : Typed) (r : TypeRefusal) → v ≡ Fine a → IsRefused w r → IsRefused (lift2 rule v w) r
 second_stops rule v w a r e h = refused_as r (ap (λ x. lift2 rule x w) e) (lift2-refused-second rule a w r h)
@@ -41,10 +41,10 @@ step_updatable_stops c at op by gives v e r same f h =
     subst (λ o. IsRefused (lift (stepped_object c o gives at) (lift (updatable c.table.list o at) v)) r) same
     (lift-refused (stepped_object c by gives at) _ r (refused_as r (lift_is (updatable c.table.list by at) v e f) h))
 
-pub step_taken : (c : Context) (at : Place) (op by : BinOp) (gives : Gives) (v : Verdict Typed) (e o : Typed) (result : Result Expr TypeRefusal) → by ≡ op → v ≡ Fine e → updatable c.table.list by at e ≡ Fine o → Tells (stepped_object c by gives at o) result → Tells (lift (stepped_object c op gives at) (lift (updatable c.table.list op at) v)) result
+pub step_taken : (c : Context) (at : Place) (op by : BinOp) (gives : Gives) (v : Verdict Typed) (e o : Typed) (result : Result Expr TypeRefusal) → by ≡ op → v ≡ Fine e → updatable c.table.list by at e ≡ Fine o → Yields (stepped_object c by gives at o) result → Yields (lift (stepped_object c op gives at) (lift (updatable c.table.list op at) v)) result
 step_taken c at op by gives v e o result same f g h =
-    subst (λ x. Tells (lift (stepped_object c x gives at) (lift (updatable c.table.list x at) v)) result) same
-    (tells_as result (lift_is (stepped_object c by gives at) _ o (lift_is (updatable c.table.list by at) v e f ∙ g)) h)
+    subst (λ x. Yields (lift (stepped_object c x gives at) (lift (updatable c.table.list x at) v)) result) same
+    (yields_as result (lift_is (stepped_object c by gives at) _ o (lift_is (updatable c.table.list by at) v e f ∙ g)) h)
 
 -- `sizeof` of a type
 pub size_base_stops : (c : Context) (at : Place) (base : Verdict Shape) (numbers : Verdict (List ℤ)) (r : TypeRefusal) → IsRefused base r → IsRefused (lift2 (measured_arrays c at) (lift (complete_at c.table.list at) base) numbers) r
@@ -56,8 +56,8 @@ size_complete_stops c at base numbers ty r f h = lift2-refused-first (measured_a
 pub size_numbers_stop : (c : Context) (at : Place) (base : Verdict Shape) (numbers : Verdict (List ℤ)) (ty whole : Shape) (r : TypeRefusal) → base ≡ Fine ty → complete_at c.table.list at ty ≡ Fine whole → IsRefused numbers r → IsRefused (lift2 (measured_arrays c at) (lift (complete_at c.table.list at) base) numbers) r
 size_numbers_stop c at base numbers ty whole r f g h = refused_as r (ap (λ x. lift2 (measured_arrays c at) x numbers) (lift_is (complete_at c.table.list at) base ty f ∙ g)) (lift2-refused-second (measured_arrays c at) whole numbers r h)
 
-pub size_taken : (c : Context) (at : Place) (base : Verdict Shape) (numbers : Verdict (List ℤ)) (ty whole : Shape) (ns : List ℤ) (result : Result Expr TypeRefusal) → base ≡ Fine ty → complete_at c.table.list at ty ≡ Fine whole → numbers ≡ Fine ns → Tells (measured_arrays c at whole ns) result → Tells (lift2 (measured_arrays c at) (lift (complete_at c.table.list at) base) numbers) result
-size_taken c at base numbers ty whole ns result f g h k = tells_as result (lift2_is (measured_arrays c at) _ numbers whole ns (lift_is (complete_at c.table.list at) base ty f ∙ g) h) k
+pub size_taken : (c : Context) (at : Place) (base : Verdict Shape) (numbers : Verdict (List ℤ)) (ty whole : Shape) (ns : List ℤ) (result : Result Expr TypeRefusal) → base ≡ Fine ty → complete_at c.table.list at ty ≡ Fine whole → numbers ≡ Fine ns → Yields (measured_arrays c at whole ns) result → Yields (lift2 (measured_arrays c at) (lift (complete_at c.table.list at) base) numbers) result
+size_taken c at base numbers ty whole ns result f g h k = yields_as result (lift2_is (measured_arrays c at) _ numbers whole ns (lift_is (complete_at c.table.list at) base ty f ∙ g) h) k
 
 -- what holds whatever a call gives holds where it gives something
 pub on_ok : {A E P : Type 0} (result : Result A E) → P → OnOk result P

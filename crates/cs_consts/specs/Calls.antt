@@ -83,7 +83,7 @@ converted_list model at (ty ∷ types) NoMore = Fine NoMore
 converted_list model at (ty ∷ types) (Further e others) =
     before_others at (converted model at e ty (type_of e)) (converted_list model at types others)
 
--- the elements of a block behind a pointer to a type: behind `void *` they are bytes
+-- the elements of a block after a pointer to a type: after `void *` they are bytes
 abbrev pub block_of : Shape → Shape
 block_of void = integer UChar
 block_of ty = ty

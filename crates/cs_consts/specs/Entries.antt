@@ -24,16 +24,16 @@ place_at places name = option_flatten (get (pointwise nat_eq) places name)
 -- the table has the place of each name's last declaration, and each entry that of the last one of its name before it
 pub record Indexed {S : Type 0} (places : IndexMap (List ℕ) (Option ℕ) S) (entries : List Entry) : Type 0 where
   pub each : (name : List ℕ) → place_at places name ≡ newest_place name (declarations_in entries)
-  pub before : (first behind : List Entry) (e : Entry) → entries ≡ first ++ e ∷ behind → e.before ≡ newest_place e.declaration.name (declarations_in first)
+  pub before : (first following : List Entry) (e : Entry) → entries ≡ first ++ e ∷ following → e.before ≡ newest_place e.declaration.name (declarations_in first)
 
 -- a name has this place now, or none, and each other name what it had
 abbrev pub HasEntered : {S : Type 0} → IndexMap (List ℕ) (Option ℕ) S → IndexMap (List ℕ) (Option ℕ) S → List ℕ → Option ℕ → Type 0
 HasEntered old new name place = (other : List ℕ) → place_at new other ≡ (if pointwise nat_eq name other then place else place_at old other)
 
--- a place, if there is one, behind the first ones, of which there are so many
-abbrev pub is_behind : ℕ → Option ℕ → Bool
-is_behind outer (Some place) = nat_le outer place
-is_behind outer None = false
+-- a place, if there is one, after the first ones, of which there are so many
+abbrev pub is_after : ℕ → Option ℕ → Bool
+is_after outer (Some place) = nat_le outer place
+is_after outer None = false
 
 -- the tags of a table's entries
 abbrev pub tag_of : List ℕ × TagMeaning → Tag

@@ -23,7 +23,7 @@ unfoldable pub through : Place → Typed → Shape → Verdict Typed
 through at e (pointer target) = if is_void target then Fault code.IncompleteType at else Fine (Of at target (Through e))
 through at e ty = Fault code.OperandTypes at
 
--- an element behind a pointer
+-- an element after a pointer
 unfoldable pub element : List StructType → Place → Typed → Typed → Shape → Order → Verdict Typed
 element table at e number target order =
     if is_complete table target then Fine (Of at target (Index e number order)) else Fault code.IncompleteType at
@@ -53,8 +53,8 @@ member_found at name None = Fault code.UnknownName at
 abbrev pub member_in : Place → Typed → Member → Verdict Typed
 member_in at e m = Fine (Of at m.ty (MemberForm e m.offset))
 
-abbrev pub member_behind : Place → Typed → Member → Verdict Typed
-member_behind at e m = Fine (Of at m.ty (Arrow e m.offset))
+abbrev pub member_after : Place → Typed → Member → Verdict Typed
+member_after at e m = Fine (Of at m.ty (Arrow e m.offset))
 
 -- the number of a struct
 abbrev pub struct_number : Shape → Option ℕ
@@ -62,9 +62,9 @@ struct_number (struct number) = Some number
 struct_number other = None
 
 -- the number of the struct that a pointer points to
-abbrev pub struct_behind : Shape → Option ℕ
-struct_behind (pointer target) = struct_number target
-struct_behind other = None
+abbrev pub struct_after : Shape → Option ℕ
+struct_after (pointer target) = struct_number target
+struct_after other = None
 
 -- a member of what has one, by the struct's number: the operator's place tells of what has none, and the name's of a member
 -- that isn't there
@@ -79,4 +79,4 @@ selected table at name_at name e =
 
 -- `->` (C11 6.5.2.3)
 unfoldable pub selected_through : List StructType → Place → Place → List ℕ → Typed → Shape → Verdict Typed
-selected_through table at name_at name e ty = member_by table at name_at name (member_behind at e) (struct_behind ty)
+selected_through table at name_at name e ty = member_by table at name_at name (member_after at e) (struct_after ty)

@@ -18,14 +18,14 @@ scalars_with of_struct (pointer target) = Some 1
 scalars_with of_struct (array element count) = option_and_then (λ n. few (n * count)) (scalars_with of_struct element)
 scalars_with of_struct (struct number) = of_struct number
 
--- the scalars of members, behind so many before them
-abbrev pub scalars_behind : (Shape → Option ℕ) → ℕ → List Member → Option ℕ
-scalars_behind of_type before [] = Some before
-scalars_behind of_type before (m ∷ ms) = option_and_then (λ n. option_and_then (λ all. scalars_behind of_type all ms) (few (before + n))) (of_type m.ty)
+-- the scalars of members, after so many before them
+abbrev pub scalars_after : (Shape → Option ℕ) → ℕ → List Member → Option ℕ
+scalars_after of_type before [] = Some before
+scalars_after of_type before (m ∷ ms) = option_and_then (λ n. option_and_then (λ all. scalars_after of_type all ms) (few (before + n))) (of_type m.ty)
 
 -- the scalars of a struct's members; one without members has none
 abbrev pub scalars_of_members : (Shape → Option ℕ) → Option (List Member) → Option ℕ
-scalars_of_members of_type (Some members) = scalars_behind of_type 0 members
+scalars_of_members of_type (Some members) = scalars_after of_type 0 members
 scalars_of_members of_type None = Some 0
 
 -- the scalars of a struct, if no more than so many structs hold one another in it

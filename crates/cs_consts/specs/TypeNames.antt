@@ -117,18 +117,18 @@ abbrev pub is_star : PointerWord → Bool
 is_star Star = true
 is_star Const = false
 
--- a type behind as many pointers as there are stars (C11 6.7.6.1)
+-- a type after as many pointers as there are stars (C11 6.7.6.1)
 abbrev pub starred : List PointerWord → Shape → Shape
 starred [] ty = ty
 starred (word ∷ words) ty = starred words (if is_star word then pointer ty else ty)
 
--- a type behind pointers
-abbrev pub behind_stars : WrittenType → Shape → Verdict Shape
-behind_stars ty base = Fine (starred ty.pointers.items base)
+-- a type after pointers
+abbrev pub after_stars : WrittenType → Shape → Verdict Shape
+after_stars ty base = Fine (starred ty.pointers.items base)
 
 -- a written type without its arrays (C11 6.7.7)
 unfoldable pub type_named : List Declaration → List Tag → Place → WrittenType → Verdict Shape
-type_named declarations tags at ty = lift (behind_stars ty) (based declarations tags at ty (whole_word ty.words.items))
+type_named declarations tags at ty = lift (after_stars ty) (based declarations tags at ty (whole_word ty.words.items))
 
 -- a number of elements that an array may have
 abbrev pub is_array_size : ℤ → Bool

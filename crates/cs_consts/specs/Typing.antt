@@ -91,39 +91,39 @@ named at (Some (meaning.Function f)) = Fault code.FunctionName at
 named at (Some (meaning.Typedef ty)) = Fault code.UnknownName at
 named at None = Fault code.UnknownName at
 
--- a string literal, behind those before it (C11 6.4.5, paragraph 6)
+-- a string literal, after those before it (C11 6.4.5, paragraph 6)
 unfoldable pub text_at : Literals → Place → List ℕ → Verdict Typed
 text_at literals at bytes =
     if nat_le (length bytes) 65535 then Fine (Of at (array (integer int_type.Char) (length bytes + 1)) (Text (length literals))) else Fault code.Size at
 
 abbrev mutual
-  -- the literals behind those of an expression
-  pub literals_behind : Literals → RawExprKind → Literals
-  literals_behind literals (kind.Name name) = literals
-  literals_behind literals (kind.Number constant) = literals
-  literals_behind literals (kind.Character value) = literals
-  literals_behind literals (kind.Text bytes) = literals ++ bytes ∷ []
-  literals_behind literals (kind.Parenthesis' p place inner) = literals_behind literals inner
-  literals_behind literals (kind.Index' p place left q place' right) = literals_behind (literals_behind literals left) right
-  literals_behind literals (kind.Call' p place function shape row) = literals_behind_row literals row
-  literals_behind literals (kind.Member' p place object name) = literals_behind literals object
-  literals_behind literals (kind.Arrow' p place e name) = literals_behind literals e
-  literals_behind literals (kind.StepBehind' step p place object) = literals_behind literals object
-  literals_behind literals (kind.StepBefore' step p place object) = literals_behind literals object
-  literals_behind literals (kind.Prefix' operator p place e) = literals_behind literals e
-  literals_behind literals (kind.SizeOf' p place e) = literals_behind literals e
-  literals_behind literals (kind.SizeOfType' ty shape row) = literals_behind_row literals row
-  literals_behind literals (kind.Cast' ty shape row p place e) = literals_behind literals e
-  literals_behind literals (kind.Infix' operator p place left q place' right) = literals_behind (literals_behind literals left) right
-  literals_behind literals (kind.Choice' p place test q place' one r place'' other) =
-      literals_behind (literals_behind (literals_behind literals test) one) other
-  literals_behind literals (kind.Assign' operator p place object q place' value) = literals_behind (literals_behind literals object) value
-  literals_behind literals (kind.Comma' p place first q place' second) = literals_behind (literals_behind literals first) second
+  -- the literals after those of an expression
+  pub literals_after : Literals → RawExprKind → Literals
+  literals_after literals (kind.Name name) = literals
+  literals_after literals (kind.Number constant) = literals
+  literals_after literals (kind.Character value) = literals
+  literals_after literals (kind.Text bytes) = literals ++ bytes ∷ []
+  literals_after literals (kind.Parenthesis' p place inner) = literals_after literals inner
+  literals_after literals (kind.Index' p place left q place' right) = literals_after (literals_after literals left) right
+  literals_after literals (kind.Call' p place function shape row) = literals_after_row literals row
+  literals_after literals (kind.Member' p place object name) = literals_after literals object
+  literals_after literals (kind.Arrow' p place e name) = literals_after literals e
+  literals_after literals (kind.StepAfter' step p place object) = literals_after literals object
+  literals_after literals (kind.StepBefore' step p place object) = literals_after literals object
+  literals_after literals (kind.Prefix' operator p place e) = literals_after literals e
+  literals_after literals (kind.SizeOf' p place e) = literals_after literals e
+  literals_after literals (kind.SizeOfType' ty shape row) = literals_after_row literals row
+  literals_after literals (kind.Cast' ty shape row p place e) = literals_after literals e
+  literals_after literals (kind.Infix' operator p place left q place' right) = literals_after (literals_after literals left) right
+  literals_after literals (kind.Choice' p place test q place' one r place'' other) =
+      literals_after (literals_after (literals_after literals test) one) other
+  literals_after literals (kind.Assign' operator p place object q place' value) = literals_after (literals_after literals object) value
+  literals_after literals (kind.Comma' p place first q place' second) = literals_after (literals_after literals first) second
 
   -- the same of expressions in a row
-  pub literals_behind_row : Literals → {n : _} → Row_of-RawExpr n → Literals
-  literals_behind_row literals end_of-RawExpr = literals
-  literals_behind_row literals (more_of-RawExpr place k rest) = literals_behind_row (literals_behind literals k) rest
+  pub literals_after_row : Literals → {n : _} → Row_of-RawExpr n → Literals
+  literals_after_row literals end_of-RawExpr = literals
+  literals_after_row literals (more_of-RawExpr place k rest) = literals_after_row (literals_after literals k) rest
 
 -- how many expressions stand in a row
 abbrev pub row_length : {n : _} → Row_of-RawExpr n → ℕ
@@ -155,11 +155,11 @@ purpose_if true Constant (Fine e) = if is_zero_number (form_of e) then Unneeded 
 purpose_if false Constant (Fine e) = if is_zero_number (form_of e) then Constant else Unneeded
 purpose_if way Constant (Fault code place) = Constant
 
--- what the operand behind an operator is typed for (C11 6.5.13, paragraph 4; 6.5.14, paragraph 4)
-abbrev pub purpose_behind : InfixOp → Purpose → Verdict Typed → Purpose
-purpose_behind infix_op.And purpose v = purpose_if true purpose v
-purpose_behind infix_op.Or purpose v = purpose_if false purpose v
-purpose_behind other purpose v = purpose
+-- what the operand after an operator is typed for (C11 6.5.13, paragraph 4; 6.5.14, paragraph 4)
+abbrev pub purpose_after : InfixOp → Purpose → Verdict Typed → Purpose
+purpose_after infix_op.And purpose v = purpose_if true purpose v
+purpose_after infix_op.Or purpose v = purpose_if false purpose v
+purpose_after other purpose v = purpose
 
 -- the operator is `&`
 abbrev pub is_address : PrefixOp → Bool
@@ -298,7 +298,7 @@ abbrev pub base_in : Context → Place → WrittenType → Verdict Shape
 base_in c at ty = type_named c.scope.declarations c.scope.tags at ty
 
 abbrev mutual
-  -- an expression at a place, behind some literals, whose value goes to a type where what stands around it asks for that
+  -- an expression at a place, after some literals, whose value goes to a type where what stands around it asks for that
   pub formed : Context → Purpose → Literals → Option Shape → Place → RawExprKind → Verdict Typed
   -- C11 6.5.1
   formed c purpose literals target at (kind.Name name) = named at (newest name c.scope.declarations)
@@ -310,7 +310,7 @@ abbrev mutual
   formed c purpose literals target at (kind.Index' p place left q place' right) =
       lift2 (indexed_values c at)
       (operand_in c purpose (formed c purpose literals None place left))
-      (operand_in c purpose (formed c purpose (literals_behind literals left) None place' right))
+      (operand_in c purpose (formed c purpose (literals_after literals left) None place' right))
   -- C11 6.5.2.2
   formed c purpose literals target at (kind.Call' p place function shape row) =
       call_or_not c at target (called c.scope.declarations function) (row_length row)
@@ -322,7 +322,7 @@ abbrev mutual
   formed c purpose literals target at (kind.Arrow' p place e name) =
       lift (arrow_on c at name.place name.name) (operand_in c purpose (formed c purpose literals None place e))
   -- C11 6.5.2.4
-  formed c purpose literals target at (kind.StepBehind' step p place object) =
+  formed c purpose literals target at (kind.StepAfter' step p place object) =
       lift (stepped_object c (step_operator step) Old at)
       (lift (updatable c.table.list (step_operator step) at) (done c purpose (formed c purpose literals None place object)))
   -- C11 6.5.3.1
@@ -344,26 +344,26 @@ abbrev mutual
   -- C11 6.5.5 to 6.5.14
   formed c purpose literals target at (kind.Infix' operator p place left q place' right) =
       let one = operand_in c purpose (formed c purpose literals None place left) in
-      let behind = purpose_behind operator purpose one in
+      let following = purpose_after operator purpose one in
       lift2 (combined c.model c.table.list operator at) one
-      (operand_in c behind (formed c behind (literals_behind literals left) None place' right))
+      (operand_in c following (formed c following (literals_after literals left) None place' right))
   -- C11 6.5.15
   formed c purpose literals target at (kind.Choice' p place test q place' one r place'' other) =
-      let tells = lift (tested at) (operand_in c purpose (formed c purpose literals None place test)) in
-      let behind = literals_behind literals test in
-      lift3 (chosen_values c at) tells
-      (value_in c (purpose_if true purpose tells) (formed c (purpose_if true purpose tells) behind None place' one))
-      (value_in c (purpose_if false purpose tells) (formed c (purpose_if false purpose tells) (literals_behind behind one) None place'' other))
+      let yields = lift (tested at) (operand_in c purpose (formed c purpose literals None place test)) in
+      let following = literals_after literals test in
+      lift3 (chosen_values c at) yields
+      (value_in c (purpose_if true purpose yields) (formed c (purpose_if true purpose yields) following None place' one))
+      (value_in c (purpose_if false purpose yields) (formed c (purpose_if false purpose yields) (literals_after following one) None place'' other))
   -- C11 6.5.16
   formed c purpose literals target at (kind.Assign' operator p place object q place' value) =
       let left = lift (left_side c operator at) (done c purpose (formed c purpose literals None place object)) in
       lift2 (stored c operator at) left
-      (operand_in c purpose (formed c purpose (literals_behind literals object) (right_target operator left) place' value))
+      (operand_in c purpose (formed c purpose (literals_after literals object) (right_target operator left) place' value))
   -- C11 6.5.17
   formed c purpose literals target at (kind.Comma' p place first q place' second) =
       lift2 (followed at)
       (value_in c purpose (formed c purpose literals None place first))
-      (value_in c purpose (formed c purpose (literals_behind literals first) None place' second))
+      (value_in c purpose (formed c purpose (literals_after literals first) None place' second))
 
   -- the values of the arguments of a call, each for a parameter
   pub arguments_formed : Context → Purpose → Literals → List Shape → {n : _} → Row_of-RawExpr n → Verdict TypedList
@@ -372,7 +372,7 @@ abbrev mutual
   arguments_formed c purpose literals (ty ∷ types) (more_of-RawExpr place k rest) =
       lift2 further
       (operand_in c purpose (formed c purpose literals (Some ty) place k))
-      (arguments_formed c purpose (literals_behind literals k) types rest)
+      (arguments_formed c purpose (literals_after literals k) types rest)
 
   -- the numbers of bounds, which are constant
   pub numbers_formed : Context → Literals → {n : _} → Row_of-RawExpr n → Verdict (List ℤ)
@@ -380,29 +380,29 @@ abbrev mutual
   numbers_formed c literals (more_of-RawExpr place k rest) =
       lift2 number_before
       (done c Constant (formed c Constant literals None place k))
-      (numbers_formed c (literals_behind literals k) rest)
+      (numbers_formed c (literals_after literals k) rest)
 
 -- the rules of the productions with more than one part, each on the parts themselves: what the functions for them promise
 abbrev pub infix_formed : Context → Purpose → Literals → Place → InfixOp → RawExpr → RawExpr → Verdict Typed
 infix_formed c purpose literals at operator left right =
     let one = operand_in c purpose (formed c purpose literals None left.place left.kind) in
-    let behind = purpose_behind operator purpose one in
+    let following = purpose_after operator purpose one in
     lift2 (combined c.model c.table.list operator at) one
-    (operand_in c behind (formed c behind (literals_behind literals left.kind) None right.place right.kind))
+    (operand_in c following (formed c following (literals_after literals left.kind) None right.place right.kind))
 
 abbrev pub choice_formed : Context → Purpose → Literals → Place → RawExpr → RawExpr → RawExpr → Verdict Typed
 choice_formed c purpose literals at test one other =
-    let tells = lift (tested at) (operand_in c purpose (formed c purpose literals None test.place test.kind)) in
-    let behind = literals_behind literals test.kind in
-    lift3 (chosen_values c at) tells
-    (value_in c (purpose_if true purpose tells) (formed c (purpose_if true purpose tells) behind None one.place one.kind))
-    (value_in c (purpose_if false purpose tells) (formed c (purpose_if false purpose tells) (literals_behind behind one.kind) None other.place other.kind))
+    let yields = lift (tested at) (operand_in c purpose (formed c purpose literals None test.place test.kind)) in
+    let following = literals_after literals test.kind in
+    lift3 (chosen_values c at) yields
+    (value_in c (purpose_if true purpose yields) (formed c (purpose_if true purpose yields) following None one.place one.kind))
+    (value_in c (purpose_if false purpose yields) (formed c (purpose_if false purpose yields) (literals_after following one.kind) None other.place other.kind))
 
 abbrev pub store_formed : Context → Purpose → Literals → Place → AssignOp → RawExpr → RawExpr → Verdict Typed
 store_formed c purpose literals at operator object value =
     let left = lift (left_side c operator at) (done c purpose (formed c purpose literals None object.place object.kind)) in
     lift2 (stored c operator at) left
-    (operand_in c purpose (formed c purpose (literals_behind literals object.kind) (right_target operator left) value.place value.kind))
+    (operand_in c purpose (formed c purpose (literals_after literals object.kind) (right_target operator left) value.place value.kind))
 
 abbrev pub cast_formed : Context → Purpose → Literals → Place → WrittenType → ℕ → RawExpr → Verdict Typed
 cast_formed c purpose literals at ty bounds e =
@@ -410,9 +410,9 @@ cast_formed c purpose literals at ty bounds e =
     (done c purpose (formed c purpose literals (given_shape (cast_type at bounds (base_in c at ty))) e.place e.kind))
 
 -- the same along lists: the arguments of a call, and the numbers of bounds
-abbrev pub literals_behind_list : Literals → List RawExpr → Literals
-literals_behind_list literals [] = literals
-literals_behind_list literals (e ∷ rest) = literals_behind_list (literals_behind literals e.kind) rest
+abbrev pub literals_after_list : Literals → List RawExpr → Literals
+literals_after_list literals [] = literals
+literals_after_list literals (e ∷ rest) = literals_after_list (literals_after literals e.kind) rest
 
 abbrev pub arguments_listed : Context → Purpose → Literals → List Shape → List RawExpr → Verdict TypedList
 arguments_listed c purpose literals types [] = Fine NoMore
@@ -420,14 +420,14 @@ arguments_listed c purpose literals [] (e ∷ rest) = Fine NoMore
 arguments_listed c purpose literals (ty ∷ types) (e ∷ rest) =
     lift2 further
     (operand_in c purpose (formed c purpose literals (Some ty) e.place e.kind))
-    (arguments_listed c purpose (literals_behind literals e.kind) types rest)
+    (arguments_listed c purpose (literals_after literals e.kind) types rest)
 
 abbrev pub numbers_listed : Context → Literals → List RawExpr → Verdict (List ℤ)
 numbers_listed c literals [] = Fine []
 numbers_listed c literals (e ∷ rest) =
     lift2 number_before
     (done c Constant (formed c Constant literals None e.place e.kind))
-    (numbers_listed c (literals_behind literals e.kind) rest)
+    (numbers_listed c (literals_after literals e.kind) rest)
 
 abbrev pub call_formed : Context → Purpose → Literals → Option Shape → Place → RawExpr → List RawExpr → Verdict Typed
 call_formed c purpose literals target at function arguments =

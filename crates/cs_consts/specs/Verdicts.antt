@@ -64,6 +64,6 @@ Answers view verdict (Ok answer) = verdict ≡ Fine (view answer)
 Answers view verdict (Err refusal) = IsRefused verdict refusal
 
 -- the expression that a function answers is that of the verdict
-abbrev pub Tells : Verdict Typed → Result Expr TypeRefusal → Type 0
-Tells verdict (Ok e) = verdict ≡ Fine (typed e)
-Tells verdict (Err refusal) = IsRefused verdict refusal
+abbrev pub Yields : Verdict Typed → Result Expr TypeRefusal → Type 0
+Yields verdict (Ok e) = verdict ≡ Fine (typed e)
+Yields verdict (Err refusal) = IsRefused verdict refusal

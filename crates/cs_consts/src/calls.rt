@@ -3,7 +3,7 @@ ghost use Rattle.std.specs.Prelude.{◌≡◌, IfOk, option_copied, length, map,
 ghost use Rattle.std.specs.Option.{option_map};
 ghost use Rattle.cs_types.specs.Shape.{shape_of};
 ghost use Rattle.cs_ast.specs.TypedView.{typed, typed_list};
-ghost use Rattle.cs_consts.specs.Verdicts.{Tells, Answers};
+ghost use Rattle.cs_consts.specs.Verdicts.{Yields, Answers};
 ghost use Rattle.cs_consts.specs.Meanings.{signature_of, meaning_of};
 ghost use Rattle.cs_consts.specs.Calls.{function_in, called, allocates, is_pointer_target, admitted, block_of, allocated, freed, call_of, lesser, least, converted_list, shape_in};
 
@@ -128,7 +128,7 @@ pub fn converted_list(
     }
 }
 
-// The elements of a block behind a pointer to a type: behind `void *` they are bytes.
+// The elements of a block after a pointer to a type: after `void *` they are bytes.
 fn block_of(alloc: Global, target: &CType) -> Result<CType, AllocError>
     ensures { IfOk result (λ made. shape_of made ≡ block_of (shape_of target.now)) }
 {
@@ -146,7 +146,7 @@ fn allocated(
     arguments: Vec<Expr>,
     target: Option<&CType>,
 ) -> Result<Expr, TypeRefusal>
-    ensures { Tells (allocated place allocator (typed_list arguments.items) (shape_in target.entry)) result }
+    ensures { Yields (allocated place allocator (typed_list arguments.items) (shape_in target.entry)) result }
 {
     let Some(ty) = target else {
         return Err(TypeRefusal::Code(TypeCode::NoTarget, place));
@@ -161,7 +161,7 @@ fn allocated(
 
 // A call of `free`.
 fn freed(alloc: Global, place: Place, mut arguments: Vec<Expr>) -> Result<Expr, TypeRefusal>
-    ensures { Tells (freed place (typed_list arguments.items)) result }
+    ensures { Yields (freed place (typed_list arguments.items)) result }
 {
     let Some(block) = arguments.pop() else {
         return Err(TypeRefusal::Code(TypeCode::ArgumentCount, place));
@@ -182,7 +182,7 @@ pub fn call_of(
     function: &Function,
     arguments: Vec<Expr>,
 ) -> Result<Expr, TypeRefusal>
-    ensures { Tells (call_of place (shape_in target.entry) (signature_of function.now) (typed_list arguments.items)) result }
+    ensures { Yields (call_of place (shape_in target.entry) (signature_of function.now) (typed_list arguments.items)) result }
 {
     match function.callee {
         Callee::Numbered(number) => {

@@ -3,7 +3,7 @@ ghost use Rattle.std.specs.Prelude.{◌≡◌, IfSome};
 ghost use Rattle.cs_types.specs.Shape.{shape_of};
 ghost use Rattle.cs_types.specs.IntType.{IsIntegerOfC};
 ghost use Rattle.cs_ast.specs.TypedView.{typed, form};
-ghost use Rattle.cs_consts.specs.Verdicts.{Tells};
+ghost use Rattle.cs_consts.specs.Verdicts.{Yields};
 ghost use Rattle.cs_consts.specs.Constants.{number_in, is_null, is_null_form, is_void_pointer, integer_in, constant_at, finished};
 
 use crate::arithmetic::{applied, compared, is_zero, kept, truth, turned};
@@ -103,7 +103,7 @@ fn is_null_kind(kind: &ExprKind) -> bool
 /// An expression for its purpose: one of a constant is its number.
 #[tactic(auto, unfolding(crate::specs::Constants::finished))]
 pub fn finished(model: DataModel, purpose: Purpose, value: Expr) -> Result<Expr, TypeRefusal>
-    ensures { Tells (finished model purpose (typed value)) result }
+    ensures { Yields (finished model purpose (typed value)) result }
 {
     match purpose {
         Purpose::Run => Ok(value),
@@ -114,7 +114,7 @@ pub fn finished(model: DataModel, purpose: Purpose, value: Expr) -> Result<Expr,
 
 // The constant that an expression is.
 fn constant(model: DataModel, needed: bool, value: Expr) -> Result<Expr, TypeRefusal>
-    ensures { Tells (constant_at value.place (shape_of value.ty) (number_in model needed (typed value))) result }
+    ensures { Yields (constant_at value.place (shape_of value.ty) (number_in model needed (typed value))) result }
 {
     let place = value.place;
     let Some(ty) = integer_type(&value.ty) else {

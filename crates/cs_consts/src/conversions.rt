@@ -3,7 +3,7 @@ ghost use Rattle.std.specs.Prelude.{◌≡◌, IfOk};
 ghost use Rattle.cs_types.specs.Shape.{Shape, shape_of, pointer};
 ghost use Rattle.cs_ast.specs.declared.place.Place.{Place as AnyPlace};
 ghost use Rattle.cs_ast.specs.TypedView.{typed};
-ghost use Rattle.cs_consts.specs.Verdicts.{Tells};
+ghost use Rattle.cs_consts.specs.Verdicts.{Yields};
 ghost use Rattle.cs_consts.specs.Conversions.{pointed, pointed_from_integer, converted, pointer_cast, recast};
 ghost use Rattle.cs_consts.specs.Ways.{by_way};
 
@@ -26,7 +26,7 @@ pub fn converted(
     value: Expr,
     target: &CType,
 ) -> Result<Expr, TypeRefusal>
-    ensures { Tells (converted model place (typed value) (shape_of target.now) (shape_of value.ty)) result }
+    ensures { Yields (converted model place (typed value) (shape_of target.now) (shape_of value.ty)) result }
 {
     let way = way(model, &value, target);
     go(alloc, place, value, way)
@@ -40,7 +40,7 @@ pub fn recast(
     value: Expr,
     target: &CType,
 ) -> Result<Expr, TypeRefusal>
-    ensures { Tells (recast model place (typed value) (shape_of target.now) (shape_of value.ty)) result }
+    ensures { Yields (recast model place (typed value) (shape_of target.now) (shape_of value.ty)) result }
 {
     let way = cast_way(model, &value, target);
     go(alloc, place, value, way)
@@ -48,7 +48,7 @@ pub fn recast(
 
 // A value that comes to a type in a way.
 fn go(alloc: Global, place: Place, value: Expr, way: Way) -> Result<Expr, TypeRefusal>
-    ensures { Tells (by_way place (typed value) way.entry) result }
+    ensures { Yields (by_way place (typed value) way.entry) result }
 {
     match way {
         Way::Kept => Ok(value),

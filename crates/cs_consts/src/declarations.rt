@@ -5,7 +5,7 @@ ghost use Rattle.cs_consts.specs.Meanings.{meaning_of, declaration_of};
 ghost use Rattle.cs_consts.specs.Scopes.{newest, tagged};
 ghost use Rattle.cs_consts.specs.Entries.{tags_in};
 
-use crate::entries::{Entry, add, drop_behind, find, is_behind, take_last};
+use crate::entries::{Entry, add, drop_after, find, is_after, take_last};
 use crate::scope::{Declaration, Meaning, Tag, TagMeaning};
 use cs_names::Name;
 use indexmap::IndexMap;
@@ -73,7 +73,7 @@ impl Declarations {
     pub fn leave(&mut self, outer: usize)
         ensures { self.new ≡ take outer self.old }
     {
-        drop_behind(&mut self.list, &mut self.places, outer);
+        drop_after(&mut self.list, &mut self.places, outer);
     }
 
     /// What a name stands for: what its last declaration says.
@@ -87,7 +87,7 @@ impl Declarations {
     pub fn is_declared_since(&self, name: &Name, outer: usize) -> bool
         ensures { result ≡ is_some (newest name.now (drop outer self.now)) }
     {
-        is_behind(&self.list, &self.places, name, outer)
+        is_after(&self.list, &self.places, name, outer)
     }
 }
 
@@ -117,7 +117,7 @@ impl Tags {
         }
     }
 
-    /// Adds a tag that isn't there yet behind the others.
+    /// Adds a tag that isn't there yet after the others.
     pub fn add(&mut self, tag: Tag) -> Result<(), AllocError>
         requires { tagged tag.name self.old ≡ None }
         ensures ok { OnOk result (self.new ≡ self.old ++ tag ∷ []) }

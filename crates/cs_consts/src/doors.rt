@@ -2,9 +2,9 @@
 ghost use Rattle.std.specs.Prelude.{◌≡◌, OnOk, None, Some};
 ghost use Rattle.cs_types.specs.Shape.{shape_of};
 ghost use Rattle.cs_ast.specs.TypedView.{typed};
-ghost use Rattle.cs_consts.specs.Verdicts.{Tells, Answers};
+ghost use Rattle.cs_consts.specs.Verdicts.{Yields, Answers};
 ghost use Rattle.cs_consts.specs.Calls.{shape_in};
-ghost use Rattle.cs_consts.specs.Typing.{literals_behind};
+ghost use Rattle.cs_consts.specs.Typing.{literals_after};
 ghost use Rattle.cs_consts.specs.Doors.{number_of_constant, value_of, operand_of, assigned_value, test_of, selector_of, discarded_value};
 
 use crate::context::Context;
@@ -54,8 +54,8 @@ pub fn operand(
     target: Option<&CType>,
     tree: &RawExpr,
 ) -> Result<Expr, TypeRefusal>
-    ensures told { Tells (operand_of context.now literals.old.items (shape_in target.entry) tree.now) result }
-    ensures texts { OnOk result (literals.new.items ≡ literals_behind literals.old.items tree.now.kind) }
+    ensures reported { Yields (operand_of context.now literals.old.items (shape_in target.entry) tree.now) result }
+    ensures texts { OnOk result (literals.new.items ≡ literals_after literals.old.items tree.now.kind) }
 {
     operand_in(alloc, context, Purpose::Run, literals, target, tree)
 }
@@ -71,8 +71,8 @@ pub fn assigned_value(
     target: &CType,
     tree: &RawExpr,
 ) -> Result<Expr, TypeRefusal>
-    ensures told { Tells (assigned_value context.now literals.old.items place (shape_of target.now) tree.now) result }
-    ensures texts { OnOk result (literals.new.items ≡ literals_behind literals.old.items tree.now.kind) }
+    ensures reported { Yields (assigned_value context.now literals.old.items place (shape_of target.now) tree.now) result }
+    ensures texts { OnOk result (literals.new.items ≡ literals_after literals.old.items tree.now.kind) }
 {
     let value = operand_in(alloc, context, Purpose::Run, literals, Some(target), tree)?;
     converted(alloc, context.model, place, value, target)
@@ -87,8 +87,8 @@ pub fn test(
     place: Place,
     tree: &RawExpr,
 ) -> Result<Expr, TypeRefusal>
-    ensures told { Tells (test_of context.now literals.old.items place tree.now) result }
-    ensures texts { OnOk result (literals.new.items ≡ literals_behind literals.old.items tree.now.kind) }
+    ensures reported { Yields (test_of context.now literals.old.items place tree.now) result }
+    ensures texts { OnOk result (literals.new.items ≡ literals_after literals.old.items tree.now.kind) }
 {
     let value = operand_in(alloc, context, Purpose::Run, literals, None, tree)?;
     tested(place, value)
@@ -103,8 +103,8 @@ pub fn selector(
     place: Place,
     tree: &RawExpr,
 ) -> Result<Expr, TypeRefusal>
-    ensures told { Tells (selector_of context.now literals.old.items place tree.now) result }
-    ensures texts { OnOk result (literals.new.items ≡ literals_behind literals.old.items tree.now.kind) }
+    ensures reported { Yields (selector_of context.now literals.old.items place tree.now) result }
+    ensures texts { OnOk result (literals.new.items ≡ literals_after literals.old.items tree.now.kind) }
 {
     let value = operand_in(alloc, context, Purpose::Run, literals, None, tree)?;
     raised(alloc, context.model, place, value)
@@ -118,8 +118,8 @@ pub fn discarded(
     literals: &mut Vec<Bytes>,
     tree: &RawExpr,
 ) -> Result<Expr, TypeRefusal>
-    ensures told { Tells (discarded_value context.now literals.old.items tree.now) result }
-    ensures texts { OnOk result (literals.new.items ≡ literals_behind literals.old.items tree.now.kind) }
+    ensures reported { Yields (discarded_value context.now literals.old.items tree.now) result }
+    ensures texts { OnOk result (literals.new.items ≡ literals_after literals.old.items tree.now.kind) }
 {
     value_in(alloc, context, Purpose::Run, literals, tree)
 }

@@ -38,8 +38,8 @@ pub fn place_of(places: &IndexMap<Name, Option<usize>>, name: &Name) -> Option<u
     *places.get(name)?
 }
 
-/// Whether a name is declared behind the first declarations, of which there are `outer`.
-pub fn is_behind(
+/// Whether a name is declared after the first declarations, of which there are `outer`.
+pub fn is_after(
     list: &[Entry],
     places: &IndexMap<Name, Option<usize>>,
     name: &Name,
@@ -69,7 +69,7 @@ fn enter(
     }
 }
 
-/// Puts a declaration behind the others, and its place into the table.
+/// Puts a declaration after the others, and its place into the table.
 pub fn add(
     list: &mut Vec<Entry>,
     places: &mut IndexMap<Name, Option<usize>>,
@@ -124,9 +124,9 @@ pub fn take_last(
     }
 }
 
-/// Drops the declarations behind the first ones, of which there are `outer`.
+/// Drops the declarations after the first ones, of which there are `outer`.
 #[tactic(auto, using(crate::proofs::DeclaredNames::take_less))]
-pub fn drop_behind(list: &mut Vec<Entry>, places: &mut IndexMap<Name, Option<usize>>, outer: usize)
+pub fn drop_after(list: &mut Vec<Entry>, places: &mut IndexMap<Name, Option<usize>>, outer: usize)
     requires { Indexed places.old list.old.items }
     ensures left { list.new.items ≡ take outer list.old.items }
     ensures indexed { Indexed places.new list.new.items }

@@ -2,7 +2,7 @@
 ghost use Rattle.std.specs.Prelude.{◌≡◌, IfOk};
 ghost use Rattle.cs_types.specs.Shape.{shape_of};
 ghost use Rattle.cs_ast.specs.TypedView.{typed};
-ghost use Rattle.cs_consts.specs.Verdicts.{Tells};
+ghost use Rattle.cs_consts.specs.Verdicts.{Yields};
 ghost use Rattle.cs_consts.specs.Integers.{is_integer, in_type, joined, shifted, raised, turned};
 
 use crate::nodes::{binary, convert, unary};
@@ -44,7 +44,7 @@ pub fn joined(
     left: Expr,
     right: Expr,
 ) -> Result<Expr, TypeRefusal>
-    ensures { Tells (joined model operator place (typed left) (typed right) (shape_of left.ty) (shape_of right.ty)) result }
+    ensures { Yields (joined model operator place (typed left) (typed right) (shape_of left.ty) (shape_of right.ty)) result }
 {
     let (CType::Int(one), CType::Int(other)) = (&left.ty, &right.ty) else {
         return Err(TypeRefusal::Code(TypeCode::OperandTypes, place));
@@ -66,7 +66,7 @@ pub fn shifted(
     left: Expr,
     right: Expr,
 ) -> Result<Expr, TypeRefusal>
-    ensures { Tells (shifted model operator place (typed left) (typed right) (shape_of left.ty) (shape_of right.ty)) result }
+    ensures { Yields (shifted model operator place (typed left) (typed right) (shape_of left.ty) (shape_of right.ty)) result }
 {
     let (CType::Int(one), CType::Int(other)) = (&left.ty, &right.ty) else {
         return Err(TypeRefusal::Code(TypeCode::OperandTypes, place));
@@ -87,7 +87,7 @@ pub fn raised(
     place: Place,
     value: Expr,
 ) -> Result<Expr, TypeRefusal>
-    ensures { Tells (raised model place (typed value) (shape_of value.ty)) result }
+    ensures { Yields (raised model place (typed value) (shape_of value.ty)) result }
 {
     let CType::Int(ty) = &value.ty else {
         return Err(TypeRefusal::Code(TypeCode::OperandTypes, place));
@@ -106,7 +106,7 @@ pub fn turned(
     place: Place,
     value: Expr,
 ) -> Result<Expr, TypeRefusal>
-    ensures { Tells (turned model operator place (typed value) (shape_of value.ty)) result }
+    ensures { Yields (turned model operator place (typed value) (shape_of value.ty)) result }
 {
     let CType::Int(ty) = &value.ty else {
         return Err(TypeRefusal::Code(TypeCode::OperandTypes, place));

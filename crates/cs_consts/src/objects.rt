@@ -4,7 +4,7 @@ ghost use Rattle.cs_types.specs.Layout.{members_of, complete_of};
 ghost use Rattle.cs_types.specs.Shape.{shape_of};
 ghost use Rattle.cs_types.specs.IntType.{word_bytes};
 ghost use Rattle.cs_ast.specs.TypedView.{typed, form};
-ghost use Rattle.cs_consts.specs.Verdicts.{Tells};
+ghost use Rattle.cs_consts.specs.Verdicts.{Yields};
 ghost use Rattle.cs_consts.specs.Objects.{is_object, is_void, is_scalar, is_array, is_complete, limited, bytes_in, measured, held, valued, operand};
 
 use crate::nodes::{decay, load, number, pointer_to};
@@ -147,7 +147,7 @@ pub fn measured(
     place: Place,
     ty: &CType,
 ) -> Result<Expr, TypeRefusal>
-    ensures { Tells (measured model table.now.list place (shape_of ty.now)) result }
+    ensures { Yields (measured model table.now.list place (shape_of ty.now)) result }
 {
     if !is_complete(table, ty) {
         return Err(TypeRefusal::Code(TypeCode::IncompleteType, place));
@@ -161,7 +161,7 @@ pub fn measured(
 // The value of an object: a pointer to the first element of an array, and else what the object holds.
 #[tactic(auto, unfolding(crate::specs::Objects::held))]
 fn held(alloc: Global, table: &StructTable, object: Expr) -> Result<Expr, TypeRefusal>
-    ensures { Tells (held table.now.list object.place (typed object) (shape_of object.ty)) result }
+    ensures { Yields (held table.now.list object.place (typed object) (shape_of object.ty)) result }
 {
     let place = object.place;
     match &object.ty {
@@ -184,7 +184,7 @@ fn held(alloc: Global, table: &StructTable, object: Expr) -> Result<Expr, TypeRe
 /// The value of an expression.
 #[tactic(auto, unfolding(crate::specs::Objects::valued))]
 pub fn valued(alloc: Global, table: &StructTable, value: Expr) -> Result<Expr, TypeRefusal>
-    ensures { Tells (valued table.now.list (typed value)) result }
+    ensures { Yields (valued table.now.list (typed value)) result }
 {
     if is_object(&value.kind) {
         held(alloc, table, value)
@@ -196,7 +196,7 @@ pub fn valued(alloc: Global, table: &StructTable, value: Expr) -> Result<Expr, T
 /// The value of an expression that has to have one.
 #[tactic(auto, unfolding(crate::specs::Objects::operand))]
 pub fn operand(alloc: Global, table: &StructTable, value: Expr) -> Result<Expr, TypeRefusal>
-    ensures { Tells (operand table.now.list (typed value)) result }
+    ensures { Yields (operand table.now.list (typed value)) result }
 {
     if is_void(&value.ty) {
         return Err(TypeRefusal::Code(TypeCode::VoidValue, value.place));

@@ -3,7 +3,7 @@ ghost use Rattle.std.specs.Prelude.{◌≡◌, IfOk};
 ghost use Rattle.cs_types.specs.Shape.{Shape, shape_of, pointer};
 ghost use Rattle.cs_ast.specs.declared.place.Place.{Place as AnyPlace};
 ghost use Rattle.cs_ast.specs.TypedView.{typed};
-ghost use Rattle.cs_consts.specs.Verdicts.{Tells, Answers, Fine, lift};
+ghost use Rattle.cs_consts.specs.Verdicts.{Yields, Answers, Fine, lift};
 ghost use Rattle.cs_consts.specs.Conversions.{pointers_met};
 ghost use Rattle.cs_ast.specs.TypedTree.{Of, And as AndForm, Or as OrForm, Compare as CompareForm, Choice as ChoiceForm};
 ghost use Rattle.cs_consts.specs.Integers.{in_type};
@@ -138,7 +138,7 @@ fn equated(
     left: Expr,
     right: Expr,
 ) -> Result<Expr, TypeRefusal>
-    ensures { Tells (equated model operator place (typed left) (typed right)) result }
+    ensures { Yields (equated model operator place (typed left) (typed right)) result }
 {
     let pair = met(alloc, model, place, left, right)?;
     let made = compare(alloc, place, operator, pair.left, pair.right)?;
@@ -155,7 +155,7 @@ fn ordered(
     left: Expr,
     right: Expr,
 ) -> Result<Expr, TypeRefusal>
-    ensures { Tells (ordered model operator place (typed left) (typed right) (shape_of left.ty) (shape_of right.ty)) result }
+    ensures { Yields (ordered model operator place (typed left) (typed right) (shape_of left.ty) (shape_of right.ty)) result }
 {
     match (&left.ty, &right.ty) {
         (CType::Int(one), CType::Int(other)) => {
@@ -199,7 +199,7 @@ fn moved(
     direction: Direction,
     order: Order,
 ) -> Result<Expr, TypeRefusal>
-    ensures { (target : Shape) → shape_of base.ty ≡ pointer target → Tells (moved table.now.list place (typed base) (typed amount) target direction order) result }
+    ensures { (target : Shape) → shape_of base.ty ≡ pointer target → Yields (moved table.now.list place (typed base) (typed amount) target direction order) result }
 {
     let CType::Pointer(target) = &base.ty else {
         return Err(TypeRefusal::Code(TypeCode::OperandTypes, place));
@@ -222,7 +222,7 @@ fn added(
     left: Expr,
     right: Expr,
 ) -> Result<Expr, TypeRefusal>
-    ensures { Tells (added model table.now.list place (typed left) (typed right) (shape_of left.ty) (shape_of right.ty)) result }
+    ensures { Yields (added model table.now.list place (typed left) (typed right) (shape_of left.ty) (shape_of right.ty)) result }
 {
     match (&left.ty, &right.ty) {
         (CType::Int(_), CType::Int(_)) => joined(alloc, model, BinOp::Add, place, left, right),
@@ -248,7 +248,7 @@ fn apart(
     left: Expr,
     right: Expr,
 ) -> Result<Expr, TypeRefusal>
-    ensures { (target source : Shape) → shape_of left.ty ≡ pointer target → shape_of right.ty ≡ pointer source → Tells (apart model table.now.list place (typed left) (typed right) target source) result }
+    ensures { (target source : Shape) → shape_of left.ty ≡ pointer target → shape_of right.ty ≡ pointer source → Yields (apart model table.now.list place (typed left) (typed right) target source) result }
 {
     let (CType::Pointer(one), CType::Pointer(other)) = (&left.ty, &right.ty) else {
         return Err(TypeRefusal::Code(TypeCode::OperandTypes, place));
@@ -273,7 +273,7 @@ fn subtracted(
     left: Expr,
     right: Expr,
 ) -> Result<Expr, TypeRefusal>
-    ensures { Tells (subtracted model table.now.list place (typed left) (typed right) (shape_of left.ty) (shape_of right.ty)) result }
+    ensures { Yields (subtracted model table.now.list place (typed left) (typed right) (shape_of left.ty) (shape_of right.ty)) result }
 {
     match (&left.ty, &right.ty) {
         (CType::Int(_), CType::Int(_)) => joined(alloc, model, BinOp::Sub, place, left, right),
@@ -289,7 +289,7 @@ fn subtracted(
 /// A value that is tested: an integer or a pointer.
 #[tactic(auto, unfolding(crate::specs::Operators::tested))]
 pub fn tested(place: Place, value: Expr) -> Result<Expr, TypeRefusal>
-    ensures { Tells (tested place (typed value)) result }
+    ensures { Yields (tested place (typed value)) result }
 {
     if is_scalar(&value.ty) {
         Ok(value)
@@ -301,7 +301,7 @@ pub fn tested(place: Place, value: Expr) -> Result<Expr, TypeRefusal>
 /// `!`.
 #[tactic(auto, unfolding(crate::specs::Operators::denied))]
 pub fn denied(alloc: Global, place: Place, value: Expr) -> Result<Expr, TypeRefusal>
-    ensures { Tells (denied place (typed value)) result }
+    ensures { Yields (denied place (typed value)) result }
 {
     if !is_scalar(&value.ty) {
         return Err(TypeRefusal::Code(TypeCode::OperandTypes, place));
@@ -313,7 +313,7 @@ pub fn denied(alloc: Global, place: Place, value: Expr) -> Result<Expr, TypeRefu
 // `&&`.
 #[tactic(auto, unfolding(crate::specs::Operators::both_tested))]
 fn both(alloc: Global, place: Place, left: Expr, right: Expr) -> Result<Expr, TypeRefusal>
-    ensures { Tells (both_tested place (typed left) (typed right) (AndForm (typed left) (typed right))) result }
+    ensures { Yields (both_tested place (typed left) (typed right) (AndForm (typed left) (typed right))) result }
 {
     if !is_scalar(&left.ty) || !is_scalar(&right.ty) {
         return Err(TypeRefusal::Code(TypeCode::OperandTypes, place));
@@ -325,7 +325,7 @@ fn both(alloc: Global, place: Place, left: Expr, right: Expr) -> Result<Expr, Ty
 // `||`.
 #[tactic(auto, unfolding(crate::specs::Operators::both_tested))]
 fn either(alloc: Global, place: Place, left: Expr, right: Expr) -> Result<Expr, TypeRefusal>
-    ensures { Tells (both_tested place (typed left) (typed right) (OrForm (typed left) (typed right))) result }
+    ensures { Yields (both_tested place (typed left) (typed right) (OrForm (typed left) (typed right))) result }
 {
     if !is_scalar(&left.ty) || !is_scalar(&right.ty) {
         return Err(TypeRefusal::Code(TypeCode::OperandTypes, place));
@@ -345,7 +345,7 @@ pub fn combined(
     left: Expr,
     right: Expr,
 ) -> Result<Expr, TypeRefusal>
-    ensures { Tells (combined model table.now.list operator place (typed left) (typed right)) result }
+    ensures { Yields (combined model table.now.list operator place (typed left) (typed right)) result }
 {
     match operator {
         InfixOp::Or => either(alloc, place, left, right),
@@ -379,7 +379,7 @@ pub fn chosen(
     one: Expr,
     other: Expr,
 ) -> Result<Expr, TypeRefusal>
-    ensures { Tells (chosen model place (typed test) (typed one) (typed other) (shape_of one.ty) (shape_of other.ty)) result }
+    ensures { Yields (chosen model place (typed test) (typed one) (typed other) (shape_of one.ty) (shape_of other.ty)) result }
 {
     if alike(&one.ty, &other.ty) {
         let made = chosen_alike(alloc, place, test, one, other)?;
@@ -410,7 +410,7 @@ fn chosen_met(
     one: Expr,
     other: Expr,
 ) -> Result<Expr, TypeRefusal>
-    ensures { Tells (lift (chosen_pair place (typed test)) (met model place (typed one) (typed other) (shape_of one.ty) (shape_of other.ty))) result }
+    ensures { Yields (lift (chosen_pair place (typed test)) (met model place (typed one) (typed other) (shape_of one.ty) (shape_of other.ty))) result }
 {
     let pair = met(alloc, model, place, one, other)?;
     let made = chosen_pair(alloc, place, test, pair)?;
@@ -443,7 +443,7 @@ fn chosen_pair(alloc: Global, place: Place, test: Expr, pair: Pair) -> Result<Ex
 
 /// Two values one after the other.
 pub fn followed(alloc: Global, place: Place, first: Expr, second: Expr) -> Result<Expr, TypeRefusal>
-    ensures { Tells (followed place (typed first) (typed second)) result }
+    ensures { Yields (followed place (typed first) (typed second)) result }
 {
     let ty = second.ty.copy(alloc)?;
     let made = comma(alloc, place, ty, first, second)?;

@@ -3,8 +3,8 @@ ghost use Rattle.std.specs.Prelude.{◌≡◌, option_copied};
 ghost use Rattle.cs_types.specs.Layout.{members_of};
 ghost use Rattle.cs_types.specs.Shape.{Shape, shape_of, pointer};
 ghost use Rattle.cs_ast.specs.TypedView.{typed};
-ghost use Rattle.cs_consts.specs.Verdicts.{Tells, Answers};
-ghost use Rattle.cs_consts.specs.Places.{address_of, through, element, indexed, member_named, member_found, selected, selected_through, struct_behind, struct_number};
+ghost use Rattle.cs_consts.specs.Verdicts.{Yields, Answers};
+ghost use Rattle.cs_consts.specs.Places.{address_of, through, element, indexed, member_named, member_found, selected, selected_through, struct_after, struct_number};
 
 use crate::nodes::{address, arrow, index, member, pointer_to, through as through_node};
 use crate::objects::{is_complete, is_object, is_void, members};
@@ -20,7 +20,7 @@ use std::alloc::Global;
 /// `&`.
 #[tactic(auto, unfolding(crate::specs::Places::address_of))]
 pub fn address_of(alloc: Global, place: Place, object: Expr) -> Result<Expr, TypeRefusal>
-    ensures { Tells (address_of place (typed object)) result }
+    ensures { Yields (address_of place (typed object)) result }
 {
     if !is_object(&object.kind) {
         return Err(TypeRefusal::Code(TypeCode::NotLvalue, place));
@@ -33,7 +33,7 @@ pub fn address_of(alloc: Global, place: Place, object: Expr) -> Result<Expr, Typ
 /// Unary `*`.
 #[tactic(auto, unfolding(crate::specs::Places::through))]
 pub fn through(alloc: Global, place: Place, value: Expr) -> Result<Expr, TypeRefusal>
-    ensures { Tells (through place (typed value) (shape_of value.ty)) result }
+    ensures { Yields (through place (typed value) (shape_of value.ty)) result }
 {
     let CType::Pointer(target) = &value.ty else {
         return Err(TypeRefusal::Code(TypeCode::OperandTypes, place));
@@ -46,7 +46,7 @@ pub fn through(alloc: Global, place: Place, value: Expr) -> Result<Expr, TypeRef
     Ok(made)
 }
 
-// An element behind a pointer.
+// An element after a pointer.
 #[tactic(auto, unfolding(crate::specs::Places::element))]
 fn element(
     alloc: Global,
@@ -56,7 +56,7 @@ fn element(
     number: Expr,
     order: Order,
 ) -> Result<Expr, TypeRefusal>
-    ensures { (target : Shape) → shape_of array.ty ≡ pointer target → Tells (element table.now.list place (typed array) (typed number) target order) result }
+    ensures { (target : Shape) → shape_of array.ty ≡ pointer target → Yields (element table.now.list place (typed array) (typed number) target order) result }
 {
     let CType::Pointer(target) = &array.ty else {
         return Err(TypeRefusal::Code(TypeCode::OperandTypes, place));
@@ -78,7 +78,7 @@ pub fn indexed(
     left: Expr,
     right: Expr,
 ) -> Result<Expr, TypeRefusal>
-    ensures { Tells (indexed table.now.list place (typed left) (typed right) (shape_of left.ty) (shape_of right.ty)) result }
+    ensures { Yields (indexed table.now.list place (typed left) (typed right) (shape_of left.ty) (shape_of right.ty)) result }
 {
     match (&left.ty, &right.ty) {
         (CType::Pointer(_), CType::Int(_)) => {
@@ -131,7 +131,7 @@ pub fn selected(
     name: &RawName,
     object: Expr,
 ) -> Result<Expr, TypeRefusal>
-    ensures { Tells (selected table.now.list place name.now.place name.now.name (typed object)) result }
+    ensures { Yields (selected table.now.list place name.now.place name.now.name (typed object)) result }
 {
     if !is_object(&object.kind) {
         return Err(TypeRefusal::Code(TypeCode::NotLvalue, place));
@@ -154,9 +154,9 @@ pub fn selected_through(
     name: &RawName,
     value: Expr,
 ) -> Result<Expr, TypeRefusal>
-    ensures { Tells (selected_through table.now.list place name.now.place name.now.name (typed value) (shape_of value.ty)) result }
+    ensures { Yields (selected_through table.now.list place name.now.place name.now.name (typed value) (shape_of value.ty)) result }
 {
-    let Some(number) = struct_behind(&value.ty) else {
+    let Some(number) = struct_after(&value.ty) else {
         return Err(TypeRefusal::Code(TypeCode::OperandTypes, place));
     };
     let found = member_of(table, name.place, &name.name, number)?;
@@ -166,8 +166,8 @@ pub fn selected_through(
 }
 
 // The struct that a pointer points to.
-fn struct_behind(ty: &CType) -> Option<u32>
-    ensures { result ≡ struct_behind (shape_of ty.now) }
+fn struct_after(ty: &CType) -> Option<u32>
+    ensures { result ≡ struct_after (shape_of ty.now) }
 {
     match ty {
         CType::Pointer(target) => struct_number(target),

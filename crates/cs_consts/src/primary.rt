@@ -3,7 +3,7 @@ ghost use Rattle.std.specs.Prelude.{◌≡◌, ◌++◌, ◌∷◌, [], ◌≤�
 ghost use Rattle.std.specs.Option.{option_map};
 ghost use Rattle.cs_types.specs.Shape.{shape_of};
 ghost use Rattle.cs_ast.specs.TypedView.{typed};
-ghost use Rattle.cs_consts.specs.Verdicts.{Tells};
+ghost use Rattle.cs_consts.specs.Verdicts.{Yields};
 ghost use Rattle.cs_consts.specs.Meanings.{meaning_of};
 ghost use Rattle.cs_consts.specs.Typing.{has_room, first_with_room, unsigned_types, decimal_types, other_types, constant_type, named, text_at};
 ghost use Rattle.cs_types.specs.declared.int_type.IntType.TheVariants.{LLong, ULLong};
@@ -81,7 +81,7 @@ fn other_type(model: DataModel, number: u64, length: Length) -> IntType
 /// What a name stands for, as an expression: a function's name may only be called.
 #[tactic(auto, unfolding(crate::specs::Typing::named))]
 pub fn named(alloc: Global, place: Place, meaning: Option<&Meaning>) -> Result<Expr, TypeRefusal>
-    ensures { Tells (named place (option_map meaning_of (option_copied meaning.entry))) result }
+    ensures { Yields (named place (option_map meaning_of (option_copied meaning.entry))) result }
 {
     match meaning {
         Some(Meaning::Constant(value)) => Ok(number(place, IntType::Int, *value)),
@@ -108,7 +108,7 @@ pub fn text(
     place: Place,
     bytes: &Bytes,
 ) -> Result<Expr, TypeRefusal>
-    ensures told { Tells (text_at literals.old.items place bytes.now) result }
+    ensures reported { Yields (text_at literals.old.items place bytes.now) result }
     ensures added { OnOk result (literals.new.items ≡ literals.old.items ++ bytes.now ∷ []) }
 {
     let length = bytes.as_bytes().len();
@@ -124,7 +124,7 @@ pub fn text(
     })
 }
 
-// Puts a literal behind the others and tells its number. More literals than there are numbers find no memory.
+// Puts a literal after the others and tells its number. More literals than there are numbers find no memory.
 fn add_literal(literals: &mut Vec<Bytes>, bytes: &Bytes) -> Result<u32, AllocError>
     ensures number { IfOk result (λ number. number ≡ length literals.old.items) }
     ensures added { OnOk result (literals.new.items ≡ literals.old.items ++ bytes.now ∷ []) }

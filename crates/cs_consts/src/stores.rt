@@ -6,7 +6,7 @@ ghost use Rattle.cs_ast.specs.TypedTree.{Of, Update as UpdateForm};
 ghost use Rattle.cs_consts.specs.Integers.{in_type};
 ghost use Rattle.cs_consts.specs.Verdicts.{Fine};
 ghost use Rattle.cs_ast.specs.TypedView.{typed};
-ghost use Rattle.cs_consts.specs.Verdicts.{Tells};
+ghost use Rattle.cs_consts.specs.Verdicts.{Yields};
 ghost use Rattle.cs_consts.specs.Stores.{is_stored_to, assignable, assigned, is_additive, is_shift, way_of, updatable_as, updatable, works_in, taken_in, updated, step_operator, stepped};
 
 use crate::integers::in_type;
@@ -31,7 +31,7 @@ fn is_stored_to(object: &Expr) -> bool
 /// The left side of `=`: a complete object of so few scalars that one store writes them.
 #[tactic(auto, unfolding(crate::specs::Stores::assignable))]
 pub fn assignable(table: &StructTable, place: Place, object: Expr) -> Result<Expr, TypeRefusal>
-    ensures { Tells (assignable table.now.list place (typed object)) result }
+    ensures { Yields (assignable table.now.list place (typed object)) result }
 {
     if !is_stored_to(&object) {
         return Err(TypeRefusal::Code(TypeCode::NotLvalue, place));
@@ -92,7 +92,7 @@ pub fn updatable(
     place: Place,
     object: Expr,
 ) -> Result<Expr, TypeRefusal>
-    ensures { Tells (updatable table.now.list operator place (typed object)) result }
+    ensures { Yields (updatable table.now.list operator place (typed object)) result }
 {
     if !is_stored_to(&object) {
         return Err(TypeRefusal::Code(TypeCode::NotLvalue, place));
@@ -140,7 +140,7 @@ pub fn updated(
     object: Expr,
     value: Expr,
 ) -> Result<Expr, TypeRefusal>
-    ensures { Tells (updated model operator place (typed object) (typed value) (shape_of object.ty) (shape_of value.ty)) result }
+    ensures { Yields (updated model operator place (typed object) (typed value) (shape_of object.ty) (shape_of value.ty)) result }
 {
     match (&object.ty, &value.ty) {
         (CType::Int(one), CType::Int(other)) => {
@@ -197,7 +197,7 @@ pub fn stepped(
     place: Place,
     object: Expr,
 ) -> Result<Expr, TypeRefusal>
-    ensures { Tells (stepped model operator gives place (typed object) (shape_of object.ty)) result }
+    ensures { Yields (stepped model operator gives place (typed object) (shape_of object.ty)) result }
 {
     match &object.ty {
         CType::Int(ty) => {

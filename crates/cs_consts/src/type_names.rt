@@ -106,7 +106,7 @@ fn based(alloc: Global, scope: &Scope, place: Place, ty: &WrittenType) -> Result
     }
 }
 
-/// A type behind as many pointers as there are stars.
+/// A type after as many pointers as there are stars.
 pub fn starred(alloc: Global, words: &[PointerWord], base: CType) -> Result<CType, AllocError>
     ensures { IfOk result (λ made. shape_of made ≡ starred words.now (shape_of base)) }
 {

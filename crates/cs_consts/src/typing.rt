@@ -2,12 +2,12 @@
 ghost use Rattle.std.specs.Prelude.{◌≡◌, OnOk, IfOk, None, Some, length, vec_len, if◌then◌else◌};
 ghost use Rattle.cs_types.specs.Shape.{shape_of};
 ghost use Rattle.cs_ast.specs.TypedView.{typed, form, typed_list};
-ghost use Rattle.cs_consts.specs.Verdicts.{Fine, lift, lift2, lift3, Tells, Answers};
+ghost use Rattle.cs_consts.specs.Verdicts.{Fine, lift, lift2, lift3, Yields, Answers};
 ghost use Rattle.cs_consts.specs.Stores.{updatable, step_operator};
 ghost use Rattle.cs_consts.specs.TypeNames.{complete_at};
 ghost use Rattle.cs_consts.specs.Meanings.{signature_of};
 ghost use Rattle.cs_consts.specs.Calls.{shape_in};
-ghost use Rattle.cs_consts.specs.Typing.{literals_behind, literals_behind_list, formed, judged, value_in, operand_in, done, stepped_object, is_address, prefixed, prefixed_value, purpose_behind, purpose_if, is_zero_number, is_plain, operator_of, left_side, stored, arguments_listed, numbers_listed, measured_arrays, base_in, number_at, call_with, cast_type, castable, cast_operand, cast_to, infix_formed, choice_formed, store_formed, call_formed, cast_formed};
+ghost use Rattle.cs_consts.specs.Typing.{literals_after, literals_after_list, formed, judged, value_in, operand_in, done, stepped_object, is_address, prefixed, prefixed_value, purpose_after, purpose_if, is_zero_number, is_plain, operator_of, left_side, stored, arguments_listed, numbers_listed, measured_arrays, base_in, number_at, call_with, cast_type, castable, cast_operand, cast_to, infix_formed, choice_formed, store_formed, call_formed, cast_formed};
 
 use crate::calls::{admitted, call_of, called, converted_list};
 use crate::constants::finished;
@@ -34,7 +34,7 @@ use cs_names::Bytes;
 use cs_types::{CType, IntType};
 use std::alloc::Global;
 
-/// The typing of an expression for its purpose. String literals are put behind those that are there; the value goes to a type
+/// The typing of an expression for its purpose. String literals are put after those that are there; the value goes to a type
 /// where what stands around the expression asks for one.
 #[cycle(typing)]
 pub fn judged(
@@ -45,8 +45,8 @@ pub fn judged(
     target: Option<&CType>,
     tree: &RawExpr,
 ) -> Result<Expr, TypeRefusal>
-    ensures told { Tells (judged context.now purpose literals.old.items (shape_in target.entry) tree.now) result }
-    ensures texts { OnOk result (literals.new.items ≡ literals_behind literals.old.items tree.now.kind) }
+    ensures reported { Yields (judged context.now purpose literals.old.items (shape_in target.entry) tree.now) result }
+    ensures texts { OnOk result (literals.new.items ≡ literals_after literals.old.items tree.now.kind) }
 {
     let value = formed(alloc, context, purpose, literals, target, tree)?;
     finished(context.model, purpose, value)
@@ -61,8 +61,8 @@ pub fn value_in(
     literals: &mut Vec<Bytes>,
     tree: &RawExpr,
 ) -> Result<Expr, TypeRefusal>
-    ensures told { Tells (value_in context.now purpose (formed context.now purpose literals.old.items None tree.now.place tree.now.kind)) result }
-    ensures texts { OnOk result (literals.new.items ≡ literals_behind literals.old.items tree.now.kind) }
+    ensures reported { Yields (value_in context.now purpose (formed context.now purpose literals.old.items None tree.now.place tree.now.kind)) result }
+    ensures texts { OnOk result (literals.new.items ≡ literals_after literals.old.items tree.now.kind) }
 {
     let value = judged(alloc, context, purpose, literals, None, tree)?;
     valued(alloc, &context.table, value)
@@ -78,8 +78,8 @@ pub fn operand_in(
     target: Option<&CType>,
     tree: &RawExpr,
 ) -> Result<Expr, TypeRefusal>
-    ensures told { Tells (operand_in context.now purpose (formed context.now purpose literals.old.items (shape_in target.entry) tree.now.place tree.now.kind)) result }
-    ensures texts { OnOk result (literals.new.items ≡ literals_behind literals.old.items tree.now.kind) }
+    ensures reported { Yields (operand_in context.now purpose (formed context.now purpose literals.old.items (shape_in target.entry) tree.now.place tree.now.kind)) result }
+    ensures texts { OnOk result (literals.new.items ≡ literals_after literals.old.items tree.now.kind) }
 {
     let value = judged(alloc, context, purpose, literals, target, tree)?;
     operand(alloc, &context.table, value)
@@ -95,8 +95,8 @@ fn formed(
     target: Option<&CType>,
     tree: &RawExpr,
 ) -> Result<Expr, TypeRefusal>
-    ensures told { Tells (formed context.now purpose literals.old.items (shape_in target.entry) tree.now.place tree.now.kind) result }
-    ensures texts { OnOk result (literals.new.items ≡ literals_behind literals.old.items tree.now.kind) }
+    ensures reported { Yields (formed context.now purpose literals.old.items (shape_in target.entry) tree.now.place tree.now.kind) result }
+    ensures texts { OnOk result (literals.new.items ≡ literals_after literals.old.items tree.now.kind) }
 {
     let place = tree.place;
     match &tree.kind {
@@ -126,7 +126,7 @@ fn formed(
             let value = operand_in(alloc, context, purpose, literals, None, value)?;
             selected_through(alloc, &context.table, place, name, value)
         }
-        RawExprKind::StepBehind(by, object) => {
+        RawExprKind::StepAfter(by, object) => {
             let gives = Gives::Old;
             step(alloc, context, purpose, literals, place, *by, gives, object)
         }
@@ -178,8 +178,8 @@ fn step(
     gives: Gives,
     object: &RawExpr,
 ) -> Result<Expr, TypeRefusal>
-    ensures told { Tells (lift (stepped_object context.now (step_operator step) gives place) (lift (updatable context.now.table.list (step_operator step) place) (done context.now purpose (formed context.now purpose literals.old.items None object.now.place object.now.kind)))) result }
-    ensures texts { OnOk result (literals.new.items ≡ literals_behind literals.old.items object.now.kind) }
+    ensures reported { Yields (lift (stepped_object context.now (step_operator step) gives place) (lift (updatable context.now.table.list (step_operator step) place) (done context.now purpose (formed context.now purpose literals.old.items None object.now.place object.now.kind)))) result }
+    ensures texts { OnOk result (literals.new.items ≡ literals_after literals.old.items object.now.kind) }
 {
     let operator = step_operator(step);
     let object = judged(alloc, context, purpose, literals, None, object)?;
@@ -196,7 +196,7 @@ fn prefixed(
     place: Place,
     value: Expr,
 ) -> Result<Expr, TypeRefusal>
-    ensures { Tells (prefixed context.now operator place (typed value)) result }
+    ensures { Yields (prefixed context.now operator place (typed value)) result }
 {
     if is_address(operator) {
         return address_of(alloc, place, value);
@@ -224,7 +224,7 @@ fn prefixed_value(
     place: Place,
     value: Expr,
 ) -> Result<Expr, TypeRefusal>
-    ensures { Tells (prefixed_value context.now operator place (typed value)) result }
+    ensures { Yields (prefixed_value context.now operator place (typed value)) result }
 {
     let model = context.model;
     match operator {
@@ -249,12 +249,12 @@ fn infix(
     left: &RawExpr,
     right: &RawExpr,
 ) -> Result<Expr, TypeRefusal>
-    ensures told { Tells (infix_formed context.now purpose literals.old.items place operator left.now right.now) result }
-    ensures texts { OnOk result (literals.new.items ≡ literals_behind (literals_behind literals.old.items left.now.kind) right.now.kind) }
+    ensures reported { Yields (infix_formed context.now purpose literals.old.items place operator left.now right.now) result }
+    ensures texts { OnOk result (literals.new.items ≡ literals_after (literals_after literals.old.items left.now.kind) right.now.kind) }
 {
     let left = operand_in(alloc, context, purpose, literals, None, left)?;
-    let behind = purpose_behind(operator, purpose, &left);
-    let right = operand_in(alloc, context, behind, literals, None, right)?;
+    let following = purpose_after(operator, purpose, &left);
+    let right = operand_in(alloc, context, following, literals, None, right)?;
     combined(
         alloc,
         context.model,
@@ -266,9 +266,9 @@ fn infix(
     )
 }
 
-// What the operand behind an operator is typed for.
-fn purpose_behind(operator: InfixOp, purpose: Purpose, left: &Expr) -> Purpose
-    ensures { result ≡ purpose_behind operator purpose (Fine (typed left.now)) }
+// What the operand after an operator is typed for.
+fn purpose_after(operator: InfixOp, purpose: Purpose, left: &Expr) -> Purpose
+    ensures { result ≡ purpose_after operator purpose (Fine (typed left.now)) }
 {
     match operator {
         InfixOp::And => purpose_if(true, purpose, left),
@@ -309,8 +309,8 @@ fn select(
     one: &RawExpr,
     other: &RawExpr,
 ) -> Result<Expr, TypeRefusal>
-    ensures told { Tells (choice_formed context.now purpose literals.old.items place test.now one.now other.now) result }
-    ensures texts { OnOk result (literals.new.items ≡ literals_behind (literals_behind (literals_behind literals.old.items test.now.kind) one.now.kind) other.now.kind) }
+    ensures reported { Yields (choice_formed context.now purpose literals.old.items place test.now one.now other.now) result }
+    ensures texts { OnOk result (literals.new.items ≡ literals_after (literals_after (literals_after literals.old.items test.now.kind) one.now.kind) other.now.kind) }
 {
     let test = operand_in(alloc, context, purpose, literals, None, test)?;
     let test = tested(place, test)?;
@@ -333,8 +333,8 @@ fn store(
     object: &RawExpr,
     value: &RawExpr,
 ) -> Result<Expr, TypeRefusal>
-    ensures told { Tells (store_formed context.now purpose literals.old.items place operator object.now value.now) result }
-    ensures texts { OnOk result (literals.new.items ≡ literals_behind (literals_behind literals.old.items object.now.kind) value.now.kind) }
+    ensures reported { Yields (store_formed context.now purpose literals.old.items place operator object.now value.now) result }
+    ensures texts { OnOk result (literals.new.items ≡ literals_after (literals_after literals.old.items object.now.kind) value.now.kind) }
 {
     let object = judged(alloc, context, purpose, literals, None, object)?;
     let object = left_side(context, operator, place, object)?;
@@ -386,7 +386,7 @@ fn left_side(
     place: Place,
     object: Expr,
 ) -> Result<Expr, TypeRefusal>
-    ensures { Tells (left_side context.now operator place (typed object)) result }
+    ensures { Yields (left_side context.now operator place (typed object)) result }
 {
     if is_plain(operator) {
         assignable(&context.table, place, object)
@@ -405,7 +405,7 @@ fn stored(
     object: Expr,
     value: Expr,
 ) -> Result<Expr, TypeRefusal>
-    ensures { Tells (stored context.now operator place (typed object) (typed value)) result }
+    ensures { Yields (stored context.now operator place (typed object) (typed value)) result }
 {
     if !is_plain(operator) {
         let operator = operator_of(operator);
@@ -428,8 +428,8 @@ fn call(
     function: &RawExpr,
     arguments: &[RawExpr],
 ) -> Result<Expr, TypeRefusal>
-    ensures told { Tells (call_formed context.now purpose literals.old.items (shape_in target.entry) place function.now arguments.now) result }
-    ensures texts { OnOk result (literals.new.items ≡ literals_behind_list literals.old.items arguments.now) }
+    ensures reported { Yields (call_formed context.now purpose literals.old.items (shape_in target.entry) place function.now arguments.now) result }
+    ensures texts { OnOk result (literals.new.items ≡ literals_after_list literals.old.items arguments.now) }
 {
     let Some(called) = called(&context.scope, function) else {
         operand_in(alloc, context, purpose, literals, None, function)?;
@@ -451,7 +451,7 @@ fn call_with(
     values: Vec<Expr>,
 ) -> Result<Expr, TypeRefusal>
     requires { vec_len values ≡ vec_len function.now.parameters }
-    ensures { Tells (call_with context.now place (shape_in target.entry) (signature_of function.now) (typed_list values.items)) result }
+    ensures { Yields (call_with context.now place (shape_in target.entry) (signature_of function.now) (typed_list values.items)) result }
 {
     let list = converted_list(alloc, context.model, place, &function.parameters, values)?;
     call_of(alloc, place, target, function, list)
@@ -468,8 +468,8 @@ fn arguments_of(
     arguments: &[RawExpr],
 ) -> Result<Vec<Expr>, TypeRefusal>
     requires { length arguments.now ≡ vec_len function.now.parameters }
-    ensures told { Answers (λ list. typed_list list.items) (arguments_listed context.now purpose literals.old.items (signature_of function.now).parameters arguments.now) result }
-    ensures texts { OnOk result (literals.new.items ≡ literals_behind_list literals.old.items arguments.now) }
+    ensures reported { Answers (λ list. typed_list list.items) (arguments_listed context.now purpose literals.old.items (signature_of function.now).parameters arguments.now) result }
+    ensures texts { OnOk result (literals.new.items ≡ literals_after_list literals.old.items arguments.now) }
     ensures count { IfOk result (λ list. vec_len list ≡ length arguments.now) }
 {
     let types = function.parameters.as_slice();
@@ -492,8 +492,8 @@ fn size_of_type(
     ty: &WrittenType,
     bounds: &[RawExpr],
 ) -> Result<Expr, TypeRefusal>
-    ensures told { Tells (lift2 (measured_arrays context.now place) (lift (complete_at context.now.table.list place) (base_in context.now place ty.now)) (numbers_listed context.now literals.old.items bounds.now)) result }
-    ensures texts { OnOk result (literals.new.items ≡ literals_behind_list literals.old.items bounds.now) }
+    ensures reported { Yields (lift2 (measured_arrays context.now place) (lift (complete_at context.now.table.list place) (base_in context.now place ty.now)) (numbers_listed context.now literals.old.items bounds.now)) result }
+    ensures texts { OnOk result (literals.new.items ≡ literals_after_list literals.old.items bounds.now) }
 {
     let base = type_named(alloc, &context.scope, place, ty)?;
     let base = complete_at(&context.table, place, base)?;
@@ -510,7 +510,7 @@ fn measured_arrays(
     base: CType,
     numbers: &[i128],
 ) -> Result<Expr, TypeRefusal>
-    ensures { Tells (measured_arrays context.now place (shape_of base) numbers.now) result }
+    ensures { Yields (measured_arrays context.now place (shape_of base) numbers.now) result }
 {
     let ty = arrayed(alloc, context.model, &context.table, place, base, numbers)?;
     measured(context.model, &context.table, place, &ty)
@@ -524,8 +524,8 @@ fn numbers_of(
     literals: &mut Vec<Bytes>,
     bounds: &[RawExpr],
 ) -> Result<Vec<i128>, TypeRefusal>
-    ensures told { Answers (λ numbers. numbers.items) (numbers_listed context.now literals.old.items bounds.now) result }
-    ensures texts { OnOk result (literals.new.items ≡ literals_behind_list literals.old.items bounds.now) }
+    ensures reported { Answers (λ numbers. numbers.items) (numbers_listed context.now literals.old.items bounds.now) result }
+    ensures texts { OnOk result (literals.new.items ≡ literals_after_list literals.old.items bounds.now) }
 {
     let mut numbers = Vec::new(alloc);
     for bound in bounds {
@@ -557,8 +557,8 @@ fn cast(
     bounds: usize,
     operand: &RawExpr,
 ) -> Result<Expr, TypeRefusal>
-    ensures told { Tells (cast_formed context.now purpose literals.old.items place ty.now bounds operand.now) result }
-    ensures texts { OnOk result (literals.new.items ≡ literals_behind literals.old.items operand.now.kind) }
+    ensures reported { Yields (cast_formed context.now purpose literals.old.items place ty.now bounds operand.now) result }
+    ensures texts { OnOk result (literals.new.items ≡ literals_after literals.old.items operand.now.kind) }
 {
     let target = cast_type(alloc, context, place, ty, bounds)?;
     let value = judged(alloc, context, purpose, literals, Some(&target), operand)?;
@@ -603,7 +603,7 @@ fn cast_operand(
     target: &CType,
     value: Expr,
 ) -> Result<Expr, TypeRefusal>
-    ensures { Tells (cast_operand context.now (shape_of target.now) (typed value)) result }
+    ensures { Yields (cast_operand context.now (shape_of target.now) (typed value)) result }
 {
     if is_void(target) {
         valued(alloc, &context.table, value)
@@ -621,7 +621,7 @@ fn cast_to(
     target: &CType,
     value: Expr,
 ) -> Result<Expr, TypeRefusal>
-    ensures { Tells (cast_to context.now place (shape_of target.now) (typed value)) result }
+    ensures { Yields (cast_to context.now place (shape_of target.now) (typed value)) result }
 {
     let value = cast_operand(alloc, context, target, value)?;
     recast(alloc, context.model, place, value, target)

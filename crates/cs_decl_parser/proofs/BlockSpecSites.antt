@@ -5,7 +5,7 @@ use Rattle.cs_ast.specs.declared.token.Token.{Token}
 use Rattle.cs_ast.specs.declared.token.TokenKind.{TokenKind}
 use Rattle.cs_ast.specs.declared.token.TokenKind.TheVariants as token
 use Rattle.cs_ast.specs.declared.token.Keyword.TheVariants as keyword
-use Rattle.cs_ast.specs.declared.token.Mark.TheVariants as mark
+use Rattle.cs_ast.specs.declared.token.Punctuator.TheVariants as punctuator
 use Rattle.cs_ast.specs.declared.raw.declaration.RawSpecs.{RawSpecs}
 use Rattle.cs_ast.specs.declared.raw.declaration.SpecWord.{SpecWord}
 use Rattle.cs_ast.specs.declared.raw.declaration.SpecWord.TheVariants as words
@@ -96,15 +96,15 @@ pub goes_on_with : (names : Names) (ws : List TypeWord) → named_by ws ≡ [] �
 goes_on_with names ws none = (word.Void ∷ [], ap (names_type names) (named_more ws (word.Void ∷ []) ∙ ap (λ (x : List TypeWord). x ++ word.Void ∷ []) none))
 
 -- the words name no type, and none that begins with the token fits
-pub words_stop : (names : Names) (room : ℕ) → 1 ≤ room → (tokens : List Token) (from next : ℕ) (so_far : TypeSoFar) (items : List SpecWord) (s : Stop) → WordsSoFar names tokens from next so_far items → names_some so_far ≡ false → NothingFits names so_far (kind_or_end tokens next) → s ≡ stop.Refused next (plain_reason Block (kind_or_end tokens next)) → StopsOrBrace (BlockSpecs names) room tokens from s
-words_stop names room some tokens from next so_far items s w none stuck is =
+pub words_stop : (names : Names) (limit : ℕ) → 1 ≤ limit → (tokens : List Token) (from next : ℕ) (so_far : TypeSoFar) (items : List SpecWord) (s : Stop) → WordsSoFar names tokens from next so_far items → names_some so_far ≡ false → NothingFits names so_far (kind_or_end tokens next) → s ≡ stop.Refused next (plain_reason Block (kind_or_end tokens next)) → StopsOrBrace (BlockSpecs names) limit tokens from s
+words_stop names limit some tokens from next so_far items s w none stuck is =
     let n = nothing_named names so_far w.all w.described none in
-    subst (StopsOrBrace (BlockSpecs names) room tokens from) (sym is) (inl (record {
+    subst (StopsOrBrace (BlockSpecs names) limit tokens from) (sym is) (inl (record {
       front = words_text w.all [];
       spelled = spells_as tokens from next (words_text w.all) (λ rest. words_text w.all [] ++ rest) w.spelled (λ rest. sym (words_append w.all [] rest));
       refused =
-          subst (λ (d : Bool). Refused (BlockSpecs names) room (words_text w.all []) (kind_or_end tokens next) d) (sym (plain_flat Block (kind_or_end tokens next)))
-          (block_specs_refused names room w.all (kind_or_end tokens next) some (ap (names_type names) n) (goes_on_with names w.all n) (stuck_at names w.all (kind_or_end tokens next) (stuck w.all w.described)));
+          subst (λ (d : Bool). Refused (BlockSpecs names) limit (words_text w.all []) (kind_or_end tokens next) d) (sym (plain_flat Block (kind_or_end tokens next)))
+          (block_specs_refused names limit w.all (kind_or_end tokens next) some (ap (names_type names) n) (goes_on_with names w.all n) (stuck_at names w.all (kind_or_end tokens next) (stuck w.all w.described)));
     }))
 
 tag_kw : (is_struct : Bool) → token.Keyword (if is_struct then keyword.Struct else keyword.Enum) ≡ tag_word is_struct
@@ -118,21 +118,21 @@ tag_word_some : (is_struct : Bool) → tag_word is_struct ≡ token.Attribute �
 tag_word_some true e = cc
 tag_word_some false e = cc
 
-missing_tag : (names : Names) (room : ℕ) → 1 ≤ room → (tokens : List Token) (from next refused : ℕ) (reason : Reason) (so_far : TypeSoFar) (items : List SpecWord) → WordsSoFar names tokens from next so_far items → names_some so_far ≡ false → is_deep reason ≡ false → IsTagMissing tokens next refused → IsRefused (BlockSpecs names) room tokens from refused reason
-missing_tag names room some tokens from next refused reason so_far items w none plain m =
+missing_tag : (names : Names) (limit : ℕ) → 1 ≤ limit → (tokens : List Token) (from next refused : ℕ) (reason : Reason) (so_far : TypeSoFar) (items : List SpecWord) → WordsSoFar names tokens from next so_far items → names_some so_far ≡ false → is_deep reason ≡ false → IsTagMissing tokens next refused → IsRefused (BlockSpecs names) limit tokens from refused reason
+missing_tag names limit some tokens from next refused reason so_far items w none plain m =
     let k : kind_or_end tokens next ≡ tag_word m.is_struct = m.stands ∙ tag_kw m.is_struct in
-    subst (λ (n : ℕ). IsRefused (BlockSpecs names) room tokens from n reason) (sym m.refused_is) (record {
+    subst (λ (n : ℕ). IsRefused (BlockSpecs names) limit tokens from n reason) (sym m.refused_is) (record {
       front = words_text w.all (tag_word m.is_struct ∷ []);
       spelled =
           spells_as tokens from (next + 1) (λ rest. words_text w.all (tag_word m.is_struct ∷ rest)) (λ rest. words_text w.all (tag_word m.is_struct ∷ []) ++ rest)
           (spells_more tokens from next (next + 1) (words_text w.all) (λ rest. tag_word m.is_struct ∷ rest) w.spelled (spells_one tokens next (tag_word m.is_struct) k (tag_word_some m.is_struct)))
           (λ rest. sym (words_append w.all (tag_word m.is_struct ∷ []) rest));
       refused =
-          subst (λ (d : Bool). Refused (BlockSpecs names) room (words_text w.all (tag_word m.is_struct ∷ [])) (kind_or_end tokens (next + 1)) d) (sym plain)
-          (block_tag_refused names room w.all m.is_struct (kind_or_end tokens (next + 1)) some (nothing_named names so_far w.all w.described none) (no_name (kind_or_end tokens (next + 1)) m.none));
+          subst (λ (d : Bool). Refused (BlockSpecs names) limit (words_text w.all (tag_word m.is_struct ∷ [])) (kind_or_end tokens (next + 1)) d) (sym plain)
+          (block_tag_refused names limit w.all m.is_struct (kind_or_end tokens (next + 1)) some (nothing_named names so_far w.all w.described none) (no_name (kind_or_end tokens (next + 1)) m.none));
     })
 
-no_brace_word : (one : TypeWord) → first_of_word one ≡ token.Mark mark.OpenBrace → ⊥
+no_brace_word : (one : TypeWord) → first_of_word one ≡ token.Punctuator punctuator.OpenBrace → ⊥
 no_brace_word word.Const e = cc
 no_brace_word word.Void e = cc
 no_brace_word (word.Integer Char) e = cc
@@ -153,31 +153,31 @@ tag_reads : (ws : List TypeWord) (is_struct : Bool) (tag : List ℕ) (rest : Kin
 tag_reads ws true tag rest = sym (plain_text (ws ++ word.Struct tag ∷ []) rest ∙ words_split ws (word.Struct tag ∷ []) rest)
 tag_reads ws false tag rest = sym (plain_text (ws ++ word.Enum tag ∷ []) rest ∙ words_split ws (word.Enum tag ∷ []) rest)
 
-braced_tag : (names : Names) (room : ℕ) → 1 ≤ room → (tokens : List Token) (from next refused : ℕ) (reason : Reason) (so_far : TypeSoFar) (items : List SpecWord) → WordsSoFar names tokens from next so_far items → names_some so_far ≡ false → is_deep reason ≡ false → IsTagBraced tokens next refused → IsBraceRefused (BlockSpecs names) room tokens from refused reason
-braced_tag names room some tokens from next refused reason so_far items w none plain b = record {
+braced_tag : (names : Names) (limit : ℕ) → 1 ≤ limit → (tokens : List Token) (from next refused : ℕ) (reason : Reason) (so_far : TypeSoFar) (items : List SpecWord) → WordsSoFar names tokens from next so_far items → names_some so_far ≡ false → is_deep reason ≡ false → IsTagBraced tokens next refused → IsBraceRefused (BlockSpecs names) limit tokens from refused reason
+braced_tag names limit some tokens from next refused reason so_far items w none plain b = record {
   phrase = specs_of (w.all ++ word_of_tag b.is_struct b.tag ∷ []);
   spelled =
       spells_as tokens from refused (λ rest. words_text w.all (tag_keyword b.is_struct ∷ token.Name b.tag ∷ rest)) (specs_text (specs_of (w.all ++ word_of_tag b.is_struct b.tag ∷ [])))
       (spells_more tokens from next refused (words_text w.all) (λ rest. tag_keyword b.is_struct ∷ token.Name b.tag ∷ rest) w.spelled b.spelled) (tag_reads w.all b.is_struct b.tag);
   brace = b.brace;
   took =
-      subst (λ (d : Bool). Took (BlockSpecs names) room (specs_of (w.all ++ word_of_tag b.is_struct b.tag ∷ [])) (token.Mark mark.OpenBrace) d) (sym plain)
-      (block_specs_took names room (w.all ++ word_of_tag b.is_struct b.tag ∷ []) (token.Mark mark.OpenBrace) some (tag_type names w.all b.is_struct b.tag (nothing_named names so_far w.all w.described none))
-      (stuck_at names (w.all ++ word_of_tag b.is_struct b.tag ∷ []) (token.Mark mark.OpenBrace) (λ one more e. absurd (no_brace_word one e))));
+      subst (λ (d : Bool). Took (BlockSpecs names) limit (specs_of (w.all ++ word_of_tag b.is_struct b.tag ∷ [])) (token.Punctuator punctuator.OpenBrace) d) (sym plain)
+      (block_specs_took names limit (w.all ++ word_of_tag b.is_struct b.tag ∷ []) (token.Punctuator punctuator.OpenBrace) some (tag_type names w.all b.is_struct b.tag (nothing_named names so_far w.all w.described none))
+      (stuck_at names (w.all ++ word_of_tag b.is_struct b.tag ∷ []) (token.Punctuator punctuator.OpenBrace) (λ one more e. absurd (no_brace_word one e))));
 }
 
 -- `struct` or `enum` was refused
-pub tag_stops : (names : Names) (room : ℕ) → 1 ≤ room → (tokens : List Token) (from next : ℕ) (so_far : TypeSoFar) (items : List SpecWord) (s : Stop) → WordsSoFar names tokens from next so_far items → names_some so_far ≡ false → BlockTagStops tokens next s → StopsOrBrace (BlockSpecs names) room tokens from s
-tag_stops names room some tokens from next so_far items stop.Memory w none b = tt
-tag_stops names room some tokens from next so_far items (stop.Refused refused reason) w none b =
+pub tag_stops : (names : Names) (limit : ℕ) → 1 ≤ limit → (tokens : List Token) (from next : ℕ) (so_far : TypeSoFar) (items : List SpecWord) (s : Stop) → WordsSoFar names tokens from next so_far items → names_some so_far ≡ false → BlockTagStops tokens next s → StopsOrBrace (BlockSpecs names) limit tokens from s
+tag_stops names limit some tokens from next so_far items stop.Memory w none b = tt
+tag_stops names limit some tokens from next so_far items (stop.Refused refused reason) w none b =
     elim b.1 [
-      | inl m ↦ inl (missing_tag names room some tokens from next refused reason so_far items w none b.0 m)
-      | inr t ↦ inr (braced_tag names room some tokens from next refused reason so_far items w none b.0 t)
+      | inl m ↦ inl (missing_tag names limit some tokens from next refused reason so_far items w none b.0 m)
+      | inr t ↦ inr (braced_tag names limit some tokens from next refused reason so_far items w none b.0 t)
     ]
 
-pub word_stops : (names : Names) (room : ℕ) → 1 ≤ room → (tokens : List Token) (from next : ℕ) (so_far : TypeSoFar) (items : List SpecWord) (s : Stop) → WordsSoFar names tokens from next so_far items → BlockWordAnswer names tokens next so_far (Err s) → StopsOrBrace (BlockSpecs names) room tokens from s
-word_stops names room some tokens from next so_far items stop.Memory w b = tt
-word_stops names room some tokens from next so_far items (stop.Refused refused reason) w b = tag_stops names room some tokens from next so_far items (stop.Refused refused reason) w b.0 b.1
+pub word_stops : (names : Names) (limit : ℕ) → 1 ≤ limit → (tokens : List Token) (from next : ℕ) (so_far : TypeSoFar) (items : List SpecWord) (s : Stop) → WordsSoFar names tokens from next so_far items → BlockWordAnswer names tokens next so_far (Err s) → StopsOrBrace (BlockSpecs names) limit tokens from s
+word_stops names limit some tokens from next so_far items stop.Memory w b = tt
+word_stops names limit some tokens from next so_far items (stop.Refused refused reason) w b = tag_stops names limit some tokens from next so_far items (stop.Refused refused reason) w b.0 b.1
 
 plain_height : (w : TypeWord) (ws : List TypeWord) → specs_height (specs_of (w ∷ ws)) ≡ 1
 plain_height w [] = omega arith
@@ -188,8 +188,8 @@ some_height [] names type = absurd (false≢true type)
 some_height (w ∷ ws) names type = plain_height w ws
 
 -- the words are those of a type
-pub words_taken : (names : Names) (room : ℕ) → 1 ≤ room → (tokens : List Token) (from next : ℕ) (so_far : TypeSoFar) (taken : Taken RawSpecs) → WordsSoFar names tokens from next so_far taken.tree.words.items → names_some so_far ≡ true → NothingFits names so_far (kind_or_end tokens next) → taken.height ≡ 1 → taken.next ≡ next → IsTaken (BlockSpecs names) specs room tokens from false taken
-words_taken names room some tokens from next so_far taken w named stuck tall number =
+pub words_taken : (names : Names) (limit : ℕ) → 1 ≤ limit → (tokens : List Token) (from next : ℕ) (so_far : TypeSoFar) (taken : Taken RawSpecs) → WordsSoFar names tokens from next so_far taken.tree.words.items → names_some so_far ≡ true → NothingFits names so_far (kind_or_end tokens next) → taken.height ≡ 1 → taken.next ≡ next → IsTaken (BlockSpecs names) specs limit tokens from false taken
+words_taken names limit some tokens from next so_far taken w named stuck tall number =
     let type = some_type names so_far w.all w.described named in
     record {
       height_is = tall ∙ sym (ap specs_height w.items_are ∙ some_height w.all names type);
@@ -198,7 +198,7 @@ words_taken names room some tokens from next so_far taken w named stuck tall num
           (subst (λ (x : Specs). Spells tokens from next (specs_text x)) (sym w.items_are)
           (spells_as tokens from next (words_text w.all) (specs_text (specs_of w.all)) w.spelled (λ rest. sym (plain_text w.all rest))));
       took =
-          subst (λ (n : ℕ). Took (BlockSpecs names) room (specs taken.tree) (kind_or_end tokens n) false) (sym number)
-          (subst (λ (x : Specs). Took (BlockSpecs names) room x (kind_or_end tokens next) false) (sym w.items_are)
-          (block_specs_took names room w.all (kind_or_end tokens next) some type (stuck_at names w.all (kind_or_end tokens next) (stuck w.all w.described))));
+          subst (λ (n : ℕ). Took (BlockSpecs names) limit (specs taken.tree) (kind_or_end tokens n) false) (sym number)
+          (subst (λ (x : Specs). Took (BlockSpecs names) limit x (kind_or_end tokens next) false) (sym w.items_are)
+          (block_specs_took names limit w.all (kind_or_end tokens next) some type (stuck_at names w.all (kind_or_end tokens next) (stuck w.all w.described))));
     }

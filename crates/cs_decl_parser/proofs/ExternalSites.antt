@@ -6,7 +6,7 @@ use Rattle.cs_ast.specs.declared.token.Token.{Token}
 use Rattle.cs_ast.specs.declared.token.TokenKind.{TokenKind}
 use Rattle.cs_ast.specs.declared.token.TokenKind.TheVariants as token
 use Rattle.cs_ast.specs.declared.token.Keyword.TheVariants as keyword
-use Rattle.cs_ast.specs.declared.token.Mark.TheVariants as mark
+use Rattle.cs_ast.specs.declared.token.Punctuator.TheVariants as punctuator
 use Rattle.cs_ast.specs.declared.raw.declaration.RawDeclarator.{RawDeclarator}
 use Rattle.cs_ast.specs.declared.raw.declaration.RawInit.{RawInit}
 use Rattle.cs_ast.specs.declared.raw.declaration.RawParameters.{RawParameters}
@@ -30,11 +30,11 @@ use Rattle.cs_grammar.specs.FileClasses.{BlockRows}
 use Rattle.cs_grammar.specs.FileParts.{ExternalRest, no_name, objects, function, definition, rest_text, ExternalRests, external_from, FunctionEnds}
 use Rattle.cs_grammar.specs.DeclarationClasses.{Objects, FileSpecs, ObjectDeclarators, ParameterLists, Heads, Externals}
 use Rattle.cs_grammar.specs.Parsing.{Class, Near, Took, Refused, Exactly}
-use Rattle.cs_grammar.specs.Composed.{Sequence, Separated, Behind}
+use Rattle.cs_grammar.specs.Composed.{Sequence, Separated, Following}
 use Rattle.cs_grammar.proofs.Texts.{pointers_append}
 use Rattle.cs_grammar.proofs.Holes.{splits, tail_refused, exact_took}
 use Rattle.cs_grammar.proofs.Tails.{first_or}
-use Rattle.cs_grammar.proofs.Sequences.{sequence_law, sequence_least, first_refused, second_wrong, behind_tail, then_refused, then_took, took_exact}
+use Rattle.cs_grammar.proofs.Sequences.{sequence_law, sequence_least, first_refused, second_wrong, after_tail, then_refused, then_took, took_exact}
 use Rattle.cs_grammar.proofs.Pairs.{Single, single_refused, single_took}
 use Rattle.cs_grammar.proofs.Statements.{open_parenthesis, open_brace, close_brace, semicolon}
 use Rattle.cs_grammar.proofs.BlockItems.{Starts, with_star, with_name, pointers_start, objects_start}
@@ -107,7 +107,7 @@ type_stop names tokens from (stop.Refused at reason) r =
 pub declared_type_stops : (names : Names) (tokens : List Token) (from : ℕ) → (kind_or_end tokens from ≡ token.Keyword keyword.Typedef → ⊥) → (s : Stop) → StopsOrBrace (FileSpecs names) 199 tokens from s → Stops (Externals names) 200 tokens from s
 declared_type_stops names tokens from other s r = parts_stop names tokens from other s (type_stop names tokens from s r)
 
--- what stands behind the type was refused
+-- what stands after the type was refused
 pub rest_stops : (names : Names) (tokens : List Token) (from : ℕ) (type : Taken RawSpecs) → IsTypeTaken names tokens from type → (s : Stop) → Stops (ExternalRests names) 199 tokens type.next s → Stops (Externals names) 200 tokens from s
 rest_stops names tokens from type t s r =
     let k = t.taken in
@@ -152,21 +152,21 @@ cut_before (p ∷ ps) Q (f ∷ fs) K same less =
     let c = cut_before ps Q fs K r (omega (arith, less)) in
     (c.0, c.1, ap (λ (y : Kinds). p ∷ y) c.2 ∙ ap (λ (y : TokenKind). y ∷ (fs ++ (c.0 ∷ c.1))) k, c.3)
 
-cut_behind : (P Q F K : Kinds) → P ++ Q ≡ F ++ K → length P ≤ length F → (fs : Kinds) × (F ≡ P ++ fs) × (Q ≡ fs ++ K)
-cut_behind [] Q F K same more = (F, refl, same)
-cut_behind (p ∷ ps) Q [] K same more = absurd (omega (arith, more))
-cut_behind (p ∷ ps) Q (f ∷ fs) K same more =
+cut_after : (P Q F K : Kinds) → P ++ Q ≡ F ++ K → length P ≤ length F → (fs : Kinds) × (F ≡ P ++ fs) × (Q ≡ fs ++ K)
+cut_after [] Q F K same more = (F, refl, same)
+cut_after (p ∷ ps) Q [] K same more = absurd (omega (arith, more))
+cut_after (p ∷ ps) Q (f ∷ fs) K same more =
     let k : p ≡ f = cc in
     let r : ps ++ Q ≡ fs ++ K = cc in
-    let c = cut_behind ps Q fs K r (omega (arith, more)) in
+    let c = cut_after ps Q fs K r (omega (arith, more)) in
     (c.0, ap (λ (y : TokenKind). y ∷ fs) (sym k) ∙ ap (λ (y : Kinds). p ∷ y) c.1, c.2)
 
 abbrev plain_object : List PointerWord → List ℕ → Declared
 plain_object ps n = record { declarator = record { pointers = ps; name = n; bounds = [] }; initial = None }
 
--- objects are refused no earlier than behind a name
-early : (names : Names) (room : ℕ) (ps : List PointerWord) (n : List ℕ) (front xs : Kinds) (x : TokenKind) (deep : Bool) → 1 ≤ room → IsTrue (is_pointer ps) → IsFree names n → pointers_text ps (token.Name n ∷ []) ≡ front ++ (x ∷ xs) → Refused (Separated (Objects names) semicolon) room front x deep → ⊥
-early names room ps n front xs x deep some p free same r =
+-- objects are refused no earlier than after a name
+early : (names : Names) (limit : ℕ) (ps : List PointerWord) (n : List ℕ) (front xs : Kinds) (x : TokenKind) (deep : Bool) → 1 ≤ limit → IsTrue (is_pointer ps) → IsFree names n → pointers_text ps (token.Name n ∷ []) ≡ front ++ (x ∷ xs) → Refused (Separated (Objects names) semicolon) limit front x deep → ⊥
+early names limit ps n front xs x deep some p free same r =
     let text : pointers_text ps (token.Name n ∷ semicolon ∷ []) ≡ front ++ (x ∷ (xs ++ semicolon ∷ [])) =
     sym (pointers_append ps (token.Name n ∷ []) (semicolon ∷ [])) ∙ ap (λ (y : Kinds). y ++ semicolon ∷ []) same ∙ append_assoc front (x ∷ xs) (semicolon ∷ []) in
     let v = r.never (plain_object ps n ∷ []) [] (x ∷ (xs ++ semicolon ∷ [])) (tt, (record { declarator = record { pointers = p; named = free; bounds = tt }; initial = tt }, tt)) tt (inr (xs ++ semicolon ∷ [], refl)) text in
@@ -176,7 +176,7 @@ early names room ps n front xs x deep some p free same r =
 named_length : (tokens : List Token) (from next : ℕ) (ps : List PointerWord) (n : List ℕ) → Spells tokens from next (λ rest. pointers_text ps (token.Name n ∷ rest)) → Spells tokens from next (λ rest. pointers_text ps (token.Name n ∷ []) ++ rest)
 named_length tokens from next ps n sp = spells_as tokens from next (λ rest. pointers_text ps (token.Name n ∷ rest)) (λ rest. pointers_text ps (token.Name n ∷ []) ++ rest) sp (λ rest. sym (pointers_append ps (token.Name n ∷ []) rest))
 
--- behind a name without a parenthesis stands no function
+-- after a name without a parenthesis stands no function
 named_no_function : (names : Names) (tokens : List Token) (from : ℕ) (pointed : Taken Pointed) → IsPointed declaring.Names names tokens from pointed → (kind_or_end tokens pointed.next ≡ open_parenthesis → ⊥) → (front : Kinds) (at : ℕ) (deep : Bool) → Spells tokens from at (λ rest. front ++ rest) → Refused (Separated (Objects names) semicolon) 199 front (kind_or_end tokens at) deep → NoFunction names front (kind_or_end tokens at)
 named_no_function names tokens from pointed p other front at deep here r =
     let ps = pointed.tree.pointers.items in
@@ -190,7 +190,7 @@ named_no_function names tokens from pointed p other front at deep here r =
           let k : kind_or_end tokens at ≡ c.0 = kinds_first (drop at tokens) c.0 (c.1 ++ kinds (drop pointed.next tokens)) c.3 in
           absurd (early names 199 ps n front c.1 c.0 deep (omega arith) p.pointers p.named c.2 (subst (λ (x : TokenKind). Refused (Separated (Objects names) semicolon) 199 front x deep) k r))
       | inr more ↦
-          let c = cut_behind P (kinds (drop pointed.next tokens)) front (kinds (drop at tokens)) same more in
+          let c = cut_after P (kinds (drop pointed.next tokens)) front (kinds (drop at tokens)) same more in
           let m = refused_number tokens from at front here in
           let m' = refused_number tokens from pointed.next P l in
           let sp : Spells tokens pointed.next at (λ rest. c.0 ++ rest) = record { onward = omega (arith, m, m', more); within = here.within; spelled = c.2 } in
@@ -211,19 +211,19 @@ objects_exactly names tokens from next list t = record {
   exactly = took_exact (ExternalRests names) 199 (objects list) (λ some. objects_took names 199 (omega arith) list some false (exact_took (Separated (Objects names) semicolon) 199 list t.exactly some)) (λ other after. tt) semicolon;
 }
 
-none_function : (names : Names) (next : TokenKind) → (next ≡ token.Mark mark.Star → ⊥) → ((n : List ℕ) → next ≡ token.Name n → IsFree names n → ⊥) → (behind : Kinds) → Near next behind → (ps : List PointerWord) (n : List ℕ) (more : Kinds) → IsTrue (is_pointer ps) → IsFree names n → behind ≡ pointers_text ps (token.Name n ∷ open_parenthesis ∷ more) → ⊥
-none_function names next no_star unnamed behind near [] n more p free same =
+none_function : (names : Names) (next : TokenKind) → (next ≡ token.Punctuator punctuator.Star → ⊥) → ((n : List ℕ) → next ≡ token.Name n → IsFree names n → ⊥) → (following : Kinds) → Near next following → (ps : List PointerWord) (n : List ℕ) (more : Kinds) → IsTrue (is_pointer ps) → IsFree names n → following ≡ pointers_text ps (token.Name n ∷ open_parenthesis ∷ more) → ⊥
+none_function names next no_star unnamed following near [] n more p free same =
     elim near [ inl e ↦ let z = sym same ∙ e in cc | inr m ↦ let z : token.Name n ∷ open_parenthesis ∷ more ≡ next ∷ m.0 = sym same ∙ m.1 in let k : next ≡ token.Name n = cc in unnamed n k free ]
-none_function names next no_star unnamed behind near (pointer.Star ∷ ps) n more p free same =
-    elim near [ inl e ↦ let z = sym same ∙ e in cc | inr m ↦ let z : token.Mark mark.Star ∷ pointers_text ps (token.Name n ∷ open_parenthesis ∷ more) ≡ next ∷ m.0 = sym same ∙ m.1 in no_star cc ]
-none_function names next no_star unnamed behind near (pointer.Const ∷ ps) n more p free same = false≢true p
+none_function names next no_star unnamed following near (pointer.Star ∷ ps) n more p free same =
+    elim near [ inl e ↦ let z = sym same ∙ e in cc | inr m ↦ let z : token.Punctuator punctuator.Star ∷ pointers_text ps (token.Name n ∷ open_parenthesis ∷ more) ≡ next ∷ m.0 = sym same ∙ m.1 in no_star cc ]
+none_function names next no_star unnamed following near (pointer.Const ∷ ps) n more p free same = false≢true p
 
 missing_function : (names : Names) (tokens : List Token) (from at : ℕ) (words : List PointerWord) → ArePointers tokens from at words → ((n : List ℕ) → kind_or_end tokens at ≡ token.Name n → IsFree names n → ⊥) → NoFunction names (pointers_text words []) (kind_or_end tokens at)
-missing_function names tokens from at [] p unnamed behind near ps n more q free same = none_function names (kind_or_end tokens at) p.no_star unnamed behind near ps n more q free same
-missing_function names tokens from at (w ∷ ws) p unnamed behind near ps n more q free same =
-    no_function_pointers names (w ∷ ws) (kind_or_end tokens at) p.no_star (λ k. let z = p.no_const k in cc) unnamed behind near ps n more q free same
+missing_function names tokens from at [] p unnamed following near ps n more q free same = none_function names (kind_or_end tokens at) p.no_star unnamed following near ps n more q free same
+missing_function names tokens from at (w ∷ ws) p unnamed following near ps n more q free same =
+    no_function_pointers names (w ∷ ws) (kind_or_end tokens at) p.no_star (λ k. let z = p.no_const k in cc) unnamed following near ps n more q free same
 
--- no name stands behind the type
+-- no name stands after the type
 pub name_stops : (names : Names) (tokens : List Token) (from : ℕ) → (kind_or_end tokens from ≡ semicolon → ⊥) → (s : Stop) → PointedAnswers declaring.Names names tokens from (Err s) → Stops (Separated (Objects names) semicolon) 199 tokens from s → Stops (ExternalRests names) 199 tokens from s
 name_stops names tokens from named stop.Memory m r = tt
 name_stops names tokens from named (stop.Refused at reason) m r =
@@ -238,7 +238,7 @@ name_stops names tokens from named (stop.Refused at reason) m r =
           (subst (λ (y : Kinds). NoFunction names y (kind_or_end tokens at)) (sym e) (missing_function names tokens from at m.words ps m.no_name)) r.refused;
     }
 
--- a semicolon stands behind the type
+-- a semicolon stands after the type
 pub alone_exactly : (names : Names) (tokens : List Token) (from : ℕ) → kind_or_end tokens from ≡ semicolon → StandingExactly (ExternalRests names) 199 tokens from (from + 1) no_name
 alone_exactly names tokens from k = record { spelled = spells_one tokens from semicolon k (λ x. cc); exactly = rest_no_name names 199 }
 
@@ -252,8 +252,8 @@ parameters_stop names tokens from pointed p k s r =
     (spells_more tokens from pointed.next (pointed.next + 1) (λ rest. pointers_text ps (token.Name n ∷ rest)) (λ rest. open_parenthesis ∷ rest) p.spelled (spells_one tokens pointed.next open_parenthesis k (λ x. cc)))
     (λ rest. sym (pointers_append ps (token.Name n ∷ open_parenthesis ∷ []) rest)))
     (λ front at deep here x.
-    let y = tail_refused (Behind open_parenthesis (ParameterLists names)) (ParameterLists names) 198 198 (open_parenthesis ∷ []) (λ d. d) (λ rest. Unit {0}) (parameter_lists_law names) (behind_tail open_parenthesis (ParameterLists names) 198 (parameter_lists_least names) (omega arith)) front (kind_or_end tokens at) deep (λ behind near. tt) x in
-    let h = single_refused (head_single names ps n p.pointers p.named) 199 198 (refl, omega arith) (open_parenthesis ∷ front) (kind_or_end tokens at) deep (λ behind near. tt) y in
+    let y = tail_refused (Following open_parenthesis (ParameterLists names)) (ParameterLists names) 198 198 (open_parenthesis ∷ []) (λ d. d) (λ rest. Unit {0}) (parameter_lists_law names) (after_tail open_parenthesis (ParameterLists names) 198 (parameter_lists_least names) (omega arith)) front (kind_or_end tokens at) deep (λ following near. tt) x in
+    let h = single_refused (head_single names ps n p.pointers p.named) 199 198 (refl, omega arith) (open_parenthesis ∷ front) (kind_or_end tokens at) deep (λ following near. tt) y in
     let h' = subst (λ (z : Kinds). Refused (Heads names) 199 z (kind_or_end tokens at) deep) (pointers_append ps (token.Name n ∷ []) (open_parenthesis ∷ front)) h in
     subst (λ (z : Kinds). Refused (ExternalRests names) 199 z (kind_or_end tokens at) deep) (sym (pointers_append ps (token.Name n ∷ open_parenthesis ∷ []) front)) (heads_refused names 199 ps n front (kind_or_end tokens at) deep p.pointers h')) s r
 
@@ -263,14 +263,14 @@ head_exactly names tokens from pointed list p k t =
     let ps = pointed.tree.pointers.items in
     let n = pointed.tree.name.name in
     let x = t.exactly in
-    let b : Exactly (Behind open_parenthesis (ParameterLists names)) 198 (parameters list.tree) = record { is_phrase = x.is_phrase; low = x.low; exact = λ other after behind is same. x.exact other after behind is cc } in
+    let b : Exactly (Following open_parenthesis (ParameterLists names)) 198 (parameters list.tree) = record { is_phrase = x.is_phrase; low = x.low; exact = λ other after following is same. x.exact other after following is cc } in
     record {
       spelled =
           spells_more tokens from pointed.next list.next (λ rest. pointers_text ps (token.Name n ∷ rest)) (λ rest. open_parenthesis ∷ (ParameterLists names).spell (parameters list.tree) rest) p.spelled
           (spells_more tokens pointed.next (pointed.next + 1) list.next (λ rest. open_parenthesis ∷ rest) ((ParameterLists names).spell (parameters list.tree)) (spells_one tokens pointed.next open_parenthesis k (λ x. cc)) t.spelled);
       exactly =
           took_exact (Heads names) 199 (head_of ps n (parameters list.tree))
-          (λ some. single_took (head_single names ps n p.pointers p.named) 199 198 (refl, omega arith) (parameters list.tree) some false (λ behind near. tt) (exact_took (Behind open_parenthesis (ParameterLists names)) 198 (parameters list.tree) b some))
+          (λ some. single_took (head_single names ps n p.pointers p.named) 199 198 (refl, omega arith) (parameters list.tree) some false (λ following near. tt) (exact_took (Following open_parenthesis (ParameterLists names)) 198 (parameters list.tree) b some))
           (λ other after. tt) semicolon;
     }
 
@@ -279,7 +279,7 @@ ends_stop names tokens from next head h s r =
     stops_in (ExternalRests names) (FunctionEnds names head) 199 199 tokens from next (head_text head []) (front_of (Heads names) (heads_law names) tokens from next head h.spelled)
     (λ front at deep here x. function_refused names 199 head h.exactly front (kind_or_end tokens at) deep x) s r
 
--- neither a semicolon nor a block stands behind the head, or a block behind one whose parameters haven't all a name
+-- neither a semicolon nor a block stands after the head, or a block after one whose parameters haven't all a name
 pub end_missing : (names : Names) (tokens : List Token) (from next : ℕ) (head : Head) (s : Stop) → StandingExactly (Heads names) 199 tokens from next head → (kind_or_end tokens next ≡ semicolon → ⊥) → (kind_or_end tokens next ≡ open_brace → AreNamed head.parameters → ⊥) → IsPlainStop scope.File tokens next s → Stops (ExternalRests names) 199 tokens from s
 end_missing names tokens from next head s h no_semicolon no_brace is =
     let w = h.spelled in
@@ -292,14 +292,14 @@ function_exactly names tokens from next head h k = record {
   exactly = took_exact (ExternalRests names) 199 (function head) (λ some. function_took names 199 head h.exactly some) (λ other after. tt) semicolon;
 }
 
-brace_behind : (names : Names) (tokens : List Token) (from next : ℕ) (head : Head) → StandingExactly (Heads names) 199 tokens from next head → kind_or_end tokens next ≡ open_brace → Spells tokens from (next + 1) (λ rest. head_text head (open_brace ∷ rest))
-brace_behind names tokens from next head h k = spells_more tokens from next (next + 1) (head_text head) (λ rest. open_brace ∷ rest) h.spelled (spells_one tokens next open_brace k (λ x. cc))
+brace_after : (names : Names) (tokens : List Token) (from next : ℕ) (head : Head) → StandingExactly (Heads names) 199 tokens from next head → kind_or_end tokens next ≡ open_brace → Spells tokens from (next + 1) (λ rest. head_text head (open_brace ∷ rest))
+brace_after names tokens from next head h k = spells_more tokens from next (next + 1) (head_text head) (λ rest. open_brace ∷ rest) h.spelled (spells_one tokens next open_brace k (λ x. cc))
 
 -- what stands in the body was refused
 pub body_stops : (names : Names) (tokens : List Token) (from next : ℕ) (head : Head) → AreNamed head.parameters → StandingExactly (Heads names) 199 tokens from next head → kind_or_end tokens next ≡ open_brace → (s : Stop) → Stops (BlockRows names) 198 tokens (next + 1) s → Stops (ExternalRests names) 199 tokens from s
 body_stops names tokens from next head named h k s r =
     stops_in (ExternalRests names) (BlockRows names) 199 198 tokens from (next + 1) (head_text head [] ++ (open_brace ∷ []))
-    (spells_as tokens from (next + 1) (λ rest. head_text head (open_brace ∷ rest)) (λ rest. (head_text head [] ++ (open_brace ∷ [])) ++ rest) (brace_behind names tokens from next head h k)
+    (spells_as tokens from (next + 1) (λ rest. head_text head (open_brace ∷ rest)) (λ rest. (head_text head [] ++ (open_brace ∷ [])) ++ rest) (brace_after names tokens from next head h k)
     (λ rest. splits (Heads names) (heads_law names) head (open_brace ∷ rest) ∙ sym (append_assoc (head_text head []) (open_brace ∷ []) rest)))
     (λ front at deep here x.
     subst (λ (z : Kinds). Refused (ExternalRests names) 199 z (kind_or_end tokens at) deep) (sym (append_assoc (head_text head []) (open_brace ∷ []) front)) (body_refused names 199 198 refl head named h.exactly front (kind_or_end tokens at) deep x)) s r
@@ -308,7 +308,7 @@ body_stops names tokens from next head named h k s r =
 pub definition_exactly : (names : Names) (tokens : List Token) (from next : ℕ) (head : Head) (body : Taken (Vec RawItem Global)) → AreNamed head.parameters → StandingExactly (Heads names) 199 tokens from next head → kind_or_end tokens next ≡ open_brace → AreTaken names 198 tokens (next + 1) body → StandingExactly (ExternalRests names) 199 tokens from (body.next + 1) (definition head (items_of body.tree))
 definition_exactly names tokens from next head body named h k t = record {
   spelled =
-      spells_more tokens from (next + 1) (body.next + 1) (λ rest. head_text head (open_brace ∷ rest)) (λ rest. items_text (items_of body.tree) (close_brace ∷ rest)) (brace_behind names tokens from next head h k)
+      spells_more tokens from (next + 1) (body.next + 1) (λ rest. head_text head (open_brace ∷ rest)) (λ rest. items_text (items_of body.tree) (close_brace ∷ rest)) (brace_after names tokens from next head h k)
       (spells_more tokens (next + 1) body.next (body.next + 1) (items_text (items_of body.tree)) (λ rest. close_brace ∷ rest) t.spelled (spells_one tokens body.next close_brace t.closing (λ x. cc)));
   exactly =
       took_exact (ExternalRests names) 199 (definition head (items_of body.tree))
@@ -374,7 +374,7 @@ typedef_names_stop names tokens from type k t s r =
     aliases_stop names tokens from k s
     (stops_in (Aliases names) (TypedefNames names) 199 199 tokens (from + 1) type.next (specs_text (specs type.tree) []) (front_of (FileSpecs names) (file_specs_law names) tokens (from + 1) type.next (specs type.tree) t.spelled)
     (λ front at deep here x.
-    then_refused (FileSpecs names) (TypedefNames names) 199 p.law_first p.law_second p.joins p.least_second (omega arith) (specs type.tree) (kind_or_end tokens type.next) false t.took (λ told. absurd (false≢true told)) front (kind_or_end tokens at) deep (first_front tokens type.next at front here) x) s r)
+    then_refused (FileSpecs names) (TypedefNames names) 199 p.law_first p.law_second p.joins p.least_second (omega arith) (specs type.tree) (kind_or_end tokens type.next) false t.took (λ reported. absurd (false≢true reported)) front (kind_or_end tokens at) deep (first_front tokens type.next at front here) x) s r)
 
 typedef_height : (names : Names) (a b : ℕ) (type : Specs) (list : List Declarator) → a ≡ (FileSpecs names).tall type → b ≡ (TypedefNames names).tall list → max a b + 1 ≡ external_height (Typedef type list)
 typedef_height names a b type list e f = omega (arith, e, f)
@@ -389,8 +389,8 @@ typedef_taken names tokens from type list whole k t l tree height later =
     let some : (TypedefNames names).spell all [] ≡ [] → ⊥ = λ none. declarators_some names all [] x.is_phrase.0 x.is_phrase.1 none in
     let starts : (next : TokenKind) → first_or ((TypedefNames names).spell all []) next ≡ kind_or_end tokens type.next = λ next. first_any ((TypedefNames names).spell all []) next (kind_or_end tokens list.next) some ∙ first_front tokens type.next list.next ((TypedefNames names).spell all []) sp in
     let took : (next : TokenKind) → Took (Externals names) 200 (Typedef (specs type.tree) all) next false =
-    λ next. single_took (typedef_single names) 200 199 (refl, omega arith) (specs type.tree, all) next false (λ behind near. tt)
-    (then_took (FileSpecs names) (TypedefNames names) 199 p.law_first p.law_second p.joins p.least_second (omega arith) (specs type.tree) (kind_or_end tokens type.next) false t.took (λ told. absurd (false≢true told)) all next false (starts next) (exact_took (TypedefNames names) 199 all x next)) in
+    λ next. single_took (typedef_single names) 200 199 (refl, omega arith) (specs type.tree, all) next false (λ following near. tt)
+    (then_took (FileSpecs names) (TypedefNames names) 199 p.law_first p.law_second p.joins p.least_second (omega arith) (specs type.tree) (kind_or_end tokens type.next) false t.took (λ reported. absurd (false≢true reported)) all next false (starts next) (exact_took (TypedefNames names) 199 all x next)) in
     record {
       height_is = height ∙ typedef_height names type.height list.height (specs type.tree) all t.height_is l.height_is ∙ ap external_height (sym tree);
       spelled =
@@ -409,11 +409,11 @@ pointed_named : (names : Names) (tokens : List Token) (from : ℕ) (pointed : Ta
 pointed_named names tokens from pointed p k =
     let sp = p.spelled in
     elim (pointers_start pointed.tree.pointers.items pointed.tree.name.name (kinds (drop pointed.next tokens)) p.pointers) [
-      | with_star more e ↦ let f = kinds_first (drop from tokens) (token.Mark mark.Star) more (sp.spelled ∙ e) in let z = sym f ∙ k in cc
+      | with_star more e ↦ let f = kinds_first (drop from tokens) (token.Punctuator punctuator.Star) more (sp.spelled ∙ e) in let z = sym f ∙ k in cc
       | with_name name more e ↦ let f = kinds_first (drop from tokens) (token.Name name) more (sp.spelled ∙ e) in let z = sym f ∙ k in cc
     ]
 
--- a declared object behind the type was refused
+-- a declared object after the type was refused
 pub external_object_stops : (names : Names) (tokens : List Token) (from : ℕ) (type : Taken RawSpecs) (pointed : Taken Pointed) → IsTypeTaken names tokens from type → IsPointed declaring.Names names tokens type.next pointed → (kind_or_end tokens pointed.next ≡ open_parenthesis → ⊥) → (s : Stop) → Stops (Separated (Objects names) semicolon) 199 tokens type.next s → Stops (Externals names) 200 tokens from s
 external_object_stops names tokens from type pointed t p other s r =
     rest_stops names tokens from type t s (objects_stop names tokens type.next pointed p (pointed_named names tokens type.next pointed p) other s r)
@@ -437,7 +437,7 @@ external_objects_taken names tokens from type list whole t l tree height later =
     external_is names tokens from type (objects all) list.next (max type.height list.height + 1) whole t (objects_exactly names tokens type.next list.next all (record { spelled = l.spelled; exactly = l.exactly })) tree height
     (objects_height names type.height list.height (specs type.tree) all k.height_is l.height_is) later
 
--- no name stands behind the type
+-- no name stands after the type
 pub external_name_stops : (names : Names) (tokens : List Token) (from : ℕ) (type : Taken RawSpecs) → IsTypeTaken names tokens from type → (kind_or_end tokens type.next ≡ semicolon → ⊥) → (s : Stop) → PointedAnswers declaring.Names names tokens type.next (Err s) → Stops (Externals names) 200 tokens from s
 external_name_stops names tokens from type t named s m =
     rest_stops names tokens from type t s
@@ -469,7 +469,7 @@ head_made names tokens from pointed list head p k t height later tree = record {
       (subst (λ (h : Head). StandingExactly (Heads names) 199 tokens from list.next h) (sym tree) (head_exactly names tokens from pointed list p k t));
 }
 
--- what stands behind the head was refused
+-- what stands after the head was refused
 pub external_end_missing : (names : Names) (tokens : List Token) (from : ℕ) (type : Taken RawSpecs) (head : Taken RawFunction) (s : Stop) → IsTypeTaken names tokens from type → HeadMade names tokens type.next head → (kind_or_end tokens head.next ≡ semicolon → ⊥) → (kind_or_end tokens head.next ≡ open_brace → AreNamed (parameters head.tree.parameters) → ⊥) → IsPlainStop scope.File tokens head.next s → Stops (Externals names) 200 tokens from s
 external_end_missing names tokens from type head s t h no_semicolon no_brace is = rest_stops names tokens from type t s (end_missing names tokens type.next head.next (head_view head.tree) s h.stands no_semicolon no_brace is)
 

@@ -14,13 +14,13 @@ use Rattle.cs_ast.specs.RawDeclarationView.{declarator}
 use Rattle.cs_ast.specs.RawStatements.{External}
 use Rattle.cs_ast.specs.RawStatementView.{external}
 use Rattle.cs_grammar.specs.declared.refusal.Reason.{Reason}
-use Rattle.cs_grammar.specs.declared.refusal.Reason.TheVariants.{Syntax, LeftOut, TooDeep}
+use Rattle.cs_grammar.specs.declared.refusal.Reason.TheVariants.{Syntax, Unsupported, TooDeep}
 use Rattle.cs_grammar.specs.declared.refusal.SyntaxRefusal.{SyntaxRefusal}
 use Rattle.cs_grammar.specs.declared.refusal.SyntaxRefusal.TheVariants as refusal
 use Rattle.cs_grammar.specs.TypeWords.{Names}
 use Rattle.cs_grammar.specs.Text.{Kinds}
 use Rattle.cs_grammar.specs.FileText.{externals_text, external_text}
-use Rattle.cs_grammar.specs.FilePhrases.{with_name, with_names, names_behind, IsFile}
+use Rattle.cs_grammar.specs.FilePhrases.{with_name, with_names, names_after, IsFile}
 use Rattle.cs_grammar.specs.Parsing.{Refused}
 use Rattle.cs_grammar.specs.DeclarationClasses.{Externals}
 use Rattle.cs_grammar.proofs.FileTexts.{external_append, externals_append}
@@ -36,15 +36,15 @@ use Rattle.cs_decl_parser.specs.Files.{parts_of, IsTheFile, IsFileRefusedAt, IsR
 use Rattle.cs_decl_parser.specs.FileStops.{IsPartRefusedAt, FileStops}
 use Rattle.cs_decl_parser.specs.declared.externals.Parts.{Parts}
 use Rattle.cs_decl_parser.specs.ReadParts.{StandsAmidst}
-use Rattle.cs_left_out.specs.LastParts.{BeginsWith, EndInPart}
-use Rattle.cs_left_out.proofs.InsideFiles.{split}
+use Rattle.cs_unsupported.specs.LastParts.{BeginsWith, EndInPart}
+use Rattle.cs_unsupported.proofs.InsideFiles.{split}
 use Rattle.cs_decl_parser.specs.declared.source.Scope.TheVariants as scope
 use Rattle.cs_decl_parser.specs.Aptness.{IsApt, IsStopApt}
 use Rattle.cs_decl_parser.proofs.FileReasonsHere.{reason_of_kind}
 use Rattle.cs_expr_parser.proofs.Standing.{past_end, spells_none, spells_more, spells_as}
 use Rattle.cs_expr_parser.proofs.Stopping.{refused_number}
 
--- so many parts of a file were taken, behind which these are the typedef names
+-- so many parts of a file were taken, after which these are the typedef names
 pub record PartsSoFar (names : Names) (tokens : List Token) (done : List External) (next : ℕ) : Type 0 where
   pub spelled : Spells tokens 0 next (externals_text done)
   pub so_far : FileSoFar names 200 done
@@ -61,17 +61,17 @@ parts_push [] e = refl
 parts_push (d ∷ ds) e = ap (λ (x : List External). external d ∷ x) (parts_push ds e)
 
 -- one more was taken
-pub parts_more : (names later : Names) (tokens : List Token) (done all : List RawExternal) (next : ℕ) (taken : Taken RawExternal) → PartsSoFar names tokens (parts_of done) next → IsExactly (Externals names) external 200 tokens next taken → later ≡ names_behind names (external taken.tree) → all ≡ done ++ taken.tree ∷ [] → PartsSoFar later tokens (parts_of all) taken.next
+pub parts_more : (names later : Names) (tokens : List Token) (done all : List RawExternal) (next : ℕ) (taken : Taken RawExternal) → PartsSoFar names tokens (parts_of done) next → IsExactly (Externals names) external 200 tokens next taken → later ≡ names_after names (external taken.tree) → all ≡ done ++ taken.tree ∷ [] → PartsSoFar later tokens (parts_of all) taken.next
 parts_more names later tokens done all next taken s t n e =
     let list : parts_of all ≡ parts_of done ++ external taken.tree ∷ [] = ap parts_of e ∙ parts_push done taken.tree in
-    let more : PartsSoFar (names_behind names (external taken.tree)) tokens (parts_of done ++ external taken.tree ∷ []) taken.next = record {
+    let more : PartsSoFar (names_after names (external taken.tree)) tokens (parts_of done ++ external taken.tree ∷ []) taken.next = record {
       spelled =
           spells_as tokens 0 taken.next (λ rest. externals_text (parts_of done) (external_text (external taken.tree) rest)) (externals_text (parts_of done ++ external taken.tree ∷ []))
           (spells_more tokens 0 next taken.next (externals_text (parts_of done)) (external_text (external taken.tree)) s.spelled t.spelled)
           (λ rest. sym (text_more (parts_of done) (external taken.tree ∷ []) rest));
       so_far = file_more names 200 (parts_of done) (external taken.tree) s.so_far t.exactly;
     } in
-    subst (λ (m : Names). PartsSoFar m tokens (parts_of all) taken.next) (sym n) (subst (λ (x : List External). PartsSoFar (names_behind names (external taken.tree)) tokens x taken.next) (sym list) more)
+    subst (λ (m : Names). PartsSoFar m tokens (parts_of all) taken.next) (sym n) (subst (λ (x : List External). PartsSoFar (names_after names (external taken.tree)) tokens x taken.next) (sym list) more)
 
 -- a part of the file was refused
 part_refused : (names : Names) (tokens : List Token) (done : List External) (next at : ℕ) (reason : Reason) → next < length tokens → PartsSoFar names tokens done next → IsRefused (Externals names) 200 tokens next at reason → IsApt scope.File (kind_or_end tokens at) reason → IsPartRefusedAt tokens at reason
@@ -94,13 +94,13 @@ part_refused names tokens done next at reason some s r apt =
       why = λ within e. reason_of_kind (externals_text done [] ++ r.front) (kind_or_end tokens at) reason f.further f.nothing apt e;
     }
 
--- the tokens of the part behind those that were taken
+-- the tokens of the part after those that were taken
 ends_in : (names : Names) (front more : Kinds) (next : TokenKind) (rest : List External) → IsFile names rest → externals_text rest [] ≡ front ++ more → Refused (Externals names) 200 front next false → 0 < length front → BeginsWith names front rest
 ends_in names [] more next rest is e r some = absurd (omega (arith, some))
 ends_in names (k ∷ front) more next [] is e r some = absurd cc
 ends_in names (k ∷ front) more next (x ∷ xs) is e r some =
     elim (split (external_text x []) (externals_text xs []) (k ∷ front) more (external_append x [] (externals_text xs []) ∙ e)) [
-      | inl s ↦ absurd (false≢true (r.never x s.0 [] is.0 tt (inl refl) (sym (external_append x [] s.0) ∙ sym s.1 ∙ sym (append-nil (k ∷ front)))).told)
+      | inl s ↦ absurd (false≢true (r.never x s.0 [] is.0 tt (inl refl) (sym (external_append x [] s.0) ∙ sym s.1 ∙ sym (append-nil (k ∷ front)))).reported)
       | inr s ↦ record { whole = x; others = xs; more = s.0 ∷ s.1; parts_are = refl; is = is.0; spelled = s.2 }
     ]
 
@@ -157,35 +157,35 @@ file_taken names tokens done next all s =
 -- the answer of the parser of expressions, as that of the file
 for_here : (tokens : List Token) (end : Place) (at : ℕ) (reason : Reason) (r : SyntaxRefusal) → IsRefusalFor tokens end at reason r → IsRefusalHere tokens end at reason r
 for_here tokens end at Syntax (refusal.Syntax place) f = (f, λ within. refl)
-for_here tokens end at LeftOut (refusal.LeftOut place word) f = (f.0, refl, f.1)
+for_here tokens end at Unsupported (refusal.Unsupported place word) f = (f.0, refl, f.1)
 for_here tokens end at TooDeep (refusal.TooDeep place) f = (f, refl)
 for_here tokens end at Syntax refusal.Memory f = tt
-for_here tokens end at LeftOut refusal.Memory f = tt
+for_here tokens end at Unsupported refusal.Memory f = tt
 for_here tokens end at TooDeep refusal.Memory f = tt
-for_here tokens end at Syntax (refusal.LeftOut place word) f = absurd f
+for_here tokens end at Syntax (refusal.Unsupported place word) f = absurd f
 for_here tokens end at Syntax (refusal.TooDeep place) f = absurd f
-for_here tokens end at LeftOut (refusal.Syntax place) f = absurd f
-for_here tokens end at LeftOut (refusal.TooDeep place) f = absurd f
+for_here tokens end at Unsupported (refusal.Syntax place) f = absurd f
+for_here tokens end at Unsupported (refusal.TooDeep place) f = absurd f
 for_here tokens end at TooDeep (refusal.Syntax place) f = absurd f
-for_here tokens end at TooDeep (refusal.LeftOut place word) f = absurd f
+for_here tokens end at TooDeep (refusal.Unsupported place word) f = absurd f
 
 with_stop : (tokens : List Token) (end : Place) (at : ℕ) (reason : Reason) (r : SyntaxRefusal) → IsRefusalHere tokens end at reason r → IsFileRefusedAt tokens at reason → IsFileRefusal tokens end r
 with_stop tokens end at reason refusal.Memory h s = tt
 with_stop tokens end at reason (refusal.Syntax place) h s = (at, reason, h, s)
-with_stop tokens end at reason (refusal.LeftOut place word) h s = (at, reason, h, s)
+with_stop tokens end at reason (refusal.Unsupported place word) h s = (at, reason, h, s)
 with_stop tokens end at reason (refusal.TooDeep place) h s = (at, reason, h, s)
 
 there : (tokens : List Token) (end : Place) (at : ℕ) (reason : Reason) (r : SyntaxRefusal) (found : Option Token) → slice_get tokens at ≡ found → IsRefusalFor tokens end at (reason_there (option_map (λ (token : Token). token.kind) found) reason) r → IsRefusalHere tokens end at reason r
 there tokens end at reason r (Some t) e f = for_here tokens end at reason r f
 there tokens end at reason (refusal.Syntax place) None e f = let all = past_end tokens at e in (f, λ within. absurd (omega (arith, all, within)))
 there tokens end at reason refusal.Memory None e f = tt
-there tokens end at reason (refusal.LeftOut place word) None e f = absurd f
+there tokens end at reason (refusal.Unsupported place word) None e f = absurd f
 there tokens end at reason (refusal.TooDeep place) None e f = absurd f
 
 -- the refusal of a token, or of the end of input
 pub token_refusal : (tokens : List Token) (end : Place) (at : ℕ) (reason : Reason) (r : SyntaxRefusal) → IsRefusalFor tokens end at (reason_there (kind_at tokens at) reason) r → IsFileRefusedAt tokens at reason → IsFileRefusal tokens end r
 token_refusal tokens end at reason r f s = with_stop tokens end at reason r (there tokens end at reason r (slice_get tokens at) refl f) s
 
--- the names of a typedef, one behind another
+-- the names of a typedef, one after another
 pub with_next : (names : Names) (list : List RawDeclarator) (at : ℕ) (d : RawDeclarator) → at < length list → with_names names (map declarator (drop at list)) ≡ with_names (with_name names (get_or list at d).name) (map declarator (drop (suc at) list))
 with_next names list at d less = ap (λ (x : List RawDeclarator). with_names names (map declarator x)) (drop-cons list at d less)

@@ -65,7 +65,7 @@ type_body names tokens from (stop.Refused at reason) r = λ b.
       | inr y ↦ brace_apt scope.Block (kind_or_end tokens at) reason y.brace
     ]
 
--- no body is begun behind `typedef`
+-- no body is begun after `typedef`
 typedef_unbegun : (names : Names) (tokens : List Token) (from at : ℕ) → kind_or_end tokens from ≡ token.Keyword keyword.Typedef → BeginsBody names tokens from at → ⊥
 typedef_unbegun names tokens from at k b =
     let s = stands tokens from (token.Keyword keyword.Typedef) k (λ x. cc) in
@@ -75,14 +75,14 @@ pub typedef_body : (names : Names) (tokens : List Token) (from : ℕ) (s : Stop)
 typedef_body names tokens from stop.Memory k = tt
 typedef_body names tokens from (stop.Refused at reason) k = λ b. absurd (typedef_unbegun names tokens from at k b)
 
--- what stands behind the type that was taken
-behind_type : (names : Names) (tokens : List Token) (from at : ℕ) (type : Taken RawSpecs) → IsTypeTaken names tokens from type → (b : BeginsBody names tokens from at) → kinds (drop type.next tokens) ≡ head_text b.head (open_brace ∷ (b.inside ++ kinds (drop at tokens)))
-behind_type names tokens from at type t b =
+-- what stands after the type that was taken
+after_type : (names : Names) (tokens : List Token) (from at : ℕ) (type : Taken RawSpecs) → IsTypeTaken names tokens from type → (b : BeginsBody names tokens from at) → kinds (drop type.next tokens) ≡ head_text b.head (open_brace ∷ (b.inside ++ kinds (drop at tokens)))
+after_type names tokens from at type t b =
     let k = t.taken in
     let x = head_text b.head (open_brace ∷ (b.inside ++ kinds (drop at tokens))) in
     elim (k.took.only b.type x (kinds (drop type.next tokens)) b.is_type (head_shuts names b.head (open_brace ∷ (b.inside ++ kinds (drop at tokens))) b.is_head) (near tokens type.next) (sym b.spelled.spelled ∙ k.spelled.spelled)) [
       | inl e ↦ sym e.1
-      | inr over ↦ absurd (false≢true over.told)
+      | inr over ↦ absurd (false≢true over.reported)
     ]
 
 no_name_among : (ws ps : List PointerWord) (n : List ℕ) (x : Kinds) → pointers_text ws [] ≡ pointers_text ps (token.Name n ∷ x) → ⊥
@@ -92,14 +92,14 @@ no_name_among (pointer.Star ∷ ws) [] n x same = cc
 no_name_among (pointer.Const ∷ ws) [] n x same = cc
 no_name_among (w ∷ ws) (p ∷ ps) n x same = no_name_among ws ps n x cc
 
--- no name stands behind the type
+-- no name stands after the type
 name_unbegun : (names : Names) (tokens : List Token) (from at : ℕ) (reason : Reason) (type : Taken RawSpecs) → IsTypeTaken names tokens from type → IsNameMissing declaring.Names names tokens type.next at reason → BeginsBody names tokens from at → ⊥
 name_unbegun names tokens from at reason type t m b =
     let rest = kinds (drop at tokens) in
     let p = m.pointers in
     let x = head_text b.head (open_brace ∷ b.inside) in
     let words : pointers_text m.words [] ++ rest ≡ kinds (drop type.next tokens) = pointers_append m.words [] rest ∙ sym p.spelled.spelled in
-    let head : x ++ rest ≡ kinds (drop type.next tokens) = heads_law names b.head (open_brace ∷ b.inside) rest ∙ sym (behind_type names tokens from at type t b) in
+    let head : x ++ rest ≡ kinds (drop type.next tokens) = heads_law names b.head (open_brace ∷ b.inside) rest ∙ sym (after_type names tokens from at type t b) in
     no_name_among m.words b.head.pointers b.head.name _ (append_cancel_right (pointers_text m.words []) x rest (words ∙ sym head))
 
 pub name_body : (names : Names) (tokens : List Token) (from : ℕ) (type : Taken RawSpecs) → IsTypeTaken names tokens from type → (s : Stop) → PointedAnswers declaring.Names names tokens type.next (Err s) → IsStopInBody names tokens from s
@@ -114,16 +114,16 @@ same_names (pointer.Star ∷ ps) [] n m x y same = absurd cc
 same_names (pointer.Const ∷ ps) [] n m x y same = absurd cc
 same_names (p ∷ ps) (q ∷ qs) n m x y same = same_names ps qs n m x y cc
 
--- what stands behind the name that was taken
-behind_name : (names : Names) (tokens : List Token) (from at : ℕ) (type : Taken RawSpecs) (pointed : Taken Pointed) → IsTypeTaken names tokens from type → IsPointed declaring.Names names tokens type.next pointed → (b : BeginsBody names tokens from at) → kinds (drop pointed.next tokens) ≡ open_parenthesis ∷ parameters_text b.head.parameters (close_parenthesis ∷ open_brace ∷ (b.inside ++ kinds (drop at tokens)))
-behind_name names tokens from at type pointed t p b =
+-- what stands after the name that was taken
+after_name : (names : Names) (tokens : List Token) (from at : ℕ) (type : Taken RawSpecs) (pointed : Taken Pointed) → IsTypeTaken names tokens from type → IsPointed declaring.Names names tokens type.next pointed → (b : BeginsBody names tokens from at) → kinds (drop pointed.next tokens) ≡ open_parenthesis ∷ parameters_text b.head.parameters (close_parenthesis ∷ open_brace ∷ (b.inside ++ kinds (drop at tokens)))
+after_name names tokens from at type pointed t p b =
     let s = p.spelled in
-    same_names pointed.tree.pointers.items b.head.pointers pointed.tree.name.name b.head.name (kinds (drop pointed.next tokens)) _ (sym s.spelled ∙ behind_type names tokens from at type t b)
+    same_names pointed.tree.pointers.items b.head.pointers pointed.tree.name.name b.head.name (kinds (drop pointed.next tokens)) _ (sym s.spelled ∙ after_type names tokens from at type t b)
 
--- no parenthesis stands behind the name
+-- no parenthesis stands after the name
 objects_unbegun : (names : Names) (tokens : List Token) (from at : ℕ) (type : Taken RawSpecs) (pointed : Taken Pointed) → IsTypeTaken names tokens from type → IsPointed declaring.Names names tokens type.next pointed → (kind_or_end tokens pointed.next ≡ open_parenthesis → ⊥) → BeginsBody names tokens from at → ⊥
 objects_unbegun names tokens from at type pointed t p other b =
-    other (kinds_first (drop pointed.next tokens) open_parenthesis _ (behind_name names tokens from at type pointed t p b))
+    other (kinds_first (drop pointed.next tokens) open_parenthesis _ (after_name names tokens from at type pointed t p b))
 
 pub objects_body : (names : Names) (tokens : List Token) (from : ℕ) (type : Taken RawSpecs) (pointed : Taken Pointed) → IsTypeTaken names tokens from type → IsPointed declaring.Names names tokens type.next pointed → (kind_or_end tokens pointed.next ≡ open_parenthesis → ⊥) → (s : Stop) → IsStopInBody names tokens from s
 objects_body names tokens from type pointed t p other stop.Memory = tt
@@ -136,7 +136,7 @@ parameters_unbegun names tokens from at reason type pointed t p k r b =
     let h = b.is_head in
     let s = stands tokens pointed.next open_parenthesis k (λ x. cc) in
     let x = (ParameterLists names).spell b.head.parameters (open_brace ∷ b.inside) in
-    let n : open_parenthesis ∷ kinds (drop (pointed.next + 1) tokens) ≡ open_parenthesis ∷ parameters_text b.head.parameters (close_parenthesis ∷ open_brace ∷ (b.inside ++ rest)) = sym s.1 ∙ behind_name names tokens from at type pointed t p b in
+    let n : open_parenthesis ∷ kinds (drop (pointed.next + 1) tokens) ≡ open_parenthesis ∷ parameters_text b.head.parameters (close_parenthesis ∷ open_brace ∷ (b.inside ++ rest)) = sym s.1 ∙ after_name names tokens from at type pointed t p b in
     let inner : kinds (drop (pointed.next + 1) tokens) ≡ parameters_text b.head.parameters (close_parenthesis ∷ open_brace ∷ (b.inside ++ rest)) = cc in
     let e : r.front ≡ x = append_cancel_right r.front x rest (sym r.spelled.spelled ∙ inner ∙ sym (parameter_lists_law names b.head.parameters (open_brace ∷ b.inside) rest)) in
     let v = r.refused.never b.head.parameters (open_brace ∷ b.inside) [] h.parameters tt (inl refl) (sym e ∙ sym (append-nil r.front)) in
@@ -146,12 +146,12 @@ pub parameters_body : (names : Names) (tokens : List Token) (from : ℕ) (type :
 parameters_body names tokens from type pointed t p k stop.Memory r = tt
 parameters_body names tokens from type pointed t p k (stop.Refused at reason) r = λ b. absurd (parameters_unbegun names tokens from at reason type pointed t p k r b)
 
--- neither a semicolon nor a body stands behind the head
+-- neither a semicolon nor a body stands after the head
 end_unbegun : (names : Names) (tokens : List Token) (from : ℕ) (type : Taken RawSpecs) (head : Taken RawFunction) → IsTypeTaken names tokens from type → HeadMade names tokens type.next head → BeginsBody names tokens from head.next → ⊥
 end_unbegun names tokens from type head t h b =
     let rest = kinds (drop head.next tokens) in
     let s = h.stands in
-    let e = s.exactly.exact b.head (open_brace ∷ (b.inside ++ rest)) rest b.is_head (sym (behind_type names tokens from head.next type t b) ∙ s.spelled.spelled) in
+    let e = s.exactly.exact b.head (open_brace ∷ (b.inside ++ rest)) rest b.is_head (sym (after_type names tokens from head.next type t b) ∙ s.spelled.spelled) in
     let l = ap length e.1 in
     let a = length-append b.inside rest in
     omega (arith, l, a)

@@ -28,7 +28,7 @@ pub mod PlacingFiles
 pub mod AptReasons
 pub mod InBodies
 pub mod FileReasonsHere
-pub mod ToldReasons
+pub mod ReportedReasons
 pub mod GoingOn
 pub mod Copies
 pub mod WholeFiles

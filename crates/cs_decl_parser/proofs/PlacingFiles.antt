@@ -21,37 +21,37 @@ use Rattle.cs_decl_parser.specs.declared.stop.Taken.{Taken}
 use Rattle.cs_decl_parser.specs.FilePlaces.{past, HasSpecPlaces, AreDeclaratorsPlaced, AreParametersPlaced, IsHeadPlaced, IsBodyPlaced, IsExternalPlaced}
 use Rattle.cs_decl_parser.specs.StatementPlaces.{AreItemsBeside}
 use Rattle.cs_decl_parser.specs.ExternalPlaces.{IsPointedPlaced, IsHeadBuilt}
-use Rattle.cs_decl_parser.proofs.Placing.{one_behind, past_text, behind_text, past_pointed, SidePlaced, side_begun, side_goes_on}
+use Rattle.cs_decl_parser.proofs.Placing.{one_after, past_text, after_text, past_pointed, SidePlaced, side_begun, side_goes_on}
 
--- behind `typedef`
+-- after `typedef`
 pub typedef_placed : (tokens : List Token) (from next : ℕ) (s : RawSpecs) (names : List RawDeclarator) → Spells tokens (from + 1) next (specs_text (specs s)) → HasSpecPlaces s (drop (from + 1) tokens) → AreDeclaratorsPlaced names (drop next tokens) → HasSpecPlaces s (drop 1 (drop from tokens)) × AreDeclaratorsPlaced names (past (specs_text (specs s)) (drop 1 (drop from tokens)))
 typedef_placed tokens from next s names sp a b = (
-  subst (HasSpecPlaces s) (sym (one_behind tokens from)) a,
-  subst (λ (list : List Token). AreDeclaratorsPlaced names (past (specs_text (specs s)) list)) (sym (one_behind tokens from))
-      (behind_text (AreDeclaratorsPlaced names) (specs_text (specs s)) (specs_append (specs s)) tokens (from + 1) next sp b),
+  subst (HasSpecPlaces s) (sym (one_after tokens from)) a,
+  subst (λ (list : List Token). AreDeclaratorsPlaced names (past (specs_text (specs s)) list)) (sym (one_after tokens from))
+      (after_text (AreDeclaratorsPlaced names) (specs_text (specs s)) (specs_append (specs s)) tokens (from + 1) next sp b),
 )
 
 -- the head of a function
 pub head_placed : (names : Names) (tokens : List Token) (at : ℕ) (pointed : Taken Pointed) (parameters : RawParameters) (f : RawFunction) → IsHeadBuilt pointed.tree parameters f → IsPointedPlaced names tokens at pointed → AreParametersPlaced parameters (drop (pointed.next + 1) tokens) → IsHeadPlaced f (drop at tokens)
 head_placed names tokens at pointed parameters f built p a =
-    let behind_pointers = past (pointers_text pointed.tree.pointers.items) (drop at tokens) in
-    let two : drop 2 behind_pointers ≡ drop (pointed.next + 1) tokens =
-    sym (drop-drop 1 1 behind_pointers) ∙ ap (λ (list : List Token). drop 1 list) (past_pointed pointed.tree.pointers.items pointed.tree.name.name tokens at pointed.next p.0.spelled)
-    ∙ one_behind tokens pointed.next in
+    let after_pointers = past (pointers_text pointed.tree.pointers.items) (drop at tokens) in
+    let two : drop 2 after_pointers ≡ drop (pointed.next + 1) tokens =
+    sym (drop-drop 1 1 after_pointers) ∙ ap (λ (list : List Token). drop 1 list) (past_pointed pointed.tree.pointers.items pointed.tree.name.name tokens at pointed.next p.0.spelled)
+    ∙ one_after tokens pointed.next in
     built (drop at tokens) p.1 (subst (AreParametersPlaced parameters) (sym two) a)
 
 -- a function with no body
 pub function_placed : (tokens : List Token) (from next : ℕ) (s : RawSpecs) (f : RawFunction) → Spells tokens from next (specs_text (specs s)) → HasSpecPlaces s (drop from tokens) → IsHeadPlaced f (drop next tokens) → HasSpecPlaces s (drop from tokens) × IsHeadPlaced f (past (specs_text (specs s)) (drop from tokens))
-function_placed tokens from next s f sp a h = (a, behind_text (IsHeadPlaced f) (specs_text (specs s)) (specs_append (specs s)) tokens from next sp h)
+function_placed tokens from next s f sp a h = (a, after_text (IsHeadPlaced f) (specs_text (specs s)) (specs_append (specs s)) tokens from next sp h)
 
 -- a body with its braces
 pub body_placed : (tokens : List Token) (at next : ℕ) (body : RawBody) → StandsAt body.opening (drop at tokens) → AreItemsBeside body.items.items (drop (at + 1) tokens) → Spells tokens (at + 1) next (items_text (items_list body.items.items)) → StandsAt body.closing (drop next tokens) → IsBodyPlaced body (drop at tokens)
 body_placed tokens at next body o i sp c = record {
   opening = o;
-  inside = subst (AreItemsBeside body.items.items) (sym (one_behind tokens at)) i;
+  inside = subst (AreItemsBeside body.items.items) (sym (one_after tokens at)) i;
   closing =
-      subst (λ (list : List Token). StandsAt body.closing (past (items_text (items_list body.items.items)) list)) (sym (one_behind tokens at))
-      (behind_text (StandsAt body.closing) (items_text (items_list body.items.items)) (items_append (items_list body.items.items)) tokens (at + 1) next sp c);
+      subst (λ (list : List Token). StandsAt body.closing (past (items_text (items_list body.items.items)) list)) (sym (one_after tokens at))
+      (after_text (StandsAt body.closing) (items_text (items_list body.items.items)) (items_append (items_list body.items.items)) tokens (at + 1) next sp c);
 }
 
 -- a function with its body
@@ -60,7 +60,7 @@ definition_placed tokens from next later s f body sp sh a h b =
     let e = past_text (specs_text (specs s)) (specs_append (specs s)) tokens from next sp in (
       a,
       subst (IsHeadPlaced f) (sym e) h,
-      subst (λ (list : List Token). IsBodyPlaced body (past (head_text (head f)) list)) (sym e) (behind_text (IsBodyPlaced body) (head_text (head f)) (head_append (head f)) tokens next later sh b),
+      subst (λ (list : List Token). IsBodyPlaced body (past (head_text (head f)) list)) (sym e) (after_text (IsBodyPlaced body) (head_text (head f)) (head_append (head f)) tokens next later sh b),
     )
 
 -- parts of a file, so far

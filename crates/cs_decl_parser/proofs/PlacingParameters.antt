@@ -13,7 +13,7 @@ use Rattle.cs_grammar.proofs.FileTexts.{name_append, specs_append, parameter_app
 use Rattle.cs_expr_parser.specs.Parts.{Spells}
 use Rattle.cs_decl_parser.specs.FilePlaces.{IsNamePlaced, AreBracketsPlaced, HasSpecPlaces, IsParameterPlaced}
 use Rattle.cs_expr_parser.proofs.Standing.{spells_more}
-use Rattle.cs_decl_parser.proofs.Placing.{IsFramed, behind_text}
+use Rattle.cs_decl_parser.proofs.Placing.{IsFramed, after_text}
 
 pub parameter_framed : (p : RawParameter) → IsFramed (parameter_text (parameter p))
 parameter_framed p = parameter_append (parameter p)
@@ -21,19 +21,19 @@ parameter_framed p = parameter_append (parameter p)
 framed_both : (f g : Kinds → Kinds) → IsFramed f → IsFramed g → IsFramed (λ rest. f (g rest))
 framed_both f g first second = λ x y. first (g x) y ∙ ap f (second x y)
 
-pub parameter_placed : (p : RawParameter) (tokens : List Token) (from behind_specs behind_pointers behind_name : ℕ) → StandsAt p.place (drop from tokens) → HasSpecPlaces p.specs (drop from tokens) → Spells tokens from behind_specs (specs_text (specs p.specs)) → Spells tokens behind_specs behind_pointers (pointers_text p.pointers.items) → Spells tokens behind_pointers behind_name (name_text (option_map (λ (n : RawName). n.name) p.name)) → IsNamePlaced p.name (drop behind_pointers tokens) → AreBracketsPlaced p.bounds.items (drop behind_name tokens) → IsParameterPlaced p (drop from tokens)
-parameter_placed p tokens from behind_specs behind_pointers behind_name at inside first second third named bounds =
+pub parameter_placed : (p : RawParameter) (tokens : List Token) (from after_specs after_pointers after_name : ℕ) → StandsAt p.place (drop from tokens) → HasSpecPlaces p.specs (drop from tokens) → Spells tokens from after_specs (specs_text (specs p.specs)) → Spells tokens after_specs after_pointers (pointers_text p.pointers.items) → Spells tokens after_pointers after_name (name_text (option_map (λ (n : RawName). n.name) p.name)) → IsNamePlaced p.name (drop after_pointers tokens) → AreBracketsPlaced p.bounds.items (drop after_name tokens) → IsParameterPlaced p (drop from tokens)
+parameter_placed p tokens from after_specs after_pointers after_name at inside first second third named bounds =
     let before = specs_text (specs p.specs) in
     let stars = pointers_text p.pointers.items in
     let name = name_text (option_map (λ (n : RawName). n.name) p.name) in
     let pointed = framed_both before stars (specs_append (specs p.specs)) (pointers_append p.pointers.items) in
-    let front = spells_more tokens from behind_specs behind_pointers before stars first second in
+    let front = spells_more tokens from after_specs after_pointers before stars first second in
     record {
       at = at;
       specs_are = inside;
-      name_is = behind_text (IsNamePlaced p.name) (λ rest. before (stars rest)) pointed tokens from behind_pointers front named;
+      name_is = after_text (IsNamePlaced p.name) (λ rest. before (stars rest)) pointed tokens from after_pointers front named;
       bounds_are =
-          behind_text (AreBracketsPlaced p.bounds.items) (λ rest. before (stars (name rest)))
-          (framed_both (λ rest. before (stars rest)) name pointed (name_append (option_map (λ (n : RawName). n.name) p.name))) tokens from behind_name
-          (spells_more tokens from behind_pointers behind_name (λ rest. before (stars rest)) name front third) bounds;
+          after_text (AreBracketsPlaced p.bounds.items) (λ rest. before (stars (name rest)))
+          (framed_both (λ rest. before (stars rest)) name pointed (name_append (option_map (λ (n : RawName). n.name) p.name))) tokens from after_name
+          (spells_more tokens from after_pointers after_name (λ rest. before (stars rest)) name front third) bounds;
     }

@@ -10,7 +10,7 @@ use Rattle.std.proofs.lemmas.List.{drop-drop}
 use Rattle.cs_ast.specs.declared.place.Place.{Place}
 use Rattle.cs_ast.specs.declared.token.Token.{Token}
 use Rattle.cs_ast.specs.declared.token.TokenKind.TheVariants as token
-use Rattle.cs_ast.specs.declared.token.Mark.TheVariants as mark
+use Rattle.cs_ast.specs.declared.token.Punctuator.TheVariants as punctuator
 use Rattle.cs_ast.specs.declared.raw.name.RawName.{RawName}
 use Rattle.cs_ast.specs.declared.raw.written_type.TypeWord.{TypeWord}
 use Rattle.cs_ast.specs.declared.raw.written_type.TypeWord.TheVariants as word
@@ -39,7 +39,7 @@ use Rattle.cs_decl_parser.specs.declared.specs.NextWord.{NextWord}
 use Rattle.cs_decl_parser.specs.SpecWords.{name_in, tag_keyword}
 use Rattle.cs_decl_parser.specs.FilePlaces.{past, before_tag, tag_place, in_body, AreSideBySide, AreInRow, IsNamePlaced, IsSpecPlaced, AreSpecsPlaced, AreMembersPlaced, IsConstantPlaced, AreDeclaratorsPlaced}
 use Rattle.cs_decl_parser.specs.SpecPlaces.{place_in, settles, IsWordPlaced, IsWordThere, group_text, AreGroupsPlaced}
-use Rattle.cs_decl_parser.proofs.Placing.{IsFramed, one_behind, past_text, past_both, behind_text, SidePlaced, side_begun, side_goes_on}
+use Rattle.cs_decl_parser.proofs.Placing.{IsFramed, one_after, past_text, past_both, after_text, SidePlaced, side_begun, side_goes_on}
 use Rattle.cs_expr_parser.proofs.Standing.{spells_as}
 use Rattle.cs_expr_parser.proofs.Stopping.{refused_number}
 use Rattle.cs_expr_parser.proofs.SitesOfWords.{nothing_named}
@@ -119,7 +119,7 @@ count_more : (many : ℕ) (x : Option ℕ) → option_map suc (option_map (λ n.
 count_more many None = refl
 count_more many (Some n) = ap Some (let e : suc (many + n) ≡ suc many + n = omega arith in e)
 
--- a tag behind words that name nothing
+-- a tag after words that name nothing
 unnamed_more : (done rest : Specs) → named_by (words_of done) ≡ [] → before_tag (joined_specs done rest) ≡ option_map (λ n. length (specs_text done []) + n) (before_tag rest)
 unnamed_more NoSpec rest e = count_none (before_tag rest)
 unnamed_more (MoreSpecs Static ds) rest e = ap (option_map suc) (unnamed_more ds rest e) ∙ count_more (length (specs_text ds [])) (before_tag rest)
@@ -217,14 +217,14 @@ tag_inside : (is_struct : Bool) (tag : List ℕ) (tokens : List Token) → IsSpe
 tag_inside is_struct tag tokens = tt
 
 tag_stands : (tokens : List Token) (at : ℕ) (place : Place) → StandsAt place (drop (at + 1) tokens) → Some place ≡ place_at_number (drop at tokens) (Some 1)
-tag_stands tokens at place stands = place_stands (drop at tokens) 1 place (slice_get (drop at tokens) 1) refl (subst (StandsAt place) (sym (one_behind tokens at)) stands)
+tag_stands tokens at place stands = place_stands (drop at tokens) 1 place (slice_get (drop at tokens) 1) refl (subst (StandsAt place) (sym (one_after tokens at)) stands)
 
 -- `struct` or `enum` with a tag
 pub tagged_placed : (tokens : List Token) (at : ℕ) (is_struct : Bool) (tag : List ℕ) (place : Place) (found : NextWord) → found.word ≡ words.TheVariants.Plain (word_of_tag is_struct tag) → found.tag ≡ Some place → StandsAt place (drop (at + 1) tokens) → IsWordPlaced tokens at found
-tagged_placed tokens at is_struct tag place found is told stands = record {
+tagged_placed tokens at is_struct tag place found is reported stands = record {
   inside = subst (λ (x : SpecWord). IsSpecPlaced x (drop at tokens)) (sym is) (tag_inside is_struct tag (drop at tokens));
   tag =
-      told ∙ tag_stands tokens at place stands
+      reported ∙ tag_stands tokens at place stands
       ∙ sym (ap (λ (x : SpecWord). tag_place (MoreSpecs (spec x) NoSpec) (drop at tokens)) is ∙ ap (place_at_number (drop at tokens)) (tag_number is_struct tag));
 }
 
@@ -249,16 +249,16 @@ enum_number (Some name) constants comma = refl
 
 -- a structure with its body
 pub struct_placed : (tokens : List Token) (at : ℕ) (tag : Option RawName) (members : Members) (found : NextWord) → spec found.word ≡ StructBody (name_in tag) members → found.tag ≡ place_in tag → IsNamePlaced tag (drop (at + 1) tokens) → IsSpecPlaced found.word (drop at tokens) → IsWordPlaced tokens at found
-struct_placed tokens at tag members found is told named inside = record {
+struct_placed tokens at tag members found is reported named inside = record {
   inside = inside;
-  tag = told ∙ body_number tag (spec found.word) (ap (λ (x : Spec). before_tag (MoreSpecs x NoSpec)) is ∙ struct_number tag members) tokens at named;
+  tag = reported ∙ body_number tag (spec found.word) (ap (λ (x : Spec). before_tag (MoreSpecs x NoSpec)) is ∙ struct_number tag members) tokens at named;
 }
 
 -- an enumeration with its body
 pub enum_placed : (tokens : List Token) (at : ℕ) (tag : Option RawName) (constants : List Constant) (comma : Bool) (found : NextWord) → spec found.word ≡ EnumBody (name_in tag) constants comma → found.tag ≡ place_in tag → IsNamePlaced tag (drop (at + 1) tokens) → IsSpecPlaced found.word (drop at tokens) → IsWordPlaced tokens at found
-enum_placed tokens at tag constants comma found is told named inside = record {
+enum_placed tokens at tag constants comma found is reported named inside = record {
   inside = inside;
-  tag = told ∙ body_number tag (spec found.word) (ap (λ (x : Spec). before_tag (MoreSpecs x NoSpec)) is ∙ enum_number tag constants comma) tokens at named;
+  tag = reported ∙ body_number tag (spec found.word) (ap (λ (x : Spec). before_tag (MoreSpecs x NoSpec)) is ∙ enum_number tag constants comma) tokens at named;
 }
 
 specs_in : (n : _) (row : words.Row_of-SpecWord n) (list : List Token) → AreSideBySide IsSpecPlaced (λ w. spec_text (spec w)) (words.items-the_row-SpecWord n row) list → AreSpecsPlaced row list
@@ -270,20 +270,20 @@ declarators_framed m = with_commas_append declarator_text declarator_append (map
 
 pub group_framed : (m : RawMember) → IsFramed (group_text m)
 group_framed m x y =
-    specs_append (specs m.specs) (with_commas declarator_text (map declarator m.declarators.items) (token.Mark mark.Semicolon ∷ x)) y
-    ∙ ap (specs_text (specs m.specs)) (declarators_framed m (token.Mark mark.Semicolon ∷ x) y)
+    specs_append (specs m.specs) (with_commas declarator_text (map declarator m.declarators.items) (token.Punctuator punctuator.Semicolon ∷ x)) y
+    ∙ ap (specs_text (specs m.specs)) (declarators_framed m (token.Punctuator punctuator.Semicolon ∷ x) y)
 
--- the declarators behind what stands before them
-pub declarators_behind : (s : RawSpecs) (list : List RawDeclarator) (tokens : List Token) (from next : ℕ) → Spells tokens from next (specs_text (specs s)) → AreDeclaratorsPlaced list (drop next tokens) → AreDeclaratorsPlaced list (past (specs_text (specs s)) (drop from tokens))
-declarators_behind s list tokens from next sp has = behind_text (AreDeclaratorsPlaced list) (specs_text (specs s)) (specs_append (specs s)) tokens from next sp has
+-- the declarators after what stands before them
+pub declarators_after : (s : RawSpecs) (list : List RawDeclarator) (tokens : List Token) (from next : ℕ) → Spells tokens from next (specs_text (specs s)) → AreDeclaratorsPlaced list (drop next tokens) → AreDeclaratorsPlaced list (past (specs_text (specs s)) (drop from tokens))
+declarators_after s list tokens from next sp has = after_text (AreDeclaratorsPlaced list) (specs_text (specs s)) (specs_append (specs s)) tokens from next sp has
 
--- behind members of one type
+-- after members of one type
 past_group : (m : RawMember) (list : List Token) → past (group_text m) list ≡ drop 1 (past (with_commas declarator_text (map declarator m.declarators.items)) (past (specs_text (specs m.specs)) list))
 past_group m list =
-    past_both (specs_text (specs m.specs)) (λ rest. with_commas declarator_text (map declarator m.declarators.items) (token.Mark mark.Semicolon ∷ rest)) (specs_append (specs m.specs)) list
-    ∙ past_both (with_commas declarator_text (map declarator m.declarators.items)) (λ rest. token.Mark mark.Semicolon ∷ rest) (declarators_framed m) (past (specs_text (specs m.specs)) list)
+    past_both (specs_text (specs m.specs)) (λ rest. with_commas declarator_text (map declarator m.declarators.items) (token.Punctuator punctuator.Semicolon ∷ rest)) (specs_append (specs m.specs)) list
+    ∙ past_both (with_commas declarator_text (map declarator m.declarators.items)) (λ rest. token.Punctuator punctuator.Semicolon ∷ rest) (declarators_framed m) (past (specs_text (specs m.specs)) list)
 
--- the first of some groups, and the others behind it
+-- the first of some groups, and the others after it
 abbrev FirstAndOthers : List RawMember → List Token → Type 0
 FirstAndOthers [] list = Unit {0}
 FirstAndOthers (m ∷ others) list =

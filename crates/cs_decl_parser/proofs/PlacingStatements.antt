@@ -7,7 +7,7 @@ use Rattle.cs_ast.specs.declared.token.Token.{Token}
 use Rattle.cs_ast.specs.declared.token.TokenKind.{TokenKind}
 use Rattle.cs_ast.specs.declared.token.TokenKind.TheVariants as token
 use Rattle.cs_ast.specs.declared.token.Keyword.TheVariants as keyword
-use Rattle.cs_ast.specs.declared.token.Mark.TheVariants as mark
+use Rattle.cs_ast.specs.declared.token.Punctuator.TheVariants as punctuator
 use Rattle.cs_ast.specs.declared.raw.expression.RawExpr.{RawExpr}
 use Rattle.cs_ast.specs.declared.raw.statement.RawStmt.{RawStmt}
 use Rattle.cs_ast.specs.declared.raw.statement.RawStmtKind as kinds
@@ -37,15 +37,15 @@ use Rattle.cs_decl_parser.specs.Blocks.{Controls, control_of}
 use Rattle.cs_expr_parser.proofs.Standing.{spells_as}
 use Rattle.cs_expr_parser.proofs.Stopping.{refused_number}
 use Rattle.cs_decl_parser.proofs.ForSites.{controls_law}
-use Rattle.cs_decl_parser.proofs.Placing.{IsFramed, one_behind, past_text, behind_text, behind_text_and_one, SidePlaced, side_begun, side_goes_on}
+use Rattle.cs_decl_parser.proofs.Placing.{IsFramed, one_after, past_text, after_text, after_text_and_one, SidePlaced, side_begun, side_goes_on}
 
 -- some tokens on from a number
 pub on : (tokens : List Token) (from many next : ℕ) → next ≡ from + many → drop many (drop from tokens) ≡ drop next tokens
 on tokens from many next e = drop-drop many from tokens ∙ ap (λ (n : ℕ). drop n tokens) (sym e)
 
--- a test behind a word
+-- a test after a word
 pub past_word_and_test : (tokens : List Token) (from next : ℕ) (test : Written) → Spells tokens (from + 1) next (test_text test) → past (test_text test) (drop 1 (drop from tokens)) ≡ drop next tokens
-past_word_and_test tokens from next test sp = ap (past (test_text test)) (one_behind tokens from) ∙ past_text (test_text test) (test_append test) tokens (from + 1) next sp
+past_word_and_test tokens from next test sp = ap (past (test_text test)) (one_after tokens from) ∙ past_text (test_text test) (test_append test) tokens (from + 1) next sp
 
 test_stands : (tokens : List Token) (from : ℕ) (test : RawExpr) → HasPlaces test (drop (from + 1 + 1) tokens) → HasPlaces test (drop 2 (drop from tokens))
 test_stands tokens from test p = subst (HasPlaces test) (sym (on tokens from 2 (from + 1 + 1) (omega arith))) p
@@ -130,7 +130,7 @@ jump_made next k list j = elim (jump_is next (sentence k) j) [ inl e ↦ continu
 -- statements whose parts were taken
 pub block_placed : (tokens : List Token) (from : ℕ) (at : Place) (items : Vec RawItem Global) (whole : RawStmt) → IsMadeOf at (kind.Block items) whole → StandsAt at (drop from tokens) → AreItemsBeside items.items (drop (from + 1) tokens) → HasStatementPlaces whole (drop from tokens)
 block_placed tokens from at items whole made s a =
-    made (drop from tokens) s (block_made items (drop from tokens) (subst (AreItemsBeside items.items) (sym (one_behind tokens from)) a))
+    made (drop from tokens) s (block_made items (drop from tokens) (subst (AreItemsBeside items.items) (sym (one_after tokens from)) a))
 
 pub label_placed : (tokens : List Token) (from : ℕ) (at : Place) (body whole : RawStmt) → IsLabelOf at body whole → StandsAt at (drop from tokens) → HasStatementPlaces body (drop (from + 2) tokens) → HasStatementPlaces whole (drop from tokens)
 label_placed tokens from at body whole made s p = made (drop from tokens) s (subst (HasStatementPlaces body) (sym (on tokens from 2 (from + 2) refl)) p)
@@ -144,11 +144,11 @@ choice_placed tokens from at test next body later other whole made s sp t sb p q
     let e = past_word_and_test tokens from next (written test) sp in
     made (drop from tokens) s (test_stands tokens from test t) (subst (HasStatementPlaces body) (sym e) p)
     (subst (λ (list : List Token). HasStatementPlaces other (drop 1 (past (sentence_text (statement_of body)) list))) (sym e)
-    (behind_text_and_one (HasStatementPlaces other) (sentence_text (statement_of body)) (sentence_append (statement_of body)) tokens next later sb q))
+    (after_text_and_one (HasStatementPlaces other) (sentence_text (statement_of body)) (sentence_append (statement_of body)) tokens next later sb q))
 
 pub done_placed : (tokens : List Token) (from : ℕ) (at : Place) (body : RawStmt) (next : ℕ) (test : RawExpr) (whole : RawStmt) → IsDoneOf at body test whole → StandsAt at (drop from tokens) → Spells tokens (from + 1) next (sentence_text (statement_of body)) → HasStatementPlaces body (drop (from + 1) tokens) → HasPlaces test (drop (next + 1 + 1) tokens) → HasStatementPlaces whole (drop from tokens)
 done_placed tokens from at body next test whole made s sb p t =
-    let e = one_behind tokens from in
+    let e = one_after tokens from in
     let two : drop 2 (past (sentence_text (statement_of body)) (drop 1 (drop from tokens))) ≡ drop (next + 1 + 1) tokens =
     ap (λ (list : List Token). drop 2 (past (sentence_text (statement_of body)) list)) e
     ∙ ap (λ (list : List Token). drop 2 list) (past_text (sentence_text (statement_of body)) (sentence_append (statement_of body)) tokens (from + 1) next sb)
@@ -159,12 +159,12 @@ pub switch_placed : (tokens : List Token) (from : ℕ) (at : Place) (value : Raw
 switch_placed tokens from at value next items whole made s sp v a =
     made (drop from tokens) s
     (switch_made value items (drop from tokens) (test_stands tokens from value v)
-    (subst (AreSwitchItemsBeside items.items) (sym (ap (λ (list : List Token). drop 1 list) (past_word_and_test tokens from next (written value) sp) ∙ one_behind tokens next)) a))
+    (subst (AreSwitchItemsBeside items.items) (sym (ap (λ (list : List Token). drop 1 list) (past_word_and_test tokens from next (written value) sp) ∙ one_after tokens next)) a))
 
 pub return_placed : (tokens : List Token) (from : ℕ) (at : Place) (value : Option RawExpr) (whole : RawStmt) → IsMadeOf at (kind.Return value) whole → StandsAt at (drop from tokens) → IsSomePlaced value (drop (from + 1) tokens) → HasStatementPlaces whole (drop from tokens)
-return_placed tokens from at value whole made s v = made (drop from tokens) s (subst (IsSomePlaced value) (sym (one_behind tokens from)) v)
+return_placed tokens from at value whole made s v = made (drop from tokens) s (subst (IsSomePlaced value) (sym (one_after tokens from)) v)
 
--- an expression that may lack, with the mark behind it
+-- an expression that may lack, with the punctuator after it
 some_framed : (e : Option Written) (close : TokenKind) → IsFramed (λ rest. some_text e (close ∷ rest))
 some_framed e close x y = optional_append e (close ∷ x) y
 
@@ -178,10 +178,10 @@ past_some tokens from next e close sp =
     more ∙ past_text (λ rest. some_text (option_map written e) (close ∷ rest)) (some_framed (option_map written e) close) tokens from next sp
 
 -- the parts of a `for`, at the first of them
-pub control_placed : (tokens : List Token) (at after_first after_test : ℕ) (parts : ForParts) → Spells tokens at after_first (first_text (first_of parts.first)) → Spells tokens after_first after_test (λ rest. some_text (option_map written parts.test) (token.Mark mark.Semicolon ∷ rest)) → IsFirstPlaced parts.first (drop at tokens) → IsSomePlaced parts.test (drop after_first tokens) → IsSomePlaced parts.last (drop after_test tokens) → AreForPartsPlaced parts (drop at tokens)
+pub control_placed : (tokens : List Token) (at after_first after_test : ℕ) (parts : ForParts) → Spells tokens at after_first (first_text (first_of parts.first)) → Spells tokens after_first after_test (λ rest. some_text (option_map written parts.test) (token.Punctuator punctuator.Semicolon ∷ rest)) → IsFirstPlaced parts.first (drop at tokens) → IsSomePlaced parts.test (drop after_first tokens) → IsSomePlaced parts.last (drop after_test tokens) → AreForPartsPlaced parts (drop at tokens)
 control_placed tokens at after_first after_test parts sf st f t l =
     let e = past_text (first_text (first_of parts.first)) (first_append (first_of parts.first)) tokens at after_first sf in
-    let g = past_some tokens after_first after_test parts.test (token.Mark mark.Semicolon) st in
+    let g = past_some tokens after_first after_test parts.test (token.Punctuator punctuator.Semicolon) st in
     (f, subst (IsSomePlaced parts.test) (sym e) t, subst (IsSomePlaced parts.last) (sym (ap (past_test parts.test) e ∙ g)) l)
 
 framed_length : (spell : Kinds → Kinds) → IsFramed spell → (x : Kinds) → length (spell x) ≡ length (spell []) + length x
@@ -190,10 +190,10 @@ framed_length spell law x = ap length (sym (law [] x)) ∙ length-append (spell 
 -- how many tokens the parts of a `for` are, with both parentheses
 control_length : (names : Names) (parts : ForParts) → length ((Controls names).spell (control_of parts) []) ≡ 1 + (length (first_text (first_of parts.first) []) + length (some_text (option_map written parts.test) []) + 1 + length (some_text (option_map written parts.last) []) + 1)
 control_length names parts =
-    let ends = some_text (option_map written parts.last) (token.Mark mark.CloseParenthesis ∷ []) in
-    let l = some_length (option_map written parts.last) (token.Mark mark.CloseParenthesis) in
-    let t = framed_length (some_text (option_map written parts.test)) (optional_append (option_map written parts.test)) (token.Mark mark.Semicolon ∷ ends) in
-    let f = framed_length (first_text (first_of parts.first)) (first_append (first_of parts.first)) (some_text (option_map written parts.test) (token.Mark mark.Semicolon ∷ ends)) in
+    let ends = some_text (option_map written parts.last) (token.Punctuator punctuator.CloseParenthesis ∷ []) in
+    let l = some_length (option_map written parts.last) (token.Punctuator punctuator.CloseParenthesis) in
+    let t = framed_length (some_text (option_map written parts.test)) (optional_append (option_map written parts.test)) (token.Punctuator punctuator.Semicolon ∷ ends) in
+    let f = framed_length (first_text (first_of parts.first)) (first_append (first_of parts.first)) (some_text (option_map written parts.test) (token.Punctuator punctuator.Semicolon ∷ ends)) in
     omega (arith, f, t, l)
 
 control_end : (from next many parts : ℕ) → next ≡ from + 1 + many → many ≡ 1 + parts → next ≡ from + 2 + parts
@@ -204,7 +204,7 @@ past_parts list f t l =
     ap (λ (x : List Token). drop 1 (drop l (drop 1 x))) (drop-drop t f list) ∙ ap (λ (x : List Token). drop 1 (drop l x)) (drop-drop 1 (f + t) list)
     ∙ ap (λ (x : List Token). drop 1 x) (drop-drop l (f + t + 1) list) ∙ drop-drop 1 (f + t + 1 + l) list
 
--- behind the parts of a `for`, which stand behind its word
+-- after the parts of a `for`, which stand after its word
 past_control : (names : Names) (tokens : List Token) (from next : ℕ) (parts : ForParts) → Spells tokens (from + 1) next ((Controls names).spell (control_of parts)) → past_test parts.last (past_test parts.test (past_first parts.first (drop 2 (drop from tokens)))) ≡ drop next tokens
 past_control names tokens from next parts sp =
     let f = length (first_text (first_of parts.first) []) in
@@ -223,11 +223,11 @@ loop_placed names tokens from at parts next body whole made s sp a p =
 
 -- what was declared
 pub declaration_placed : (tokens : List Token) (from next : ℕ) (s : RawSpecs) (objects : List RawInit) → Spells tokens from next (specs_text (specs s)) → HasSpecPlaces s (drop from tokens) → AreObjectsPlaced objects (drop next tokens) → IsDeclarationPlaced s objects (drop from tokens)
-declaration_placed tokens from next s objects sp a b = record { specs_are = a; objects_are = behind_text (AreObjectsPlaced objects) (specs_text (specs s)) (specs_append (specs s)) tokens from next sp b }
+declaration_placed tokens from next s objects sp a b = record { specs_are = a; objects_are = after_text (AreObjectsPlaced objects) (specs_text (specs s)) (specs_append (specs s)) tokens from next sp b }
 
 -- `case` with its value
 pub case_placed : (tokens : List Token) (from : ℕ) (at : Place) (value : RawExpr) → StandsAt at (drop from tokens) → HasPlaces value (drop (from + 1) tokens) → StandsAt at (drop from tokens) × HasPlaces value (drop 1 (drop from tokens))
-case_placed tokens from at value s v = (s, subst (HasPlaces value) (sym (one_behind tokens from)) v)
+case_placed tokens from at value s v = (s, subst (HasPlaces value) (sym (one_after tokens from)) v)
 
 -- items, so far
 abbrev pub ItemsPlaced : List Token → ℕ → List RawItem → ℕ → Type 0

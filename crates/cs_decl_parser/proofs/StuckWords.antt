@@ -1,4 +1,4 @@
--- Words of a type behind which a token's word doesn't fit: for the contracts of the parts that read what stands before declarators.
+-- Words of a type after which a token's word doesn't fit: for the contracts of the parts that read what stands before declarators.
 use Rattle.std.proofs.Common.{◌≡◌, ℕ, ◌+◌, inl, inr, Bool, true, false, if◌then◌else◌, List, [], ◌∷◌, ◌++◌, Option, Some, None, Result, Ok, Err, refl, sym, ap, ◌∙◌, subst, arith}
 use Rattle.std.specs.Option.{option_map}
 use Rattle.std.proofs.lemmas.Bool.{false≢true}
@@ -7,7 +7,7 @@ use Rattle.cs_ast.specs.declared.token.TokenKind.{TokenKind}
 use Rattle.cs_ast.specs.declared.token.TokenKind.TheVariants as token
 use Rattle.cs_ast.specs.declared.token.Keyword.{Keyword}
 use Rattle.cs_ast.specs.declared.token.Keyword.TheVariants as keyword
-use Rattle.cs_ast.specs.declared.token.Mark.TheVariants as mark
+use Rattle.cs_ast.specs.declared.token.Punctuator.TheVariants as punctuator
 use Rattle.cs_ast.specs.declared.raw.declaration.SpecWord.TheVariants as words
 use Rattle.cs_ast.specs.declared.raw.written_type.TypeWord.{TypeWord}
 use Rattle.cs_ast.specs.declared.raw.written_type.TypeWord.TheVariants as word
@@ -32,7 +32,7 @@ use Rattle.cs_expr_parser.specs.Parts.{is_deep}
 use Rattle.cs_expr_parser.specs.Positions.{name_of}
 use Rattle.cs_expr_parser.specs.declared.stop.Stop.{Stop}
 use Rattle.cs_expr_parser.specs.declared.stop.Stop.TheVariants as stop
-use Rattle.cs_decl_parser.specs.DeclarationAnswers.{IsNameAt, RefusesBehind}
+use Rattle.cs_decl_parser.specs.DeclarationAnswers.{IsNameAt, RefusesAfter}
 use Rattle.cs_decl_parser.specs.SpecWords.{PlainAnswer, BlockTagAnswer, BlockTagStops, BlockWordAnswer, IsTagKeyword, IsTypeWord, HasNoTag, IsPlainWord, NothingFits, tag_keyword, IsTagged, word_of_keyword}
 use Rattle.cs_expr_parser.proofs.Standing.{spells_one, spells_more, spells_as}
 use Rattle.cs_expr_parser.proofs.WordsBegun.{no_word_stuck}
@@ -73,19 +73,19 @@ same_first next found one true none t e tag = absurd (no_tag next none one e tag
 same_first next found one false none t e tag =
     (same_word one found [] [] (untagged_text one [] tag ∙ ap (λ (x : TokenKind). x ∷ []) e ∙ sym (t []))).0
 
--- the token's word doesn't fit behind the words so far
+-- the token's word doesn't fit after the words so far
 pub word_unfit : (names : Names) (so_far : TypeSoFar) (next : TokenKind) (found : TypeWord) → IsTypeWord names next (Some found) → ((before : List TypeWord) → Describes names so_far before → IsExtended names before found None) → HasNoTag next → NothingFits names so_far next
 word_unfit names so_far next found is unfit none = λ before d one more e.
     let s = same_first next found one (has_tag one) none is.0 e refl in
     subst (λ (x : TypeWord). is_type names (before ++ x ∷ more) ≡ false) (sym s) (unfit before d more)
 
-untagged_quiet : (w : TypeWord) (behind : Kinds) → has_tag w ≡ false → IsQuiet (Plain w) behind
-untagged_quiet word.Const behind t = tt
-untagged_quiet word.Void behind t = tt
-untagged_quiet (word.Integer k) behind t = tt
-untagged_quiet (word.Typedef name) behind t = tt
-untagged_quiet (word.Struct tag) behind t = absurd (false≢true (sym t))
-untagged_quiet (word.Enum tag) behind t = absurd (false≢true (sym t))
+untagged_quiet : (w : TypeWord) (following : Kinds) → has_tag w ≡ false → IsQuiet (Plain w) following
+untagged_quiet word.Const following t = tt
+untagged_quiet word.Void following t = tt
+untagged_quiet (word.Integer k) following t = tt
+untagged_quiet (word.Typedef name) following t = tt
+untagged_quiet (word.Struct tag) following t = absurd (false≢true (sym t))
+untagged_quiet (word.Enum tag) following t = absurd (false≢true (sym t))
 
 -- the token is a word that fits
 pub plain_taken : (names : Names) (tokens : List Token) (at : ℕ) (so_far : TypeSoFar) (one : TypeWord) (found : NextWord) → (kind_or_end tokens at ≡ token.Attribute → ⊥) → IsTypeWord names (kind_or_end tokens at) (Some one) → ((before : List TypeWord) → Describes names so_far before → Describes names found.so_far (before ++ one ∷ [])) → found.word ≡ words.Plain one → found.height ≡ 1 → found.next ≡ at + 1 → IsPlainWord names tokens at so_far found one
@@ -96,7 +96,7 @@ plain_taken names tokens at so_far one found some is described w tall next = rec
   spelled =
       subst (λ (n : ℕ). Spells tokens at n (type_word_text one)) (sym next)
       (spells_as tokens at (at + 1) (λ rest. kind_or_end tokens at ∷ rest) (type_word_text one) (spells_one tokens at (kind_or_end tokens at) refl some) (λ rest. sym (is.0 rest)));
-  quiet = λ behind near. untagged_quiet one behind is.1;
+  quiet = λ following near. untagged_quiet one following is.1;
   described = described;
 }
 
@@ -175,21 +175,21 @@ tag_unusable names so_far false (word.Typedef name) some e = absurd cc
 tag_unusable names so_far true (word.Integer k) some e = absurd (let z = no_keyword keyword.Struct (word.Integer k) refl e in false≢true z)
 tag_unusable names so_far false (word.Integer k) some e = absurd (let z = no_keyword keyword.Enum (word.Integer k) refl e in false≢true z)
 
--- a word with a tag doesn't fit behind words that name a type
+-- a word with a tag doesn't fit after words that name a type
 pub tag_unfit : (names : Names) (so_far : TypeSoFar) (next : TokenKind) (is_struct : Bool) → next ≡ tag_keyword is_struct → names_some so_far ≡ true → NothingFits names so_far next
 tag_unfit names so_far next is_struct k some = λ before d. no_word_stuck names so_far before next d (λ one e. tag_unusable names so_far is_struct one some (e ∙ k))
 
-no_brace : (t : TokenKind) (tokens : Kinds) → (t ≡ token.Mark mark.OpenBrace → ⊥) → HasNoOpenBrace (t ∷ tokens)
-no_brace (token.Mark mark.OpenBrace) tokens other = other refl
+no_brace : (t : TokenKind) (tokens : Kinds) → (t ≡ token.Punctuator punctuator.OpenBrace → ⊥) → HasNoOpenBrace (t ∷ tokens)
+no_brace (token.Punctuator punctuator.OpenBrace) tokens other = other refl
 no_brace _ tokens other = tt
 
-pub no_brace_near : (next : TokenKind) (behind : Kinds) → (next ≡ token.Mark mark.OpenBrace → ⊥) → Near next behind → HasNoOpenBrace behind
-no_brace_near next behind other near =
+pub no_brace_near : (next : TokenKind) (following : Kinds) → (next ≡ token.Punctuator punctuator.OpenBrace → ⊥) → Near next following → HasNoOpenBrace following
+no_brace_near next following other near =
     elim near [ inl none ↦ subst HasNoOpenBrace (sym none) tt | inr m ↦ subst HasNoOpenBrace (sym m.1) (no_brace next m.0 other) ]
 
-tag_quiet : (is_struct : Bool) (tag : List ℕ) (behind : Kinds) → HasNoOpenBrace behind → IsQuiet (Plain (word_of_tag is_struct tag)) behind
-tag_quiet true tag behind h = h
-tag_quiet false tag behind h = h
+tag_quiet : (is_struct : Bool) (tag : List ℕ) (following : Kinds) → HasNoOpenBrace following → IsQuiet (Plain (word_of_tag is_struct tag)) following
+tag_quiet true tag following h = h
+tag_quiet false tag following h = h
 
 tag_text : (is_struct : Bool) (tag : List ℕ) (rest : Kinds) → type_word_text (word_of_tag is_struct tag) rest ≡ tag_keyword is_struct ∷ token.Name tag ∷ rest
 tag_text true tag rest = refl
@@ -209,7 +209,7 @@ tag_whole names true tag before none = (word.Struct tag, named_more before (word
 tag_whole names false tag before none = (word.Enum tag, named_more before (word.Enum tag ∷ []) ∙ ap (λ (x : List TypeWord). x ++ word.Enum tag ∷ []) none, refl)
 
 -- `struct` or `enum` with a tag was taken
-pub tag_taken : (names : Names) (tokens : List Token) (at : ℕ) (is_struct : Bool) (tag : List ℕ) (found : NextWord) → kind_or_end tokens at ≡ tag_keyword is_struct → kind_or_end tokens (at + 1) ≡ token.Name tag → (kind_or_end tokens (at + 2) ≡ token.Mark mark.OpenBrace → ⊥) → IsTagged (kind_or_end tokens at) tag found → found.height ≡ 1 → found.next ≡ at + 2 → IsPlainWord names tokens at Nothing found (word_of_tag is_struct tag)
+pub tag_taken : (names : Names) (tokens : List Token) (at : ℕ) (is_struct : Bool) (tag : List ℕ) (found : NextWord) → kind_or_end tokens at ≡ tag_keyword is_struct → kind_or_end tokens (at + 1) ≡ token.Name tag → (kind_or_end tokens (at + 2) ≡ token.Punctuator punctuator.OpenBrace → ⊥) → IsTagged (kind_or_end tokens at) tag found → found.height ≡ 1 → found.next ≡ at + 2 → IsPlainWord names tokens at Nothing found (word_of_tag is_struct tag)
 tag_taken names tokens at is_struct tag found k n other is tall next = record {
   word_is = is.one is_struct k;
   height_is = tall;
@@ -217,7 +217,7 @@ tag_taken names tokens at is_struct tag found k n other is tall next = record {
   spelled =
       subst (λ (m : ℕ). Spells tokens at m (type_word_text (word_of_tag is_struct tag))) (sym next)
       (spells_as tokens at (at + 2) (λ rest. tag_keyword is_struct ∷ token.Name tag ∷ rest) (type_word_text (word_of_tag is_struct tag)) (tag_spelled tokens at is_struct tag k n) (λ rest. sym (tag_text is_struct tag rest)));
-  quiet = λ behind near. tag_quiet is_struct tag behind (no_brace_near (kind_or_end tokens (at + 2)) behind other (subst (λ (m : ℕ). Near (kind_or_end tokens m) behind) next near));
+  quiet = λ following near. tag_quiet is_struct tag following (no_brace_near (kind_or_end tokens (at + 2)) following other (subst (λ (m : ℕ). Near (kind_or_end tokens m) following) next near));
   described = λ before none. subst (λ (x : TypeSoFar). Describes names x (before ++ word_of_tag is_struct tag ∷ [])) (sym is.whole) (tag_whole names is_struct tag before none);
 }
 
@@ -242,12 +242,12 @@ unnamed : (next : TokenKind) → ((name : List ℕ) → next ≡ token.Name name
 unnamed (token.Name name) none = absurd (none name refl tt)
 unnamed _ none = refl
 
--- no tag stands behind `struct` or `enum`
-pub tag_unnamed : (names : Names) (tokens : List Token) (at : ℕ) → IsTagKeyword (kind_or_end tokens at) → IsNameAt (λ name. Unit {0}) (kind_or_end tokens (at + 1)) None → (s : Stop) → RefusesBehind (at + 1) false s → BlockTagAnswer names tokens at (Err s)
+-- no tag stands after `struct` or `enum`
+pub tag_unnamed : (names : Names) (tokens : List Token) (at : ℕ) → IsTagKeyword (kind_or_end tokens at) → IsNameAt (λ name. Unit {0}) (kind_or_end tokens (at + 1)) None → (s : Stop) → RefusesAfter (at + 1) false s → BlockTagAnswer names tokens at (Err s)
 tag_unnamed names tokens at k none stop.Memory r = absurd r
 tag_unnamed names tokens at k none (stop.Refused refused reason) r =
     (r.1, inl (record { is_struct = k.0; stands = tag_stands k.0 (kind_or_end tokens at) k.1; none = unnamed (kind_or_end tokens (at + 1)) none; refused_is = r.0 }))
 
--- a brace stands behind the tag
-pub tag_braced : (tokens : List Token) (at : ℕ) → IsTagKeyword (kind_or_end tokens at) → (tag : List ℕ) → kind_or_end tokens (at + 1) ≡ token.Name tag → kind_or_end tokens (at + 2) ≡ token.Mark mark.OpenBrace → (reason : Reason) → is_deep reason ≡ false → BlockTagStops tokens at (stop.Refused (at + 2) reason)
+-- a brace stands after the tag
+pub tag_braced : (tokens : List Token) (at : ℕ) → IsTagKeyword (kind_or_end tokens at) → (tag : List ℕ) → kind_or_end tokens (at + 1) ≡ token.Name tag → kind_or_end tokens (at + 2) ≡ token.Punctuator punctuator.OpenBrace → (reason : Reason) → is_deep reason ≡ false → BlockTagStops tokens at (stop.Refused (at + 2) reason)
 tag_braced tokens at k tag n b reason plain = (plain, inr (record { is_struct = k.0; tag = tag; spelled = tag_spelled tokens at k.0 tag k.1 n; brace = b }))

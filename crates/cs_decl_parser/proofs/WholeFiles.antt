@@ -35,5 +35,5 @@ not_refused tokens file at reason h r =
 pub file_or_refused : (tokens : List Token) (end : Place) (file : List External) (r : SyntaxRefusal) → IsTheFile tokens file → IsFileRefusal tokens end r → r ≡ refusal.Memory
 file_or_refused tokens end file refusal.Memory h i = refl
 file_or_refused tokens end file (refusal.Syntax place) h i = absurd (not_refused tokens file i.0 i.1 h i.3.stopped)
-file_or_refused tokens end file (refusal.LeftOut place word) h i = absurd (not_refused tokens file i.0 i.1 h i.3.stopped)
+file_or_refused tokens end file (refusal.Unsupported place word) h i = absurd (not_refused tokens file i.0 i.1 h i.3.stopped)
 file_or_refused tokens end file (refusal.TooDeep place) h i = absurd (not_refused tokens file i.0 i.1 h i.3.stopped)

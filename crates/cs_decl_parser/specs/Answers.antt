@@ -1,8 +1,8 @@
 -- What the parts of the parser answer to one another: a phrase of a class, or a token with which none goes on that is low enough.
 use Rattle.std.specs.Prelude.{◌≡◌, ℕ, ◌⊎◌, Bool, true, false, List, Result, Ok, Err}
 use Rattle.cs_ast.specs.declared.token.Token.{Token}
-use Rattle.cs_ast.specs.declared.token.Mark.{Mark}
-use Rattle.cs_ast.specs.declared.token.Mark.TheVariants as mark
+use Rattle.cs_ast.specs.declared.token.Punctuator.{Punctuator}
+use Rattle.cs_ast.specs.declared.token.Punctuator.TheVariants as punctuator
 use Rattle.cs_ast.specs.declared.token.TokenKind.TheVariants as token
 use Rattle.cs_grammar.specs.declared.refusal.Reason.{Reason}
 use Rattle.cs_grammar.specs.Parsing.{Class, Took, Exactly}
@@ -15,63 +15,63 @@ use Rattle.cs_decl_parser.specs.declared.stop.Unclosed.{Unclosed}
 
 -- want of memory, or a token is refused: no phrase of the class goes on with it that is low enough
 abbrev pub Stops : Class → ℕ → List Token → ℕ → Stop → Type 0
-Stops C room tokens from stop.Memory = Unit {0}
-Stops C room tokens from (stop.Refused at reason) = IsRefused C room tokens from at reason
+Stops C limit tokens from stop.Memory = Unit {0}
+Stops C limit tokens from (stop.Refused at reason) = IsRefused C limit tokens from at reason
 
--- a phrase of the class was taken, which is told by its tokens, whatever stands behind it
-pub record IsExactly {A : Type 0} (C : Class) (view : A → C.Tree) (room : ℕ) (tokens : List Token) (from : ℕ) (taken : Taken A) : Type 0 where
+-- a phrase of the class was taken, which is told by its tokens, whatever stands after it
+pub record IsExactly {A : Type 0} (C : Class) (view : A → C.Tree) (limit : ℕ) (tokens : List Token) (from : ℕ) (taken : Taken A) : Type 0 where
   pub height_is : taken.height ≡ C.tall (view taken.tree)
   pub spelled : Spells tokens from taken.next (C.spell (view taken.tree))
-  pub exactly : Exactly C room (view taken.tree)
+  pub exactly : Exactly C limit (view taken.tree)
 
 -- a phrase of the class was taken before the next token; a higher one goes on with that or none does
-pub record IsTaken {A : Type 0} (C : Class) (view : A → C.Tree) (room : ℕ) (tokens : List Token) (from : ℕ) (deep : Bool) (taken : Taken A) : Type 0 where
+pub record IsTaken {A : Type 0} (C : Class) (view : A → C.Tree) (limit : ℕ) (tokens : List Token) (from : ℕ) (deep : Bool) (taken : Taken A) : Type 0 where
   pub height_is : taken.height ≡ C.tall (view taken.tree)
   pub spelled : Spells tokens from taken.next (C.spell (view taken.tree))
-  pub took : Took C room (view taken.tree) (kind_or_end tokens taken.next) deep
+  pub took : Took C limit (view taken.tree) (kind_or_end tokens taken.next) deep
 
 -- the same of a phrase that may end with an expression: the reason tells whether a higher one goes on
-pub record IsUnclosed {A : Type 0} (C : Class) (view : A → C.Tree) (room : ℕ) (tokens : List Token) (from : ℕ) (taken : Unclosed A) : Type 0 where
+pub record IsUnclosed {A : Type 0} (C : Class) (view : A → C.Tree) (limit : ℕ) (tokens : List Token) (from : ℕ) (taken : Unclosed A) : Type 0 where
   pub height_is : taken.height ≡ C.tall (view taken.tree)
   pub spelled : Spells tokens from taken.next (C.spell (view taken.tree))
-  pub took : Took C room (view taken.tree) (kind_or_end tokens taken.next) (is_deep taken.otherwise)
+  pub took : Took C limit (view taken.tree) (kind_or_end tokens taken.next) (is_deep taken.otherwise)
 
 -- a phrase that its last token closes, or a token is refused
 abbrev pub ExactAnswers : {A : Type 0} (C : Class) → (A → C.Tree) → ℕ → List Token → ℕ → Result (Taken A) Stop → Type 0
-ExactAnswers C view room tokens from (Ok taken) = IsExactly C view room tokens from taken
-ExactAnswers C view room tokens from (Err stop) = Stops C room tokens from stop
+ExactAnswers C view limit tokens from (Ok taken) = IsExactly C view limit tokens from taken
+ExactAnswers C view limit tokens from (Err stop) = Stops C limit tokens from stop
 
 -- a phrase with which no higher one goes on, or a token is refused
 abbrev pub Answers : {A : Type 0} (C : Class) → (A → C.Tree) → ℕ → List Token → ℕ → Result (Taken A) Stop → Type 0
-Answers C view room tokens from (Ok taken) = IsTaken C view room tokens from false taken
-Answers C view room tokens from (Err stop) = Stops C room tokens from stop
+Answers C view limit tokens from (Ok taken) = IsTaken C view limit tokens from false taken
+Answers C view limit tokens from (Err stop) = Stops C limit tokens from stop
 
 -- a phrase that may end with an expression, or a token is refused
 abbrev pub UnclosedAnswers : {A : Type 0} (C : Class) → (A → C.Tree) → ℕ → List Token → ℕ → Result (Unclosed A) Stop → Type 0
-UnclosedAnswers C view room tokens from (Ok taken) = IsUnclosed C view room tokens from taken
-UnclosedAnswers C view room tokens from (Err stop) = Stops C room tokens from stop
+UnclosedAnswers C view limit tokens from (Ok taken) = IsUnclosed C view limit tokens from taken
+UnclosedAnswers C view limit tokens from (Err stop) = Stops C limit tokens from stop
 
--- an opening brace is refused behind a whole phrase, since with that only higher phrases go on, or none
-pub record IsBraceRefused (C : Class) (room : ℕ) (tokens : List Token) (from at : ℕ) (reason : Reason) : Type 0 where
+-- an opening brace is refused after a whole phrase, since with that only higher phrases go on, or none
+pub record IsBraceRefused (C : Class) (limit : ℕ) (tokens : List Token) (from at : ℕ) (reason : Reason) : Type 0 where
   pub phrase : C.Tree
   pub spelled : Spells tokens from at (C.spell phrase)
-  pub brace : kind_or_end tokens at ≡ token.Mark mark.OpenBrace
-  pub took : Took C room phrase (token.Mark mark.OpenBrace) (is_deep reason)
+  pub brace : kind_or_end tokens at ≡ token.Punctuator punctuator.OpenBrace
+  pub took : Took C limit phrase (token.Punctuator punctuator.OpenBrace) (is_deep reason)
 
--- the same as `Stops`, or an opening brace is refused behind a whole phrase
+-- the same as `Stops`, or an opening brace is refused after a whole phrase
 abbrev pub StopsOrBrace : Class → ℕ → List Token → ℕ → Stop → Type 0
-StopsOrBrace C room tokens from (stop.Refused at reason) = IsRefused C room tokens from at reason ⊎ IsBraceRefused C room tokens from at reason
-StopsOrBrace C room tokens from other = Stops C room tokens from other
+StopsOrBrace C limit tokens from (stop.Refused at reason) = IsRefused C limit tokens from at reason ⊎ IsBraceRefused C limit tokens from at reason
+StopsOrBrace C limit tokens from other = Stops C limit tokens from other
 
--- a phrase with which no higher one goes on, or a token is refused, which may be a brace behind a whole phrase
+-- a phrase with which no higher one goes on, or a token is refused, which may be a brace after a whole phrase
 abbrev pub BraceAnswers : {A : Type 0} (C : Class) → (A → C.Tree) → ℕ → List Token → ℕ → Result (Taken A) Stop → Type 0
-BraceAnswers C view room tokens from (Ok taken) = IsTaken C view room tokens from false taken
-BraceAnswers C view room tokens from (Err stop) = StopsOrBrace C room tokens from stop
+BraceAnswers C view limit tokens from (Ok taken) = IsTaken C view limit tokens from false taken
+BraceAnswers C view limit tokens from (Err stop) = StopsOrBrace C limit tokens from stop
 
--- the mark closes expressions of each level
-abbrev pub closes : Mark → Bool
-closes mark.CloseParenthesis = true
-closes mark.CloseBracket = true
-closes mark.Semicolon = true
-closes mark.Colon = true
+-- the punctuator closes expressions of each level
+abbrev pub closes : Punctuator → Bool
+closes punctuator.CloseParenthesis = true
+closes punctuator.CloseBracket = true
+closes punctuator.Semicolon = true
+closes punctuator.Colon = true
 closes other = false

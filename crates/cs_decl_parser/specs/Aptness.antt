@@ -5,32 +5,32 @@ use Rattle.cs_ast.specs.declared.token.Token.{Token}
 use Rattle.cs_ast.specs.declared.token.TokenKind.{TokenKind}
 use Rattle.cs_ast.specs.declared.token.TokenKind.TheVariants as token
 use Rattle.cs_ast.specs.declared.token.Keyword.TheVariants as keyword
-use Rattle.cs_ast.specs.declared.token.Mark.TheVariants as mark
+use Rattle.cs_ast.specs.declared.token.Punctuator.TheVariants as punctuator
 use Rattle.cs_grammar.specs.declared.refusal.Reason.{Reason}
-use Rattle.cs_grammar.specs.declared.refusal.Reason.TheVariants.{Syntax, LeftOut}
+use Rattle.cs_grammar.specs.declared.refusal.Reason.TheVariants.{Syntax, Unsupported}
 use Rattle.cs_expr_parser.specs.Positions.{kind_or_end}
 use Rattle.cs_decl_parser.specs.declared.source.Scope.{Scope}
 use Rattle.cs_expr_parser.specs.declared.stop.Stop.{Stop}
 use Rattle.cs_expr_parser.specs.declared.stop.Stop.TheVariants as stop
 use Rattle.cs_decl_parser.specs.declared.stop.Unclosed.{Unclosed}
-use Rattle.cs_decl_parser.specs.Reasons.{is_left_out}
+use Rattle.cs_decl_parser.specs.Reasons.{is_unsupported}
 
 -- the token is left out at some places; whether a colon is isn't told by the parts of the parser
 abbrev pub may_be_out : TokenKind → Bool
-may_be_out (token.LeftOut word) = true
+may_be_out (token.Unsupported word) = true
 may_be_out (token.Keyword keyword.Static) = true
 may_be_out (token.Keyword keyword.Typedef) = true
-may_be_out (token.Mark mark.Ellipsis) = true
-may_be_out (token.Mark mark.OpenBrace) = true
-may_be_out (token.Mark mark.OpenParenthesis) = true
-may_be_out (token.Mark mark.Dot) = true
-may_be_out (token.Mark mark.OpenBracket) = true
+may_be_out (token.Punctuator punctuator.Ellipsis) = true
+may_be_out (token.Punctuator punctuator.OpenBrace) = true
+may_be_out (token.Punctuator punctuator.OpenParenthesis) = true
+may_be_out (token.Punctuator punctuator.Dot) = true
+may_be_out (token.Punctuator punctuator.OpenBracket) = true
 may_be_out other = false
 
 -- the reason for a refusal of the token is one that it may have in this scope
 pub record IsApt (scope : Scope) (next : TokenKind) (reason : Reason) : Type 0 where
-  pub out : is_left_out scope next ≡ true → reason ≡ Syntax → ⊥
-  pub kept : may_be_out next ≡ false → reason ≡ LeftOut → ⊥
+  pub out : is_unsupported scope next ≡ true → reason ≡ Syntax → ⊥
+  pub kept : may_be_out next ≡ false → reason ≡ Unsupported → ⊥
 
 -- the same of a refusal by a part of the parser
 abbrev pub IsStopApt : Scope → List Token → Stop → Type 0
@@ -41,7 +41,7 @@ abbrev pub IsAnswerApt : {A : Type 0} → Scope → List Token → Result A Stop
 IsAnswerApt scope tokens (Ok taken) = Unit {0}
 IsAnswerApt scope tokens (Err stop) = IsStopApt scope tokens stop
 
--- and of the token behind what was taken, if the part around it doesn't take that
+-- and of the token after what was taken, if the part around it doesn't take that
 abbrev pub IsUnclosedApt : {A : Type 0} → Scope → List Token → Result (Unclosed A) Stop → Type 0
 IsUnclosedApt scope tokens (Ok taken) = IsApt scope (kind_or_end tokens taken.next) taken.otherwise
 IsUnclosedApt scope tokens (Err stop) = IsStopApt scope tokens stop

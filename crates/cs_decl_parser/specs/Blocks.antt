@@ -4,7 +4,7 @@ use Rattle.std.specs.declared.alloc.Global.{Global}
 use Rattle.std.specs.Option.{option_map}
 use Rattle.cs_ast.specs.declared.token.Token.{Token}
 use Rattle.cs_ast.specs.declared.token.TokenKind.TheVariants as token
-use Rattle.cs_ast.specs.declared.token.Mark.TheVariants as mark
+use Rattle.cs_ast.specs.declared.token.Punctuator.TheVariants as punctuator
 use Rattle.cs_ast.specs.declared.raw.statement.RawItem.{RawItem}
 use Rattle.cs_ast.specs.declared.raw.statement.RawSwitchItem.{RawSwitchItem}
 use Rattle.cs_ast.specs.RawTree.{Written}
@@ -18,7 +18,7 @@ use Rattle.cs_grammar.specs.TypeWords.{Names}
 use Rattle.cs_grammar.specs.FileText.{declaration_text, items_text}
 use Rattle.cs_grammar.specs.FilePhrases.{AreBlockSpecs, AreDeclared}
 use Rattle.cs_grammar.specs.Parsing.{Class, Exactly}
-use Rattle.cs_grammar.specs.Composed.{Sequence, Behind, ClosedSome}
+use Rattle.cs_grammar.specs.Composed.{Sequence, Following, ClosedSome}
 use Rattle.cs_grammar.specs.FileClasses.{Firsts, BlockRows}
 use Rattle.cs_expr_parser.specs.Positions.{kind_or_end}
 use Rattle.cs_expr_parser.specs.Parts.{Spells}
@@ -44,8 +44,8 @@ local_of d = (specs d.specs, map declared d.objects.items)
 -- what stands between the parentheses of a `for`, with both
 abbrev pub Controls : Names → Class
 Controls names =
-    Behind (token.Mark mark.OpenParenthesis)
-    (Sequence (Firsts names) (Sequence (ClosedSome names 0 (Unit {0}) (token.Mark mark.Semicolon)) (ClosedSome names 0 (Unit {0}) (token.Mark mark.CloseParenthesis))))
+    Following (token.Punctuator punctuator.OpenParenthesis)
+    (Sequence (Firsts names) (Sequence (ClosedSome names 0 (Unit {0}) (token.Punctuator punctuator.Semicolon)) (ClosedSome names 0 (Unit {0}) (token.Punctuator punctuator.CloseParenthesis))))
 
 abbrev pub control_of : ForParts → First × (Option Written × Option Written)
 control_of parts = (first_of parts.first, (option_map written parts.test, option_map written parts.last))
@@ -63,13 +63,13 @@ abbrev pub switch_items_of : Vec RawSwitchItem Global → SwitchItems
 switch_items_of items = switch_list items.items
 
 -- what stands in a block was taken, up to the closing brace
-pub record AreTaken (names : Names) (room : ℕ) (tokens : List Token) (from : ℕ) (taken : Taken (Vec RawItem Global)) : Type 0 where
+pub record AreTaken (names : Names) (limit : ℕ) (tokens : List Token) (from : ℕ) (taken : Taken (Vec RawItem Global)) : Type 0 where
   pub height_is : taken.height ≡ items_height (items_of taken.tree)
   pub spelled : Spells tokens from taken.next (items_text (items_of taken.tree))
-  pub closing : kind_or_end tokens taken.next ≡ token.Mark mark.CloseBrace
-  pub exactly : Exactly (BlockRows names) room (items_of taken.tree)
+  pub closing : kind_or_end tokens taken.next ≡ token.Punctuator punctuator.CloseBrace
+  pub exactly : Exactly (BlockRows names) limit (items_of taken.tree)
 
 -- what stands in a block, up to the closing brace, or a token is refused
 abbrev pub ItemsAnswers : Names → ℕ → List Token → ℕ → Result (Taken (Vec RawItem Global)) Stop → Type 0
-ItemsAnswers names room tokens from (Ok taken) = AreTaken names room tokens from taken
-ItemsAnswers names room tokens from (Err stop) = Stops (BlockRows names) room tokens from stop
+ItemsAnswers names limit tokens from (Ok taken) = AreTaken names limit tokens from taken
+ItemsAnswers names limit tokens from (Err stop) = Stops (BlockRows names) limit tokens from stop

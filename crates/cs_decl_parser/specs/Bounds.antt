@@ -21,36 +21,36 @@ Refuses number other = ⊥
 
 -- one token at least was taken, and the tree is no higher than the room
 abbrev pub IsBounded : {A : Type 0} → ℕ → List Token → ℕ → Result (Taken A) Stop → Type 0
-IsBounded room tokens from (Ok taken) = (from < taken.next) × (taken.next ≤ length tokens) × (taken.height ≤ room)
-IsBounded room tokens from (Err answer) = StopsInside tokens from answer
+IsBounded limit tokens from (Ok taken) = (from < taken.next) × (taken.next ≤ length tokens) × (taken.height ≤ limit)
+IsBounded limit tokens from (Err answer) = StopsInside tokens from answer
 
 -- the same, where no token has to be taken
 abbrev pub IsRowBounded : {A : Type 0} → ℕ → List Token → ℕ → Result (Taken A) Stop → Type 0
-IsRowBounded room tokens from (Ok taken) = (from ≤ taken.next) × (taken.next ≤ length tokens) × (taken.height ≤ room)
-IsRowBounded room tokens from (Err answer) = StopsInside tokens from answer
+IsRowBounded limit tokens from (Ok taken) = (from ≤ taken.next) × (taken.next ≤ length tokens) × (taken.height ≤ limit)
+IsRowBounded limit tokens from (Err answer) = StopsInside tokens from answer
 
 -- the same of what may end with an expression
 abbrev pub IsUnclosedBounded : {A : Type 0} → ℕ → List Token → ℕ → Result (Unclosed A) Stop → Type 0
-IsUnclosedBounded room tokens from (Ok taken) = (from < taken.next) × (taken.next ≤ length tokens) × (taken.height ≤ room)
-IsUnclosedBounded room tokens from (Err answer) = StopsInside tokens from answer
+IsUnclosedBounded limit tokens from (Ok taken) = (from < taken.next) × (taken.next ≤ length tokens) × (taken.height ≤ limit)
+IsUnclosedBounded limit tokens from (Err answer) = StopsInside tokens from answer
 
 abbrev pub IsUnclosedRowBounded : {A : Type 0} → ℕ → List Token → ℕ → Result (Unclosed A) Stop → Type 0
-IsUnclosedRowBounded room tokens from (Ok taken) = (from ≤ taken.next) × (taken.next ≤ length tokens) × (taken.height ≤ room)
-IsUnclosedRowBounded room tokens from (Err answer) = StopsInside tokens from answer
+IsUnclosedRowBounded limit tokens from (Ok taken) = (from ≤ taken.next) × (taken.next ≤ length tokens) × (taken.height ≤ limit)
+IsUnclosedRowBounded limit tokens from (Err answer) = StopsInside tokens from answer
 
 -- a word lies inside the tokens and is no higher than the room
 abbrev pub IsWordInside : ℕ → List Token → ℕ → NextWord → Type 0
-IsWordInside room tokens at found = (at < found.next) × (found.next ≤ length tokens) × (found.height ≤ room)
+IsWordInside limit tokens at found = (at < found.next) × (found.next ≤ length tokens) × (found.height ≤ limit)
 
 abbrev pub IsNextBounded : ℕ → List Token → ℕ → Result NextWord Stop → Type 0
-IsNextBounded room tokens at (Ok found) = IsWordInside room tokens at found
-IsNextBounded room tokens at (Err answer) = StopsInside tokens at answer
+IsNextBounded limit tokens at (Ok found) = IsWordInside limit tokens at found
+IsNextBounded limit tokens at (Err answer) = StopsInside tokens at answer
 
 -- the same, where there may be no word
 abbrev pub IsWordBounded : ℕ → List Token → ℕ → Result (Option NextWord) Stop → Type 0
-IsWordBounded room tokens at (Ok (Some found)) = IsWordInside room tokens at found
-IsWordBounded room tokens at (Ok None) = Unit {0}
-IsWordBounded room tokens at (Err answer) = StopsInside tokens at answer
+IsWordBounded limit tokens at (Ok (Some found)) = IsWordInside limit tokens at found
+IsWordBounded limit tokens at (Ok None) = Unit {0}
+IsWordBounded limit tokens at (Err answer) = StopsInside tokens at answer
 
 -- what was taken is so high, up to this token
 abbrev pub IsOf : {A : Type 0} → ℕ → ℕ → Taken A → Type 0

@@ -4,7 +4,7 @@ use Rattle.cs_ast.specs.declared.token.Token.{Token}
 use Rattle.cs_ast.specs.declared.token.TokenKind.{TokenKind}
 use Rattle.cs_ast.specs.declared.token.TokenKind.TheVariants as token
 use Rattle.cs_ast.specs.declared.token.Keyword.TheVariants as keyword
-use Rattle.cs_ast.specs.declared.token.Mark.TheVariants as mark
+use Rattle.cs_ast.specs.declared.token.Punctuator.TheVariants as punctuator
 use Rattle.cs_ast.specs.declared.raw.declaration.RawDeclarator.{RawDeclarator}
 use Rattle.cs_ast.specs.declared.raw.name.RawName.{RawName}
 use Rattle.cs_ast.specs.declared.raw.written_type.PointerWord.{PointerWord}
@@ -38,21 +38,21 @@ use Rattle.cs_decl_parser.specs.declared.declarator.Pointed.{Pointed}
 use Rattle.cs_decl_parser.specs.declared.constants.ConstantList.{ConstantList}
 use Rattle.cs_expr_parser.specs.declared.answer.ExprLevel.{ExprLevel}
 use Rattle.cs_expr_parser.specs.Expression.{level_asked}
-use Rattle.cs_ast.specs.declared.token.Mark.{Mark}
+use Rattle.cs_ast.specs.declared.token.Punctuator.{Punctuator}
 use Rattle.std.specs.Option.{option_map}
 use Rattle.cs_decl_parser.specs.Answers.{Stops, IsTaken, ExactAnswers}
 
--- the word of pointers that a token is; `const` is one behind a star alone
+-- the word of pointers that a token is; `const` is one after a star alone
 abbrev pub IsPointerWord : Bool → TokenKind → Option PointerWord → Type 0
-IsPointerWord behind_star kind (Some pointer.Star) = kind ≡ token.Mark mark.Star
-IsPointerWord behind_star kind (Some pointer.Const) = (kind ≡ token.Keyword keyword.Const) × (behind_star ≡ true)
-IsPointerWord behind_star kind None = (kind ≡ token.Mark mark.Star → ⊥) × (kind ≡ token.Keyword keyword.Const → behind_star ≡ true → ⊥)
+IsPointerWord after_star kind (Some pointer.Star) = kind ≡ token.Punctuator punctuator.Star
+IsPointerWord after_star kind (Some pointer.Const) = (kind ≡ token.Keyword keyword.Const) × (after_star ≡ true)
+IsPointerWord after_star kind None = (kind ≡ token.Punctuator punctuator.Star → ⊥) × (kind ≡ token.Keyword keyword.Const → after_star ≡ true → ⊥)
 
 -- the words of pointers from a number on are these, and no more
 pub record ArePointers (tokens : List Token) (from at : ℕ) (words : List PointerWord) : Type 0 where
   pub spelled : Spells tokens from at (pointers_text words)
   pub pointers : IsTrue (is_pointer words)
-  pub no_star : kind_or_end tokens at ≡ token.Mark mark.Star → ⊥
+  pub no_star : kind_or_end tokens at ≡ token.Punctuator punctuator.Star → ⊥
   pub no_const : kind_or_end tokens at ≡ token.Keyword keyword.Const → words ≡ []
 
 -- the name that a token is, if it passes
@@ -77,23 +77,23 @@ abbrev pub BracketsFor : Declares → Names → Class
 BracketsFor declares names = Brackets names (MayLackFor declares)
 
 -- there is no room for a bound, since that of a member may not lack
-abbrev pub has_no_room : Declares → ℕ → Bool
-has_no_room declaring.Names room = false
-has_no_room declaring.Members room = room == 0
+abbrev pub has_no_limit : Declares → ℕ → Bool
+has_no_limit declaring.Names limit = false
+has_no_limit declaring.Members limit = limit == 0
 
 -- a bracket stands there
 abbrev pub is_bracket : TokenKind → Bool
-is_bracket (token.Mark mark.OpenBracket) = true
+is_bracket (token.Punctuator punctuator.OpenBracket) = true
 is_bracket other = false
 
 -- a bound stands there for which there is no room
 abbrev pub is_full : Declares → ℕ → TokenKind → Bool
-is_full declares room next = has_no_room declares room && is_bracket next
+is_full declares limit next = has_no_limit declares limit && is_bracket next
 
 -- the refusal of this token, with which a higher phrase goes on or none does
-abbrev pub RefusesBehind : ℕ → Bool → Stop → Type 0
-RefusesBehind number deep (stop.Refused at reason) = (at ≡ number) × (is_deep reason ≡ deep)
-RefusesBehind number deep other = ⊥
+abbrev pub RefusesAfter : ℕ → Bool → Stop → Type 0
+RefusesAfter number deep (stop.Refused at reason) = (at ≡ number) × (is_deep reason ≡ deep)
+RefusesAfter number deep other = ⊥
 
 -- a name with the pointers before it was taken
 pub record IsPointed (declares : Declares) (names : Names) (tokens : List Token) (from : ℕ) (taken : Taken Pointed) : Type 0 where
@@ -101,7 +101,7 @@ pub record IsPointed (declares : Declares) (names : Names) (tokens : List Token)
   pub pointers : IsTrue (is_pointer taken.tree.pointers.items)
   pub named : IsNameFor declares names taken.tree.name.name
 
--- no name stands behind the words of pointers
+-- no name stands after the words of pointers
 pub record IsNameMissing (declares : Declares) (names : Names) (tokens : List Token) (from at : ℕ) (reason : Reason) : Type 0 where
   pub words : List PointerWord
   pub pointers : ArePointers tokens from at words
@@ -115,20 +115,20 @@ PointedAnswers declares names tokens from (Err (stop.Refused at reason)) = IsNam
 
 -- a declarator was taken, with which a higher one goes on where there is no room for a bound
 abbrev pub IsDeclaratorTaken : Declares → Names → ℕ → List Token → ℕ → Taken RawDeclarator → Type 0
-IsDeclaratorTaken declares names room tokens from taken =
-    (inner : ℕ) → room ≡ 1 + inner → IsTaken (DeclaratorsFor declares names) declarator room tokens from (is_full declares inner (kind_or_end tokens taken.next)) taken
+IsDeclaratorTaken declares names limit tokens from taken =
+    (inner : ℕ) → limit ≡ 1 + inner → IsTaken (DeclaratorsFor declares names) declarator limit tokens from (is_full declares inner (kind_or_end tokens taken.next)) taken
 
 -- the same, or a token is refused
 abbrev pub DeclaratorAnswers : Declares → Names → ℕ → List Token → ℕ → Result (Taken RawDeclarator) Stop → Type 0
-DeclaratorAnswers declares names room tokens from (Ok taken) = IsDeclaratorTaken declares names room tokens from taken
-DeclaratorAnswers declares names room tokens from (Err stop) = Stops (DeclaratorsFor declares names) room tokens from stop
+DeclaratorAnswers declares names limit tokens from (Ok taken) = IsDeclaratorTaken declares names limit tokens from taken
+DeclaratorAnswers declares names limit tokens from (Err stop) = Stops (DeclaratorsFor declares names) limit tokens from stop
 
 -- bounds between brackets were taken, or a token is refused
 abbrev pub BoundsAnswer : {A : Type 0} → Declares → Names → (A → List (Option Written)) → ℕ → List Token → ℕ → Result (Taken A) Stop → Type 0
-BoundsAnswer declares names view room tokens from (Ok taken) = IsTaken (BracketsFor declares names) view room tokens from (is_full declares room (kind_or_end tokens taken.next)) taken
-BoundsAnswer declares names view room tokens from (Err stop) = Stops (BracketsFor declares names) room tokens from stop
+BoundsAnswer declares names view limit tokens from (Ok taken) = IsTaken (BracketsFor declares names) view limit tokens from (is_full declares limit (kind_or_end tokens taken.next)) taken
+BoundsAnswer declares names view limit tokens from (Err stop) = Stops (BracketsFor declares names) limit tokens from stop
 
--- expressions of a level with a token behind each that closes it
+-- expressions of a level with a token after each that closes it
 abbrev pub ClosedExpressions : Names → ℕ → TokenKind → Class
 ClosedExpressions names level close = record {
   Tree = Written;
@@ -138,36 +138,36 @@ ClosedExpressions names level close = record {
   Shut = λ e after. Unit {0};
 }
 
--- an expression of a level with the mark that closes it
-abbrev pub ClosedAnswer : Names → ExprLevel → Mark → ℕ → List Token → ℕ → Result (Taken RawExpr) Stop → Type 0
-ClosedAnswer names level closing room tokens from result = ExactAnswers (ClosedExpressions names (level_asked level) (token.Mark closing)) written room tokens from result
+-- an expression of a level with the punctuator that closes it
+abbrev pub ClosedAnswer : Names → ExprLevel → Punctuator → ℕ → List Token → ℕ → Result (Taken RawExpr) Stop → Type 0
+ClosedAnswer names level closing limit tokens from result = ExactAnswers (ClosedExpressions names (level_asked level) (token.Punctuator closing)) written limit tokens from result
 
 -- the same, where the expression may lack
-abbrev pub ClosedIfAnyAnswer : Names → ExprLevel → Mark → ℕ → List Token → ℕ → Result (Taken (Option RawExpr)) Stop → Type 0
-ClosedIfAnyAnswer names level closing room tokens from result =
-    ExactAnswers (ClosedSome names (level_asked level) (Unit {0}) (token.Mark closing)) (option_map written) room tokens from result
+abbrev pub ClosedIfAnyAnswer : Names → ExprLevel → Punctuator → ℕ → List Token → ℕ → Result (Taken (Option RawExpr)) Stop → Type 0
+ClosedIfAnyAnswer names level closing limit tokens from result =
+    ExactAnswers (ClosedSome names (level_asked level) (Unit {0}) (token.Punctuator closing)) (option_map written) limit tokens from result
 
--- constants, and whether a comma stands behind the last
+-- constants, and whether a comma stands after the last
 abbrev pub constant_row : ConstantList → List Constant × Bool
 constant_row taken = (map constant taken.list.items, taken.comma)
 
 -- enumeration constants, with the brace that closes them
 abbrev pub ConstantsAnswer : Names → ℕ → List Token → ℕ → Result (Taken ConstantList) Stop → Type 0
-ConstantsAnswer names room tokens from result = ExactAnswers (Trailing (Constants names) (token.Mark mark.CloseBrace)) constant_row room tokens from result
+ConstantsAnswer names limit tokens from result = ExactAnswers (Trailing (Constants names) (token.Punctuator punctuator.CloseBrace)) constant_row limit tokens from result
 
 -- the name of a parameter, which may lack
 abbrev pub ParameterNameAnswer : Names → List Token → ℕ → Result (Taken (Option RawName)) Stop → Type 0
 ParameterNameAnswer names tokens at (Ok taken) =
     IsNameAt (IsFree names) (kind_or_end tokens at) taken.tree
-    × (kind_or_end tokens at ≡ token.Mark mark.OpenParenthesis → ⊥)
+    × (kind_or_end tokens at ≡ token.Punctuator punctuator.OpenParenthesis → ⊥)
     × Spells tokens at taken.next (name_text (option_map (λ (n : RawName). n.name) taken.tree))
 ParameterNameAnswer names tokens at (Err stop.Memory) = Unit {0}
-ParameterNameAnswer names tokens at (Err (stop.Refused refused reason)) = (refused ≡ at) × (is_deep reason ≡ false) × (kind_or_end tokens at ≡ token.Mark mark.OpenParenthesis)
+ParameterNameAnswer names tokens at (Err (stop.Refused refused reason)) = (refused ≡ at) × (is_deep reason ≡ false) × (kind_or_end tokens at ≡ token.Punctuator punctuator.OpenParenthesis)
 
--- a bound behind its opening bracket, with the closing one
+-- a bound after its opening bracket, with the closing one
 abbrev pub BoundAnswer : Declares → Names → ℕ → List Token → ℕ → Result (Taken (Option RawExpr)) Stop → Type 0
-BoundAnswer declares names room tokens from result =
-    ExactAnswers (ClosedSome names CHOICE (MayLackFor declares) (token.Mark mark.CloseBracket)) (option_map written) room tokens from result
+BoundAnswer declares names limit tokens from result =
+    ExactAnswers (ClosedSome names CHOICE (MayLackFor declares) (token.Punctuator punctuator.CloseBracket)) (option_map written) limit tokens from result
 
 -- a constant of this name and this value
 abbrev pub IsConstantOf : List ℕ → Option Written → RawEnumerator → Type 0
@@ -175,14 +175,14 @@ IsConstantOf name value made = constant made ≡ record { name = name; value = v
 
 -- a comma, and a closing brace
 abbrev pub is_comma : TokenKind → Bool
-is_comma (token.Mark mark.Comma) = true
+is_comma (token.Punctuator punctuator.Comma) = true
 is_comma other = false
 
 abbrev pub is_closing_brace : TokenKind → Bool
-is_closing_brace (token.Mark mark.CloseBrace) = true
+is_closing_brace (token.Punctuator punctuator.CloseBrace) = true
 is_closing_brace other = false
 
--- a comma stands there, and no closing brace behind it
+-- a comma stands there, and no closing brace after it
 abbrev pub goes_on : TokenKind → TokenKind → Bool
 goes_on first second = is_comma first && not (is_closing_brace second)
 
@@ -192,10 +192,10 @@ IsAlone d made = declared made ≡ record { declarator = declarator d; initial =
 
 -- `void` alone stands before a closing parenthesis
 abbrev pub IsVoidAlone : List Token → ℕ → Type 0
-IsVoidAlone tokens from = (kind_or_end tokens from ≡ token.Keyword keyword.Void) × (kind_or_end tokens (from + 1) ≡ token.Mark mark.CloseParenthesis)
+IsVoidAlone tokens from = (kind_or_end tokens from ≡ token.Keyword keyword.Void) × (kind_or_end tokens (from + 1) ≡ token.Punctuator punctuator.CloseParenthesis)
 
 -- a designator would begin with the token
 abbrev pub is_designator : TokenKind → Bool
-is_designator (token.Mark mark.Dot) = true
-is_designator (token.Mark mark.OpenBracket) = true
+is_designator (token.Punctuator punctuator.Dot) = true
+is_designator (token.Punctuator punctuator.OpenBracket) = true
 is_designator other = false

@@ -3,7 +3,7 @@ use Rattle.std.specs.Prelude.{◌≡◌, ℕ, false, List, ◌∷◌, ◌++◌, 
 use Rattle.cs_ast.specs.declared.token.Token.{Token}
 use Rattle.cs_ast.specs.declared.token.TokenKind.TheVariants as token
 use Rattle.cs_ast.specs.declared.token.Keyword.TheVariants as keyword
-use Rattle.cs_ast.specs.declared.token.Mark.TheVariants as mark
+use Rattle.cs_ast.specs.declared.token.Punctuator.TheVariants as punctuator
 use Rattle.cs_ast.specs.declared.raw.declaration.RawSpecs.{RawSpecs}
 use Rattle.cs_ast.specs.RawDeclarations.{Specs, Parameters, Head}
 use Rattle.cs_ast.specs.RawDeclarationView.{specs}
@@ -38,7 +38,7 @@ pub record BeginsBody (names : Names) (tokens : List Token) (from at : ℕ) : Ty
   pub inside : Kinds
   pub is_type : AreSpecs names type
   pub is_head : IsHead names head
-  pub spelled : Spells tokens from at (λ rest. specs_text type (head_text head (token.Mark mark.OpenBrace ∷ (inside ++ rest))))
+  pub spelled : Spells tokens from at (λ rest. specs_text type (head_text head (token.Punctuator punctuator.OpenBrace ∷ (inside ++ rest))))
 
 -- a token that is refused in the body of a function is refused for a reason that it may have in blocks
 abbrev pub IsStopInBody : Names → List Token → ℕ → Stop → Type 0

@@ -40,11 +40,11 @@ use Rattle.cs_grammar.specs.Text.{Kinds, pointers_text}
 use Rattle.cs_grammar.specs.FileText.{name_text, brackets_text, declarator_text, constant_text, spec_text, specs_text, initial_text, declared_text, head_text, parameter_text, some_text, first_text, test_text, sentence_text, item_text, items_text, switch_item_text, external_text, with_commas}
 use Rattle.cs_grammar.specs.Places.{HasPlaces, StandsAt}
 
--- the tokens behind a text
+-- the tokens after a text
 abbrev pub past : (Kinds → Kinds) → List Token → List Token
 past spell tokens = drop (length (spell [])) tokens
 
--- each of a list with a token behind it has its places
+-- each of a list with a token after it has its places
 abbrev pub AreInRow : {A : Type 0} → (A → List Token → Type 0) → (A → Kinds → Kinds) → List A → List Token → Type 0
 AreInRow Has spell [] tokens = Unit {0}
 AreInRow Has spell (a ∷ all) tokens = Has a tokens × AreInRow Has spell all (drop 1 (past (spell a) tokens))
@@ -91,7 +91,7 @@ before_tag (MoreSpecs (Plain other) others) = option_map suc (before_tag others)
 abbrev pub tag_place : Specs → List Token → Option Place
 tag_place s tokens = option_map (λ (token : Token). token.place) (option_and_then (λ number. slice_get tokens number) (before_tag s))
 
--- the tokens behind the opening brace of a body
+-- the tokens after the opening brace of a body
 abbrev pub in_body : Option (List ℕ) → List Token → List Token
 in_body tag tokens = drop (length (name_text tag []) + 2) tokens
 
@@ -132,7 +132,7 @@ abbrev mutual
   AreInitialsPlaced (first_value.more_of-RawInitial first others) tokens =
       IsInitialPlaced first tokens × AreInitialsPlaced others (drop 1 (past (initial_text (initial first)) tokens))
 
--- what stands behind a declarator, at its `=`
+-- what stands after a declarator, at its `=`
 abbrev pub IsFirstValuePlaced : Option RawFirstValue → List Token → Type 0
 IsFirstValuePlaced None tokens = Unit {0}
 IsFirstValuePlaced (Some value) tokens = StandsAt value.place tokens × IsInitialPlaced value.initial (drop 1 tokens)
@@ -178,7 +178,7 @@ IsFirstPlaced first_part.Empty tokens = Unit {0}
 IsFirstPlaced (first_part.Run e) tokens = HasPlaces e tokens
 IsFirstPlaced (first_part.Declare s objects) tokens = IsDeclarationPlaced s objects.items tokens
 
--- the tokens behind the first part of a `for`, its test and its semicolon
+-- the tokens after the first part of a `for`, its test and its semicolon
 abbrev pub past_first : RawFirst → List Token → List Token
 past_first first tokens = past (first_text (first_of first)) tokens
 

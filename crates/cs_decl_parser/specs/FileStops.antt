@@ -4,9 +4,9 @@ use Rattle.cs_ast.specs.declared.token.Token.{Token}
 use Rattle.cs_ast.specs.declared.token.TokenKind.{TokenKind}
 use Rattle.cs_ast.specs.declared.token.TokenKind.TheVariants as token
 use Rattle.cs_ast.specs.declared.token.Keyword.TheVariants as keyword
-use Rattle.cs_ast.specs.declared.token.Mark.TheVariants as mark
+use Rattle.cs_ast.specs.declared.token.Punctuator.TheVariants as punctuator
 use Rattle.cs_grammar.specs.declared.refusal.Reason.{Reason}
-use Rattle.cs_grammar.specs.declared.refusal.Reason.TheVariants.{Syntax, LeftOut}
+use Rattle.cs_grammar.specs.declared.refusal.Reason.TheVariants.{Syntax, Unsupported}
 use Rattle.cs_expr_parser.specs.declared.stop.Stop.{Stop}
 use Rattle.cs_expr_parser.specs.declared.stop.Stop.TheVariants as stop
 use Rattle.cs_grammar.specs.FileRefusals.{IsFileReason}
@@ -21,22 +21,22 @@ is_file_word other = false
 
 -- whether the token is left out isn't told by the parts of the parser: the tokens before it tell it of a colon, of `static`, of
 -- `typedef`, of a dot, and of an opening bracket, brace and parenthesis
-abbrev pub is_left_out_behind : TokenKind → Bool
-is_left_out_behind (token.Mark mark.Colon) = true
-is_left_out_behind (token.Mark mark.Dot) = true
-is_left_out_behind (token.Mark mark.OpenBracket) = true
-is_left_out_behind (token.Mark mark.OpenBrace) = true
-is_left_out_behind (token.Mark mark.OpenParenthesis) = true
-is_left_out_behind other = is_file_word other
+abbrev pub is_unsupported_after : TokenKind → Bool
+is_unsupported_after (token.Punctuator punctuator.Colon) = true
+is_unsupported_after (token.Punctuator punctuator.Dot) = true
+is_unsupported_after (token.Punctuator punctuator.OpenBracket) = true
+is_unsupported_after (token.Punctuator punctuator.OpenBrace) = true
+is_unsupported_after (token.Punctuator punctuator.OpenParenthesis) = true
+is_unsupported_after other = is_file_word other
 
 -- the reason, where it is told whether the token is left out
-abbrev pub left_out_if : Bool → Reason
-left_out_if out = if out then LeftOut else Syntax
+abbrev pub unsupported_if : Bool → Reason
+unsupported_if out = if out then Unsupported else Syntax
 
 -- a part refuses a token, or the end of input: for the right reason, if the parts tell whether the token is left out
 pub record IsPartRefusedAt (tokens : List Token) (at : ℕ) (reason : Reason) : Type 0 where
   pub stopped : IsStoppedAt tokens at reason
-  pub why : at < length tokens → is_left_out_behind (kind_or_end tokens at) ≡ false → IsFileReason stopped.front (Some (kind_or_end tokens at)) reason
+  pub why : at < length tokens → is_unsupported_after (kind_or_end tokens at) ≡ false → IsFileReason stopped.front (Some (kind_or_end tokens at)) reason
 
 -- want of memory, or a token is refused
 abbrev pub FileStops : List Token → Stop → Type 0

@@ -6,10 +6,10 @@ use Rattle.cs_ast.specs.declared.raw.external.RawExternal.{RawExternal}
 use Rattle.cs_ast.specs.RawStatements.{External}
 use Rattle.cs_ast.specs.RawStatementView.{external}
 use Rattle.cs_grammar.specs.declared.refusal.Reason.{Reason}
-use Rattle.cs_grammar.specs.declared.refusal.Reason.TheVariants.{Syntax, LeftOut, TooDeep}
+use Rattle.cs_grammar.specs.declared.refusal.Reason.TheVariants.{Syntax, Unsupported, TooDeep}
 use Rattle.cs_grammar.specs.declared.refusal.SyntaxRefusal.{SyntaxRefusal}
 use Rattle.cs_grammar.specs.declared.refusal.SyntaxRefusal.TheVariants as refusal
-use Rattle.cs_grammar.specs.Spelling.{left_out_spelling}
+use Rattle.cs_grammar.specs.Spelling.{unsupported_spelling}
 use Rattle.cs_grammar.specs.Text.{Kinds}
 use Rattle.cs_grammar.specs.FileText.{file_text}
 use Rattle.cs_grammar.specs.FilePhrases.{IsFile, AreLow, BeginsFile, BeginsLowFile}
@@ -40,7 +40,7 @@ pub record IsStoppedAt (tokens : List Token) (at : ℕ) (reason : Reason) : Type
   pub flat : at < length tokens → is_deep reason ≡ false → BeginsFile (front ++ kind_or_end tokens at ∷ []) → ⊥
   pub unfinished : at ≡ length tokens → (file : List External) → IsFile [] file → file_text file ≡ front → ⊥
 
--- and if it is a token, the reason is the right one behind those before it
+-- and if it is a token, the reason is the right one after those before it
 pub record IsFileRefusedAt (tokens : List Token) (at : ℕ) (reason : Reason) : Type 0 where
   pub stopped : IsStoppedAt tokens at reason
   pub why : at < length tokens → IsFileReason stopped.front (Some (kind_or_end tokens at)) reason
@@ -48,8 +48,8 @@ pub record IsFileRefusedAt (tokens : List Token) (at : ℕ) (reason : Reason) : 
 -- a refusal of the token with this number, for this reason, or want of memory; the end of input is refused as syntax
 abbrev pub IsRefusalHere : List Token → Place → ℕ → Reason → SyntaxRefusal → Type 0
 IsRefusalHere tokens end at reason (refusal.Syntax place) = (place ≡ place_or_end tokens end at) × (at < length tokens → reason ≡ Syntax)
-IsRefusalHere tokens end at reason (refusal.LeftOut place word) =
-    (place ≡ place_or_end tokens end at) × (reason ≡ LeftOut) × (word ≡ left_out_spelling (kind_or_end tokens at))
+IsRefusalHere tokens end at reason (refusal.Unsupported place word) =
+    (place ≡ place_or_end tokens end at) × (reason ≡ Unsupported) × (word ≡ unsupported_spelling (kind_or_end tokens at))
 IsRefusalHere tokens end at reason (refusal.TooDeep place) = (place ≡ place_or_end tokens end at) × (reason ≡ TooDeep)
 IsRefusalHere tokens end at reason refusal.Memory = Unit {0}
 

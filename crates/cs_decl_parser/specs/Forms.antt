@@ -5,8 +5,8 @@ use Rattle.cs_ast.specs.declared.token.TokenKind.{TokenKind}
 use Rattle.cs_ast.specs.declared.token.TokenKind.TheVariants as token
 use Rattle.cs_ast.specs.declared.token.Keyword.{Keyword}
 use Rattle.cs_ast.specs.declared.token.Keyword.TheVariants as keyword
-use Rattle.cs_ast.specs.declared.token.Mark.{Mark}
-use Rattle.cs_ast.specs.declared.token.Mark.TheVariants as mark
+use Rattle.cs_ast.specs.declared.token.Punctuator.{Punctuator}
+use Rattle.cs_ast.specs.declared.token.Punctuator.TheVariants as punctuator
 use Rattle.cs_ast.specs.RawStatements.{Sentence, Continue, Break}
 use Rattle.cs_grammar.specs.TypeWords.{Names, is_among}
 use Rattle.cs_decl_parser.specs.declared.form.Form.{Form}
@@ -30,14 +30,14 @@ least form.Unlabelled = 2
 least form.Run = 0
 
 -- how many tokens tell the form
-abbrev pub told_by : Form → ℕ
-told_by form.Label = 2
-told_by form.Run = 0
-told_by other = 1
+abbrev pub reported_by : Form → ℕ
+reported_by form.Label = 2
+reported_by form.Run = 0
+reported_by other = 1
 
 -- the tokens that tell the form are there
 abbrev pub IsFormAt : List Token → ℕ → Form → Type 0
-IsFormAt tokens at form = (at ≤ length tokens) → at + told_by form ≤ length tokens
+IsFormAt tokens at form = (at ≤ length tokens) → at + reported_by form ≤ length tokens
 
 -- the form of the statements that begin with a word
 abbrev pub keyword_form : Keyword → Form
@@ -56,29 +56,29 @@ abbrev pub word_form : Option Keyword → Form
 word_form None = form.Run
 word_form (Some k) = keyword_form k
 
--- the form of the statements that begin with a mark
-abbrev pub mark_form : Mark → Form
-mark_form mark.OpenBrace = form.Block
-mark_form mark.Semicolon = form.Empty
-mark_form other = form.Run
+-- the form of the statements that begin with a punctuator
+abbrev pub punctuator_form : Punctuator → Form
+punctuator_form punctuator.OpenBrace = form.Block
+punctuator_form punctuator.Semicolon = form.Empty
+punctuator_form other = form.Run
 
 -- the token is a colon
 abbrev pub is_colon : TokenKind → Bool
-is_colon (token.Mark mark.Colon) = true
+is_colon (token.Punctuator punctuator.Colon) = true
 is_colon other = false
 
 -- the form of the statements that begin with a name, which may be that of a typedef
 abbrev pub name_form : Bool → Bool → Form
 name_form colon typedef = if colon then form.Label else (if typedef then form.Unlabelled else form.Run)
 
--- the form of the statements that begin with a token, by the one behind it
+-- the form of the statements that begin with a token, by the one after it
 abbrev pub form_of : Names → TokenKind → TokenKind → Form
 form_of names (token.Name name) second = name_form (is_colon second) (is_among names name)
-form_of names (token.Mark m) second = mark_form m
+form_of names (token.Punctuator m) second = punctuator_form m
 form_of names (token.Keyword k) second = keyword_form k
 form_of names other second = form.Run
 
--- the tokens are a name with a colon behind it
+-- the tokens are a name with a colon after it
 abbrev pub is_labelled : TokenKind → TokenKind → Bool
 is_labelled (token.Name name) second = is_colon second
 is_labelled other second = false

@@ -17,24 +17,24 @@ use Rattle.cs_expr_parser.specs.declared.stop.Stop.TheVariants as stop
 use Rattle.cs_decl_parser.specs.declared.stop.Taken.{Taken}
 use Rattle.cs_decl_parser.specs.Answers.{Stops, IsTaken}
 
--- a token that ends no parameter is refused behind a whole one, with which only higher ones go on, or none
-pub record IsRefusedBehind (names : Names) (room : ℕ) (tokens : List Token) (from at : ℕ) (reason : Reason) : Type 0 where
+-- a token that ends no parameter is refused after a whole one, with which only higher ones go on, or none
+pub record IsRefusedAfter (names : Names) (limit : ℕ) (tokens : List Token) (from at : ℕ) (reason : Reason) : Type 0 where
   pub whole : Parameter
   pub spelled : Spells tokens from at (parameter_text whole)
   pub unended : ends_parameter (kind_or_end tokens at) ≡ false
-  pub took : Took (ParameterClass names) room whole (kind_or_end tokens at) (is_deep reason)
+  pub took : Took (ParameterClass names) limit whole (kind_or_end tokens at) (is_deep reason)
 
--- want of memory, or a token is refused, within a parameter or behind a whole one
+-- want of memory, or a token is refused, within a parameter or after a whole one
 abbrev pub ParameterStops : Names → ℕ → List Token → ℕ → Stop → Type 0
-ParameterStops names room tokens from (stop.Refused at reason) = IsRefused (ParameterClass names) room tokens from at reason ⊎ IsRefusedBehind names room tokens from at reason
-ParameterStops names room tokens from other = Stops (ParameterClass names) room tokens from other
+ParameterStops names limit tokens from (stop.Refused at reason) = IsRefused (ParameterClass names) limit tokens from at reason ⊎ IsRefusedAfter names limit tokens from at reason
+ParameterStops names limit tokens from other = Stops (ParameterClass names) limit tokens from other
 
 -- a parameter with which no higher one goes on, or a token is refused
 abbrev pub ParameterAnswer : Names → ℕ → List Token → ℕ → Result (Taken RawParameter) Stop → Type 0
-ParameterAnswer names room tokens from (Ok taken) = IsTaken (ParameterClass names) parameter room tokens from false taken
-ParameterAnswer names room tokens from (Err stop) = ParameterStops names room tokens from stop
+ParameterAnswer names limit tokens from (Ok taken) = IsTaken (ParameterClass names) parameter limit tokens from false taken
+ParameterAnswer names limit tokens from (Err stop) = ParameterStops names limit tokens from stop
 
--- the number behind a name, if there is one at a number
+-- the number after a name, if there is one at a number
 abbrev pub number_past : ℕ → Option (List ℕ) → ℕ
 number_past at None = at
 number_past at (Some name) = at + 1

@@ -5,7 +5,7 @@ use Rattle.cs_expr_parser.specs.Positions.{kinds}
 use Rattle.cs_expr_parser.specs.Parts.{is_deep}
 use Rattle.cs_expr_parser.specs.declared.stop.Stop.{Stop}
 use Rattle.cs_expr_parser.specs.declared.stop.Stop.TheVariants as stop
-use Rattle.cs_left_out.specs.LastParts.{EndInPart}
+use Rattle.cs_unsupported.specs.LastParts.{EndInPart}
 use Rattle.cs_decl_parser.specs.declared.externals.Parts.{Parts}
 
 -- none is read
@@ -14,7 +14,7 @@ pub record IsFresh (parts : Parts) : Type 0 where
   pub names : parts.names ≡ []
   pub next : parts.next ≡ 0
 
--- want of memory, or a token is refused behind the parts, unless it is only too deep in the one that begins behind them
+-- want of memory, or a token is refused after the parts, unless it is only too deep in the one that begins after them
 abbrev pub StandsAmidst : List Token → Parts → Stop → Type 0
 StandsAmidst tokens parts stop.Memory = Unit {0}
 StandsAmidst tokens parts (stop.Refused at reason) = (parts.next ≤ at) × (is_deep reason ≡ false → EndInPart parts.names (kinds (take at tokens)) parts.next)

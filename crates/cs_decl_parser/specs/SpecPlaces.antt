@@ -4,7 +4,7 @@ use Rattle.std.specs.Option.{option_map}
 use Rattle.cs_ast.specs.declared.place.Place.{Place}
 use Rattle.cs_ast.specs.declared.token.Token.{Token}
 use Rattle.cs_ast.specs.declared.token.TokenKind.TheVariants as token
-use Rattle.cs_ast.specs.declared.token.Mark.TheVariants as mark
+use Rattle.cs_ast.specs.declared.token.Punctuator.TheVariants as punctuator
 use Rattle.cs_ast.specs.declared.raw.name.RawName.{RawName}
 use Rattle.cs_ast.specs.declared.raw.declaration.RawMember.{RawMember}
 use Rattle.cs_ast.specs.RawDeclarations.{Spec, Static, Plain, StructBody, EnumBody, NoSpec, MoreSpecs}
@@ -43,7 +43,7 @@ IsWordThere tokens at so_far (Some found) = IsWordPlaced tokens at found × IsFr
 
 -- members of one type, with their semicolon
 abbrev pub group_text : RawMember → Kinds → Kinds
-group_text m rest = specs_text (specs m.specs) (with_commas declarator_text (map declarator m.declarators.items) (token.Mark mark.Semicolon ∷ rest))
+group_text m rest = specs_text (specs m.specs) (with_commas declarator_text (map declarator m.declarators.items) (token.Punctuator punctuator.Semicolon ∷ rest))
 
 abbrev pub IsGroupPlaced : RawMember → List Token → Type 0
 IsGroupPlaced m tokens = HasSpecPlaces m.specs tokens × AreDeclaratorsPlaced m.declarators.items (past (specs_text (specs m.specs)) tokens)

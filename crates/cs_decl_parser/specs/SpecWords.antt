@@ -6,7 +6,7 @@ use Rattle.cs_ast.specs.declared.token.TokenKind.{TokenKind}
 use Rattle.cs_ast.specs.declared.token.TokenKind.TheVariants as token
 use Rattle.cs_ast.specs.declared.token.Keyword.{Keyword}
 use Rattle.cs_ast.specs.declared.token.Keyword.TheVariants as keyword
-use Rattle.cs_ast.specs.declared.token.Mark.TheVariants as mark
+use Rattle.cs_ast.specs.declared.token.Punctuator.TheVariants as punctuator
 use Rattle.cs_ast.specs.declared.raw.declaration.RawMember.{RawMember}
 use Rattle.cs_ast.specs.declared.raw.declaration.RawSpecs.{RawSpecs}
 use Rattle.cs_ast.specs.declared.raw.declaration.SpecWord.TheVariants as words
@@ -64,16 +64,16 @@ pub record HasNoTag (next : TokenKind) : Type 0 where
   pub no_struct : next ≡ token.Keyword keyword.Struct → ⊥
   pub no_enum : next ≡ token.Keyword keyword.Enum → ⊥
 
--- a word of a type was taken, which fits behind those before it
+-- a word of a type was taken, which fits after those before it
 pub record IsPlainWord (names : Names) (tokens : List Token) (at : ℕ) (so_far : TypeSoFar) (found : NextWord) (one : TypeWord) : Type 0 where
   pub word_is : found.word ≡ words.Plain one
   pub height_is : found.height ≡ 1
   pub later : at < found.next
   pub spelled : Spells tokens at found.next (type_word_text one)
-  pub quiet : (behind : Kinds) → Near (kind_or_end tokens found.next) behind → IsQuiet (Plain one) behind
+  pub quiet : (following : Kinds) → Near (kind_or_end tokens found.next) following → IsQuiet (Plain one) following
   pub described : (before : List TypeWord) → Describes names so_far before → Describes names found.so_far (before ++ one ∷ [])
 
--- no word of a type that begins with the token fits behind those before it
+-- no word of a type that begins with the token fits after those before it
 abbrev pub NothingFits : Names → TypeSoFar → TokenKind → Type 0
 NothingFits names so_far next = (before : List TypeWord) → Describes names so_far before → IsStuck names before next
 
@@ -84,14 +84,14 @@ PlainAnswer names tokens at so_far (Ok None) = HasNoTag (kind_or_end tokens at) 
 PlainAnswer names tokens at so_far (Err stop.Memory) = Unit {0}
 PlainAnswer names tokens at so_far (Err other) = ⊥
 
--- an opening brace is refused behind `struct` or `enum` and a tag
+-- an opening brace is refused after `struct` or `enum` and a tag
 pub record IsTagBraced (tokens : List Token) (at refused : ℕ) : Type 0 where
   pub is_struct : Bool
   pub tag : List ℕ
   pub spelled : Spells tokens at refused (λ rest. tag_keyword is_struct ∷ token.Name tag ∷ rest)
-  pub brace : kind_or_end tokens refused ≡ token.Mark mark.OpenBrace
+  pub brace : kind_or_end tokens refused ≡ token.Punctuator punctuator.OpenBrace
 
--- inside a block `struct` or `enum` is refused: no tag stands behind it, or a brace behind the tag
+-- inside a block `struct` or `enum` is refused: no tag stands after it, or a brace after the tag
 abbrev pub BlockTagStops : List Token → ℕ → Stop → Type 0
 BlockTagStops tokens at stop.Memory = Unit {0}
 BlockTagStops tokens at (stop.Refused refused reason) = (is_deep reason ≡ false) × (IsTagMissing tokens at refused ⊎ IsTagBraced tokens at refused)
@@ -108,50 +108,50 @@ BlockWordAnswer names tokens at so_far (Err stop.Memory) = Unit {0}
 BlockWordAnswer names tokens at so_far (Err other) = (names_some so_far ≡ false) × BlockTagStops tokens at other
 
 -- it is told by its tokens
-abbrev pub IsToldByTokens : Names → Spec → Type 0
-IsToldByTokens names s = (t : Spec) (x y : Kinds) → HasBody names t → IsQuiet t x → IsQuiet s y → spec_text t x ≡ spec_text s y → (t ≡ s) × (x ≡ y)
+abbrev pub IsReportedByTokens : Names → Spec → Type 0
+IsReportedByTokens names s = (t : Spec) (x y : Kinds) → HasBody names t → IsQuiet t x → IsQuiet s y → spec_text t x ≡ spec_text s y → (t ≡ s) × (x ≡ y)
 
--- a word before declarators was taken, or a type with a body, which fits behind the words before it
-pub record IsSpecTaken (names : Names) (room : ℕ) (tokens : List Token) (at : ℕ) (so_far : TypeSoFar) (found : NextWord) : Type 0 where
+-- a word before declarators was taken, or a type with a body, which fits after the words before it
+pub record IsSpecTaken (names : Names) (limit : ℕ) (tokens : List Token) (at : ℕ) (so_far : TypeSoFar) (found : NextWord) : Type 0 where
   pub height_is : found.height ≡ spec_height (spec found.word)
-  pub low : found.height ≤ room
+  pub low : found.height ≤ limit
   pub spelled : Spells tokens at found.next (spec_text (spec found.word))
   pub later : at < found.next
   pub body : HasBody names (spec found.word)
-  pub told : IsToldByTokens names (spec found.word)
-  pub quiet : (behind : Kinds) → Near (kind_or_end tokens found.next) behind → IsQuiet (spec found.word) behind
+  pub reported : IsReportedByTokens names (spec found.word)
+  pub quiet : (following : Kinds) → Near (kind_or_end tokens found.next) following → IsQuiet (spec found.word) following
   pub described : (before : List TypeWord) → Describes names so_far before → Describes names found.so_far (before ++ words_of (MoreSpecs (spec found.word) NoSpec))
 
--- a type with `struct` or `enum` is refused behind its first token
-pub record IsElementRefused (names : Names) (room : ℕ) (tokens : List Token) (at refused : ℕ) (reason : Reason) : Type 0 where
+-- a type with `struct` or `enum` is refused after its first token
+pub record IsElementRefused (names : Names) (limit : ℕ) (tokens : List Token) (at refused : ℕ) (reason : Reason) : Type 0 where
   pub is_struct : Bool
   pub front : Kinds
   pub spelled : Spells tokens at refused (λ rest. tag_keyword is_struct ∷ (front ++ rest))
-  pub refused_is : Refused (SpecElements names) room (tag_keyword is_struct ∷ front) (kind_or_end tokens refused) (is_deep reason)
+  pub refused_is : Refused (SpecElements names) limit (tag_keyword is_struct ∷ front) (kind_or_end tokens refused) (is_deep reason)
 
--- a brace is refused behind `enum` and a tag, since there is no room for a constant
-pub record IsEnumFull (room : ℕ) (tokens : List Token) (at refused : ℕ) (reason : Reason) : Type 0 where
+-- a brace is refused after `enum` and a tag, since there is no room for a constant
+pub record IsEnumFull (limit : ℕ) (tokens : List Token) (at refused : ℕ) (reason : Reason) : Type 0 where
   pub tag : List ℕ
   pub spelled : Spells tokens at refused (λ rest. tag_keyword false ∷ token.Name tag ∷ rest)
-  pub brace : kind_or_end tokens refused ≡ token.Mark mark.OpenBrace
-  pub little : room < 2
+  pub brace : kind_or_end tokens refused ≡ token.Punctuator punctuator.OpenBrace
+  pub little : limit < 2
   pub deep : is_deep reason ≡ true
 
 abbrev pub ElementStops : Names → ℕ → List Token → ℕ → Stop → Type 0
-ElementStops names room tokens at stop.Memory = Unit {0}
-ElementStops names room tokens at (stop.Refused refused reason) = IsElementRefused names room tokens at refused reason ⊎ IsEnumFull room tokens at refused reason
+ElementStops names limit tokens at stop.Memory = Unit {0}
+ElementStops names limit tokens at (stop.Refused refused reason) = IsElementRefused names limit tokens at refused reason ⊎ IsEnumFull limit tokens at refused reason
 
 -- a type with `struct` or `enum`, where the words before it name nothing
 abbrev pub ElementAnswer : Names → ℕ → List Token → ℕ → Result NextWord Stop → Type 0
-ElementAnswer names room tokens at (Ok found) = IsSpecTaken names room tokens at Nothing found
-ElementAnswer names room tokens at (Err stop) = ElementStops names room tokens at stop
+ElementAnswer names limit tokens at (Ok found) = IsSpecTaken names limit tokens at Nothing found
+ElementAnswer names limit tokens at (Err stop) = ElementStops names limit tokens at stop
 
 -- the word at a number outside blocks
 abbrev pub SpecAnswer : Names → ℕ → List Token → ℕ → TypeSoFar → Result (Option NextWord) Stop → Type 0
-SpecAnswer names room tokens at so_far (Ok (Some found)) = IsSpecTaken names room tokens at so_far found
-SpecAnswer names room tokens at so_far (Ok None) = NothingFits names so_far (kind_or_end tokens at) × (kind_or_end tokens at ≡ token.Keyword keyword.Static → ⊥)
-SpecAnswer names room tokens at so_far (Err stop.Memory) = Unit {0}
-SpecAnswer names room tokens at so_far (Err other) = (names_some so_far ≡ false) × ElementStops names room tokens at other
+SpecAnswer names limit tokens at so_far (Ok (Some found)) = IsSpecTaken names limit tokens at so_far found
+SpecAnswer names limit tokens at so_far (Ok None) = NothingFits names so_far (kind_or_end tokens at) × (kind_or_end tokens at ≡ token.Keyword keyword.Static → ⊥)
+SpecAnswer names limit tokens at so_far (Err stop.Memory) = Unit {0}
+SpecAnswer names limit tokens at so_far (Err other) = (names_some so_far ≡ false) × ElementStops names limit tokens at other
 
 -- `static`, where it stands at a number
 abbrev pub IsStatic : ℕ → TypeSoFar → NextWord → Type 0
@@ -161,16 +161,16 @@ IsStatic at so_far found = (found.word ≡ words.Static) × (found.height ≡ 1)
 abbrev pub name_in : Option RawName → Option (List ℕ)
 name_in tag = option_map (λ (n : RawName). n.name) tag
 
--- the number behind `struct` or `enum`, at a number, and its tag, if it has one
-abbrev pub number_behind : ℕ → Option (List ℕ) → ℕ
-number_behind at None = at + 1
-number_behind at (Some tag) = at + 2
+-- the number after `struct` or `enum`, at a number, and its tag, if it has one
+abbrev pub number_after : ℕ → Option (List ℕ) → ℕ
+number_after at None = at + 1
+number_after at (Some tag) = at + 2
 
 -- the token is `struct` or `enum`
 abbrev pub IsTagKeyword : TokenKind → Type 0
 IsTagKeyword next = (is_struct : Bool) × (next ≡ tag_keyword is_struct)
 
--- the word of a tag behind `struct` or `enum`, which names a whole type
+-- the word of a tag after `struct` or `enum`, which names a whole type
 pub record IsTagged (first : TokenKind) (tag : List ℕ) (found : NextWord) : Type 0 where
   pub one : (is_struct : Bool) → first ≡ tag_keyword is_struct → found.word ≡ words.Plain (word_of_tag is_struct tag)
   pub whole : found.so_far ≡ Whole
@@ -180,7 +180,7 @@ pub record IsOpened (tokens : List Token) (at brace : ℕ) (tag : Option (List �
   pub is_struct : Bool
   pub stands : kind_or_end tokens at ≡ tag_keyword is_struct
   pub spelled : Spells tokens at brace (λ rest. tag_keyword is_struct ∷ name_text tag rest)
-  pub opening : kind_or_end tokens brace ≡ token.Mark mark.OpenBrace
+  pub opening : kind_or_end tokens brace ≡ token.Punctuator punctuator.OpenBrace
 
 -- an enumeration with a body
 abbrev pub enum_of : Option (List ℕ) → List Constant × Bool → Spec
@@ -193,10 +193,10 @@ pub record IsSpecOf (s : Spec) (found : NextWord) : Type 0 where
 
 -- what stands before declarators, outside blocks and inside
 abbrev pub SpecsAnswer : Names → ℕ → List Token → ℕ → Result (Taken RawSpecs) Stop → Type 0
-SpecsAnswer names room tokens from result = BraceAnswers (FileSpecs names) specs room tokens from result
+SpecsAnswer names limit tokens from result = BraceAnswers (FileSpecs names) specs limit tokens from result
 
 abbrev pub BlockSpecsAnswer : Names → ℕ → List Token → ℕ → Result (Taken RawSpecs) Stop → Type 0
-BlockSpecsAnswer names room tokens from result = BraceAnswers (BlockSpecs names) specs room tokens from result
+BlockSpecsAnswer names limit tokens from result = BraceAnswers (BlockSpecs names) specs limit tokens from result
 
 -- members of one type
 abbrev pub group : RawMember → Specs × List Declarator

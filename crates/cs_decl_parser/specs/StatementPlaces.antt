@@ -39,7 +39,7 @@ IsMadeOf at kind whole = (list : List Token) → StandsAt at list → ArePartsPl
 abbrev pub IsLabelOf : Place → RawStmt → RawStmt → Type 0
 IsLabelOf at body whole = (list : List Token) → StandsAt at list → HasStatementPlaces body (drop 2 list) → HasStatementPlaces whole list
 
--- a test and a body behind a word
+-- a test and a body after a word
 abbrev pub IsTestedOf : Place → RawExpr → RawStmt → RawStmt → Type 0
 IsTestedOf at test body whole =
     (list : List Token) → StandsAt at list → HasPlaces test (drop 2 list) → HasStatementPlaces body (past (test_text (written test)) (drop 1 list)) → HasStatementPlaces whole list

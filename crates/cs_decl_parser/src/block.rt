@@ -1,7 +1,7 @@
 //! Blocks and what stands in them (C11 6.8.2).
 ghost use Rattle.std.specs.Prelude.{◌≡◌, ◌≤◌, ◌<◌, ◌^◌, length, drop, IfOk, IsTrue};
 ghost use Rattle.cs_ast.specs.declared.token.TokenKind.TheVariants as token;
-ghost use Rattle.cs_ast.specs.declared.token.Mark.TheVariants as mark;
+ghost use Rattle.cs_ast.specs.declared.token.Punctuator.TheVariants as punctuator;
 ghost use Rattle.cs_ast.specs.RawStatementView.{item as item_of, statement_of};
 ghost use Rattle.cs_grammar.specs.FirstTokens.{begins_type as starts_type};
 ghost use Rattle.cs_grammar.specs.FileClasses.{BlockItems, Sentences};
@@ -17,45 +17,50 @@ use crate::block_specs::block_specs;
 use crate::form::is_label;
 use crate::nodes::node;
 use crate::objects::objects;
-use crate::source::{Scope, Source, begins_type, is_mark, place_at, refuse_deep};
+use crate::source::{Scope, Source, begins_type, is_punctuator, place_at, refuse_deep};
 use crate::statement::statement;
 use crate::stop::{Stop, Taken};
-use cs_ast::Mark;
+use cs_ast::Punctuator;
 use cs_ast::raw::declaration::{RawInit, RawSpecs};
 use cs_ast::raw::statement::{RawItem, RawStmt, RawStmtKind};
 use std::alloc::Global;
 
 /// The block whose opening brace stands at a number.
 #[cycle(statement)]
-pub fn block(alloc: Global, source: &Source, from: usize, room: u32) -> Result<Taken<RawStmt>, Stop>
+pub fn block(
+    alloc: Global,
+    source: &Source,
+    from: usize,
+    limit: u32,
+) -> Result<Taken<RawStmt>, Stop>
     requires within { from < length source.now.tokens.now }
     requires few { length source.now.tokens.now < 2 ^ 32 }
-    requires some { 1 ≤ room }
-    requires stands { kind_or_end source.now.tokens.now from ≡ token.Mark mark.OpenBrace }
-    ensures bounds { IsBounded room source.now.tokens.now from result }
-    ensures parsed { Answers (Sentences source.now.names.now) statement_of room source.now.tokens.now from result }
+    requires some { 1 ≤ limit }
+    requires stands { kind_or_end source.now.tokens.now from ≡ token.Punctuator punctuator.OpenBrace }
+    ensures bounds { IsBounded limit source.now.tokens.now from result }
+    ensures parsed { Answers (Sentences source.now.names.now) statement_of limit source.now.tokens.now from result }
     ensures placed { IfOk result (λ taken. HasStatementPlaces taken.tree (drop from source.now.tokens.now)) }
     ensures apt { IsAnswerApt Scope.Block source.now.tokens.now result }
 {
-    let items = items(alloc, source, from + 1, room - 1)?;
+    let items = items(alloc, source, from + 1, limit - 1)?;
     let kind = RawStmtKind::Block(items.tree);
     let (height, next) = (items.height + 1, items.next + 1);
     Ok(node(place_at(source, from), kind, height, next))
 }
 
-/// What stands in a block, from behind its opening brace to the closing one, which isn't taken. The height is that of the highest,
+/// What stands in a block, from after its opening brace to the closing one, which isn't taken. The height is that of the highest,
 /// 0 where there is none.
 #[cycle(statement)]
 pub fn items(
     alloc: Global,
     source: &Source,
     from: usize,
-    room: u32,
+    limit: u32,
 ) -> Result<Taken<Vec<RawItem>>, Stop>
     requires within { from ≤ length source.now.tokens.now }
     requires few { length source.now.tokens.now < 2 ^ 32 }
-    ensures bounds { IsRowBounded room source.now.tokens.now from result }
-    ensures parsed { ItemsAnswers source.now.names.now room source.now.tokens.now from result }
+    ensures bounds { IsRowBounded limit source.now.tokens.now from result }
+    ensures parsed { ItemsAnswers source.now.names.now limit source.now.tokens.now from result }
     ensures placed { IfOk result (λ taken. AreItemsBeside taken.tree.items (drop from source.now.tokens.now)) }
     ensures closing { IfOk result (λ taken. taken.next < length source.now.tokens.now) }
     ensures apt { IsAnswerApt Scope.Block source.now.tokens.now result }
@@ -63,8 +68,8 @@ pub fn items(
     let mut list = Vec::new(alloc);
     let mut height: u32 = 0;
     let mut next = from;
-    'items: while !is_mark(source, next, Mark::CloseBrace) {
-        let taken = item(alloc, source, next, room)?;
+    'items: while !is_punctuator(source, next, Punctuator::CloseBrace) {
+        let taken = item(alloc, source, next, limit)?;
         height = height.max(taken.height);
         next = taken.next;
         list.push(taken.tree)?;
@@ -78,23 +83,23 @@ pub fn items(
 
 /// The declaration or the statement that the tokens from a number on begin with.
 #[cycle(statement)]
-pub fn item(alloc: Global, source: &Source, from: usize, room: u32) -> Result<Taken<RawItem>, Stop>
+pub fn item(alloc: Global, source: &Source, from: usize, limit: u32) -> Result<Taken<RawItem>, Stop>
     requires within { from ≤ length source.now.tokens.now }
     requires few { length source.now.tokens.now < 2 ^ 32 }
-    ensures bounds { IsBounded room source.now.tokens.now from result }
-    ensures parsed { Answers (BlockItems source.now.names.now) item_of room source.now.tokens.now from result }
+    ensures bounds { IsBounded limit source.now.tokens.now from result }
+    ensures parsed { Answers (BlockItems source.now.names.now) item_of limit source.now.tokens.now from result }
     ensures placed { IfOk result (λ taken. IsItemPlaced taken.tree (drop from source.now.tokens.now)) }
     ensures apt { IsAnswerApt Scope.Block source.now.tokens.now result }
 {
     if begins_type(source, from) && !is_label(source, from) {
-        let declared = declaration(alloc, source, from, room)?;
+        let declared = declaration(alloc, source, from, limit)?;
         return Ok(Taken {
             tree: RawItem::Declare(declared.tree.specs, declared.tree.objects),
             height: declared.height,
             next: declared.next,
         });
     }
-    let taken = statement(alloc, source, from, room)?;
+    let taken = statement(alloc, source, from, limit)?;
     Ok(Taken {
         tree: RawItem::Run(taken.tree),
         height: taken.height,
@@ -114,22 +119,22 @@ pub fn declaration(
     alloc: Global,
     source: &Source,
     from: usize,
-    room: u32,
+    limit: u32,
 ) -> Result<Taken<DeclaredObjects>, Stop>
     requires within { from ≤ length source.now.tokens.now }
     requires few { length source.now.tokens.now < 2 ^ 32 }
     requires typed { IsTrue (starts_type source.now.names.now (kind_or_end source.now.tokens.now from)) }
-    ensures bounds { IsBounded room source.now.tokens.now from result }
-    ensures parsed { ExactAnswers (Locals source.now.names.now) local_of room source.now.tokens.now from result }
+    ensures bounds { IsBounded limit source.now.tokens.now from result }
+    ensures parsed { ExactAnswers (Locals source.now.names.now) local_of limit source.now.tokens.now from result }
     ensures placed { IfOk result (λ taken. IsDeclarationPlaced taken.tree.specs taken.tree.objects.items (drop from source.now.tokens.now)) }
     ensures apt { IsAnswerApt Scope.Block source.now.tokens.now result }
 {
-    if room < 2 {
+    if limit < 2 {
         return Err(refuse_deep(from));
     }
     let scope = Scope::Block;
-    let specs = block_specs(alloc, source, from, room - 1)?;
-    let objects = objects(alloc, source, scope, specs.next, room - 1)?;
+    let specs = block_specs(alloc, source, from, limit - 1)?;
+    let objects = objects(alloc, source, scope, specs.next, limit - 1)?;
     Ok(Taken {
         tree: DeclaredObjects {
             specs: specs.tree,

@@ -3,16 +3,16 @@ ghost use Rattle.std.specs.Prelude.{◌≡◌, ◌≤◌, ◌<◌, ◌^◌, leng
 ghost use Rattle.cs_expr_parser.specs.Positions.{kind_or_end};
 ghost use Rattle.cs_decl_parser.specs.FilePlaces.{HasSpecPlaces};
 ghost use Rattle.cs_decl_parser.specs.Bounds.{IsBounded, IsNextBounded, IsWordBounded};
-ghost use Rattle.cs_decl_parser.specs.DeclarationAnswers.{RefusesBehind};
+ghost use Rattle.cs_decl_parser.specs.DeclarationAnswers.{RefusesAfter};
 ghost use Rattle.cs_decl_parser.specs.SpecWords.{IsTagKeyword, BlockTagAnswer, BlockWordAnswer, BlockSpecsAnswer};
 ghost use Rattle.cs_decl_parser.specs.SpecPlaces.{IsWordPlaced, IsWordThere};
 ghost use Rattle.cs_decl_parser.specs.Aptness.{IsStopApt, IsAnswerApt};
 
 use crate::names::any_name_at;
-use crate::source::{Scope, Source, is_mark, refuse, refuse_but};
+use crate::source::{Scope, Source, is_punctuator, refuse, refuse_but};
 use crate::specs::{NextWord, begins_tagged, names_type, plain_word, without_body};
 use crate::stop::{Stop, Taken};
-use cs_ast::Mark;
+use cs_ast::Punctuator;
 use cs_ast::raw::declaration::RawSpecs;
 use cs_grammar::{Reason, TypeSoFar};
 use std::alloc::Global;
@@ -22,13 +22,13 @@ pub fn block_specs(
     alloc: Global,
     source: &Source,
     from: usize,
-    room: u32,
+    limit: u32,
 ) -> Result<Taken<RawSpecs>, Stop>
     requires within { from ≤ length source.now.tokens.now }
     requires few { length source.now.tokens.now < 2 ^ 32 }
-    requires some { 1 ≤ room }
-    ensures bounds { IsBounded room source.now.tokens.now from result }
-    ensures parsed { BlockSpecsAnswer source.now.names.now room source.now.tokens.now from result }
+    requires some { 1 ≤ limit }
+    ensures bounds { IsBounded limit source.now.tokens.now from result }
+    ensures parsed { BlockSpecsAnswer source.now.names.now limit source.now.tokens.now from result }
     ensures placed { IfOk result (λ taken. HasSpecPlaces taken.tree (drop from source.now.tokens.now)) }
     ensures apt { IsAnswerApt Scope.Block source.now.tokens.now result }
 {
@@ -52,7 +52,7 @@ pub fn block_specs(
     })
 }
 
-/// The word at a number, if one stands there that fits behind those before it.
+/// The word at a number, if one stands there that fits after those before it.
 fn block_word_at(source: &Source, at: usize, so_far: TypeSoFar) -> Result<Option<NextWord>, Stop>
     requires within { at ≤ length source.now.tokens.now }
     requires few { length source.now.tokens.now < 2 ^ 32 }
@@ -71,7 +71,7 @@ fn block_word_at(source: &Source, at: usize, so_far: TypeSoFar) -> Result<Option
     Ok(Some(found))
 }
 
-/// `struct` or `enum`, at a number, with a tag behind it.
+/// `struct` or `enum`, at a number, with a tag after it.
 fn tag_at(source: &Source, at: usize) -> Result<NextWord, Stop>
     requires within { at < length source.now.tokens.now }
     requires few { length source.now.tokens.now < 2 ^ 32 }
@@ -84,16 +84,16 @@ fn tag_at(source: &Source, at: usize) -> Result<NextWord, Stop>
     let Some(tag) = any_name_at(source, at + 1)? else {
         return Err(refuse_body(source, at + 1));
     };
-    if is_mark(source, at + 2, Mark::OpenBrace) {
-        return Err(Stop::Refused(at + 2, Reason::LeftOut));
+    if is_punctuator(source, at + 2, Punctuator::OpenBrace) {
+        return Err(Stop::Refused(at + 2, Reason::Unsupported));
     }
     Ok(without_body(source, at, tag))
 }
 
 /// The refusal of what stands at a number, where bodies are left out.
 fn refuse_body(source: &Source, at: usize) -> Stop
-    ensures plain { RefusesBehind at false result }
+    ensures plain { RefusesAfter at false result }
     ensures apt { IsStopApt Scope.Block source.now.tokens.now result }
 {
-    refuse_but(source, at, Scope::Block, Mark::OpenBrace)
+    refuse_but(source, at, Scope::Block, Punctuator::OpenBrace)
 }

@@ -15,11 +15,11 @@ ghost use Rattle.cs_decl_parser.specs.Aptness.{IsAnswerApt};
 use crate::block::item;
 use crate::expression::{closed, parenthesised};
 use crate::nodes::{if_else_node, if_node, node};
-use crate::source::{Scope, Source, is_keyword, is_mark, place_at, refuse, refuse_deep};
+use crate::source::{Scope, Source, is_keyword, is_punctuator, place_at, refuse, refuse_deep};
 use crate::statement::statement;
 use crate::stop::{Stop, Taken};
 use cs_ast::raw::statement::{RawStmt, RawStmtKind, RawSwitchItem};
-use cs_ast::{Keyword, Mark};
+use cs_ast::{Keyword, Punctuator};
 use cs_expr_parser::ExprLevel;
 use std::alloc::Global;
 
@@ -29,25 +29,25 @@ pub fn if_statement(
     alloc: Global,
     source: &Source,
     from: usize,
-    room: u32,
+    limit: u32,
 ) -> Result<Taken<RawStmt>, Stop>
     requires within { from < length source.now.tokens.now }
     requires few { length source.now.tokens.now < 2 ^ 32 }
-    requires enough { 2 ≤ room }
+    requires enough { 2 ≤ limit }
     requires stands { kind_or_end source.now.tokens.now from ≡ token.Keyword keyword.If }
-    ensures bounds { IsBounded room source.now.tokens.now from result }
-    ensures parsed { Answers (Sentences source.now.names.now) statement_of room source.now.tokens.now from result }
+    ensures bounds { IsBounded limit source.now.tokens.now from result }
+    ensures parsed { Answers (Sentences source.now.names.now) statement_of limit source.now.tokens.now from result }
     ensures placed { IfOk result (λ taken. HasStatementPlaces taken.tree (drop from source.now.tokens.now)) }
     ensures apt { IsAnswerApt Scope.Block source.now.tokens.now result }
 {
     let place = place_at(source, from);
-    let test = parenthesised(alloc, source, from + 1, room - 1)?;
-    let body = statement(alloc, source, test.next, room - 1)?;
+    let test = parenthesised(alloc, source, from + 1, limit - 1)?;
+    let body = statement(alloc, source, test.next, limit - 1)?;
     if !is_keyword(source, body.next, Keyword::Else) {
         let made = if_node(alloc, place, test, body)?;
         return Ok(made);
     }
-    let other = statement(alloc, source, body.next + 1, room - 1)?;
+    let other = statement(alloc, source, body.next + 1, limit - 1)?;
     let made = if_else_node(alloc, place, test, body, other)?;
     Ok(made)
 }
@@ -58,47 +58,47 @@ pub fn switch_statement(
     alloc: Global,
     source: &Source,
     from: usize,
-    room: u32,
+    limit: u32,
 ) -> Result<Taken<RawStmt>, Stop>
     requires within { from < length source.now.tokens.now }
     requires few { length source.now.tokens.now < 2 ^ 32 }
-    requires enough { 2 ≤ room }
+    requires enough { 2 ≤ limit }
     requires stands { kind_or_end source.now.tokens.now from ≡ token.Keyword keyword.Switch }
-    ensures bounds { IsBounded room source.now.tokens.now from result }
-    ensures parsed { Answers (Sentences source.now.names.now) statement_of room source.now.tokens.now from result }
+    ensures bounds { IsBounded limit source.now.tokens.now from result }
+    ensures parsed { Answers (Sentences source.now.names.now) statement_of limit source.now.tokens.now from result }
     ensures placed { IfOk result (λ taken. HasStatementPlaces taken.tree (drop from source.now.tokens.now)) }
     ensures apt { IsAnswerApt Scope.Block source.now.tokens.now result }
 {
-    let value = parenthesised(alloc, source, from + 1, room - 1)?;
-    if !is_mark(source, value.next, Mark::OpenBrace) {
+    let value = parenthesised(alloc, source, from + 1, limit - 1)?;
+    if !is_punctuator(source, value.next, Punctuator::OpenBrace) {
         return Err(refuse(source, value.next, Scope::Block));
     }
-    let items = switch_items(alloc, source, value.next + 1, room - 2)?;
+    let items = switch_items(alloc, source, value.next + 1, limit - 2)?;
     let height = value.height.max(items.height + 1) + 1;
     let kind = RawStmtKind::Switch(value.tree, items.tree);
     Ok(node(place_at(source, from), kind, height, items.next))
 }
 
-/// What stands in a `switch`, from behind its opening brace to behind the closing one. The height is that of the highest.
+/// What stands in a `switch`, from after its opening brace to after the closing one. The height is that of the highest.
 #[cycle(statement)]
 fn switch_items(
     alloc: Global,
     source: &Source,
     from: usize,
-    room: u32,
+    limit: u32,
 ) -> Result<Taken<Vec<RawSwitchItem>>, Stop>
     requires within { from ≤ length source.now.tokens.now }
     requires few { length source.now.tokens.now < 2 ^ 32 }
-    ensures bounds { IsBounded room source.now.tokens.now from result }
-    ensures parsed { ExactAnswers (SwitchRows source.now.names.now) switch_items_of room source.now.tokens.now from result }
+    ensures bounds { IsBounded limit source.now.tokens.now from result }
+    ensures parsed { ExactAnswers (SwitchRows source.now.names.now) switch_items_of limit source.now.tokens.now from result }
     ensures placed { IfOk result (λ taken. AreSwitchItemsBeside taken.tree.items (drop from source.now.tokens.now)) }
     ensures apt { IsAnswerApt Scope.Block source.now.tokens.now result }
 {
     let mut list = Vec::new(alloc);
     let mut height: u32 = 0;
     let mut next = from;
-    'items: while !is_mark(source, next, Mark::CloseBrace) {
-        let taken = switch_item(alloc, source, next, room)?;
+    'items: while !is_punctuator(source, next, Punctuator::CloseBrace) {
+        let taken = switch_item(alloc, source, next, limit)?;
         height = height.max(taken.height);
         next = taken.next;
         list.push(taken.tree)?;
@@ -116,22 +116,22 @@ fn switch_item(
     alloc: Global,
     source: &Source,
     from: usize,
-    room: u32,
+    limit: u32,
 ) -> Result<Taken<RawSwitchItem>, Stop>
     requires within { from ≤ length source.now.tokens.now }
     requires few { length source.now.tokens.now < 2 ^ 32 }
-    ensures bounds { IsBounded room source.now.tokens.now from result }
-    ensures parsed { Answers (SwitchParts source.now.names.now) switch_item_of room source.now.tokens.now from result }
+    ensures bounds { IsBounded limit source.now.tokens.now from result }
+    ensures parsed { Answers (SwitchParts source.now.names.now) switch_item_of limit source.now.tokens.now from result }
     ensures placed { IfOk result (λ taken. IsSwitchItemPlaced taken.tree (drop from source.now.tokens.now)) }
     ensures apt { IsAnswerApt Scope.Block source.now.tokens.now result }
 {
     if is_keyword(source, from, Keyword::Case) {
-        return case(alloc, source, from, room);
+        return case(alloc, source, from, limit);
     }
     if is_keyword(source, from, Keyword::Default) {
         return default(source, from);
     }
-    let inner = item(alloc, source, from, room)?;
+    let inner = item(alloc, source, from, limit)?;
     Ok(Taken {
         tree: RawSwitchItem::Item(inner.tree),
         height: inner.height,
@@ -144,20 +144,27 @@ fn case(
     alloc: Global,
     source: &Source,
     from: usize,
-    room: u32,
+    limit: u32,
 ) -> Result<Taken<RawSwitchItem>, Stop>
     requires within { from < length source.now.tokens.now }
     requires few { length source.now.tokens.now < 2 ^ 32 }
     requires stands { kind_or_end source.now.tokens.now from ≡ token.Keyword keyword.Case }
-    ensures bounds { IsBounded room source.now.tokens.now from result }
-    ensures parsed { Answers (SwitchParts source.now.names.now) switch_item_of room source.now.tokens.now from result }
+    ensures bounds { IsBounded limit source.now.tokens.now from result }
+    ensures parsed { Answers (SwitchParts source.now.names.now) switch_item_of limit source.now.tokens.now from result }
     ensures placed { IfOk result (λ taken. IsSwitchItemPlaced taken.tree (drop from source.now.tokens.now)) }
     ensures apt { IsAnswerApt Scope.Block source.now.tokens.now result }
 {
-    if room == 0 {
+    if limit == 0 {
         return Err(refuse_deep(from));
     }
-    let value = closed(alloc, source, from + 1, room, ExprLevel::Cond, Mark::Colon)?;
+    let value = closed(
+        alloc,
+        source,
+        from + 1,
+        limit,
+        ExprLevel::Cond,
+        Punctuator::Colon,
+    )?;
     Ok(Taken {
         tree: RawSwitchItem::Case(place_at(source, from), value.tree),
         height: value.height,
@@ -171,11 +178,11 @@ fn default(source: &Source, from: usize) -> Result<Taken<RawSwitchItem>, Stop>
     requires few { length source.now.tokens.now < 2 ^ 32 }
     requires stands { kind_or_end source.now.tokens.now from ≡ token.Keyword keyword.Default }
     ensures bounds { IsBounded 0 source.now.tokens.now from result }
-    ensures parsed { (room : ℕ) → Answers (SwitchParts source.now.names.now) switch_item_of room source.now.tokens.now from result }
+    ensures parsed { (limit : ℕ) → Answers (SwitchParts source.now.names.now) switch_item_of limit source.now.tokens.now from result }
     ensures placed { IfOk result (λ taken. IsSwitchItemPlaced taken.tree (drop from source.now.tokens.now)) }
     ensures apt { IsAnswerApt Scope.Block source.now.tokens.now result }
 {
-    if !is_mark(source, from + 1, Mark::Colon) {
+    if !is_punctuator(source, from + 1, Punctuator::Colon) {
         return Err(refuse(source, from + 1, Scope::Block));
     }
     Ok(Taken {

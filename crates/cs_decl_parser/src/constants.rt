@@ -16,9 +16,9 @@ ghost use Rattle.cs_decl_parser.specs.Aptness.{IsAnswerApt, IsUnclosedApt};
 
 use crate::expression::expression;
 use crate::names::free_name_at;
-use crate::source::{Scope, Source, is_mark, reason_at, refuse};
+use crate::source::{Scope, Source, is_punctuator, reason_at, refuse};
 use crate::stop::{Stop, Taken, Unclosed};
-use cs_ast::Mark;
+use cs_ast::Punctuator;
 use cs_ast::raw::declaration::RawEnumerator;
 use cs_ast::raw::expression::RawExpr;
 use cs_ast::raw::name::RawName;
@@ -34,34 +34,34 @@ pub struct ConstantList {
     pub comma: bool,
 }
 
-/// The constants from behind an opening brace to behind the closing one. The height is that of the highest.
+/// The constants from after an opening brace to after the closing one. The height is that of the highest.
 pub fn constants(
     alloc: Global,
     source: &Source,
     from: usize,
-    room: u32,
+    limit: u32,
 ) -> Result<Taken<ConstantList>, Stop>
     requires within { from ≤ length source.now.tokens.now }
     requires few { length source.now.tokens.now < 2 ^ 32 }
-    requires some { 1 ≤ room }
-    ensures bounds { IsBounded room source.now.tokens.now from result }
-    ensures parsed { ConstantsAnswer source.now.names.now room source.now.tokens.now from result }
+    requires some { 1 ≤ limit }
+    ensures bounds { IsBounded limit source.now.tokens.now from result }
+    ensures parsed { ConstantsAnswer source.now.names.now limit source.now.tokens.now from result }
     ensures placed { IfOk result (λ taken. AreInRow IsConstantPlaced (λ e. constant_text (constant_of e)) taken.tree.list.items (drop from source.now.tokens.now)) }
     ensures apt { IsAnswerApt Scope.File source.now.tokens.now result }
 {
     let mut list = Vec::new(alloc);
-    let mut last = constant(alloc, source, from, room)?;
+    let mut last = constant(alloc, source, from, limit)?;
     let mut height = last.height;
     'constants: while goes_on(source, last.next) {
-        let following = constant(alloc, source, last.next + 1, room)?;
+        let another = constant(alloc, source, last.next + 1, limit)?;
         list.push(last.tree)?;
-        height = height.max(following.height);
-        last = following;
+        height = height.max(another.height);
+        last = another;
     }
     list.push(last.tree)?;
-    let comma = is_mark(source, last.next, Mark::Comma);
+    let comma = is_punctuator(source, last.next, Punctuator::Comma);
     let closing = closing_at(last.next, comma);
-    if !is_mark(source, closing, Mark::CloseBrace) {
+    if !is_punctuator(source, closing, Punctuator::CloseBrace) {
         return Err(Stop::Refused(closing, last.otherwise));
     }
     Ok(Taken {
@@ -85,7 +85,8 @@ pub fn goes_on(source: &Source, at: usize) -> bool
     ensures within { IsTrue result → at < length source.now.tokens.now }
     ensures comma { result ≡ list_goes_on (kind_or_end source.now.tokens.now at) (kind_or_end source.now.tokens.now (at + 1)) }
 {
-    is_mark(source, at, Mark::Comma) && !is_mark(source, at + 1, Mark::CloseBrace)
+    is_punctuator(source, at, Punctuator::Comma)
+        && !is_punctuator(source, at + 1, Punctuator::CloseBrace)
 }
 
 /// A constant, with its value if it has one.
@@ -93,26 +94,26 @@ fn constant(
     alloc: Global,
     source: &Source,
     from: usize,
-    room: u32,
+    limit: u32,
 ) -> Result<Unclosed<RawEnumerator>, Stop>
     requires within { from ≤ length source.now.tokens.now }
     requires few { length source.now.tokens.now < 2 ^ 32 }
-    requires some { 1 ≤ room }
-    ensures bounds { IsUnclosedBounded room source.now.tokens.now from result }
-    ensures parsed { UnclosedAnswers (Constants source.now.names.now) constant_of room source.now.tokens.now from result }
+    requires some { 1 ≤ limit }
+    ensures bounds { IsUnclosedBounded limit source.now.tokens.now from result }
+    ensures parsed { UnclosedAnswers (Constants source.now.names.now) constant_of limit source.now.tokens.now from result }
     ensures placed { IfOk result (λ taken. IsConstantPlaced taken.tree (drop from source.now.tokens.now)) }
     ensures apt { IsUnclosedApt Scope.File source.now.tokens.now result }
 {
     let Some(name) = free_name_at(source, from)? else {
         return Err(refuse(source, from, Scope::File));
     };
-    if !is_mark(source, from + 1, Mark::Equal) {
+    if !is_punctuator(source, from + 1, Punctuator::Equal) {
         return Ok(lone(name, from + 1, reason_at(source, from + 1, Scope::File)));
     }
-    if room < 2 {
+    if limit < 2 {
         return Ok(lone(name, from + 1, Reason::TooDeep));
     }
-    let value = expression(alloc, source, from + 2, room - 1, ExprLevel::Cond)?;
+    let value = expression(alloc, source, from + 2, limit - 1, ExprLevel::Cond)?;
     Ok(Unclosed {
         tree: enumerator(name, Some(value.tree)),
         height: value.height + 1,

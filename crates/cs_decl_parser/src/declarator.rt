@@ -1,7 +1,7 @@
-//! Declarators: names with the pointers before them and the bounds of arrays behind them (C11 6.7.6).
+//! Declarators: names with the pointers before them and the bounds of arrays after them (C11 6.7.6).
 ghost use Rattle.std.specs.Prelude.{◌≡◌, ℕ, ◌+◌, ◌≤◌, ◌<◌, ◌^◌, true, false, length, drop, map, IfOk, IsSome, IsTrue};
 ghost use Rattle.cs_ast.specs.declared.token.TokenKind.TheVariants as token;
-ghost use Rattle.cs_ast.specs.declared.token.Mark.TheVariants as mark;
+ghost use Rattle.cs_ast.specs.declared.token.Punctuator.TheVariants as punctuator;
 ghost use Rattle.cs_ast.specs.RawDeclarationView.{bounds_of, declarator as declarator_of};
 ghost use Rattle.cs_grammar.specs.Composed.{Separated};
 ghost use Rattle.cs_grammar.specs.Places.{StandsAt};
@@ -9,16 +9,16 @@ ghost use Rattle.cs_grammar.specs.Text.{pointers_text};
 ghost use Rattle.cs_expr_parser.specs.Positions.{kind_or_end};
 ghost use Rattle.cs_decl_parser.specs.Answers.{ExactAnswers};
 ghost use Rattle.cs_decl_parser.specs.Bounds.{IsBounded, IsRowBounded};
-ghost use Rattle.cs_decl_parser.specs.DeclarationAnswers.{has_no_room, is_full, IsNameAt, IsNameFor, IsPointed, PointedAnswers, DeclaratorAnswers, DeclaratorsFor, BoundAnswer, BoundsAnswer, RefusesBehind};
+ghost use Rattle.cs_decl_parser.specs.DeclarationAnswers.{has_no_limit, is_full, IsNameAt, IsNameFor, IsPointed, PointedAnswers, DeclaratorAnswers, DeclaratorsFor, BoundAnswer, BoundsAnswer, RefusesAfter};
 ghost use Rattle.cs_decl_parser.specs.FilePlaces.{past, IsSomePlaced, IsNamePlaced, AreBracketsPlaced, IsDeclaratorPlaced, AreDeclaratorsPlaced};
 ghost use Rattle.cs_decl_parser.specs.Aptness.{IsStopApt, IsAnswerApt};
 
 use crate::expression::{closed, closed_if_any};
 use crate::names::{any_name_at, free_name_at};
-use crate::source::{Scope, Source, is_mark, refuse, refuse_but, refuse_deep};
+use crate::source::{Scope, Source, is_punctuator, refuse, refuse_but, refuse_deep};
 use crate::stop::{Stop, Taken};
 use crate::words::stars;
-use cs_ast::Mark;
+use cs_ast::Punctuator;
 use cs_ast::raw::declaration::RawDeclarator;
 use cs_ast::raw::expression::RawExpr;
 use cs_ast::raw::name::RawName;
@@ -48,20 +48,20 @@ pub fn declarator(
     source: &Source,
     scope: Scope,
     from: usize,
-    room: u32,
+    limit: u32,
     declares: Declares,
 ) -> Result<Taken<RawDeclarator>, Stop>
     requires within { from ≤ length source.now.tokens.now }
     requires few { length source.now.tokens.now < 2 ^ 32 }
-    requires some { 1 ≤ room }
-    ensures bounds { IsBounded room source.now.tokens.now from result }
+    requires some { 1 ≤ limit }
+    ensures bounds { IsBounded limit source.now.tokens.now from result }
     ensures some { IfOk result (λ taken. 1 ≤ taken.height) }
-    ensures parsed { DeclaratorAnswers declares source.now.names.now room source.now.tokens.now from result }
+    ensures parsed { DeclaratorAnswers declares source.now.names.now limit source.now.tokens.now from result }
     ensures placed { IfOk result (λ taken. IsDeclaratorPlaced taken.tree (drop from source.now.tokens.now)) }
     ensures apt { IsAnswerApt scope source.now.tokens.now result }
 {
     let pointed = pointed_name(alloc, source, scope, from, declares)?;
-    let taken = with_bounds(alloc, source, pointed, room, declares)?;
+    let taken = with_bounds(alloc, source, pointed, limit, declares)?;
     Ok(taken)
 }
 
@@ -82,8 +82,8 @@ pub fn pointed_name(
 {
     let pointers = stars(alloc, source, from)?;
     let Some(name) = name_at(source, pointers.next, declares)? else {
-        let left_out = Mark::OpenParenthesis;
-        return Err(refuse_but(source, pointers.next, scope, left_out));
+        let unsupported = Punctuator::OpenParenthesis;
+        return Err(refuse_but(source, pointers.next, scope, unsupported));
     };
     Ok(Taken {
         tree: Pointed {
@@ -107,24 +107,24 @@ fn name_at(source: &Source, at: usize, declares: Declares) -> Result<Option<RawN
     }
 }
 
-/// The declarator of a name with the bounds behind it.
+/// The declarator of a name with the bounds after it.
 pub fn with_bounds(
     alloc: Global,
     source: &Source,
     pointed: Taken<Pointed>,
-    room: u32,
+    limit: u32,
     declares: Declares,
 ) -> Result<Taken<RawDeclarator>, Stop>
     requires within { pointed.next ≤ length source.now.tokens.now }
     requires few { length source.now.tokens.now < 2 ^ 32 }
-    requires some { 1 ≤ room }
-    ensures bounds { IsRowBounded room source.now.tokens.now pointed.next result }
+    requires some { 1 ≤ limit }
+    ensures bounds { IsRowBounded limit source.now.tokens.now pointed.next result }
     ensures some { IfOk result (λ taken. 1 ≤ taken.height) }
-    ensures parsed { (from : ℕ) → IsPointed declares source.now.names.now source.now.tokens.now from pointed → DeclaratorAnswers declares source.now.names.now room source.now.tokens.now from result }
+    ensures parsed { (from : ℕ) → IsPointed declares source.now.names.now source.now.tokens.now from pointed → DeclaratorAnswers declares source.now.names.now limit source.now.tokens.now from result }
     ensures placed { (from : ℕ) → IsPointed declares source.now.names.now source.now.tokens.now from pointed → StandsAt pointed.tree.name.place (past (pointers_text pointed.tree.pointers.items) (drop from source.now.tokens.now)) → IfOk result (λ taken. IsDeclaratorPlaced taken.tree (drop from source.now.tokens.now)) }
     ensures apt { IsAnswerApt Scope.Block source.now.tokens.now result }
 {
-    let bounds = bounds(alloc, source, pointed.next, room - 1, declares)?;
+    let bounds = bounds(alloc, source, pointed.next, limit - 1, declares)?;
     Ok(Taken {
         tree: RawDeclarator {
             pointers: pointed.tree.pointers,
@@ -143,21 +143,21 @@ pub fn bounds(
     alloc: Global,
     source: &Source,
     from: usize,
-    room: u32,
+    limit: u32,
     declares: Declares,
 ) -> Result<Taken<Vec<Option<RawExpr>>>, Stop>
     requires within { from ≤ length source.now.tokens.now }
     requires few { length source.now.tokens.now < 2 ^ 32 }
-    ensures bounds { IsRowBounded room source.now.tokens.now from result }
-    ensures parsed { BoundsAnswer declares source.now.names.now (λ bounds. bounds_of bounds.items) room source.now.tokens.now from result }
+    ensures bounds { IsRowBounded limit source.now.tokens.now from result }
+    ensures parsed { BoundsAnswer declares source.now.names.now (λ bounds. bounds_of bounds.items) limit source.now.tokens.now from result }
     ensures placed { IfOk result (λ taken. AreBracketsPlaced taken.tree.items (drop from source.now.tokens.now)) }
     ensures apt { IsAnswerApt Scope.Block source.now.tokens.now result }
 {
     let mut list = Vec::new(alloc);
     let mut height = 0;
     let mut next = from;
-    'bounds: while begins_bound(source, next, room, declares) {
-        let taken = bound(alloc, source, next, room, declares)?;
+    'bounds: while begins_bound(source, next, limit, declares) {
+        let taken = bound(alloc, source, next, limit, declares)?;
         height = height.max(taken.height);
         next = taken.next;
         list.push(taken.tree)?;
@@ -170,23 +170,23 @@ pub fn bounds(
 }
 
 /// Whether there is no room for a bound, since it may not be left out.
-fn lacks_room(declares: Declares, room: u32) -> bool
-    ensures { result ≡ has_no_room declares room }
+fn lacks_limit(declares: Declares, limit: u32) -> bool
+    ensures { result ≡ has_no_limit declares limit }
 {
     match declares {
         Declares::Names => false,
-        Declares::Members => room == 0,
+        Declares::Members => limit == 0,
     }
 }
 
 /// Whether the bracket of a bound for which there is room stands at a number.
-fn begins_bound(source: &Source, at: usize, room: u32, declares: Declares) -> bool
-    ensures bracket { IsTrue result → kind_or_end source.now.tokens.now at ≡ token.Mark mark.OpenBracket }
-    ensures room { IsTrue result → has_no_room declares room ≡ false }
-    ensures other { (result ≡ false) → kind_or_end source.now.tokens.now at ≡ token.Mark mark.OpenBracket → has_no_room declares room ≡ true }
+fn begins_bound(source: &Source, at: usize, limit: u32, declares: Declares) -> bool
+    ensures bracket { IsTrue result → kind_or_end source.now.tokens.now at ≡ token.Punctuator punctuator.OpenBracket }
+    ensures limit { IsTrue result → has_no_limit declares limit ≡ false }
+    ensures other { (result ≡ false) → kind_or_end source.now.tokens.now at ≡ token.Punctuator punctuator.OpenBracket → has_no_limit declares limit ≡ true }
     ensures within { IsTrue result → at < length source.now.tokens.now }
 {
-    !lacks_room(declares, room) && is_mark(source, at, Mark::OpenBracket)
+    !lacks_limit(declares, limit) && is_punctuator(source, at, Punctuator::OpenBracket)
 }
 
 /// The bound of an array, between brackets, the first of which stands at a number.
@@ -194,24 +194,24 @@ fn bound(
     alloc: Global,
     source: &Source,
     at: usize,
-    room: u32,
+    limit: u32,
     declares: Declares,
 ) -> Result<Taken<Option<RawExpr>>, Stop>
     requires within { at < length source.now.tokens.now }
     requires few { length source.now.tokens.now < 2 ^ 32 }
-    ensures bounds { IsBounded room source.now.tokens.now at result }
-    ensures parsed { BoundAnswer declares source.now.names.now room source.now.tokens.now (at + 1) result }
+    ensures bounds { IsBounded limit source.now.tokens.now at result }
+    ensures parsed { BoundAnswer declares source.now.names.now limit source.now.tokens.now (at + 1) result }
     ensures placed { IfOk result (λ taken. IsSomePlaced taken.tree (drop (at + 1) source.now.tokens.now)) }
     ensures apt { IsAnswerApt Scope.Block source.now.tokens.now result }
 {
-    let (level, closing) = (ExprLevel::Cond, Mark::CloseBracket);
+    let (level, closing) = (ExprLevel::Cond, Punctuator::CloseBracket);
     match declares {
         Declares::Names => {
-            let taken = closed_if_any(alloc, source, at + 1, room, level, closing)?;
+            let taken = closed_if_any(alloc, source, at + 1, limit, level, closing)?;
             Ok(taken)
         }
         Declares::Members => {
-            let taken = closed(alloc, source, at + 1, room, level, closing)?;
+            let taken = closed(alloc, source, at + 1, limit, level, closing)?;
             Ok(Taken {
                 tree: Some(taken.tree),
                 height: taken.height,
@@ -221,35 +221,35 @@ fn bound(
     }
 }
 
-/// Declarators with commas between them, one at least, to behind the semicolon. The height is that of the highest.
+/// Declarators with commas between them, one at least, to after the semicolon. The height is that of the highest.
 pub fn declarators(
     alloc: Global,
     source: &Source,
     from: usize,
-    room: u32,
+    limit: u32,
     declares: Declares,
 ) -> Result<Taken<Vec<RawDeclarator>>, Stop>
     requires within { from ≤ length source.now.tokens.now }
     requires few { length source.now.tokens.now < 2 ^ 32 }
-    requires some { 1 ≤ room }
-    ensures bounds { IsBounded room source.now.tokens.now from result }
-    ensures parsed { ExactAnswers (Separated (DeclaratorsFor declares source.now.names.now) (token.Mark mark.Semicolon)) (λ list. map declarator_of list.items) room source.now.tokens.now from result }
+    requires some { 1 ≤ limit }
+    ensures bounds { IsBounded limit source.now.tokens.now from result }
+    ensures parsed { ExactAnswers (Separated (DeclaratorsFor declares source.now.names.now) (token.Punctuator punctuator.Semicolon)) (λ list. map declarator_of list.items) limit source.now.tokens.now from result }
     ensures placed { IfOk result (λ taken. AreDeclaratorsPlaced taken.tree.items (drop from source.now.tokens.now)) }
     ensures apt { IsAnswerApt Scope.File source.now.tokens.now result }
 {
     let scope = Scope::File;
     let mut list = Vec::new(alloc);
-    let mut last = declarator(alloc, source, scope, from, room, declares)?;
+    let mut last = declarator(alloc, source, scope, from, limit, declares)?;
     let mut height = last.height;
-    'declarators: while is_mark(source, last.next, Mark::Comma) {
-        let following = declarator(alloc, source, scope, last.next + 1, room, declares)?;
+    'declarators: while is_punctuator(source, last.next, Punctuator::Comma) {
+        let another = declarator(alloc, source, scope, last.next + 1, limit, declares)?;
         list.push(last.tree)?;
-        height = height.max(following.height);
-        last = following;
+        height = height.max(another.height);
+        last = another;
     }
     list.push(last.tree)?;
-    if !is_mark(source, last.next, Mark::Semicolon) {
-        return Err(refuse_behind(source, last.next, room, declares));
+    if !is_punctuator(source, last.next, Punctuator::Semicolon) {
+        return Err(refuse_after(source, last.next, limit, declares));
     }
     Ok(Taken {
         tree: list,
@@ -258,13 +258,13 @@ pub fn declarators(
     })
 }
 
-/// The refusal of the token behind a declarator, at a number.
-fn refuse_behind(source: &Source, at: usize, room: u32, declares: Declares) -> Stop
-    requires some { 1 ≤ room }
-    ensures is { (inner : ℕ) → room ≡ 1 + inner → RefusesBehind at (is_full declares inner (kind_or_end source.now.tokens.now at)) result }
+/// The refusal of the token after a declarator, at a number.
+fn refuse_after(source: &Source, at: usize, limit: u32, declares: Declares) -> Stop
+    requires some { 1 ≤ limit }
+    ensures is { (inner : ℕ) → limit ≡ 1 + inner → RefusesAfter at (is_full declares inner (kind_or_end source.now.tokens.now at)) result }
     ensures apt { IsStopApt Scope.File source.now.tokens.now result }
 {
-    if lacks_room(declares, room - 1) && is_mark(source, at, Mark::OpenBracket) {
+    if lacks_limit(declares, limit - 1) && is_punctuator(source, at, Punctuator::OpenBracket) {
         return refuse_deep(at);
     }
     refuse(source, at, Scope::File)

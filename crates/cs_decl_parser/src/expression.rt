@@ -11,9 +11,9 @@ ghost use Rattle.cs_decl_parser.specs.FilePlaces.{IsSomePlaced};
 ghost use Rattle.cs_decl_parser.specs.Bounds.{IsBounded, IsUnclosedBounded, IsPhraseOf};
 ghost use Rattle.cs_decl_parser.specs.Aptness.{IsAnswerApt, IsUnclosedApt};
 
-use crate::source::{Scope, Source, is_mark, refuse};
+use crate::source::{Scope, Source, is_punctuator, refuse};
 use crate::stop::{Stop, Taken, Unclosed};
-use cs_ast::Mark;
+use cs_ast::Punctuator;
 use cs_ast::raw::expression::RawExpr;
 use cs_expr_parser::{ExprLevel, Phrase, expression_at};
 use std::alloc::Global;
@@ -23,18 +23,18 @@ pub fn expression(
     alloc: Global,
     source: &Source,
     from: usize,
-    room: u32,
+    limit: u32,
     level: ExprLevel,
 ) -> Result<Unclosed<RawExpr>, Stop>
     requires within { from ≤ length source.now.tokens.now }
     requires few { length source.now.tokens.now < 2 ^ 32 }
-    ensures bounds { IsUnclosedBounded room source.now.tokens.now from result }
+    ensures bounds { IsUnclosedBounded limit source.now.tokens.now from result }
     ensures some { IfOk result (λ taken. 1 ≤ taken.height) }
-    ensures parsed { UnclosedAnswers (Expressions source.now.names.now (level_asked level)) written room source.now.tokens.now from result }
+    ensures parsed { UnclosedAnswers (Expressions source.now.names.now (level_asked level)) written limit source.now.tokens.now from result }
     ensures placed { IfOk result (λ taken. HasPlaces taken.tree (drop from source.now.tokens.now)) }
     ensures apt { IsUnclosedApt Scope.Block source.now.tokens.now result }
 {
-    let phrase = expression_at(alloc, source.tokens, source.names, from, room, level)?;
+    let phrase = expression_at(alloc, source.tokens, source.names, from, limit, level)?;
     Ok(unclosed(phrase))
 }
 
@@ -49,26 +49,26 @@ fn unclosed(phrase: Phrase) -> Unclosed<RawExpr>
     }
 }
 
-/// The expression of a level with the mark behind it that closes it.
+/// The expression of a level with the punctuator after it that closes it.
 pub fn closed(
     alloc: Global,
     source: &Source,
     from: usize,
-    room: u32,
+    limit: u32,
     level: ExprLevel,
-    closing: Mark,
+    closing: Punctuator,
 ) -> Result<Taken<RawExpr>, Stop>
     requires within { from ≤ length source.now.tokens.now }
     requires few { length source.now.tokens.now < 2 ^ 32 }
     requires closing { IsTrue (closes closing) }
-    ensures bounds { IsBounded room source.now.tokens.now from result }
+    ensures bounds { IsBounded limit source.now.tokens.now from result }
     ensures some { IfOk result (λ taken. 1 ≤ taken.height) }
-    ensures parsed { ClosedAnswer source.now.names.now level closing room source.now.tokens.now from result }
+    ensures parsed { ClosedAnswer source.now.names.now level closing limit source.now.tokens.now from result }
     ensures placed { IfOk result (λ taken. HasPlaces taken.tree (drop from source.now.tokens.now)) }
     ensures apt { IsAnswerApt Scope.Block source.now.tokens.now result }
 {
-    let inner = expression(alloc, source, from, room, level)?;
-    if !is_mark(source, inner.next, closing) {
+    let inner = expression(alloc, source, from, limit, level)?;
+    if !is_punctuator(source, inner.next, closing) {
         return Err(Stop::Refused(inner.next, inner.otherwise));
     }
     Ok(Taken {
@@ -78,31 +78,31 @@ pub fn closed(
     })
 }
 
-/// The expression, which may be left out, with the mark behind it that closes it. Its height is 0 where it is left out.
+/// The expression, which may be left out, with the punctuator after it that closes it. Its height is 0 where it is left out.
 pub fn closed_if_any(
     alloc: Global,
     source: &Source,
     from: usize,
-    room: u32,
+    limit: u32,
     level: ExprLevel,
-    closing: Mark,
+    closing: Punctuator,
 ) -> Result<Taken<Option<RawExpr>>, Stop>
     requires within { from ≤ length source.now.tokens.now }
     requires few { length source.now.tokens.now < 2 ^ 32 }
     requires closing { IsTrue (closes closing) }
-    ensures bounds { IsBounded room source.now.tokens.now from result }
-    ensures parsed { ClosedIfAnyAnswer source.now.names.now level closing room source.now.tokens.now from result }
+    ensures bounds { IsBounded limit source.now.tokens.now from result }
+    ensures parsed { ClosedIfAnyAnswer source.now.names.now level closing limit source.now.tokens.now from result }
     ensures placed { IfOk result (λ taken. IsSomePlaced taken.tree (drop from source.now.tokens.now)) }
     ensures apt { IsAnswerApt Scope.Block source.now.tokens.now result }
 {
-    if is_mark(source, from, closing) {
+    if is_punctuator(source, from, closing) {
         return Ok(Taken {
             tree: None,
             height: 0,
             next: from + 1,
         });
     }
-    let inner = closed(alloc, source, from, room, level, closing)?;
+    let inner = closed(alloc, source, from, limit, level, closing)?;
     Ok(Taken {
         tree: Some(inner.tree),
         height: inner.height,
@@ -115,20 +115,20 @@ pub fn parenthesised(
     alloc: Global,
     source: &Source,
     from: usize,
-    room: u32,
+    limit: u32,
 ) -> Result<Taken<RawExpr>, Stop>
     requires within { from ≤ length source.now.tokens.now }
     requires few { length source.now.tokens.now < 2 ^ 32 }
-    requires some { 1 ≤ room }
-    ensures bounds { IsBounded room source.now.tokens.now from result }
-    ensures parsed { ExactAnswers (Tests source.now.names.now) written room source.now.tokens.now from result }
+    requires some { 1 ≤ limit }
+    ensures bounds { IsBounded limit source.now.tokens.now from result }
+    ensures parsed { ExactAnswers (Tests source.now.names.now) written limit source.now.tokens.now from result }
     ensures placed { IfOk result (λ taken. HasPlaces taken.tree (drop (from + 1) source.now.tokens.now)) }
     ensures apt { IsAnswerApt Scope.Block source.now.tokens.now result }
 {
-    if !is_mark(source, from, Mark::OpenParenthesis) {
+    if !is_punctuator(source, from, Punctuator::OpenParenthesis) {
         return Err(refuse(source, from, Scope::Block));
     }
-    let closing = Mark::CloseParenthesis;
-    let inner = closed(alloc, source, from + 1, room, ExprLevel::Expr, closing)?;
+    let closing = Punctuator::CloseParenthesis;
+    let inner = closed(alloc, source, from + 1, limit, ExprLevel::Expr, closing)?;
     Ok(inner)
 }

@@ -2,7 +2,7 @@
 ghost use Rattle.std.specs.Prelude.{◌≡◌, ℕ, ◌≤◌, ◌<◌, ◌^◌, ◌+◌, ◌-◌, length, drop, IfOk};
 ghost use Rattle.cs_ast.specs.declared.token.TokenKind.TheVariants as token;
 ghost use Rattle.cs_ast.specs.declared.token.Keyword.TheVariants as keyword;
-ghost use Rattle.cs_ast.specs.declared.token.Mark.TheVariants as mark;
+ghost use Rattle.cs_ast.specs.declared.token.Punctuator.TheVariants as punctuator;
 ghost use Rattle.cs_ast.specs.RawDeclarationView.{head as head_of, parameters as parameters_of};
 ghost use Rattle.cs_ast.specs.RawStatementView.{external as external_view, external_of};
 ghost use Rattle.cs_grammar.specs.DeclarationClasses.{Externals};
@@ -20,12 +20,12 @@ use crate::block::items;
 use crate::declarator::{Declares, Pointed, declarators, pointed_name, with_bounds};
 use crate::objects::{with_others, with_value};
 use crate::parameters::{are_named, parameters};
-use crate::source::{Scope, Source, is_keyword, is_mark, place_at, refuse};
+use crate::source::{Scope, Source, is_keyword, is_punctuator, place_at, refuse};
 use crate::specs::specs;
 use crate::stop::{Stop, Taken};
 use cs_ast::raw::declaration::{RawFunction, RawParameters, RawSpecs};
 use cs_ast::raw::external::{RawBody, RawExternal, RawExternalKind};
-use cs_ast::{Keyword, Mark};
+use cs_ast::{Keyword, Punctuator};
 use std::alloc::Global;
 
 /// How high a part of a file may be.
@@ -89,7 +89,7 @@ fn declared(alloc: Global, source: &Source, from: usize) -> Result<Taken<RawExte
 {
     let scope = Scope::File;
     let specs = specs(alloc, source, from, MOST - 1)?;
-    if is_mark(source, specs.next, Mark::Semicolon) {
+    if is_punctuator(source, specs.next, Punctuator::Semicolon) {
         return Ok(Taken {
             tree: RawExternalKind::Type(specs.tree),
             height: specs.height + 1,
@@ -97,13 +97,13 @@ fn declared(alloc: Global, source: &Source, from: usize) -> Result<Taken<RawExte
         });
     }
     let pointed = pointed_name(alloc, source, scope, specs.next, Declares::Names)?;
-    if is_mark(source, pointed.next, Mark::OpenParenthesis) {
+    if is_punctuator(source, pointed.next, Punctuator::OpenParenthesis) {
         return function(alloc, source, specs, pointed);
     }
     objects(alloc, source, specs, pointed)
 }
 
-/// Objects, of which the first one's name was taken, to behind the semicolon.
+/// Objects, of which the first one's name was taken, to after the semicolon.
 fn objects(
     alloc: Global,
     source: &Source,
@@ -113,7 +113,7 @@ fn objects(
     requires within { pointed.next ≤ length source.now.tokens.now }
     requires few { length source.now.tokens.now < 2 ^ 32 }
     requires low { specs.height ≤ 199 }
-    requires stands { kind_or_end source.now.tokens.now pointed.next ≡ token.Mark mark.OpenParenthesis → ⊥ }
+    requires stands { kind_or_end source.now.tokens.now pointed.next ≡ token.Punctuator punctuator.OpenParenthesis → ⊥ }
     ensures bounds { IsBounded 200 source.now.tokens.now pointed.next result }
     ensures parsed { (from : ℕ) → IsTypeTaken source.now.names.now source.now.tokens.now from specs → IsPointed declaring.Names source.now.names.now source.now.tokens.now specs.next pointed → ExactAnswers (Externals source.now.names.now) external_of 200 source.now.tokens.now from result }
     ensures placed { (from : ℕ) → IsTypePlaced source.now.names.now source.now.tokens.now from specs → IsPointedPlaced source.now.names.now source.now.tokens.now specs.next pointed → IfOk result (λ taken. IsExternalInside taken.tree (drop from source.now.tokens.now)) }
@@ -131,7 +131,7 @@ fn objects(
     })
 }
 
-/// A function, whose name was taken, to behind the semicolon or the body.
+/// A function, whose name was taken, to after the semicolon or the body.
 fn function(
     alloc: Global,
     source: &Source,
@@ -141,7 +141,7 @@ fn function(
     requires within { pointed.next < length source.now.tokens.now }
     requires few { length source.now.tokens.now < 2 ^ 32 }
     requires low { specs.height ≤ 199 }
-    requires stands { kind_or_end source.now.tokens.now pointed.next ≡ token.Mark mark.OpenParenthesis }
+    requires stands { kind_or_end source.now.tokens.now pointed.next ≡ token.Punctuator punctuator.OpenParenthesis }
     ensures bounds { IsBounded 200 source.now.tokens.now pointed.next result }
     ensures parsed { (from : ℕ) → IsTypeTaken source.now.names.now source.now.tokens.now from specs → IsPointed declaring.Names source.now.names.now source.now.tokens.now specs.next pointed → ExactAnswers (Externals source.now.names.now) external_of 200 source.now.tokens.now from result }
     ensures placed { (from : ℕ) → IsTypePlaced source.now.names.now source.now.tokens.now from specs → IsPointedPlaced source.now.names.now source.now.tokens.now specs.next pointed → IfOk result (λ taken. IsExternalInside taken.tree (drop from source.now.tokens.now)) }
@@ -151,14 +151,14 @@ fn function(
     let parameters = parameters(alloc, source, pointed.next + 1, MOST - 2)?;
     let head = head(pointed.tree, parameters);
     let height = specs.height.max(head.height);
-    if is_mark(source, head.next, Mark::Semicolon) {
+    if is_punctuator(source, head.next, Punctuator::Semicolon) {
         return Ok(Taken {
             tree: RawExternalKind::Function(specs.tree, head.tree),
             height: height + 1,
             next: head.next + 1,
         });
     }
-    if !is_mark(source, head.next, Mark::OpenBrace) {
+    if !is_punctuator(source, head.next, Punctuator::OpenBrace) {
         return Err(refuse(source, head.next, Scope::File));
     }
     if !are_named(&head.tree.parameters) {

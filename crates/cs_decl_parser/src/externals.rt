@@ -1,9 +1,9 @@
-//! The parts of a file, one behind another (C11 6.9).
+//! The parts of a file, one after another (C11 6.9).
 ghost use Rattle.std.specs.Prelude.{◌≡◌, ◌<◌, ◌^◌, length, map, OnOk};
 ghost use Rattle.std.specs.Result.{IfErr};
 ghost use Rattle.cs_ast.specs.RawDeclarationView.{declarator as declarator_of};
 ghost use Rattle.cs_ast.specs.RawStatementView.{external as external_view};
-ghost use Rattle.cs_grammar.specs.FilePhrases.{names_behind, with_names};
+ghost use Rattle.cs_grammar.specs.FilePhrases.{names_after, with_names};
 ghost use Rattle.cs_decl_parser.specs.Files.{parts_of, IsTheFile};
 ghost use Rattle.cs_decl_parser.specs.FileStops.{FileStops};
 ghost use Rattle.cs_decl_parser.specs.ReadParts.{IsFresh, StandsAmidst};
@@ -24,7 +24,7 @@ pub struct Parts {
     pub list: Vec<RawExternal>,
     /// The names that their typedefs declare.
     pub names: TypedefNames,
-    /// The number of the token behind them.
+    /// The number of the token after them.
     pub next: usize,
 }
 
@@ -40,7 +40,7 @@ impl Parts {
         }
     }
 
-    /// Reads the parts of the file that these tokens are. The names that a typedef declares are typedef names behind it.
+    /// Reads the parts of the file that these tokens are. The names that a typedef declares are typedef names after it.
     pub fn read(&mut self, alloc: Global, tokens: &[Token]) -> Result<(), Stop>
         requires few { length tokens.now < 2 ^ 32 }
         requires fresh { IsFresh self.old }
@@ -65,7 +65,7 @@ impl Parts {
 
 /// Adds the names that a part of a file makes typedef names.
 fn declare(names: &mut TypedefNames, external: &RawExternal) -> Result<(), AllocError>
-    ensures { OnOk result (names.new ≡ names_behind names.old (external_view external.now)) }
+    ensures { OnOk result (names.new ≡ names_after names.old (external_view external.now)) }
 {
     match &external.kind {
         RawExternalKind::Typedef(_, declarators) => add_names(names, declarators),

@@ -7,7 +7,7 @@ ghost use Rattle.cs_decl_parser.specs.ReadParts.{StandsAmidst};
 ghost use Rattle.cs_decl_parser.specs.FilePlaces.{AreFilePlaced};
 
 use crate::externals::Parts;
-use crate::reason::reason_told;
+use crate::reason::reason_reported;
 use crate::stop::Stop;
 use cs_ast::raw::external::Tree;
 use cs_ast::{Place, Token};
@@ -34,14 +34,14 @@ pub fn parse(alloc: Global, tokens: &[Token], end: Place) -> Result<Tree, Syntax
     }
 }
 
-/// The refusal for which the parser stopped behind some parts of the file.
+/// The refusal for which the parser stopped after some parts of the file.
 fn refused(alloc: Global, tokens: &[Token], end: Place, stop: Stop, parts: &Parts) -> SyntaxRefusal
     requires few { length tokens.now < 2 ^ 32 }
     requires amidst { StandsAmidst tokens.now parts.now stop }
     ensures { FileStops tokens.now stop → IsFileRefusal tokens.now end result }
 {
     match stop {
-        Stop::Refused(at, reason) => match reason_told(alloc, tokens, at, reason, parts) {
+        Stop::Refused(at, reason) => match reason_reported(alloc, tokens, at, reason, parts) {
             Ok(reason) => refusal(alloc, tokens, end, at, reason),
             Err(_) => SyntaxRefusal::Memory,
         },

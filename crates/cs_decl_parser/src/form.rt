@@ -3,8 +3,8 @@ ghost use Rattle.std.specs.Prelude.{◌≡◌, ◌<◌, ◌^◌, ◌+◌, length
 ghost use Rattle.cs_expr_parser.specs.Positions.{kind_or_end, keyword_of};
 ghost use Rattle.cs_decl_parser.specs.Forms.{least, form_of, word_form, is_labelled, IsFormAt};
 
-use crate::source::{Source, begins_type, is_mark, keyword_at, mark_at, name_at};
-use cs_ast::{Keyword, Mark};
+use crate::source::{Source, begins_type, is_punctuator, keyword_at, name_at, punctuator_at};
+use cs_ast::{Keyword, Punctuator};
 
 /// The form of a statement.
 #[derive(Clone, Copy, Debug, PartialEq, Eq)]
@@ -20,9 +20,9 @@ pub enum Form {
     Continue,
     Break,
     Return,
-    /// A name with a colon behind it.
+    /// A name with a colon after it.
     Label,
-    /// The name of a typedef without a colon behind it, which only a label begins with.
+    /// The name of a typedef without a colon after it, which only a label begins with.
     Unlabelled,
     /// Anything else, which is an expression or no statement.
     Run,
@@ -40,20 +40,20 @@ pub fn form_at(source: &Source, at: usize) -> Form
     if name_at(source, at).is_some() && begins_type(source, at) {
         return Form::Unlabelled;
     }
-    match mark_at(source, at) {
-        Some(Mark::OpenBrace) => Form::Block,
-        Some(Mark::Semicolon) => Form::Empty,
+    match punctuator_at(source, at) {
+        Some(Punctuator::OpenBrace) => Form::Block,
+        Some(Punctuator::Semicolon) => Form::Empty,
         _ => form_of_word(source, at),
     }
 }
 
-/// Whether a name with a colon behind it stands at a number.
+/// Whether a name with a colon after it stands at a number.
 pub fn is_label(source: &Source, at: usize) -> bool
     requires few { at < 2 ^ 33 }
     ensures within { IsTrue result → at + 1 < length source.now.tokens.now }
     ensures labelled { result ≡ is_labelled (kind_or_end source.now.tokens.now at) (kind_or_end source.now.tokens.now (at + 1)) }
 {
-    name_at(source, at).is_some() && is_mark(source, at + 1, Mark::Colon)
+    name_at(source, at).is_some() && is_punctuator(source, at + 1, Punctuator::Colon)
 }
 
 fn form_of_word(source: &Source, at: usize) -> Form

@@ -1,7 +1,7 @@
 //! What objects hold at first (C11 6.7.9).
 ghost use Rattle.std.specs.Prelude.{◌≡◌, ◌≤◌, ◌<◌, ◌^◌, length, drop, true, IfOk, IsTrue};
 ghost use Rattle.cs_ast.specs.declared.token.TokenKind.TheVariants as token;
-ghost use Rattle.cs_ast.specs.declared.token.Mark.TheVariants as mark;
+ghost use Rattle.cs_ast.specs.declared.token.Punctuator.TheVariants as punctuator;
 ghost use Rattle.cs_ast.specs.RawDeclarationView.{initial as initial_of};
 ghost use Rattle.cs_grammar.specs.DeclarationClasses.{Values};
 ghost use Rattle.cs_expr_parser.specs.Positions.{kind_or_end};
@@ -13,9 +13,9 @@ ghost use Rattle.cs_decl_parser.specs.Aptness.{IsUnclosedApt};
 
 use crate::constants::{closing_at, goes_on};
 use crate::expression::expression;
-use crate::source::{Scope, Source, is_mark, reason_at, refuse_deep};
+use crate::source::{Scope, Source, is_punctuator, reason_at, refuse_deep};
 use crate::stop::{Stop, Unclosed};
-use cs_ast::Mark;
+use cs_ast::Punctuator;
 use cs_ast::raw::declaration::RawInitial;
 use cs_expr_parser::ExprLevel;
 use cs_grammar::Reason;
@@ -28,23 +28,23 @@ pub fn initial(
     source: &Source,
     scope: Scope,
     from: usize,
-    room: u32,
+    limit: u32,
 ) -> Result<Unclosed<RawInitial>, Stop>
     requires within { from ≤ length source.now.tokens.now }
     requires few { length source.now.tokens.now < 2 ^ 32 }
-    requires some { 1 ≤ room }
-    ensures bounds { IsUnclosedBounded room source.now.tokens.now from result }
-    ensures parsed { UnclosedAnswers (Values source.now.names.now) initial_of room source.now.tokens.now from result }
+    requires some { 1 ≤ limit }
+    ensures bounds { IsUnclosedBounded limit source.now.tokens.now from result }
+    ensures parsed { UnclosedAnswers (Values source.now.names.now) initial_of limit source.now.tokens.now from result }
     ensures placed { IfOk result (λ taken. IsInitialPlaced taken.tree (drop from source.now.tokens.now)) }
     ensures apt { IsUnclosedApt scope source.now.tokens.now result }
 {
-    if is_mark(source, from, Mark::OpenBrace) {
-        return items(alloc, source, scope, from, room);
+    if is_punctuator(source, from, Punctuator::OpenBrace) {
+        return items(alloc, source, scope, from, limit);
     }
     if begins_designator(source, from) {
-        return Err(Stop::Refused(from, Reason::LeftOut));
+        return Err(Stop::Refused(from, Reason::Unsupported));
     }
-    let value = expression(alloc, source, from, room, ExprLevel::Assign)?;
+    let value = expression(alloc, source, from, limit, ExprLevel::Assign)?;
     Ok(Unclosed {
         tree: RawInitial::Value(value.tree),
         height: value.height,
@@ -57,7 +57,7 @@ pub fn initial(
 fn begins_designator(source: &Source, at: usize) -> bool
     ensures { IsTrue result → is_designator (kind_or_end source.now.tokens.now at) ≡ true }
 {
-    is_mark(source, at, Mark::Dot) || is_mark(source, at, Mark::OpenBracket)
+    is_punctuator(source, at, Punctuator::Dot) || is_punctuator(source, at, Punctuator::OpenBracket)
 }
 
 /// Items between braces, one at least, the first of which stands at a number.
@@ -67,32 +67,32 @@ fn items(
     source: &Source,
     scope: Scope,
     from: usize,
-    room: u32,
+    limit: u32,
 ) -> Result<Unclosed<RawInitial>, Stop>
     requires within { from < length source.now.tokens.now }
     requires few { length source.now.tokens.now < 2 ^ 32 }
-    requires stands { kind_or_end source.now.tokens.now from ≡ token.Mark mark.OpenBrace }
-    ensures bounds { IsUnclosedBounded room source.now.tokens.now from result }
-    ensures parsed { UnclosedAnswers (Values source.now.names.now) initial_of room source.now.tokens.now from result }
+    requires stands { kind_or_end source.now.tokens.now from ≡ token.Punctuator punctuator.OpenBrace }
+    ensures bounds { IsUnclosedBounded limit source.now.tokens.now from result }
+    ensures parsed { UnclosedAnswers (Values source.now.names.now) initial_of limit source.now.tokens.now from result }
     ensures placed { IfOk result (λ taken. IsInitialPlaced taken.tree (drop from source.now.tokens.now)) }
     ensures apt { IsUnclosedApt scope source.now.tokens.now result }
 {
-    if room < 2 {
+    if limit < 2 {
         return Err(refuse_deep(from));
     }
     let mut list = Vec::new(alloc);
-    let mut last = initial(alloc, source, scope, from + 1, room - 1)?;
+    let mut last = initial(alloc, source, scope, from + 1, limit - 1)?;
     let mut height = last.height;
     'items: while goes_on(source, last.next) {
-        let following = initial(alloc, source, scope, last.next + 1, room - 1)?;
+        let another = initial(alloc, source, scope, last.next + 1, limit - 1)?;
         list.push(last.tree)?;
-        height = height.max(following.height);
-        last = following;
+        height = height.max(another.height);
+        last = another;
     }
     list.push(last.tree)?;
-    let comma = is_mark(source, last.next, Mark::Comma);
+    let comma = is_punctuator(source, last.next, Punctuator::Comma);
     let closing = closing_at(last.next, comma);
-    if !is_mark(source, closing, Mark::CloseBrace) {
+    if !is_punctuator(source, closing, Punctuator::CloseBrace) {
         return Err(Stop::Refused(closing, last.otherwise));
     }
     Ok(Unclosed {

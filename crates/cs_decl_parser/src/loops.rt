@@ -18,12 +18,12 @@ ghost use Rattle.cs_decl_parser.specs.Aptness.{IsAnswerApt};
 use crate::block::declaration;
 use crate::expression::{closed_if_any, parenthesised};
 use crate::nodes::{do_node, for_node, while_node};
-use crate::source::{Scope, Source, begins_type, is_keyword, is_mark, place_at, refuse};
+use crate::source::{Scope, Source, begins_type, is_keyword, is_punctuator, place_at, refuse};
 use crate::statement::statement;
 use crate::stop::{Stop, Taken};
 use cs_ast::raw::expression::RawExpr;
 use cs_ast::raw::statement::{RawFirst, RawStmt};
-use cs_ast::{Keyword, Mark};
+use cs_ast::{Keyword, Punctuator};
 use cs_expr_parser::ExprLevel;
 use std::alloc::Global;
 
@@ -33,20 +33,20 @@ pub fn while_statement(
     alloc: Global,
     source: &Source,
     from: usize,
-    room: u32,
+    limit: u32,
 ) -> Result<Taken<RawStmt>, Stop>
     requires within { from < length source.now.tokens.now }
     requires few { length source.now.tokens.now < 2 ^ 32 }
-    requires enough { 2 ≤ room }
+    requires enough { 2 ≤ limit }
     requires stands { kind_or_end source.now.tokens.now from ≡ token.Keyword keyword.While }
-    ensures bounds { IsBounded room source.now.tokens.now from result }
-    ensures parsed { Answers (Sentences source.now.names.now) statement_of room source.now.tokens.now from result }
+    ensures bounds { IsBounded limit source.now.tokens.now from result }
+    ensures parsed { Answers (Sentences source.now.names.now) statement_of limit source.now.tokens.now from result }
     ensures placed { IfOk result (λ taken. HasStatementPlaces taken.tree (drop from source.now.tokens.now)) }
     ensures apt { IsAnswerApt Scope.Block source.now.tokens.now result }
 {
     let place = place_at(source, from);
-    let test = parenthesised(alloc, source, from + 1, room - 1)?;
-    let body = statement(alloc, source, test.next, room - 1)?;
+    let test = parenthesised(alloc, source, from + 1, limit - 1)?;
+    let body = statement(alloc, source, test.next, limit - 1)?;
     let made = while_node(alloc, place, test, body)?;
     Ok(made)
 }
@@ -57,24 +57,24 @@ pub fn do_statement(
     alloc: Global,
     source: &Source,
     from: usize,
-    room: u32,
+    limit: u32,
 ) -> Result<Taken<RawStmt>, Stop>
     requires within { from < length source.now.tokens.now }
     requires few { length source.now.tokens.now < 2 ^ 32 }
-    requires enough { 2 ≤ room }
+    requires enough { 2 ≤ limit }
     requires stands { kind_or_end source.now.tokens.now from ≡ token.Keyword keyword.Do }
-    ensures bounds { IsBounded room source.now.tokens.now from result }
-    ensures parsed { Answers (Sentences source.now.names.now) statement_of room source.now.tokens.now from result }
+    ensures bounds { IsBounded limit source.now.tokens.now from result }
+    ensures parsed { Answers (Sentences source.now.names.now) statement_of limit source.now.tokens.now from result }
     ensures placed { IfOk result (λ taken. HasStatementPlaces taken.tree (drop from source.now.tokens.now)) }
     ensures apt { IsAnswerApt Scope.Block source.now.tokens.now result }
 {
     let place = place_at(source, from);
-    let body = statement(alloc, source, from + 1, room - 1)?;
+    let body = statement(alloc, source, from + 1, limit - 1)?;
     if !is_keyword(source, body.next, Keyword::While) {
         return Err(refuse(source, body.next, Scope::Block));
     }
-    let test = parenthesised(alloc, source, body.next + 1, room - 1)?;
-    if !is_mark(source, test.next, Mark::Semicolon) {
+    let test = parenthesised(alloc, source, body.next + 1, limit - 1)?;
+    if !is_punctuator(source, test.next, Punctuator::Semicolon) {
         return Err(refuse(source, test.next, Scope::Block));
     }
     let next = test.next + 1;
@@ -96,46 +96,53 @@ pub fn for_statement(
     alloc: Global,
     source: &Source,
     from: usize,
-    room: u32,
+    limit: u32,
 ) -> Result<Taken<RawStmt>, Stop>
     requires within { from < length source.now.tokens.now }
     requires few { length source.now.tokens.now < 2 ^ 32 }
-    requires enough { 2 ≤ room }
+    requires enough { 2 ≤ limit }
     requires stands { kind_or_end source.now.tokens.now from ≡ token.Keyword keyword.For }
-    ensures bounds { IsBounded room source.now.tokens.now from result }
-    ensures parsed { Answers (Sentences source.now.names.now) statement_of room source.now.tokens.now from result }
+    ensures bounds { IsBounded limit source.now.tokens.now from result }
+    ensures parsed { Answers (Sentences source.now.names.now) statement_of limit source.now.tokens.now from result }
     ensures placed { IfOk result (λ taken. HasStatementPlaces taken.tree (drop from source.now.tokens.now)) }
     ensures apt { IsAnswerApt Scope.Block source.now.tokens.now result }
 {
     let place = place_at(source, from);
-    let control = control(alloc, source, from + 1, room - 1)?;
-    let body = statement(alloc, source, control.next, room - 1)?;
+    let control = control(alloc, source, from + 1, limit - 1)?;
+    let body = statement(alloc, source, control.next, limit - 1)?;
     let made = for_node(alloc, place, control, body)?;
     Ok(made)
 }
 
 /// The parts of a `for` between parentheses, the first of which is to stand at a number. The height is that of the highest part.
-fn control(alloc: Global, source: &Source, from: usize, room: u32) -> Result<Taken<ForParts>, Stop>
+fn control(alloc: Global, source: &Source, from: usize, limit: u32) -> Result<Taken<ForParts>, Stop>
     requires within { from ≤ length source.now.tokens.now }
     requires few { length source.now.tokens.now < 2 ^ 32 }
-    ensures bounds { IsBounded room source.now.tokens.now from result }
-    ensures parsed { ExactAnswers (Controls source.now.names.now) control_of room source.now.tokens.now from result }
+    ensures bounds { IsBounded limit source.now.tokens.now from result }
+    ensures parsed { ExactAnswers (Controls source.now.names.now) control_of limit source.now.tokens.now from result }
     ensures placed { IfOk result (λ taken. AreForPartsPlaced taken.tree (drop (from + 1) source.now.tokens.now)) }
     ensures apt { IsAnswerApt Scope.Block source.now.tokens.now result }
 {
-    if !is_mark(source, from, Mark::OpenParenthesis) {
+    if !is_punctuator(source, from, Punctuator::OpenParenthesis) {
         return Err(refuse(source, from, Scope::Block));
     }
     let level = ExprLevel::Expr;
-    let first = first_part(alloc, source, from + 1, room)?;
-    let test = closed_if_any(alloc, source, first.next, room, level, Mark::Semicolon)?;
+    let first = first_part(alloc, source, from + 1, limit)?;
+    let test = closed_if_any(
+        alloc,
+        source,
+        first.next,
+        limit,
+        level,
+        Punctuator::Semicolon,
+    )?;
     let last = closed_if_any(
         alloc,
         source,
         test.next,
-        room,
+        limit,
         level,
-        Mark::CloseParenthesis,
+        Punctuator::CloseParenthesis,
     )?;
     Ok(Taken {
         tree: ForParts {
@@ -153,25 +160,25 @@ fn first_part(
     alloc: Global,
     source: &Source,
     from: usize,
-    room: u32,
+    limit: u32,
 ) -> Result<Taken<RawFirst>, Stop>
     requires within { from ≤ length source.now.tokens.now }
     requires few { length source.now.tokens.now < 2 ^ 32 }
-    ensures bounds { IsBounded room source.now.tokens.now from result }
-    ensures parsed { ExactAnswers (Firsts source.now.names.now) first_of room source.now.tokens.now from result }
+    ensures bounds { IsBounded limit source.now.tokens.now from result }
+    ensures parsed { ExactAnswers (Firsts source.now.names.now) first_of limit source.now.tokens.now from result }
     ensures placed { IfOk result (λ taken. IsFirstPlaced taken.tree (drop from source.now.tokens.now)) }
     ensures apt { IsAnswerApt Scope.Block source.now.tokens.now result }
 {
     if begins_type(source, from) {
-        let declared = declaration(alloc, source, from, room)?;
+        let declared = declaration(alloc, source, from, limit)?;
         return Ok(Taken {
             tree: RawFirst::Declare(declared.tree.specs, declared.tree.objects),
             height: declared.height,
             next: declared.next,
         });
     }
-    let (level, closing) = (ExprLevel::Expr, Mark::Semicolon);
-    let value = closed_if_any(alloc, source, from, room, level, closing)?;
+    let (level, closing) = (ExprLevel::Expr, Punctuator::Semicolon);
+    let value = closed_if_any(alloc, source, from, limit, level, closing)?;
     Ok(Taken {
         tree: run_if_any(value.tree),
         height: value.height,

@@ -97,7 +97,7 @@ pub fn while_node(
     Ok(node(place, kind, height, next))
 }
 
-/// `do body while ( test ) ;`, with the token behind its semicolon
+/// `do body while ( test ) ;`, with the token after its semicolon
 pub fn do_node(
     alloc: Global,
     place: Place,

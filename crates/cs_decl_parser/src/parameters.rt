@@ -15,31 +15,31 @@ ghost use Rattle.cs_decl_parser.specs.Aptness.{IsAnswerApt};
 
 use crate::declarator::{Declares, bounds};
 use crate::names::free_name_at;
-use crate::source::{Scope, Source, is_keyword, is_mark, place_at, refuse, refuse_but};
+use crate::source::{Scope, Source, is_keyword, is_punctuator, place_at, refuse, refuse_but};
 use crate::specs::specs;
 use crate::stop::{Stop, Taken};
 use crate::words::stars;
 use cs_ast::raw::declaration::{RawParameter, RawParameters};
 use cs_ast::raw::name::RawName;
-use cs_ast::{Keyword, Mark};
+use cs_ast::{Keyword, Punctuator};
 use std::alloc::Global;
 
-/// The parameters from behind an opening parenthesis to behind the closing one, as one node.
+/// The parameters from after an opening parenthesis to after the closing one, as one node.
 pub fn parameters(
     alloc: Global,
     source: &Source,
     from: usize,
-    room: u32,
+    limit: u32,
 ) -> Result<Taken<RawParameters>, Stop>
     requires within { from ≤ length source.now.tokens.now }
     requires few { length source.now.tokens.now < 2 ^ 32 }
-    requires enough { 4 ≤ room }
-    ensures bounds { IsBounded room source.now.tokens.now from result }
-    ensures parsed { ExactAnswers (ParameterLists source.now.names.now) parameters_of room source.now.tokens.now from result }
+    requires enough { 4 ≤ limit }
+    ensures bounds { IsBounded limit source.now.tokens.now from result }
+    ensures parsed { ExactAnswers (ParameterLists source.now.names.now) parameters_of limit source.now.tokens.now from result }
     ensures placed { IfOk result (λ taken. AreParametersPlaced taken.tree (drop from source.now.tokens.now)) }
     ensures apt { IsAnswerApt Scope.File source.now.tokens.now result }
 {
-    if is_mark(source, from, Mark::CloseParenthesis) {
+    if is_punctuator(source, from, Punctuator::CloseParenthesis) {
         return Ok(Taken {
             tree: RawParameters::Empty,
             height: 1,
@@ -53,7 +53,7 @@ pub fn parameters(
             next: from + 2,
         });
     }
-    let list = parameter_list(alloc, source, from, room - 1)?;
+    let list = parameter_list(alloc, source, from, limit - 1)?;
     Ok(Taken {
         tree: RawParameters::List(list.tree),
         height: list.height + 1,
@@ -67,36 +67,37 @@ fn is_void_alone(source: &Source, from: usize) -> bool
     ensures within { IsTrue result → from + 1 < length source.now.tokens.now }
     ensures void { IsTrue result ↔ IsVoidAlone source.now.tokens.now from }
 {
-    is_keyword(source, from, Keyword::Void) && is_mark(source, from + 1, Mark::CloseParenthesis)
+    is_keyword(source, from, Keyword::Void)
+        && is_punctuator(source, from + 1, Punctuator::CloseParenthesis)
 }
 
-/// Parameters with commas between them, one at least, to behind the closing parenthesis. The height is that of the highest.
+/// Parameters with commas between them, one at least, to after the closing parenthesis. The height is that of the highest.
 fn parameter_list(
     alloc: Global,
     source: &Source,
     from: usize,
-    room: u32,
+    limit: u32,
 ) -> Result<Taken<Vec<RawParameter>>, Stop>
     requires within { from ≤ length source.now.tokens.now }
     requires few { length source.now.tokens.now < 2 ^ 32 }
-    requires enough { 2 ≤ room }
+    requires enough { 2 ≤ limit }
     requires no_void { IsVoidAlone source.now.tokens.now from → ⊥ }
-    ensures bounds { IsBounded room source.now.tokens.now from result }
-    ensures parsed { ExactAnswers (ParameterRows source.now.names.now) (λ list. map parameter_of list.items) room source.now.tokens.now from result }
+    ensures bounds { IsBounded limit source.now.tokens.now from result }
+    ensures parsed { ExactAnswers (ParameterRows source.now.names.now) (λ list. map parameter_of list.items) limit source.now.tokens.now from result }
     ensures placed { IfOk result (λ taken. AreInRow IsParameterPlaced (λ p. parameter_text (parameter_of p)) taken.tree.items (drop from source.now.tokens.now)) }
     ensures apt { IsAnswerApt Scope.File source.now.tokens.now result }
 {
     let mut list = Vec::new(alloc);
-    let mut last = parameter(alloc, source, from, room)?;
+    let mut last = parameter(alloc, source, from, limit)?;
     let mut height = last.height;
-    'parameters: while is_mark(source, last.next, Mark::Comma) {
-        let following = parameter(alloc, source, last.next + 1, room)?;
+    'parameters: while is_punctuator(source, last.next, Punctuator::Comma) {
+        let another = parameter(alloc, source, last.next + 1, limit)?;
         list.push(last.tree)?;
-        height = height.max(following.height);
-        last = following;
+        height = height.max(another.height);
+        last = another;
     }
     list.push(last.tree)?;
-    if !is_mark(source, last.next, Mark::CloseParenthesis) {
+    if !is_punctuator(source, last.next, Punctuator::CloseParenthesis) {
         return Err(refuse(source, last.next, Scope::File));
     }
     Ok(Taken {
@@ -110,20 +111,20 @@ fn parameter(
     alloc: Global,
     source: &Source,
     from: usize,
-    room: u32,
+    limit: u32,
 ) -> Result<Taken<RawParameter>, Stop>
     requires within { from ≤ length source.now.tokens.now }
     requires few { length source.now.tokens.now < 2 ^ 32 }
-    requires enough { 2 ≤ room }
-    ensures bounds { IsBounded room source.now.tokens.now from result }
-    ensures parsed { ParameterAnswer source.now.names.now room source.now.tokens.now from result }
+    requires enough { 2 ≤ limit }
+    ensures bounds { IsBounded limit source.now.tokens.now from result }
+    ensures parsed { ParameterAnswer source.now.names.now limit source.now.tokens.now from result }
     ensures placed { IfOk result (λ taken. IsParameterPlaced taken.tree (drop from source.now.tokens.now)) }
     ensures apt { IsAnswerApt Scope.File source.now.tokens.now result }
 {
-    let specs = specs(alloc, source, from, room - 1)?;
+    let specs = specs(alloc, source, from, limit - 1)?;
     let pointers = stars(alloc, source, specs.next)?;
     let name = parameter_name(source, pointers.next)?;
-    let bounds = bounds(alloc, source, name.next, room - 1, Declares::Names)?;
+    let bounds = bounds(alloc, source, name.next, limit - 1, Declares::Names)?;
     Ok(Taken {
         tree: RawParameter {
             place: place_at(source, from),
@@ -146,11 +147,11 @@ fn parameter_name(source: &Source, at: usize) -> Result<Taken<Option<RawName>>, 
     ensures placed { IfOk result (λ taken. IsNamePlaced taken.tree (drop at source.now.tokens.now)) }
     ensures apt { IsAnswerApt Scope.File source.now.tokens.now result }
 {
-    if is_mark(source, at, Mark::OpenParenthesis) {
-        return Err(refuse_but(source, at, Scope::File, Mark::OpenParenthesis));
+    if is_punctuator(source, at, Punctuator::OpenParenthesis) {
+        return Err(refuse_but(source, at, Scope::File, Punctuator::OpenParenthesis));
     }
     let name = free_name_at(source, at)?;
-    let next = behind_name(at, &name);
+    let next = after_name(at, &name);
     Ok(Taken {
         tree: name,
         height: 0,
@@ -158,8 +159,8 @@ fn parameter_name(source: &Source, at: usize) -> Result<Taken<Option<RawName>>, 
     })
 }
 
-/// The number behind a name, if there is one at a number.
-fn behind_name(at: usize, name: &Option<RawName>) -> usize
+/// The number after a name, if there is one at a number.
+fn after_name(at: usize, name: &Option<RawName>) -> usize
     requires few { at < 2 ^ 32 }
     ensures { result ≡ number_past at (name_in name.now) }
 {

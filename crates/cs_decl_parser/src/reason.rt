@@ -2,31 +2,31 @@
 ghost use Rattle.std.specs.Prelude.{◌≡◌, ◌<◌, ◌≤◌, ◌+◌, ◌⊎◌, ◌^◌, ◌∷◌, [], ◌++◌, ◌↔◌, length, take, IfOk, IsTrue, true};
 ghost use Rattle.cs_grammar.specs.FilePhrases.{BeginsFile, BeginsLowFile};
 ghost use Rattle.cs_ast.specs.declared.token.TokenKind.TheVariants as token;
-ghost use Rattle.cs_ast.specs.declared.token.Mark.TheVariants as mark;
-ghost use Rattle.cs_grammar.specs.FileRefusals.{MayHave, IsLeftOutOfFile};
+ghost use Rattle.cs_ast.specs.declared.token.Punctuator.TheVariants as punctuator;
+ghost use Rattle.cs_grammar.specs.FileRefusals.{MayHave, IsUnsupportedOfFile};
 ghost use Rattle.cs_expr_parser.specs.declared.stop.Stop.TheVariants as stop;
-ghost use Rattle.cs_left_out.specs.LastParts.{EndInPart};
+ghost use Rattle.cs_unsupported.specs.LastParts.{EndInPart};
 ghost use Rattle.cs_decl_parser.specs.ReadParts.{StandsAmidst};
 ghost use Rattle.cs_grammar.specs.Roles.{declared_name, opens_list};
 ghost use Rattle.cs_expr_parser.specs.Parts.{is_deep};
 ghost use Rattle.cs_expr_parser.specs.Positions.{kinds, kind_or_end};
 ghost use Rattle.cs_decl_parser.specs.DeclarationAnswers.{is_designator};
 ghost use Rattle.cs_decl_parser.specs.Files.{IsFileRefusedAt};
-ghost use Rattle.cs_decl_parser.specs.FileStops.{is_file_word as file_word, left_out_if as out_if, IsPartRefusedAt};
+ghost use Rattle.cs_decl_parser.specs.FileStops.{is_file_word as file_word, unsupported_if as out_if, IsPartRefusedAt};
 
 use crate::externals::Parts;
 use crate::stop::Stop;
-use cs_ast::{Keyword, Mark, Token, TokenKind};
-use cs_expr_parser::{is_mark, keyword_at, mark_at};
+use cs_ast::{Keyword, Punctuator, Token, TokenKind};
+use cs_expr_parser::{is_punctuator, keyword_at, punctuator_at};
 use cs_grammar::Reason;
-use cs_left_out::{
-    awaits_list, is_behind_member, is_behind_type, is_inside, is_tag_inside, token_for_name,
+use cs_unsupported::{
+    awaits_list, is_after_member, is_after_type, is_inside, is_tag_inside, token_for_name,
 };
 use std::alloc::{AllocError, Global};
 
 /// Why the token at a number is refused: the tokens before it tell whether a colon, `static`, `typedef`, a dot, or an opening
 /// bracket, brace or parenthesis is left out.
-pub fn reason_told(
+pub fn reason_reported(
     alloc: Global,
     tokens: &[Token],
     at: usize,
@@ -35,35 +35,35 @@ pub fn reason_told(
 ) -> Result<Reason, AllocError>
     requires few { length tokens.now < 2 ^ 32 }
     requires amidst { StandsAmidst tokens.now parts.now (stop.Refused at reason) }
-    ensures { IfOk result (λ told. IsPartRefusedAt tokens.now at reason → IsFileRefusedAt tokens.now at told) }
+    ensures { IfOk result (λ reported. IsPartRefusedAt tokens.now at reason → IsFileRefusedAt tokens.now at reported) }
 {
     if is_too_deep(reason) {
         return Ok(reason);
     }
-    if is_mark(tokens, at, Mark::Colon) {
-        let out = is_behind_member(alloc, &tokens[..at])?;
-        return Ok(left_out_if(out));
+    if is_punctuator(tokens, at, Punctuator::Colon) {
+        let out = is_after_member(alloc, &tokens[..at])?;
+        return Ok(unsupported_if(out));
     }
     if is_file_word(tokens, at) {
         let out = is_inside(alloc, &tokens[..at])?;
-        return Ok(left_out_if(out));
+        return Ok(unsupported_if(out));
     }
     if begins_designator(tokens, at) {
         let out = may_open_list(alloc, tokens, at)?;
-        return Ok(left_out_if(out));
+        return Ok(unsupported_if(out));
     }
-    if is_mark(tokens, at, Mark::OpenBrace) {
+    if is_punctuator(tokens, at, Punctuator::OpenBrace) {
         let out = is_brace_out(alloc, tokens, at, parts)?;
-        return Ok(left_out_if(out));
+        return Ok(unsupported_if(out));
     }
-    if is_mark(tokens, at, Mark::OpenParenthesis) {
+    if is_punctuator(tokens, at, Punctuator::OpenParenthesis) {
         let out = may_name_declarator(alloc, tokens, at)?;
-        return Ok(left_out_if(out));
+        return Ok(unsupported_if(out));
     }
     Ok(reason)
 }
 
-/// Whether a brace with this number is left out, in the part of the file behind these, which the tokens before it end in.
+/// Whether a brace with this number is left out, in the part of the file after these, which the tokens before it end in.
 fn is_brace_out(
     alloc: Global,
     tokens: &[Token],
@@ -72,14 +72,14 @@ fn is_brace_out(
 ) -> Result<bool, AllocError>
     requires within { at < length tokens.now }
     requires onward { parts.now.next ≤ at }
-    ensures { IfOk result (λ out. BeginsFile (kinds (take at tokens.now)) → EndInPart parts.now.names (kinds (take at tokens.now)) parts.now.next → (IsTrue out ↔ IsLeftOutOfFile (kinds (take at tokens.now)) (token.Mark mark.OpenBrace))) }
+    ensures { IfOk result (λ out. BeginsFile (kinds (take at tokens.now)) → EndInPart parts.now.names (kinds (take at tokens.now)) parts.now.next → (IsTrue out ↔ IsUnsupportedOfFile (kinds (take at tokens.now)) (token.Punctuator punctuator.OpenBrace))) }
 {
     let before = &tokens[..at];
     if is_tag_inside(alloc, before)? {
         return Ok(true);
     }
-    let behind = is_behind_type(alloc, &parts.names, before, parts.next)?;
-    Ok(behind)
+    let following = is_after_type(alloc, &parts.names, before, parts.next)?;
+    Ok(following)
 }
 
 /// Whether a dot or an opening bracket stands at a number.
@@ -87,7 +87,10 @@ fn begins_designator(tokens: &[Token], at: usize) -> bool
     ensures begins { IsTrue result ↔ (is_designator (kind_or_end tokens.now at) ≡ true) }
     ensures within { IsTrue result → at < length tokens.now }
 {
-    matches!(mark_at(tokens, at), Some(Mark::Dot | Mark::OpenBracket))
+    matches!(
+        punctuator_at(tokens, at),
+        Some(Punctuator::Dot | Punctuator::OpenBracket)
+    )
 }
 
 /// Whether a list of initial values may open in place of the token with this number, where some file that is low enough begins with
@@ -102,7 +105,7 @@ fn may_open_list(alloc: Global, tokens: &[Token], at: usize) -> Result<bool, All
         return Ok(false);
     }
     let brace = Token {
-        kind: TokenKind::Mark(Mark::OpenBrace),
+        kind: TokenKind::Punctuator(Punctuator::OpenBrace),
         place: tokens[at].place,
     };
     let on = file_goes_on(alloc, before, brace)?;
@@ -114,7 +117,7 @@ fn may_open_list(alloc: Global, tokens: &[Token], at: usize) -> Result<bool, All
 fn may_name_declarator(alloc: Global, tokens: &[Token], at: usize) -> Result<bool, AllocError>
     requires within { at < length tokens.now }
     requires few { length tokens.now < 2 ^ 32 }
-    ensures { IfOk result (λ may. BeginsLowFile 200 (kinds (take at tokens.now)) → (BeginsFile (kinds (take at tokens.now) ++ token.Mark mark.OpenParenthesis ∷ []) → ⊥) → (IsTrue may ↔ MayHave (kinds (take at tokens.now)) declared_name)) }
+    ensures { IfOk result (λ may. BeginsLowFile 200 (kinds (take at tokens.now)) → (BeginsFile (kinds (take at tokens.now) ++ token.Punctuator punctuator.OpenParenthesis ∷ []) → ⊥) → (IsTrue may ↔ MayHave (kinds (take at tokens.now)) declared_name)) }
 {
     let before = &tokens[..at];
     let Some(kind) = token_for_name(alloc, before)? else {
@@ -129,7 +132,7 @@ fn may_name_declarator(alloc: Global, tokens: &[Token], at: usize) -> Result<boo
 }
 
 /// Whether some file, of any height, begins with these tokens and one more, where one that is low enough begins with these. They are
-/// parsed with that one behind them.
+/// parsed with that one after them.
 fn file_goes_on(alloc: Global, before: &[Token], next: Token) -> Result<bool, AllocError>
     requires few { length before.now + 1 < 2 ^ 32 }
     ensures { IfOk result (λ on. BeginsLowFile 200 (kinds before.now) → (IsTrue on ↔ BeginsFile (kinds before.now ++ next.kind ∷ []))) }
@@ -143,7 +146,7 @@ fn file_goes_on(alloc: Global, before: &[Token], next: Token) -> Result<bool, Al
     }
 }
 
-/// Whether the token with a number, which is refused, stands behind so many others, or is too deep.
+/// Whether the token with a number, which is refused, stands after so many others, or is too deep.
 fn is_deep_or_past(at: usize, reason: Reason, count: usize) -> bool
     ensures { IsTrue result ↔ ((count < at) ⊎ (is_deep reason ≡ true)) }
 {
@@ -162,10 +165,14 @@ fn is_file_word(tokens: &[Token], at: usize) -> bool
 }
 
 /// The reason, where it is told whether a token is left out.
-fn left_out_if(out: bool) -> Reason
+fn unsupported_if(out: bool) -> Reason
     ensures { result ≡ out_if out }
 {
-    if out { Reason::LeftOut } else { Reason::Syntax }
+    if out {
+        Reason::Unsupported
+    } else {
+        Reason::Syntax
+    }
 }
 
 fn is_too_deep(reason: Reason) -> bool

@@ -5,15 +5,15 @@ ghost use Rattle.cs_ast.specs.declared.token.Token.{Token as Lexed};
 ghost use Rattle.cs_ast.specs.declared.token.TokenKind.TheVariants as token;
 ghost use Rattle.cs_grammar.specs.FirstTokens.{begins_type as starts_type};
 ghost use Rattle.cs_grammar.specs.Places.{StandsAt};
-ghost use Rattle.cs_expr_parser.specs.Positions.{kind_or_end, mark_of, keyword_of, name_of};
+ghost use Rattle.cs_expr_parser.specs.Positions.{kind_or_end, punctuator_of, keyword_of, name_of};
 ghost use Rattle.cs_grammar.specs.declared.refusal.Reason.TheVariants.{TooDeep};
 ghost use Rattle.cs_expr_parser.specs.declared.stop.Stop.TheVariants as stop;
 ghost use Rattle.cs_decl_parser.specs.Aptness.{may_be_out, IsApt, IsStopApt};
-ghost use Rattle.cs_decl_parser.specs.DeclarationAnswers.{RefusesBehind};
-ghost use Rattle.cs_decl_parser.specs.Reasons.{is_left_out as left_out, plain_reason, RefusesBut};
+ghost use Rattle.cs_decl_parser.specs.DeclarationAnswers.{RefusesAfter};
+ghost use Rattle.cs_decl_parser.specs.Reasons.{is_unsupported as unsupported, plain_reason, RefusesBut};
 
 use crate::stop::Stop;
-use cs_ast::{Keyword, Mark, Place, Token, TokenKind};
+use cs_ast::{Keyword, Place, Punctuator, Token, TokenKind};
 use cs_expr_parser as tokens;
 use cs_grammar::{Reason, TypedefNames};
 use cs_names::Name;
@@ -32,20 +32,20 @@ pub enum Scope {
     Block,
 }
 
-/// The mark that stands at a number, if one does.
-pub fn mark_at(source: &Source, at: usize) -> Option<Mark>
-    ensures mark { result ≡ mark_of (kind_or_end source.now.tokens.now at) }
+/// The punctuator that stands at a number, if one does.
+pub fn punctuator_at(source: &Source, at: usize) -> Option<Punctuator>
+    ensures punctuator { result ≡ punctuator_of (kind_or_end source.now.tokens.now at) }
     ensures within { IsSome result → at < length source.now.tokens.now }
 {
-    tokens::mark_at(source.tokens, at)
+    tokens::punctuator_at(source.tokens, at)
 }
 
-/// Whether this mark stands at a number.
-pub fn is_mark(source: &Source, at: usize, mark: Mark) -> bool
-    ensures mark { IsTrue result ↔ (kind_or_end source.now.tokens.now at ≡ token.Mark mark) }
+/// Whether this punctuator stands at a number.
+pub fn is_punctuator(source: &Source, at: usize, punctuator: Punctuator) -> bool
+    ensures punctuator { IsTrue result ↔ (kind_or_end source.now.tokens.now at ≡ token.Punctuator punctuator) }
     ensures within { IsTrue result → at < length source.now.tokens.now }
 {
-    tokens::is_mark(source.tokens, at, mark)
+    tokens::is_punctuator(source.tokens, at, punctuator)
 }
 
 /// The keyword that stands at a number, if one does.
@@ -80,21 +80,21 @@ pub fn begins_type(source: &Source, at: usize) -> bool
 }
 
 /// Whether the token at a number is left out wherever it stands, outside expressions, in this scope.
-fn is_left_out(source: &Source, at: usize, scope: Scope) -> bool
-    ensures { result ≡ left_out scope (kind_or_end source.now.tokens.now at) }
+fn is_unsupported(source: &Source, at: usize, scope: Scope) -> bool
+    ensures { result ≡ unsupported scope (kind_or_end source.now.tokens.now at) }
 {
     match source.tokens.get(at) {
-        Some(token) => is_left_out_kind(&token.kind, scope),
+        Some(token) => is_unsupported_kind(&token.kind, scope),
         None => false,
     }
 }
 
-fn is_left_out_kind(kind: &TokenKind, scope: Scope) -> bool
-    ensures { result ≡ left_out scope kind.now }
+fn is_unsupported_kind(kind: &TokenKind, scope: Scope) -> bool
+    ensures { result ≡ unsupported scope kind.now }
 {
     match kind {
-        TokenKind::LeftOut(_) => true,
-        TokenKind::Mark(Mark::Ellipsis) => true,
+        TokenKind::Unsupported(_) => true,
+        TokenKind::Punctuator(Punctuator::Ellipsis) => true,
         TokenKind::Keyword(Keyword::Static) => scope == Scope::Block,
         TokenKind::Keyword(Keyword::Typedef) => scope == Scope::Block,
         _ => false,
@@ -107,8 +107,8 @@ pub fn reason_at(source: &Source, at: usize, scope: Scope) -> Reason
     ensures is { result ≡ plain_reason scope (kind_or_end source.now.tokens.now at) }
     ensures apt { IsApt scope (kind_or_end source.now.tokens.now at) result }
 {
-    if is_left_out(source, at, scope) {
-        Reason::LeftOut
+    if is_unsupported(source, at, scope) {
+        Reason::Unsupported
     } else {
         Reason::Syntax
     }
@@ -122,15 +122,15 @@ pub fn refuse(source: &Source, at: usize, scope: Scope) -> Stop
     Stop::Refused(at, reason_at(source, at, scope))
 }
 
-/// The same, where besides a mark is left out.
+/// The same, where besides a punctuator is left out.
 #[tactic(auto, using(crate::proofs::AptReasons::left_apt))]
-pub fn refuse_but(source: &Source, at: usize, scope: Scope, left_out: Mark) -> Stop
-    ensures reason { RefusesBut left_out scope at (kind_or_end source.now.tokens.now at) result }
-    ensures plain { RefusesBehind at false result }
-    ensures apt { IsTrue (may_be_out (token.Mark left_out)) → IsStopApt scope source.now.tokens.now result }
+pub fn refuse_but(source: &Source, at: usize, scope: Scope, unsupported: Punctuator) -> Stop
+    ensures reason { RefusesBut unsupported scope at (kind_or_end source.now.tokens.now at) result }
+    ensures plain { RefusesAfter at false result }
+    ensures apt { IsTrue (may_be_out (token.Punctuator unsupported)) → IsStopApt scope source.now.tokens.now result }
 {
-    if is_mark(source, at, left_out) {
-        return Stop::Refused(at, Reason::LeftOut);
+    if is_punctuator(source, at, unsupported) {
+        return Stop::Refused(at, Reason::Unsupported);
     }
     refuse(source, at, scope)
 }

@@ -8,7 +8,7 @@ ghost use Rattle.cs_expr_parser.specs.Positions.{kind_or_end};
 ghost use Rattle.cs_expr_parser.specs.Words.{names_some};
 ghost use Rattle.cs_decl_parser.specs.Bounds.{IsBounded, IsNextBounded, IsWordBounded, IsWordOf};
 ghost use Rattle.cs_decl_parser.specs.DeclarationAnswers.{constant_row};
-ghost use Rattle.cs_decl_parser.specs.SpecWords.{begins_words, name_in, number_behind, enum_of, IsTagKeyword, HasNoTag, IsTagged, IsOpened, IsSpecOf, IsStatic, PlainAnswer, ElementAnswer, SpecAnswer, SpecsAnswer};
+ghost use Rattle.cs_decl_parser.specs.SpecWords.{begins_words, name_in, number_after, enum_of, IsTagKeyword, HasNoTag, IsTagged, IsOpened, IsSpecOf, IsStatic, PlainAnswer, ElementAnswer, SpecAnswer, SpecsAnswer};
 ghost use Rattle.cs_decl_parser.specs.FilePlaces.{in_body, AreInRow, IsNamePlaced, IsSpecPlaced, IsConstantPlaced, HasSpecPlaces};
 ghost use Rattle.cs_decl_parser.specs.SpecPlaces.{place_in, IsWordPlaced, IsWordThere, AreGroupsPlaced};
 ghost use Rattle.cs_decl_parser.specs.Aptness.{IsAnswerApt};
@@ -16,25 +16,25 @@ ghost use Rattle.cs_decl_parser.specs.Aptness.{IsAnswerApt};
 use crate::constants::{ConstantList, constants};
 use crate::members::members;
 use crate::names::any_name_at;
-use crate::source::{Scope, Source, begins_type, is_keyword, is_mark, refuse, refuse_deep};
+use crate::source::{Scope, Source, begins_type, is_keyword, is_punctuator, refuse, refuse_deep};
 use crate::stop::{Stop, Taken};
 use crate::words::type_word_at;
 use cs_ast::raw::declaration::{RawMember, RawSpecs, SpecWord};
 use cs_ast::raw::name::RawName;
 use cs_ast::raw::written_type::TypeWord;
-use cs_ast::{Keyword, Mark, Place};
+use cs_ast::{Keyword, Place, Punctuator};
 use cs_grammar::TypeSoFar;
 use cs_names::Name;
 use std::alloc::Global;
 
-/// A word before declarators that fits behind those before it.
+/// A word before declarators that fits after those before it.
 #[derive(Drop)]
 pub struct NextWord {
     pub word: SpecWord,
     /// The place of its tag, if it has one.
     pub tag: Option<Place>,
     pub height: u32,
-    /// The number of the token behind it.
+    /// The number of the token after it.
     pub next: usize,
     /// What the words leave open with this one.
     pub so_far: TypeSoFar,
@@ -53,13 +53,13 @@ pub fn specs(
     alloc: Global,
     source: &Source,
     from: usize,
-    room: u32,
+    limit: u32,
 ) -> Result<Taken<RawSpecs>, Stop>
     requires within { from ≤ length source.now.tokens.now }
     requires few { length source.now.tokens.now < 2 ^ 32 }
-    requires some { 1 ≤ room }
-    ensures bounds { IsBounded room source.now.tokens.now from result }
-    ensures parsed { SpecsAnswer source.now.names.now room source.now.tokens.now from result }
+    requires some { 1 ≤ limit }
+    ensures bounds { IsBounded limit source.now.tokens.now from result }
+    ensures parsed { SpecsAnswer source.now.names.now limit source.now.tokens.now from result }
     ensures placed { IfOk result (λ taken. HasSpecPlaces taken.tree (drop from source.now.tokens.now)) }
     ensures apt { IsAnswerApt Scope.File source.now.tokens.now result }
 {
@@ -68,7 +68,7 @@ pub fn specs(
     let mut height = 0;
     let mut next = from;
     let mut so_far = TypeSoFar::Nothing;
-    'words: while let Some(found) = word_at(alloc, source, next, room, so_far)? {
+    'words: while let Some(found) = word_at(alloc, source, next, limit, so_far)? {
         tag = tag.or(found.tag);
         height = height.max(found.height);
         next = found.next;
@@ -97,20 +97,20 @@ pub fn begins_tagged(source: &Source, at: usize) -> bool
     is_keyword(source, at, Keyword::Enum)
 }
 
-/// The word at a number, if one stands there that fits behind those before it.
+/// The word at a number, if one stands there that fits after those before it.
 #[cycle(specs)]
 fn word_at(
     alloc: Global,
     source: &Source,
     at: usize,
-    room: u32,
+    limit: u32,
     so_far: TypeSoFar,
 ) -> Result<Option<NextWord>, Stop>
     requires within { at ≤ length source.now.tokens.now }
     requires few { length source.now.tokens.now < 2 ^ 32 }
-    requires some { 1 ≤ room }
-    ensures bounds { IsWordBounded room source.now.tokens.now at result }
-    ensures word { SpecAnswer source.now.names.now room source.now.tokens.now at so_far result }
+    requires some { 1 ≤ limit }
+    ensures bounds { IsWordBounded limit source.now.tokens.now at result }
+    ensures word { SpecAnswer source.now.names.now limit source.now.tokens.now at so_far result }
     ensures placed { IfOk result (IsWordThere source.now.tokens.now at so_far) }
     ensures apt { IsAnswerApt Scope.File source.now.tokens.now result }
 {
@@ -123,7 +123,7 @@ fn word_at(
     if names_type(so_far) {
         return Ok(None);
     }
-    let found = tagged(alloc, source, at, room)?;
+    let found = tagged(alloc, source, at, limit)?;
     Ok(Some(found))
 }
 
@@ -152,7 +152,7 @@ fn static_word(at: usize, so_far: TypeSoFar) -> NextWord
     }
 }
 
-/// The word of one token at a number, if it is one that fits behind the words before it.
+/// The word of one token at a number, if it is one that fits after the words before it.
 pub fn plain_word(source: &Source, at: usize, so_far: TypeSoFar) -> Result<Option<NextWord>, Stop>
     requires few { length source.now.tokens.now < 2 ^ 32 }
     ensures bounds { IsWordBounded 1 source.now.tokens.now at result }
@@ -175,33 +175,33 @@ pub fn plain_word(source: &Source, at: usize, so_far: TypeSoFar) -> Result<Optio
     }
 }
 
-/// `struct` or `enum`, at a number, with a tag or a body behind it or both.
+/// `struct` or `enum`, at a number, with a tag or a body after it or both.
 #[cycle(specs)]
-fn tagged(alloc: Global, source: &Source, at: usize, room: u32) -> Result<NextWord, Stop>
+fn tagged(alloc: Global, source: &Source, at: usize, limit: u32) -> Result<NextWord, Stop>
     requires within { at < length source.now.tokens.now }
     requires few { length source.now.tokens.now < 2 ^ 32 }
-    requires some { 1 ≤ room }
+    requires some { 1 ≤ limit }
     requires stands { IsTagKeyword (kind_or_end source.now.tokens.now at) }
-    ensures bounds { IsNextBounded room source.now.tokens.now at result }
-    ensures element { ElementAnswer source.now.names.now room source.now.tokens.now at result }
+    ensures bounds { IsNextBounded limit source.now.tokens.now at result }
+    ensures element { ElementAnswer source.now.names.now limit source.now.tokens.now at result }
     ensures placed { IfOk result (IsWordPlaced source.now.tokens.now at) }
     ensures apt { IsAnswerApt Scope.File source.now.tokens.now result }
 {
     let tag = any_name_at(source, at + 1)?;
-    let behind = behind_tag(at, &tag);
-    if is_mark(source, behind, Mark::OpenBrace) {
-        return with_body(alloc, source, at, tag, behind, room);
+    let following = after_tag(at, &tag);
+    if is_punctuator(source, following, Punctuator::OpenBrace) {
+        return with_body(alloc, source, at, tag, following, limit);
     }
     match tag {
         Some(tag) => Ok(without_body(source, at, tag)),
-        None => Err(refuse(source, behind, Scope::File)),
+        None => Err(refuse(source, following, Scope::File)),
     }
 }
 
-/// The number behind `struct` or `enum`, at a number, and its tag, if it has one.
-fn behind_tag(at: usize, tag: &Option<RawName>) -> usize
+/// The number after `struct` or `enum`, at a number, and its tag, if it has one.
+fn after_tag(at: usize, tag: &Option<RawName>) -> usize
     requires few { at < 2 ^ 32 }
-    ensures { result ≡ number_behind at (name_in tag.now) }
+    ensures { result ≡ number_after at (name_in tag.now) }
 {
     match tag {
         Some(_) => at + 2,
@@ -209,7 +209,7 @@ fn behind_tag(at: usize, tag: &Option<RawName>) -> usize
     }
 }
 
-/// `struct` or `enum`, at a number, and the tag behind it.
+/// `struct` or `enum`, at a number, and the tag after it.
 pub fn without_body(source: &Source, at: usize, tag: RawName) -> NextWord
     requires few { at < 2 ^ 32 }
     ensures bounds { IsWordOf 2 1 at result }
@@ -238,26 +238,26 @@ fn with_body(
     at: usize,
     tag: Option<RawName>,
     brace: usize,
-    room: u32,
+    limit: u32,
 ) -> Result<NextWord, Stop>
     requires onward { at < brace }
     requires within { brace < length source.now.tokens.now }
     requires few { length source.now.tokens.now < 2 ^ 32 }
-    requires some { 1 ≤ room }
+    requires some { 1 ≤ limit }
     requires opened { IsOpened source.now.tokens.now at brace (name_in tag) }
-    ensures bounds { IsNextBounded room source.now.tokens.now at result }
-    ensures element { ElementAnswer source.now.names.now room source.now.tokens.now at result }
+    ensures bounds { IsNextBounded limit source.now.tokens.now at result }
+    ensures element { ElementAnswer source.now.names.now limit source.now.tokens.now at result }
     ensures placed { IsNamePlaced tag (drop (at + 1) source.now.tokens.now) → IfOk result (IsWordPlaced source.now.tokens.now at) }
     ensures apt { IsAnswerApt Scope.File source.now.tokens.now result }
 {
     if is_keyword(source, at, Keyword::Struct) {
-        let members = members(alloc, source, brace + 1, room - 1)?;
+        let members = members(alloc, source, brace + 1, limit - 1)?;
         return Ok(structure(tag, members));
     }
-    if room < 2 {
+    if limit < 2 {
         return Err(refuse_deep(brace));
     }
-    let constants = constants(alloc, source, brace + 1, room - 1)?;
+    let constants = constants(alloc, source, brace + 1, limit - 1)?;
     Ok(enumeration(tag, constants))
 }
 

@@ -21,9 +21,9 @@ use crate::form::{Form, form_at};
 use crate::loops::{do_statement, for_statement, while_statement};
 use crate::names::any_name_at;
 use crate::nodes::{label_node, node};
-use crate::source::{Scope, Source, is_mark, place_at, refuse, refuse_deep};
+use crate::source::{Scope, Source, is_punctuator, place_at, refuse, refuse_deep};
 use crate::stop::{Stop, Taken};
-use cs_ast::Mark;
+use cs_ast::Punctuator;
 use cs_ast::raw::statement::{RawStmt, RawStmtKind};
 use cs_expr_parser::ExprLevel;
 use std::alloc::Global;
@@ -34,34 +34,34 @@ pub fn statement(
     alloc: Global,
     source: &Source,
     from: usize,
-    room: u32,
+    limit: u32,
 ) -> Result<Taken<RawStmt>, Stop>
     requires within { from ≤ length source.now.tokens.now }
     requires few { length source.now.tokens.now < 2 ^ 32 }
-    ensures bounds { IsBounded room source.now.tokens.now from result }
-    ensures parsed { Answers (Sentences source.now.names.now) statement_of room source.now.tokens.now from result }
+    ensures bounds { IsBounded limit source.now.tokens.now from result }
+    ensures parsed { Answers (Sentences source.now.names.now) statement_of limit source.now.tokens.now from result }
     ensures placed { IfOk result (λ taken. HasStatementPlaces taken.tree (drop from source.now.tokens.now)) }
     ensures apt { IsAnswerApt Scope.Block source.now.tokens.now result }
 {
     let form = form_at(source, from);
-    if room < form.least_height() {
+    if limit < form.least_height() {
         return Err(refuse_deep(from));
     }
     match form {
-        Form::Block => block(alloc, source, from, room),
-        Form::If => if_statement(alloc, source, from, room),
-        Form::While => while_statement(alloc, source, from, room),
-        Form::Do => do_statement(alloc, source, from, room),
-        Form::For => for_statement(alloc, source, from, room),
-        Form::Switch => switch_statement(alloc, source, from, room),
-        Form::Label => label(alloc, source, from, room),
+        Form::Block => block(alloc, source, from, limit),
+        Form::If => if_statement(alloc, source, from, limit),
+        Form::While => while_statement(alloc, source, from, limit),
+        Form::Do => do_statement(alloc, source, from, limit),
+        Form::For => for_statement(alloc, source, from, limit),
+        Form::Switch => switch_statement(alloc, source, from, limit),
+        Form::Label => label(alloc, source, from, limit),
         Form::Unlabelled => Err(refuse(source, from + 1, Scope::Block)),
-        Form::Run => run(alloc, source, from, room),
+        Form::Run => run(alloc, source, from, limit),
         Form::Empty => Ok(leaf(source, from, from + 1, RawStmtKind::Empty)),
         Form::Goto => goto(source, from),
         Form::Continue => jump(source, from, RawStmtKind::Continue),
         Form::Break => jump(source, from, RawStmtKind::Break),
-        Form::Return => return_statement(alloc, source, from, room),
+        Form::Return => return_statement(alloc, source, from, limit),
     }
 }
 
@@ -76,36 +76,36 @@ fn leaf(source: &Source, from: usize, next: usize, kind: RawStmtKind) -> Taken<R
 
 /// `name : body`, from a number on (C11 6.8.1).
 #[cycle(statement)]
-fn label(alloc: Global, source: &Source, from: usize, room: u32) -> Result<Taken<RawStmt>, Stop>
+fn label(alloc: Global, source: &Source, from: usize, limit: u32) -> Result<Taken<RawStmt>, Stop>
     requires within { from + 2 ≤ length source.now.tokens.now }
     requires few { length source.now.tokens.now < 2 ^ 32 }
-    requires enough { 2 ≤ room }
+    requires enough { 2 ≤ limit }
     requires stands { IsTrue (is_labelled (kind_or_end source.now.tokens.now from) (kind_or_end source.now.tokens.now (from + 1))) }
-    ensures bounds { IsBounded room source.now.tokens.now from result }
-    ensures parsed { Answers (Sentences source.now.names.now) statement_of room source.now.tokens.now from result }
+    ensures bounds { IsBounded limit source.now.tokens.now from result }
+    ensures parsed { Answers (Sentences source.now.names.now) statement_of limit source.now.tokens.now from result }
     ensures placed { IfOk result (λ taken. HasStatementPlaces taken.tree (drop from source.now.tokens.now)) }
     ensures apt { IsAnswerApt Scope.Block source.now.tokens.now result }
 {
     let Some(name) = any_name_at(source, from)? else {
         return Err(refuse(source, from, Scope::Block));
     };
-    let body = statement(alloc, source, from + 2, room - 1)?;
+    let body = statement(alloc, source, from + 2, limit - 1)?;
     let made = label_node(alloc, name, body)?;
     Ok(made)
 }
 
 /// An expression with its semicolon, from a number on (C11 6.8.3).
-fn run(alloc: Global, source: &Source, from: usize, room: u32) -> Result<Taken<RawStmt>, Stop>
+fn run(alloc: Global, source: &Source, from: usize, limit: u32) -> Result<Taken<RawStmt>, Stop>
     requires within { from ≤ length source.now.tokens.now }
     requires few { length source.now.tokens.now < 2 ^ 32 }
     requires stands { form_of source.now.names.now (kind_or_end source.now.tokens.now from) (kind_or_end source.now.tokens.now (from + 1)) ≡ form.Run }
-    ensures bounds { IsBounded room source.now.tokens.now from result }
-    ensures parsed { Answers (Sentences source.now.names.now) statement_of room source.now.tokens.now from result }
+    ensures bounds { IsBounded limit source.now.tokens.now from result }
+    ensures parsed { Answers (Sentences source.now.names.now) statement_of limit source.now.tokens.now from result }
     ensures placed { IfOk result (λ taken. HasStatementPlaces taken.tree (drop from source.now.tokens.now)) }
     ensures apt { IsAnswerApt Scope.Block source.now.tokens.now result }
 {
-    let (level, closing) = (ExprLevel::Expr, Mark::Semicolon);
-    let value = closed(alloc, source, from, room.saturating_sub(1), level, closing)?;
+    let (level, closing) = (ExprLevel::Expr, Punctuator::Semicolon);
+    let value = closed(alloc, source, from, limit.saturating_sub(1), level, closing)?;
     let (height, next) = (value.height + 1, value.next);
     let kind = RawStmtKind::Run(value.tree);
     Ok(node(place_at(source, from), kind, height, next))
@@ -117,14 +117,14 @@ fn goto(source: &Source, from: usize) -> Result<Taken<RawStmt>, Stop>
     requires few { length source.now.tokens.now < 2 ^ 32 }
     requires stands { kind_or_end source.now.tokens.now from ≡ token.Keyword keyword.Goto }
     ensures bounds { IsBounded 1 source.now.tokens.now from result }
-    ensures parsed { (room : ℕ) → 1 ≤ room → Answers (Sentences source.now.names.now) statement_of room source.now.tokens.now from result }
+    ensures parsed { (limit : ℕ) → 1 ≤ limit → Answers (Sentences source.now.names.now) statement_of limit source.now.tokens.now from result }
     ensures placed { IfOk result (λ taken. HasStatementPlaces taken.tree (drop from source.now.tokens.now)) }
     ensures apt { IsAnswerApt Scope.Block source.now.tokens.now result }
 {
     let Some(name) = any_name_at(source, from + 1)? else {
         return Err(refuse(source, from + 1, Scope::Block));
     };
-    if !is_mark(source, from + 2, Mark::Semicolon) {
+    if !is_punctuator(source, from + 2, Punctuator::Semicolon) {
         return Err(refuse(source, from + 2, Scope::Block));
     }
     Ok(leaf(source, from, from + 3, RawStmtKind::Goto(name.name)))
@@ -136,11 +136,11 @@ fn jump(source: &Source, from: usize, kind: RawStmtKind) -> Result<Taken<RawStmt
     requires few { length source.now.tokens.now < 2 ^ 32 }
     requires stands { IsJump (kind_or_end source.now.tokens.now from) (sentence kind) }
     ensures bounds { IsBounded 1 source.now.tokens.now from result }
-    ensures parsed { (room : ℕ) → 1 ≤ room → Answers (Sentences source.now.names.now) statement_of room source.now.tokens.now from result }
+    ensures parsed { (limit : ℕ) → 1 ≤ limit → Answers (Sentences source.now.names.now) statement_of limit source.now.tokens.now from result }
     ensures placed { IfOk result (λ taken. HasStatementPlaces taken.tree (drop from source.now.tokens.now)) }
     ensures apt { IsAnswerApt Scope.Block source.now.tokens.now result }
 {
-    if !is_mark(source, from + 1, Mark::Semicolon) {
+    if !is_punctuator(source, from + 1, Punctuator::Semicolon) {
         return Err(refuse(source, from + 1, Scope::Block));
     }
     Ok(leaf(source, from, from + 2, kind))
@@ -151,19 +151,19 @@ fn return_statement(
     alloc: Global,
     source: &Source,
     from: usize,
-    room: u32,
+    limit: u32,
 ) -> Result<Taken<RawStmt>, Stop>
     requires within { from < length source.now.tokens.now }
     requires few { length source.now.tokens.now < 2 ^ 32 }
-    requires some { 1 ≤ room }
+    requires some { 1 ≤ limit }
     requires stands { kind_or_end source.now.tokens.now from ≡ token.Keyword keyword.Return }
-    ensures bounds { IsBounded room source.now.tokens.now from result }
-    ensures parsed { Answers (Sentences source.now.names.now) statement_of room source.now.tokens.now from result }
+    ensures bounds { IsBounded limit source.now.tokens.now from result }
+    ensures parsed { Answers (Sentences source.now.names.now) statement_of limit source.now.tokens.now from result }
     ensures placed { IfOk result (λ taken. HasStatementPlaces taken.tree (drop from source.now.tokens.now)) }
     ensures apt { IsAnswerApt Scope.Block source.now.tokens.now result }
 {
-    let (level, closing) = (ExprLevel::Expr, Mark::Semicolon);
-    let value = closed_if_any(alloc, source, from + 1, room - 1, level, closing)?;
+    let (level, closing) = (ExprLevel::Expr, Punctuator::Semicolon);
+    let value = closed_if_any(alloc, source, from + 1, limit - 1, level, closing)?;
     let (height, next) = (value.height + 1, value.next);
     let kind = RawStmtKind::Return(value.tree);
     Ok(node(place_at(source, from), kind, height, next))

@@ -4,14 +4,14 @@ ghost use Rattle.cs_expr_parser.specs.Positions.{kind_or_end};
 ghost use Rattle.cs_decl_parser.specs.DeclarationAnswers.{IsPointerWord, ArePointers};
 ghost use Rattle.cs_decl_parser.specs.SpecWords.{IsTypeWord, word_of_keyword};
 
-use crate::source::{Source, begins_type, is_mark, keyword_at, name_at};
+use crate::source::{Source, begins_type, is_punctuator, keyword_at, name_at};
 use crate::stop::Taken;
 use cs_ast::raw::written_type::{PointerWord, TypeWord};
-use cs_ast::{Keyword, Mark};
+use cs_ast::{Keyword, Punctuator};
 use cs_grammar::integer_word;
 use std::alloc::{AllocError, Global};
 
-/// The stars from a number on and the `const`s behind them, which are as high as nothing.
+/// The stars from a number on and the `const`s after them, which are as high as nothing.
 pub fn stars(
     alloc: Global,
     source: &Source,
@@ -35,16 +35,16 @@ pub fn stars(
     })
 }
 
-/// The word of pointers at a number, if one stands there. `const` is one behind a star alone.
-fn pointer_word_at(source: &Source, at: usize, behind_star: bool) -> Option<PointerWord>
+/// The word of pointers at a number, if one stands there. `const` is one after a star alone.
+fn pointer_word_at(source: &Source, at: usize, after_star: bool) -> Option<PointerWord>
     ensures within { IsSome result → at < length source.now.tokens.now }
-    ensures word { IsPointerWord behind_star (kind_or_end source.now.tokens.now at) result }
+    ensures word { IsPointerWord after_star (kind_or_end source.now.tokens.now at) result }
 {
-    if is_mark(source, at, Mark::Star) {
+    if is_punctuator(source, at, Punctuator::Star) {
         return Some(PointerWord::Star);
     }
     match keyword_at(source, at) {
-        Some(Keyword::Const) if behind_star => Some(PointerWord::Const),
+        Some(Keyword::Const) if after_star => Some(PointerWord::Const),
         _ => None,
     }
 }

@@ -1,4 +1,4 @@
--- Members side by side with one more behind them: for the laying of a struct's members.
+-- Members side by side with one more after them: for the laying of a struct's members.
 use Rattle.std.proofs.Common.{◌≡◌, ℕ, ◌+◌, max, List, [], ◌∷◌, ◌++◌, sym, ◌∙◌, ap, refl, arith}
 use Rattle.std.specs.Prelude.{Option, Some}
 use Rattle.std.specs.Option.{option_map, option_and_then}
@@ -18,7 +18,7 @@ size-push from (first ∷ rest) l = size-push (round_up from first.align + first
 pub align-push : (from : ℕ) (ls : List Layout) (l : Layout) → (side_by_side from (ls ++ l ∷ [])).align ≡ max (side_by_side from ls).align l.align
 align-push from [] l = omega arith
 align-push from (first ∷ rest) l =
-    let behind = align-push (round_up from first.align + first.size) rest l in
+    let following = align-push (round_up from first.align + first.size) rest l in
     omega arith
 
 pub layouts-push : (of_type : Shape → Option Layout) (ms : List Member) (m : Member) (ls : List Layout) (l : Layout) → member_layouts of_type ms ≡ Some ls → of_type m.ty ≡ Some l → member_layouts of_type (ms ++ m ∷ []) ≡ Some (ls ++ l ∷ [])

@@ -15,7 +15,7 @@ use Rattle.cs_consts.specs.TypeNames.{tag_place}
 use Rattle.cs_declarations.specs.Known.{Known}
 use Rattle.cs_declarations.specs.Bodies.{Laying, Opening, Body, nothing_laid, opening, struct_read, group_declared, first_name, plain_row, plain_words, row_type, words_type, members_read, members_of_list, struct_body, enum_body, word_type}
 
--- rules that give the same are the same behind another one
+-- rules that give the same are the same after another one
 lift-same : {A B : Type 0} (f g : A → Verdict B) (v : Verdict A) → ((a : A) → f a ≡ g a) → lift f v ≡ lift g v
 unfolding lift
 lift-same f g (Fine a) same = same a
@@ -70,15 +70,15 @@ module _ (k : Known) (at_tag : Option Place) (at : Place) (all : List TypeWord) 
   enum_among tag constants comma e = among (words.TheVariants.Enum tag constants comma) e
 
 -- the place of the tag, as it is told
-pub tag_told : (at_tag : Option Place) (at : Place) → unwrap_or at_tag at ≡ tag_place at at_tag
-tag_told None at = refl
-tag_told (Some place) at = refl
+pub tag_reported : (at_tag : Option Place) (at : Place) → unwrap_or at_tag at ≡ tag_place at at_tag
+tag_reported None at = refl
+tag_reported (Some place) at = refl
 
-pub word_told : (k : Known) (at_tag : Option Place) (at : Place) (all : List TypeWord) (w : Option TypeWord) → word_type k (Some (tag_place at at_tag)) at all w ≡ word_type k at_tag at all w
-word_told k at_tag at all None = refl
-word_told k at_tag at all (Some (word.Typedef name)) = refl
-word_told k at_tag at all (Some (word.Struct name)) = refl
-word_told k at_tag at all (Some (word.Enum name)) = refl
-word_told k at_tag at all (Some (word.Integer kind)) = refl
-word_told k at_tag at all (Some word.Void) = refl
-word_told k at_tag at all (Some word.Const) = refl
+pub word_reported : (k : Known) (at_tag : Option Place) (at : Place) (all : List TypeWord) (w : Option TypeWord) → word_type k (Some (tag_place at at_tag)) at all w ≡ word_type k at_tag at all w
+word_reported k at_tag at all None = refl
+word_reported k at_tag at all (Some (word.Typedef name)) = refl
+word_reported k at_tag at all (Some (word.Struct name)) = refl
+word_reported k at_tag at all (Some (word.Enum name)) = refl
+word_reported k at_tag at all (Some (word.Integer kind)) = refl
+word_reported k at_tag at all (Some word.Void) = refl
+word_reported k at_tag at all (Some word.Const) = refl

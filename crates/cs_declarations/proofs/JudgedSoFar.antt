@@ -30,9 +30,9 @@ module _ (model : DataModel) (storage : Storage) (at : Place) (ty : Shape) (v : 
   pub value_refused : (r : TypeRefusal) → IsRefused (converted model at v ty (type_of v)) r → IsRefused (value_judged model storage at ty v) r
   value_refused r h = lift-refused (value_held model storage at) _ r h
 
-  module _ (w : Typed) (told : converted model at v ty (type_of v) ≡ Fine w) where
+  module _ (w : Typed) (reported : converted model at v ty (type_of v) ≡ Fine w) where
     held_if : (b : Bool) → is_admitted model storage w ≡ b → value_judged model storage at ty v ≡ (if b then Fine (Value w) else Fault code_of.Initializer at)
-    held_if b e = lift_is (value_held model storage at) _ w told ∙ ap (λ (t : Bool). if t then Fine (Value w) else Fault code_of.Initializer at) e
+    held_if b e = lift_is (value_held model storage at) _ w reported ∙ ap (λ (t : Bool). if t then Fine (Value w) else Fault code_of.Initializer at) e
 
     pub value_admitted : is_admitted model storage w ≡ true → value_judged model storage at ty v ≡ Fine (Value w)
     value_admitted e = held_if true e
@@ -127,9 +127,9 @@ module _ (c : Context) (storage : Storage) (at : Place) (types : List Shape) (nu
         sym (ap (λ x. joined at wrong list (before_others at x (parts_judged c storage at (drop (suc number) types) (initial_list rest)))) h ∙ fault_joins at wrong list code place _)
         ∙ next
 
--- what is told behind the loop
-pub told_wrong : (at : Place) (wrong : Option TypeCode) (list : List Held) (whole : Verdict Initials) (code : TypeCode) → whole ≡ joined at wrong list (Fine NoPart) → wrong ≡ Some code → whole ≡ Fault code at
-told_wrong at wrong list whole code h e = h ∙ ap (λ w. joined at w list (Fine NoPart)) e
+-- what is told after the loop
+pub reported_wrong : (at : Place) (wrong : Option TypeCode) (list : List Held) (whole : Verdict Initials) (code : TypeCode) → whole ≡ joined at wrong list (Fine NoPart) → wrong ≡ Some code → whole ≡ Fault code at
+reported_wrong at wrong list whole code h e = h ∙ ap (λ w. joined at w list (Fine NoPart)) e
 
-pub told_fine : (at : Place) (wrong : Option TypeCode) (list : List Held) (whole : Verdict Initials) → whole ≡ joined at wrong list (Fine NoPart) → wrong ≡ None → whole ≡ Fine (initial_list list)
-told_fine at wrong list whole h e = h ∙ ap (λ w. joined at w list (Fine NoPart)) e ∙ ap Fine (before-all list)
+pub reported_fine : (at : Place) (wrong : Option TypeCode) (list : List Held) (whole : Verdict Initials) → whole ≡ joined at wrong list (Fine NoPart) → wrong ≡ None → whole ≡ Fine (initial_list list)
+reported_fine at wrong list whole h e = h ∙ ap (λ w. joined at w list (Fine NoPart)) e ∙ ap Fine (before-all list)

@@ -1,9 +1,9 @@
--- The last two stars of pointers behind one more word: for whether what a parameter points to is const.
+-- The last two stars of pointers after one more word: for whether what a parameter points to is const.
 use Rattle.std.proofs.Common.{◌≡◌, Bool, true, false, List, [], ◌∷◌, ◌++◌, Some, None, refl, sym, ap, ◌∙◌}
 use Rattle.cs_ast.specs.declared.raw.written_type.PointerWord.{PointerWord}
 use Rattle.cs_ast.specs.declared.raw.written_type.PointerWord.TheVariants.{Star, Const}
 use Rattle.cs_declarations.specs.declared.constness.Stars.{Stars}
-use Rattle.cs_declarations.specs.Parameters.{begins_const, consts_behind, first_of, second_of}
+use Rattle.cs_declarations.specs.Parameters.{begins_const, consts_after, first_of, second_of}
 use Rattle.cs_declarations.specs.View.{AreLastStars}
 
 begins_const-star : (ws : List PointerWord) → begins_const (ws ++ Star ∷ []) ≡ begins_const ws
@@ -11,12 +11,12 @@ begins_const-star [] = refl
 begins_const-star (Star ∷ ws) = refl
 begins_const-star (Const ∷ ws) = refl
 
-behind-star : (ws : List PointerWord) → consts_behind (ws ++ Star ∷ []) ≡ false ∷ consts_behind ws
-behind-star [] = refl
-behind-star (Const ∷ ws) = behind-star ws
-behind-star (Star ∷ ws) = ap (λ xs. xs ++ begins_const (ws ++ Star ∷ []) ∷ []) (behind-star ws) ∙ ap (λ b. (false ∷ consts_behind ws) ++ b ∷ []) (begins_const-star ws)
+following-star : (ws : List PointerWord) → consts_after (ws ++ Star ∷ []) ≡ false ∷ consts_after ws
+following-star [] = refl
+following-star (Const ∷ ws) = following-star ws
+following-star (Star ∷ ws) = ap (λ xs. xs ++ begins_const (ws ++ Star ∷ []) ∷ []) (following-star ws) ∙ ap (λ b. (false ∷ consts_after ws) ++ b ∷ []) (begins_const-star ws)
 
--- with `const` behind the last star
+-- with `const` after the last star
 abbrev last_const : List Bool → List Bool
 last_const [] = []
 last_const (b ∷ bs) = true ∷ bs
@@ -29,21 +29,21 @@ last_const-true : (bs : List Bool) → last_const bs ++ true ∷ [] ≡ last_con
 last_const-true [] = refl
 last_const-true (x ∷ bs) = refl
 
-behind-const : (ws : List PointerWord) → consts_behind (ws ++ Const ∷ []) ≡ last_const (consts_behind ws)
-behind-const [] = refl
-behind-const (Const ∷ ws) = behind-const ws
-behind-const (Star ∷ []) = refl
-behind-const (Star ∷ (Const ∷ ws)) = ap (λ bs. bs ++ true ∷ []) (behind-const (Const ∷ ws)) ∙ last_const-true (consts_behind (Const ∷ ws))
-behind-const (Star ∷ (Star ∷ ws)) = ap (λ bs. bs ++ false ∷ []) (behind-const (Star ∷ ws)) ∙ last_const-more (consts_behind ws) (begins_const ws) false
+following-const : (ws : List PointerWord) → consts_after (ws ++ Const ∷ []) ≡ last_const (consts_after ws)
+following-const [] = refl
+following-const (Const ∷ ws) = following-const ws
+following-const (Star ∷ []) = refl
+following-const (Star ∷ (Const ∷ ws)) = ap (λ bs. bs ++ true ∷ []) (following-const (Const ∷ ws)) ∙ last_const-true (consts_after (Const ∷ ws))
+following-const (Star ∷ (Star ∷ ws)) = ap (λ bs. bs ++ false ∷ []) (following-const (Star ∷ ws)) ∙ last_const-more (consts_after ws) (begins_const ws) false
 
 second_of-more : (b : Bool) (bs : List Bool) → second_of (b ∷ bs) ≡ first_of bs
 second_of-more b [] = refl
 second_of-more b (x ∷ bs) = refl
 
-pub star_behind : (ws : List PointerWord) (s : Stars) → AreLastStars ws s → AreLastStars (ws ++ Star ∷ []) (record { last = Some false; before = s.last })
-star_behind ws s are = record {
-  last = sym (ap first_of (behind-star ws));
-  before = are.last ∙ sym (second_of-more false (consts_behind ws)) ∙ sym (ap second_of (behind-star ws));
+pub star_after : (ws : List PointerWord) (s : Stars) → AreLastStars ws s → AreLastStars (ws ++ Star ∷ []) (record { last = Some false; before = s.last })
+star_after ws s are = record {
+  last = sym (ap first_of (following-star ws));
+  before = are.last ∙ sym (second_of-more false (consts_after ws)) ∙ sym (ap second_of (following-star ws));
 }
 
 const_known : (bs : List Bool) (b : Bool) → Some b ≡ first_of bs → (Some true ≡ first_of (last_const bs)) × (second_of bs ≡ second_of (last_const bs))
@@ -54,15 +54,15 @@ const_unknown : (bs : List Bool) → None ≡ first_of bs → bs ≡ last_const 
 const_unknown [] e = refl
 const_unknown (x ∷ bs) e = cc
 
-pub const_behind : (ws : List PointerWord) (s : Stars) (b : Bool) → s.last ≡ Some b → AreLastStars ws s → AreLastStars (ws ++ Const ∷ []) (record { last = Some true; before = s.before })
-const_behind ws s b is are =
-    let known = const_known (consts_behind ws) b (sym is ∙ are.last) in
+pub const_after : (ws : List PointerWord) (s : Stars) (b : Bool) → s.last ≡ Some b → AreLastStars ws s → AreLastStars (ws ++ Const ∷ []) (record { last = Some true; before = s.before })
+const_after ws s b is are =
+    let known = const_known (consts_after ws) b (sym is ∙ are.last) in
     record {
-      last = known.0 ∙ sym (ap first_of (behind-const ws));
-      before = are.before ∙ known.1 ∙ sym (ap second_of (behind-const ws));
+      last = known.0 ∙ sym (ap first_of (following-const ws));
+      before = are.before ∙ known.1 ∙ sym (ap second_of (following-const ws));
     }
 
 pub const_first : (ws : List PointerWord) (s : Stars) → s.last ≡ None → AreLastStars ws s → AreLastStars (ws ++ Const ∷ []) s
 const_first ws s is are =
-    let same = const_unknown (consts_behind ws) (sym is ∙ are.last) ∙ sym (behind-const ws) in
+    let same = const_unknown (consts_after ws) (sym is ∙ are.last) ∙ sym (following-const ws) in
     record { last = are.last ∙ ap first_of same; before = are.before ∙ ap second_of same }

@@ -36,9 +36,9 @@ types_past (first ∷ types) zero e = absurd cc
 types_past (first ∷ types) (suc i) e = types_past types i e
 
 -- what is known of a part that was asked for by its number
-module _ {A : Type 0} (shown : A → Shape) (types : List Shape) (found : Option A) (number i : ℕ) (told : option_map shown found ≡ slice_get types number) (same : number ≡ i) where
+module _ {A : Type 0} (shown : A → Shape) (types : List Shape) (found : Option A) (number i : ℕ) (reported : option_map shown found ≡ slice_get types number) (same : number ≡ i) where
   pub part_is : (part : A) → found ≡ Some part → slice_get types i ≡ Some (shown part)
-  part_is part is = ap (slice_get types) (sym same) ∙ sym told ∙ ap (option_map shown) is
+  part_is part is = ap (slice_get types) (sym same) ∙ sym reported ∙ ap (option_map shown) is
 
   pub no_part : found ≡ None → slice_get types i ≡ None
-  no_part is = ap (slice_get types) (sym same) ∙ sym told ∙ ap (option_map shown) is
+  no_part is = ap (slice_get types) (sym same) ∙ sym reported ∙ ap (option_map shown) is

@@ -11,12 +11,12 @@ pub one_taken : {X Y : Type 0} (f : X → Y) (before left whole : List Y) (taken
 one_taken f before left whole taken now x so_far split push =
     ap (λ l. left ++ map f (reverse l)) push ∙ moved f left taken x ∙ ap (λ l. l ++ map f (reverse taken)) (sym split) ∙ so_far
 
--- what stands before a place stays while only what is behind it is taken
+-- what stands before a place stays while only what is after it is taken
 pub kept : {Y : Type 0} (outer : ℕ) (before left : List Y) (y : Y) → outer < length before → before ≡ left ++ y ∷ [] → take outer left ≡ take outer before
 kept outer before left y more split =
     sym (take-append-le outer left (y ∷ []) (omega (arith, more, ap length split, length-append left (y ∷ [])))) ∙ ap (take outer) (sym split)
 
--- all behind a place was taken
+-- all after a place was taken
 pub all_left : {Y : Type 0} (outer : ℕ) (now whole : List Y) → length now ≤ outer → take outer now ≡ take outer whole → now ≡ take outer whole
 all_left outer now whole few same = sym (take_all outer now few) ∙ same
 

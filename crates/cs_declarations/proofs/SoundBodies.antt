@@ -31,7 +31,7 @@ use Rattle.cs_declarations.proofs.FineVerdicts.{IfFine, IfFine-lift, IfFine-lift
 use Rattle.cs_declarations.proofs.SoundLayings.{IsLaying, nothing_laid-IsLaying, members_declared-IsLaying}
 use Rattle.cs_declarations.proofs.SoundStructs.{GoesOn, GoesOn-same, GoesOn-trans, IsLaying-GoesOn, with_tag-GoesOn, struct_named-GoesOn, IsOpened, opening-IsOpened, IsRead, struct_read-GoesOn}
 
--- what is known behind a type, and behind constants of an enum
+-- what is known after a type, and after constants of an enum
 abbrev pub TypeGoesOn : Known → Typing → Type 0
 TypeGoesOn k t = GoesOn k t.1
 
@@ -66,7 +66,7 @@ constant_declared-GoesOn k e so_far g =
 constants_declared-GoesOn : (k : Known) (es : List RawEnumerator) (so_far : Counting) → CountGoesOn k so_far → IfFine (constants_declared es so_far) (CountGoesOn k)
 constants_declared-GoesOn k [] so_far g = g
 constants_declared-GoesOn k (e ∷ es) so_far g =
-    IfFine-lift (constants_declared es) (constant_declared e so_far) (CountGoesOn k) (CountGoesOn k) (constant_declared-GoesOn k e so_far g) (λ behind h. constants_declared-GoesOn k es behind h)
+    IfFine-lift (constants_declared es) (constant_declared e so_far) (CountGoesOn k) (CountGoesOn k) (constant_declared-GoesOn k e so_far g) (λ following h. constants_declared-GoesOn k es following h)
 
 with_enum_tag-GoesOn : (k between : Known) (name : Option (List ℕ)) → GoesOn k between → GoesOn k (with_enum_tag name between)
 with_enum_tag-GoesOn k between None g = g
@@ -94,7 +94,7 @@ group_declared-IsRead k ds before v laying typed = IfFine-lift (group_declared d
 IsRead-trans : (k between : Known) (b : Body) → GoesOn k between → IsRead between b → IsRead k b
 IsRead-trans k between b g h = (GoesOn-trans k between b.known g h.0, h.1)
 
--- further members behind some that were read
+-- further members after some that were read
 further : (k : Known) (read : Body) (v : Verdict Body) → GoesOn k read.known → IfFine v (IsRead read.known) → IfFine v (IsRead k)
 further k read (Fine b) g h = IsRead-trans k read.known b g h
 further k read (Fault code at) g h = tt
@@ -156,4 +156,4 @@ struct_body-GoesOn k at name groups sound =
 
 -- what a function leaves that tells this type
 pub specs_type-leaves : (k : Known) (at : Place) (s : RawSpecs) (r : Result CType TypeRefusal) (after : Held) → AnswersWith typing (specs_type k at s) r after → IsSound k → OnOk r (IsSound (known_of after))
-specs_type-leaves k at s r after told sound = answer-IfFine typing (specs_type k at s) r after (TypeGoesOn k) (IsSound (known_of after)) told (specs_type-GoesOn k at s sound) (λ ty g. g.sound)
+specs_type-leaves k at s r after reported sound = answer-IfFine typing (specs_type k at s) r after (TypeGoesOn k) (IsSound (known_of after)) reported (specs_type-GoesOn k at s sound) (λ ty g. g.sound)

@@ -1,4 +1,4 @@
--- Members that rules put one behind another lie as layouts do: for the bodies of structs.
+-- Members that rules put one after another lie as layouts do: for the bodies of structs.
 use Rattle.std.proofs.Common.{◌≡◌, ℕ, ◌+◌, ◌≤◌, ◌^◌, max, nat_le, List, [], ◌∷◌, ◌++◌, map, sym, ◌∙◌, ap₂, refl, leb-true, lit≤}
 use Rattle.std.specs.Prelude.{Option, Some, None}
 use Rattle.std.specs.List.{All}
@@ -104,7 +104,7 @@ member_declared-IsLaying c base d before sound h =
     (λ twice. tt)
     (λ new. IfFine-lift_any rule (declarator_type c base None d) (IsLaying c.model c.table.list) (λ ty. member_added-IsLaying c d.place d.name before h sound ty))
 
--- members behind others
+-- members after others
 pub members_declared-IsLaying : (c : Context) (base : Shape) (ds : List RawDeclarator) (before : Laying) → IsLaidOut c.model c.table.list → IsLaying c.model c.table.list before → IfFine (members_declared c base ds before) (IsLaying c.model c.table.list)
 members_declared-IsLaying c base [] before sound h = h
 members_declared-IsLaying c base (d ∷ ds) before sound h =

@@ -13,7 +13,7 @@ use Rattle.cs_consts.specs.Meanings.{Typedef}
 use Rattle.cs_consts.specs.TypeNames.{starred}
 use Rattle.cs_declarations.specs.Known.{Known, declaring, is_declared_here}
 use Rattle.cs_declarations.specs.Bodies.{Typing, specs_type, declarator_type, typedef_added, typedefs_added}
-use Rattle.cs_declarations.specs.Parameters.{place_of, Passed, Head, naming, is_free_name, with_parameter, parameter_passed, parameter_typed, parameters_behind, parameters_typed}
+use Rattle.cs_declarations.specs.Parameters.{place_of, Passed, Head, naming, is_free_name, with_parameter, parameter_passed, parameter_typed, parameters_after, parameters_typed}
 use Rattle.cs_declarations.specs.LaidOut.{IsSound}
 use Rattle.cs_declarations.proofs.FineVerdicts.{IfFine, IfFine-lift, IfFine-lift_any, IfFine-cond, IfFine-at}
 use Rattle.cs_declarations.proofs.SoundStructs.{GoesOn, GoesOn-same, GoesOn-trans}
@@ -30,14 +30,14 @@ typedef_added-GoesOn k between base d g =
 typedefs-GoesOn : (k between : Known) (base : Shape) (ds : List RawDeclarator) → GoesOn k between → IfFine (typedefs_added base ds between) (GoesOn k)
 typedefs-GoesOn k between base [] g = g
 typedefs-GoesOn k between base (d ∷ ds) g =
-    IfFine-lift (typedefs_added base ds) (typedef_added base d between) (GoesOn k) (GoesOn k) (typedef_added-GoesOn k between base d g) (λ behind h. typedefs-GoesOn k behind base ds h)
+    IfFine-lift (typedefs_added base ds) (typedef_added base d between) (GoesOn k) (GoesOn k) (typedef_added-GoesOn k between base d g) (λ following h. typedefs-GoesOn k following base ds h)
 
 pub typedefs_added-GoesOn : (k : Known) (base : Shape) (ds : List RawDeclarator) → IsSound k → IfFine (typedefs_added base ds k) (GoesOn k)
 typedefs_added-GoesOn k base ds sound = typedefs-GoesOn k k base ds (GoesOn-same k sound)
 
 -- ---- parameters
 
--- what is known behind parameters
+-- what is known after parameters
 abbrev pub HeadGoesOn : Known → Head → Type 0
 HeadGoesOn k h = GoesOn k h.known
 
@@ -49,7 +49,7 @@ module _ (k : Known) (p : RawParameter) (before : Head) where
   with_parameter-GoesOn : (between : Known) (found : Passed) → GoesOn k between → IfFine (with_parameter p before between found) (HeadGoesOn k)
   with_parameter-GoesOn between found g = naming-GoesOn k between p.name (length before.variables) found.ty g
 
-  -- a parameter behind whose words stands a type
+  -- a parameter after whose words stands a type
   abbrev at_type : Typing → Verdict Head
   at_type found =
       if is_free_name p.name found.1
@@ -69,20 +69,20 @@ module _ (k : Known) (p : RawParameter) (before : Head) where
       (specs_type-GoesOn before.known p.place p.specs g.sound)
       (λ found h. at_type-GoesOn found (GoesOn-trans k before.known found.1 g h))
 
-parameters_behind-GoesOn : (k : Known) (ps : List RawParameter) (before : Head) → HeadGoesOn k before → IfFine (parameters_behind ps before) (HeadGoesOn k)
-parameters_behind-GoesOn k [] before g = g
-parameters_behind-GoesOn k (p ∷ ps) before g =
-    IfFine-lift (parameters_behind ps) (parameter_typed p before) (HeadGoesOn k) (HeadGoesOn k) (parameter_typed-GoesOn k p before g) (λ behind h. parameters_behind-GoesOn k ps behind h)
+parameters_after-GoesOn : (k : Known) (ps : List RawParameter) (before : Head) → HeadGoesOn k before → IfFine (parameters_after ps before) (HeadGoesOn k)
+parameters_after-GoesOn k [] before g = g
+parameters_after-GoesOn k (p ∷ ps) before g =
+    IfFine-lift (parameters_after ps) (parameter_typed p before) (HeadGoesOn k) (HeadGoesOn k) (parameter_typed-GoesOn k p before g) (λ following h. parameters_after-GoesOn k ps following h)
 
 pub parameters_typed-GoesOn : (k : Known) (parameters : RawParameters) → IsSound k → IfFine (parameters_typed k parameters) (HeadGoesOn k)
 parameters_typed-GoesOn k parameter_lists.Empty sound = GoesOn-same k sound
 parameters_typed-GoesOn k parameter_lists.Void sound = GoesOn-same k sound
-parameters_typed-GoesOn k (parameter_lists.List list) sound = parameters_behind-GoesOn k list.items (record { variables = []; written = []; known = k }) (GoesOn-same k sound)
+parameters_typed-GoesOn k (parameter_lists.List list) sound = parameters_after-GoesOn k list.items (record { variables = []; written = []; known = k }) (GoesOn-same k sound)
 
 -- ---- what they leave, where all is fine
 
 pub typedefs_laid : (k after : Known) (base : Shape) (ds : List RawDeclarator) → typedefs_added base ds k ≡ Fine after → IsSound k → IsSound after
-typedefs_laid k after base ds told sound = (IfFine-at (typedefs_added base ds k) (GoesOn k) after told (typedefs_added-GoesOn k base ds sound)).sound
+typedefs_laid k after base ds reported sound = (IfFine-at (typedefs_added base ds k) (GoesOn k) after reported (typedefs_added-GoesOn k base ds sound)).sound
 
 pub parameters_laid : (k : Known) (parameters : RawParameters) (h : Head) → parameters_typed k parameters ≡ Fine h → IsSound k → IsSound h.known
-parameters_laid k parameters h told sound = (IfFine-at (parameters_typed k parameters) (HeadGoesOn k) h told (parameters_typed-GoesOn k parameters sound)).sound
+parameters_laid k parameters h reported sound = (IfFine-at (parameters_typed k parameters) (HeadGoesOn k) h reported (parameters_typed-GoesOn k parameters sound)).sound

@@ -27,18 +27,18 @@ use Rattle.cs_declarations.proofs.GrownTables.{Grows, HasSmallSizes-Grows}
 use Rattle.cs_declarations.proofs.SoundLayings.{IsLaying, IsLaying-Grows}
 use Rattle.cs_declarations.proofs.TypeSizes.{bytes_in-HasLayout}
 
--- ---- structs behind a part of a file
+-- ---- structs after a part of a file
 
 -- they are sound and grew out of those before, and the same bodies are being read
-pub record Behind (k : Known) (model : DataModel) (table : List StructType) (tags : List Tag) (reading : List ℕ) : Type 0 where
+pub record Following (k : Known) (model : DataModel) (table : List StructType) (tags : List Tag) (reading : List ℕ) : Type 0 where
   pub sound : AreSound model table tags reading
   pub grows : Grows (table_of k) table
   pub same_model : model ≡ model_of k
   pub same_reading : reading ≡ k.reading
 
--- what is known before a part of a file, and behind it; by computation it is the same with other declarations, scopes and literals behind it
+-- what is known before a part of a file, and after it; by computation it is the same with other declarations, scopes and literals after it
 abbrev pub GoesOn : Known → Known → Type 0
-GoesOn k after = Behind k (model_of after) (table_of after) after.context.scope.tags after.reading
+GoesOn k after = Following k (model_of after) (table_of after) after.context.scope.tags after.reading
 
 Grows-trans : (first second third : List StructType) → Grows first second → Grows second third → Grows first third
 Grows-trans first second third g h = record { members = λ number ms e. h.members number ms (g.members number ms e); count = (let one = g.count in let two = h.count in omega arith) }
@@ -126,7 +126,7 @@ module _ (k : Known) (name : List ℕ) (sound : IsSound k) where
   pub with_tagged_struct-GoesOn : GoesOn k (with_tagged_struct name k)
   with_tagged_struct-GoesOn = with_tag-GoesOn k (with_struct name k) name (tag.Struct (length (table_of k))) last_in with_struct-GoesOn
 
--- the struct that a tag names where no body stands behind it
+-- the struct that a tag names where no body stands after it
 pub struct_named-GoesOn : (at : Place) (name : List ℕ) (k : Known) (meaning : Option TagMeaning) → IsSound k → IfFine (struct_named at name k meaning) (λ (t : Typing). GoesOn k t.1)
 struct_named-GoesOn at name k (Some (tag.Struct number)) sound = GoesOn-same k sound
 struct_named-GoesOn at name k (Some tag.Enum) sound = tt
@@ -197,7 +197,7 @@ opening-IsOpened at None k sound = opened-IsOpened k (with_struct [] k) (length 
 
 -- ---- a struct whose body was read
 
--- what is known behind members, and these members
+-- what is known after members, and these members
 abbrev pub IsRead : Known → Body → Type 0
 IsRead k b = GoesOn k b.known × IsLaying (model_of b.known) (table_of b.known) b.laying
 
@@ -238,7 +238,7 @@ module _ (k : Known) (o : Opening) (is_opened : IsOpened k o) (name : Option (Li
     empty = others_keep (model_of b.known) (table_of b.known) o.number reads.1.within reads.1.empty complete b.laying.members refl number apart ∙ h.empty;
   }
 
-  -- the structs are laid out behind it
+  -- the structs are laid out after it
   pub struct_read-GoesOn : IfFine (struct_read o k.reading name b) (λ (t : Typing). GoesOn k t.1)
   struct_read-GoesOn =
       let model = model_of b.known in

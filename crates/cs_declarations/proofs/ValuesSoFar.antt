@@ -13,7 +13,7 @@ use Rattle.cs_ast.specs.TypedView.{typed, initial, initial_list}
 use Rattle.cs_consts.specs.declared.context.Context.{Context}
 use Rattle.cs_consts.specs.declared.refusal.TypeRefusal.{TypeRefusal}
 use Rattle.cs_consts.specs.Doors.{operand_of}
-use Rattle.cs_consts.specs.Typing.{Literals, literals_behind}
+use Rattle.cs_consts.specs.Typing.{Literals, literals_after}
 use Rattle.cs_consts.specs.Verdicts.{Verdict, Fine, Fault, lift, IsRefused}
 use Rattle.cs_consts.proofs.Lifting.{lift-fine, lift-fault, lift-refused}
 use Rattle.cs_consts.proofs.SingleParts.{lift_is}
@@ -27,8 +27,8 @@ module _ (c : Context) (literals : Literals) (ty : Shape) (e : RawExpr) (plain :
   pub operand_refused : (r : TypeRefusal) → IsRefused (operand_of c literals (Some ty) e) r → IsRefused (expression_read c literals ty e) r
   operand_refused r h = refused_as r plain (lift-refused (value_read literals e.kind) _ r h)
 
-  pub operand_read : (v : Expr) (behind : Literals) → operand_of c literals (Some ty) e ≡ Fine (typed v) → behind ≡ literals_behind literals e.kind → expression_read c literals ty e ≡ Fine (Value (typed v), behind)
-  operand_read v behind h texts = plain ∙ lift_is (value_read literals e.kind) _ (typed v) h ∙ ap (λ ls. Fine (Value (typed v), ls)) (sym texts)
+  pub operand_read : (v : Expr) (following : Literals) → operand_of c literals (Some ty) e ≡ Fine (typed v) → following ≡ literals_after literals e.kind → expression_read c literals ty e ≡ Fine (Value (typed v), following)
+  operand_read v following h texts = plain ∙ lift_is (value_read literals e.kind) _ (typed v) h ∙ ap (λ ls. Fine (Value (typed v), ls)) (sym texts)
 
 -- values before others
 abbrev pub before : List Held → Initials → Initials
@@ -36,8 +36,8 @@ before [] others = others
 before (first ∷ list) others = Part (initial first) (before list others)
 
 -- values that were read before others
-abbrev pub behind : List Held → Readings → Verdict Readings
-behind list r = Fine (before list r.0, r.1)
+abbrev pub following : List Held → Readings → Verdict Readings
+following list r = Fine (before list r.0, r.1)
 
 pub before-push : (list : List Held) (v : Held) (others : Initials) → before list (Part (initial v) others) ≡ before (list ++ v ∷ []) others
 before-push [] v others = refl
@@ -89,23 +89,23 @@ module _ (c : Context) (literals : Literals) (ty : Shape) (v : RawInitial) (list
   no_values parts = initial_read-List ∙ ap (λ p. lift parts_read (list_read c literals (types_or_none p) list.items)) parts ∙ lift_is parts_read _ (NoPart, literals) (no_types c literals list.items)
 
 -- what is read further, before which values stand
-regrouped : (list : List Held) (v : Held) (rest : Verdict Readings) → lift (behind list) (lift (one_more (initial v)) rest) ≡ lift (behind (list ++ v ∷ [])) rest
+regrouped : (list : List Held) (v : Held) (rest : Verdict Readings) → lift (following list) (lift (one_more (initial v)) rest) ≡ lift (following (list ++ v ∷ [])) rest
 regrouped list v (Fine r) =
-    ap (lift (behind list)) (lift-fine (one_more (initial v)) r) ∙ lift-fine (behind list) (Part (initial v) r.0, r.1)
-    ∙ ap (λ all. Fine (all, r.1)) (before-push list v r.0) ∙ sym (lift-fine (behind (list ++ v ∷ [])) r)
+    ap (lift (following list)) (lift-fine (one_more (initial v)) r) ∙ lift-fine (following list) (Part (initial v) r.0, r.1)
+    ∙ ap (λ all. Fine (all, r.1)) (before-push list v r.0) ∙ sym (lift-fine (following (list ++ v ∷ [])) r)
 regrouped list v (Fault code place) =
-    ap (lift (behind list)) (lift-fault (one_more (initial v)) code place) ∙ lift-fault (behind list) code place ∙ sym (lift-fault (behind (list ++ v ∷ [])) code place)
+    ap (lift (following list)) (lift-fault (one_more (initial v)) code place) ∙ lift-fault (following list) code place ∙ sym (lift-fault (following (list ++ v ∷ [])) code place)
 
-none_yet : (v : Verdict Readings) → lift (behind []) v ≡ v
-none_yet (Fine r) = lift-fine (behind []) r
-none_yet (Fault code place) = lift-fault (behind []) code place
+none_yet : (v : Verdict Readings) → lift (following []) v ≡ v
+none_yet (Fine r) = lift-fine (following []) r
+none_yet (Fault code place) = lift-fault (following []) code place
 
-pub nothing_read : (list : List Held) (v : Verdict Readings) → list ≡ [] → lift (behind list) v ≡ v
-nothing_read list v empty = ap (λ xs. lift (behind xs) v) empty ∙ none_yet v
+pub nothing_read : (list : List Held) (v : Verdict Readings) → list ≡ [] → lift (following list) v ≡ v
+nothing_read list v empty = ap (λ xs. lift (following xs) v) empty ∙ none_yet v
 
-module _ (c : Context) (types : List Shape) (items : List RawInitial) (literals : Literals) (i : ℕ) (list : List Held) (whole : Verdict Readings) (so_far : lift (behind list) (list_read c literals (drop i types) (drop i items)) ≡ whole) where
+module _ (c : Context) (types : List Shape) (items : List RawInitial) (literals : Literals) (i : ℕ) (list : List Held) (whole : Verdict Readings) (so_far : lift (following list) (list_read c literals (drop i types) (drop i items)) ≡ whole) where
   all_read : list_read c literals (drop i types) (drop i items) ≡ Fine (NoPart, literals) → whole ≡ Fine (initial_list list, literals)
-  all_read e = sym so_far ∙ lift_is (behind list) _ (NoPart, literals) e ∙ ap (λ all. Fine (all, literals)) (before-all list)
+  all_read e = sym so_far ∙ lift_is (following list) _ (NoPart, literals) e ∙ ap (λ all. Fine (all, literals)) (before-all list)
 
   pub read_over : slice_get types i ≡ None → whole ≡ Fine (initial_list list, literals)
   read_over part = all_read (ap (λ ts. list_read c literals ts (drop i items)) (types_past types i part) ∙ no_types c literals (drop i items))
@@ -117,14 +117,14 @@ module _ (c : Context) (types : List Shape) (items : List RawInitial) (literals 
     abbrev further : Reading → Verdict Readings
     further r = lift (one_more r.0) (list_read c r.1 (drop (suc i) types) (drop (suc i) items))
 
-    next : lift (behind list) (lift further (initial_read c literals ty item)) ≡ whole
-    next = sym (ap (λ ts. lift (behind list) (list_read c literals ts (drop i items))) (types_from types i ty part) ∙ ap (λ xs. lift (behind list) (list_read c literals (ty ∷ drop (suc i) types) xs)) there) ∙ so_far
+    next : lift (following list) (lift further (initial_read c literals ty item)) ≡ whole
+    next = sym (ap (λ ts. lift (following list) (list_read c literals ts (drop i items))) (types_from types i ty part) ∙ ap (λ xs. lift (following list) (list_read c literals (ty ∷ drop (suc i) types) xs)) there) ∙ so_far
 
     pub read_stops : (r : TypeRefusal) → IsRefused (initial_read c literals ty item) r → IsRefused whole r
-    read_stops r h = refused_as r (sym next) (lift-refused (behind list) _ r (lift-refused further _ r h))
+    read_stops r h = refused_as r (sym next) (lift-refused (following list) _ r (lift-refused further _ r h))
 
-    pub read_more : (v : Held) (then_literals : Literals) (more : List Held) → initial_read c literals ty item ≡ Fine (initial v, then_literals) → more ≡ list ++ v ∷ [] → lift (behind more) (list_read c then_literals (drop (suc i) types) (drop (suc i) items)) ≡ whole
+    pub read_more : (v : Held) (then_literals : Literals) (more : List Held) → initial_read c literals ty item ≡ Fine (initial v, then_literals) → more ≡ list ++ v ∷ [] → lift (following more) (list_read c then_literals (drop (suc i) types) (drop (suc i) items)) ≡ whole
     read_more v then_literals more h pushed =
-        ap (λ xs. lift (behind xs) (list_read c then_literals (drop (suc i) types) (drop (suc i) items))) pushed
+        ap (λ xs. lift (following xs) (list_read c then_literals (drop (suc i) types) (drop (suc i) items))) pushed
         ∙ sym (regrouped list v (list_read c then_literals (drop (suc i) types) (drop (suc i) items)))
-        ∙ ap (lift (behind list)) (sym (lift_is further _ (initial v, then_literals) h)) ∙ next
+        ∙ ap (lift (following list)) (sym (lift_is further _ (initial v, then_literals) h)) ∙ next

@@ -36,7 +36,7 @@ has_form-List table storage ty types v list comma parts is =
     ap (has_form table storage ty) is ∙ ap (λ p. have_forms table storage p row.1) parts ∙ sym (forms-row table storage types row.0 row.1)
     ∙ ap (list_has_forms table storage types) (first_value.items_hidden-the_row-RawInitial-0 list)
 
--- an item at its place, before those behind it
+-- an item at its place, before those after it
 pub item_there : {A : Type 0} (items : List A) (i : ℕ) (item : A) → i < length items → item ≡ get_or items i item → drop i items ≡ item ∷ drop (suc i) items
 item_there items i item within read = drop-cons items i item within ∙ ap (λ x. x ∷ drop (suc i) items) (sym read)
 

@@ -33,7 +33,7 @@ use Rattle.cs_consts.specs.TypeNames.{is_word, integer_type, whole_word, typedef
 use Rattle.cs_declarations.specs.Known.{Known, model_of, table_of, declarations_of, with_table, with_reading, with_tag, declaring, is_declared_here}
 use Rattle.cs_declarations.specs.Sizes.{sizes_said, bounded, extent_of, filled}
 
--- a type, with what is known behind it
+-- a type, with what is known after it
 abbrev pub Typing : Type 0
 Typing = Shape × Known
 
@@ -41,11 +41,11 @@ Typing = Shape × Known
 abbrev pub empty_struct : List ℕ → StructType
 empty_struct name = record { tag = name; members = None; size = 0; align = 0 }
 
--- behind one more struct, which has no members yet
+-- after one more struct, which has no members yet
 abbrev pub with_struct : List ℕ → Known → Known
 with_struct name k = with_table (table_of k ++ empty_struct name ∷ []) k
 
--- behind a new struct with a tag
+-- after a new struct with a tag
 abbrev pub with_tagged_struct : List ℕ → Known → Known
 with_tagged_struct name k = with_tag name (tag.Struct (length (table_of k))) (with_struct name k)
 
@@ -53,7 +53,7 @@ with_tagged_struct name k = with_tag name (tag.Struct (length (table_of k))) (wi
 abbrev pub tag_in : Known → List ℕ → Option TagMeaning
 tag_in k name = tagged name k.context.scope.tags
 
--- the struct that a tag names where no body stands behind it: the tag may be new (C11 6.7.2.3, paragraph 8)
+-- the struct that a tag names where no body stands after it: the tag may be new (C11 6.7.2.3, paragraph 8)
 abbrev pub struct_named : Place → List ℕ → Known → Option TagMeaning → Verdict Typing
 struct_named at name k (Some (tag.Struct number)) = Fine (struct number, k)
 struct_named at name k (Some tag.Enum) = Fault code.DeclaredTwice at
@@ -93,7 +93,7 @@ nothing_laid = record { members = []; size = 0; align = 1 }
 abbrev pub has_member : List ℕ → List Member → Bool
 has_member name members = list_any (λ (m : Member). pointwise nat_eq m.name name) members
 
--- a member of so many bytes with this alignment, behind others (C11 6.7.2.1, paragraph 15)
+-- a member of so many bytes with this alignment, after others (C11 6.7.2.1, paragraph 15)
 abbrev pub placed : Place → List ℕ → Shape → ℕ → ℕ → Laying → Verdict Laying
 placed at name ty bytes align before =
     if nat_le (round_up before.size align + bytes) (2 ^ 20)
@@ -114,7 +114,7 @@ abbrev pub member_added : Context → Place → List ℕ → Laying → Shape �
 member_added c at name before ty =
     lift (λ whole. placed_if c at name whole (bytes_in c.model c.table.list whole) before) (complete_at c.table.list at ty)
 
--- the type that a declarator gives its name, behind whose words stands a type; so many elements are given where its size isn't said
+-- the type that a declarator gives its name, after whose words stands a type; so many elements are given where its size isn't said
 abbrev pub declarator_type : Context → Shape → Option ℕ → RawDeclarator → Verdict Shape
 declarator_type c base count d =
     lift (λ whole. lift (λ sizes. lift (filled c d.place count) (extent_of c d.place whole sizes)) (sizes_said c d.bounds.items))
@@ -163,7 +163,7 @@ abbrev pub constants_declared : List RawEnumerator → Counting → Verdict Coun
 constants_declared [] so_far = Fine so_far
 constants_declared (e ∷ es) so_far = lift (constants_declared es) (constant_declared e so_far)
 
--- behind the body of an enum, whose tag, if it has one, is known from there on
+-- after the body of an enum, whose tag, if it has one, is known from there on
 abbrev pub with_enum_tag : Option (List ℕ) → Known → Known
 with_enum_tag None k = k
 with_enum_tag (Some name) k = with_tag name tag.Enum k
@@ -205,7 +205,7 @@ abbrev pub name_or_none : Option (List ℕ) → List ℕ
 name_or_none (Some name) = name
 name_or_none None = []
 
--- members so far with what is known behind them
+-- members so far with what is known after them
 pub record Body : Type 0 where
   pub laying : Laying
   pub known : Known
@@ -268,13 +268,13 @@ words_type k at_tag at all (words.TheVariants.Struct' name shape row ∷ others)
     lift (λ (o : Opening). lift (struct_read o k.reading name) (members_read o.known row nothing_laid)) (opening (tag_place at at_tag) name k)
 words_type k at_tag at all (words.TheVariants.Enum name constants comma ∷ others) = enum_body k (tag_place at at_tag) name constants.items
 
--- the members of a group, behind others
+-- the members of a group, after others
 abbrev pub group_of : Known → RawMember → Laying → Verdict Body
 group_of k group before =
     lift (group_declared group.declarators.items before)
     (words_type k group.specs.tag (first_name group.declarators.items) (plain_words group.specs.words.items) group.specs.words.items)
 
--- the members of groups, one behind another
+-- the members of groups, one after another
 abbrev pub members_of_list : Known → List RawMember → Laying → Verdict Body
 members_of_list k [] before = Fine (record { laying = before; known = k })
 members_of_list k (group ∷ groups) before = lift (λ (read : Body). members_of_list read.known groups read.laying) (group_of k group before)

@@ -21,7 +21,7 @@ use Rattle.cs_consts.specs.Constants.{number_in}
 use Rattle.cs_consts.specs.Scalars.{few, scalars_in}
 use Rattle.cs_consts.specs.Conversions.{converted}
 use Rattle.cs_consts.specs.Calls.{lesser}
-use Rattle.cs_consts.specs.Typing.{Literals, literals_behind}
+use Rattle.cs_consts.specs.Typing.{Literals, literals_after}
 use Rattle.cs_consts.specs.Doors.{operand_of}
 
 -- where the object stands: a file-scope object holds constants
@@ -110,7 +110,7 @@ list_has_forms table storage types [] = true
 list_has_forms table storage [] (first ∷ others) = false
 list_has_forms table storage (ty ∷ types) (first ∷ others) = has_form table storage ty first && list_has_forms table storage types others
 
--- an initializer whose values aren't converted yet, with the string literals behind it
+-- an initializer whose values aren't converted yet, with the string literals after it
 abbrev pub Reading : Type 0
 Reading = Initial × Literals
 
@@ -119,7 +119,7 @@ abbrev pub Readings : Type 0
 Readings = Initials × Literals
 
 abbrev pub value_read : Literals → RawExprKind → Typed → Verdict Reading
-value_read literals e v = Fine (Value v, literals_behind literals e)
+value_read literals e v = Fine (Value v, literals_after literals e)
 
 -- an expression for something of a type: the text of an array is no literal of the program
 abbrev pub expression_read : Context → Literals → Shape → RawExpr → Verdict Reading
@@ -229,7 +229,7 @@ limited table InFunction at ty found = if is_some (stored table ty found) then F
 abbrev pub kept_with : Literals → Initial → Verdict Reading
 kept_with literals found = Fine (found, literals)
 
--- the initializer behind an `=`: its form, its values in their order, and then what the `=` asks of them
+-- the initializer after an `=`: its form, its values in their order, and then what the `=` asks of them
 abbrev pub initial_typed : Context → Literals → Storage → Place → Shape → RawInitial → Verdict Reading
 initial_typed c literals storage at ty written =
     if has_form c.table.list storage ty written

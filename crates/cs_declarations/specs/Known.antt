@@ -8,7 +8,7 @@ use Rattle.cs_consts.specs.Meanings.{Declaration, Meaning}
 use Rattle.cs_consts.specs.Scopes.{newest}
 use Rattle.cs_consts.specs.Typing.{Literals}
 
--- the declarations of the innermost scope are those behind the first `outer`; `reading` are the structs whose bodies are being read
+-- the declarations of the innermost scope are those after the first `outer`; `reading` are the structs whose bodies are being read
 pub record Known : Type 0 where
   pub context : Context
   pub reading : List ℕ
@@ -38,11 +38,11 @@ with_table table k = record {
 abbrev pub with_reading : List ℕ → Known → Known
 with_reading reading k = record { context = k.context; reading = reading; outer = k.outer; literals = k.literals }
 
--- behind other string literals
+-- after other string literals
 abbrev pub with_literals : Literals → Known → Known
 with_literals literals k = record { context = k.context; reading = k.reading; outer = k.outer; literals = literals }
 
--- behind a new tag (C11 6.2.1, paragraph 7)
+-- after a new tag (C11 6.2.1, paragraph 7)
 abbrev pub with_tag : List ℕ → TagMeaning → Known → Known
 with_tag name meaning k = record {
   context = record {
@@ -55,7 +55,7 @@ with_tag name meaning k = record {
   literals = k.literals;
 }
 
--- with other declarations in force, the innermost scope's being those behind the first `outer`
+-- with other declarations in force, the innermost scope's being those after the first `outer`
 abbrev pub with_declarations : List Declaration → ℕ → Known → Known
 with_declarations declarations outer k = record {
   context = record { model = k.context.model; table = k.context.table; scope = record { declarations = declarations; tags = k.context.scope.tags } };
@@ -64,7 +64,7 @@ with_declarations declarations outer k = record {
   literals = k.literals;
 }
 
--- behind the declaration of a name
+-- after the declaration of a name
 abbrev pub declaring : List ℕ → Meaning → Known → Known
 declaring name meaning k = with_declarations (declarations_of k ++ record { name = name; meaning = meaning } ∷ []) k.outer k
 
@@ -88,7 +88,7 @@ pub record Mark : Type 0 where
 abbrev pub mark_of : Known → Mark
 mark_of k = record { declarations = length (declarations_of k); outer = k.outer }
 
--- behind a scope: the declarations of the scope around it are in force again; structs, tags and literals stay
+-- after a scope: the declarations of the scope around it are in force again; structs, tags and literals stay
 abbrev pub left_to : Mark → Known → Known
 left_to m k = with_declarations (take m.declarations (declarations_of k)) m.outer k
 

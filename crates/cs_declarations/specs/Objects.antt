@@ -10,10 +10,10 @@ use Rattle.cs_consts.specs.declared.context.Context.{Context}
 use Rattle.cs_consts.specs.Verdicts.{Verdict, lift}
 use Rattle.cs_consts.specs.TypeNames.{complete_at}
 use Rattle.cs_declarations.specs.Bodies.{has_const, declarator_type}
-use Rattle.cs_declarations.specs.Parameters.{consts_behind}
+use Rattle.cs_declarations.specs.Parameters.{consts_after}
 use Rattle.cs_declarations.specs.Initializers.{elements_given}
 
--- how many elements stand behind an `=`
+-- how many elements stand after an `=`
 abbrev pub count_given : Option RawFirstValue → Option ℕ
 count_given first = option_and_then (λ (value : RawFirstValue). elements_given value.initial) first
 
@@ -21,10 +21,10 @@ count_given first = option_and_then (λ (value : RawFirstValue). elements_given 
 abbrev pub object_type : Context → Shape → RawInit → Verdict Shape
 object_type c base d = lift (complete_at c.table.list d.declarator.place) (declarator_type c base (count_given d.initial) d.declarator)
 
--- a file-scope object may not be stored to: `const` behind its last star, or without a star among its words
+-- a file-scope object may not be stored to: `const` after its last star, or without a star among its words
 abbrev pub is_constant_by : RawSpecs → List Bool → Bool
 is_constant_by s [] = has_const s
 is_constant_by s (last ∷ others) = last
 
 abbrev pub is_constant_object : RawSpecs → List PointerWord → Bool
-is_constant_object s pointers = is_constant_by s (consts_behind pointers)
+is_constant_object s pointers = is_constant_by s (consts_after pointers)

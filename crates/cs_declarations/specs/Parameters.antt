@@ -30,7 +30,7 @@ abbrev pub name_in : Option RawName → List ℕ
 name_in (Some name) = name.name
 name_in None = []
 
--- the type of a parameter, with how many elements the block behind it has, where it was written with a bound
+-- the type of a parameter, with how many elements the block after it has, where it was written with a bound
 pub record Passed : Type 0 where
   pub ty : Shape
   pub block : Option ℕ
@@ -59,11 +59,11 @@ abbrev pub begins_const : List PointerWord → Bool
 begins_const (Const ∷ others) = true
 begins_const others = false
 
--- for each star, the last one first, whether `const` stands behind it
-abbrev pub consts_behind : List PointerWord → List Bool
-consts_behind [] = []
-consts_behind (Star ∷ others) = consts_behind others ++ begins_const others ∷ []
-consts_behind (Const ∷ others) = consts_behind others
+-- for each star, the last one first, whether `const` stands after it
+abbrev pub consts_after : List PointerWord → List Bool
+consts_after [] = []
+consts_after (Star ∷ others) = consts_after others ++ begins_const others ∷ []
+consts_after (Const ∷ others) = consts_after others
 
 -- the first and the second of them, if they are there
 abbrev pub first_of : List Bool → Option Bool
@@ -74,20 +74,20 @@ abbrev pub second_of : List Bool → Option Bool
 second_of [] = None
 second_of (first ∷ others) = first_of others
 
--- what a parameter with a bracket points to is const: behind its last star, or without a star among its words
+-- what a parameter with a bracket points to is const: after its last star, or without a star among its words
 abbrev pub elements_const : RawSpecs → List Bool → Bool
 elements_const s [] = has_const s
 elements_const s (last ∷ others) = last
 
--- what a parameter without a bracket points to is const: behind its last star but one, or with one star among its words
+-- what a parameter without a bracket points to is const: after its last star but one, or with one star among its words
 abbrev pub target_const : RawSpecs → List Bool → Bool
 target_const s [] = false
 target_const s (last ∷ []) = has_const s
 target_const s (last ∷ before ∷ others) = before
 
 abbrev pub points_to_const : RawSpecs → List PointerWord → List (Option RawExpr) → Bool
-points_to_const s pointers [] = target_const s (consts_behind pointers)
-points_to_const s pointers (bound ∷ bounds) = elements_const s (consts_behind pointers)
+points_to_const s pointers [] = target_const s (consts_after pointers)
+points_to_const s pointers (bound ∷ bounds) = elements_const s (consts_after pointers)
 
 abbrev pub is_pointer : Shape → Bool
 is_pointer (pointer target) = true
@@ -97,13 +97,13 @@ is_pointer other = false
 abbrev pub may_write : RawParameter → Shape → Bool
 may_write p ty = is_pointer ty && not (points_to_const p.specs p.pointers.items p.bounds.items)
 
--- parameters so far: each with its name, and whether it may be written through; what is known behind them
+-- parameters so far: each with its name, and whether it may be written through; what is known after them
 pub record Head : Type 0 where
   pub variables : List Variable
   pub written : List Bool
   pub known : Known
 
--- behind the name of a parameter, if it has one
+-- after the name of a parameter, if it has one
 abbrev pub naming : Option RawName → ℕ → Shape → Known → Known
 naming None number ty k = k
 naming (Some name) number ty k = declaring name.name (Local number ty) k
@@ -124,7 +124,7 @@ abbrev pub parameter_passed : Context → RawParameter → Shape → Verdict Pas
 parameter_passed c p base =
     lift (λ whole. lift (passed c (place_of p.place p.name) whole) (sizes_said c p.bounds.items)) (bounded c (place_of p.place p.name) base p.bounds.items)
 
--- a parameter behind others
+-- a parameter after others
 abbrev pub parameter_typed : RawParameter → Head → Verdict Head
 parameter_typed p before =
     lift (λ (found : Typing).
@@ -133,12 +133,12 @@ parameter_typed p before =
     else Fault DeclaredTwice (place_of p.place p.name))
     (specs_type before.known p.place p.specs)
 
-abbrev pub parameters_behind : List RawParameter → Head → Verdict Head
-parameters_behind [] before = Fine before
-parameters_behind (p ∷ ps) before = lift (parameters_behind ps) (parameter_typed p before)
+abbrev pub parameters_after : List RawParameter → Head → Verdict Head
+parameters_after [] before = Fine before
+parameters_after (p ∷ ps) before = lift (parameters_after ps) (parameter_typed p before)
 
 -- what stands between the parentheses of a function's head
 abbrev pub parameters_typed : Known → RawParameters → Verdict Head
 parameters_typed k parameter_lists.Empty = Fine (record { variables = []; written = []; known = k })
 parameters_typed k parameter_lists.Void = Fine (record { variables = []; written = []; known = k })
-parameters_typed k (parameter_lists.List list) = parameters_behind list.items (record { variables = []; written = []; known = k })
+parameters_typed k (parameter_lists.List list) = parameters_after list.items (record { variables = []; written = []; known = k })

@@ -30,7 +30,7 @@ abbrev pub bounded : Context → Place → Shape → List (Option RawExpr) → V
 bounded c at base [] = Fine base
 bounded c at base (bound ∷ bounds) = complete_at c.table.list at base
 
--- what the elements of the outermost array are, behind whose bound these stand
+-- what the elements of the outermost array are, after whose bound these stand
 abbrev pub element_of : Context → Place → Shape → List (Option ℤ) → Verdict Shape
 element_of c at base others = lift (arrayed c.model c.table.list at base) (all_said at others)
 

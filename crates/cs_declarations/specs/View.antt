@@ -14,7 +14,7 @@ use Rattle.cs_declarations.specs.declared.parameters.Head.{Head as HeldHead}
 use Rattle.cs_declarations.specs.Known.{Known, Mark}
 use Rattle.cs_declarations.specs.Sizes.{Extent, Whole, Unsized}
 use Rattle.cs_declarations.specs.Bodies.{Laying, Counting, Opening, Body}
-use Rattle.cs_declarations.specs.Parameters.{Passed, Head, consts_behind, first_of, second_of}
+use Rattle.cs_declarations.specs.Parameters.{Passed, Head, consts_after, first_of, second_of}
 use Rattle.cs_ast.specs.declared.typed.statement.Initial.{Initial as HeldInitial}
 use Rattle.cs_ast.specs.TypedView.{initial, initial_list}
 use Rattle.cs_declarations.specs.Initializers.{Storage, InFile, InFunction, copies, Reading, Readings}
@@ -45,7 +45,7 @@ passed_of p = record { ty = shape_of p.ty; block = p.block }
 abbrev pub variable : Local → Variable
 variable l = record { name = l.name; ty = shape_of l.ty; block = l.block }
 
--- what a function gives, with what is known behind it
+-- what a function gives, with what is known after it
 abbrev pub typing : CType → Held → Shape × Known
 typing ty k = (shape_of ty, known_of k)
 
@@ -63,8 +63,8 @@ head h k = record { variables = map variable h.parameters.items; written = h.wri
 
 -- the last star of some words, and the one before it
 pub record AreLastStars (pointers : List PointerWord) (stars : Stars) : Type 0 where
-  pub last : stars.last ≡ first_of (consts_behind pointers)
-  pub before : stars.before ≡ second_of (consts_behind pointers)
+  pub last : stars.last ≡ first_of (consts_after pointers)
+  pub before : stars.before ≡ second_of (consts_after pointers)
 
 abbrev pub storage : HeldStorage → Storage
 storage stands.File = InFile
@@ -75,7 +75,7 @@ abbrev pub types_of : HeldParts → List Shape
 types_of (held_parts.Elements element count) = copies count (shape_of element.now)
 types_of (held_parts.Members members) = map (λ (m : Member). m.ty) members.now
 
--- what is read, with the string literals behind it
+-- what is read, with the string literals after it
 abbrev pub reading : HeldInitial → List (List ℕ) → Reading
 reading i literals = (initial i, literals)
 

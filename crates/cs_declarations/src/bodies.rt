@@ -27,7 +27,7 @@ pub fn specs_type(
     place: Place,
     specs: &RawSpecs,
 ) -> Result<CType, TypeRefusal>
-    ensures told { AnswersWith typing (specs_type (known_of known.old) place specs.now) result known.new }
+    ensures reported { AnswersWith typing (specs_type (known_of known.old) place specs.now) result known.new }
     ensures reading { OnOk result (known.new.reading.items ≡ known.old.reading.items) }
     ensures laid_out { IsSound (known_of known.old) → OnOk result (IsSound (known_of known.new)) }
 {
@@ -54,7 +54,7 @@ fn word_type(
     place: Place,
     words: &[SpecWord],
 ) -> Result<CType, TypeRefusal>
-    ensures told { AnswersWith typing (word_type (known_of known.old) (Some tag) place (plain_words words.now) (whole_word (plain_words words.now))) result known.new }
+    ensures reported { AnswersWith typing (word_type (known_of known.old) (Some tag) place (plain_words words.now) (whole_word (plain_words words.now))) result known.new }
     ensures reading { OnOk result (known.new.reading.items ≡ known.old.reading.items) }
 {
     match whole_word(words) {
@@ -66,9 +66,9 @@ fn word_type(
     }
 }
 
-// The struct that a tag names where no body stands behind it: the tag may be new (C11 6.7.2.3, paragraph 8).
+// The struct that a tag names where no body stands after it: the tag may be new (C11 6.7.2.3, paragraph 8).
 fn struct_named(known: &mut Known, place: Place, name: &Name) -> Result<CType, TypeRefusal>
-    ensures told { AnswersWith typing (struct_named place name.now (known_of known.old) (tag_in (known_of known.old) name.now)) result known.new }
+    ensures reported { AnswersWith typing (struct_named place name.now (known_of known.old) (tag_in (known_of known.old) name.now)) result known.new }
     ensures reading { OnOk result (known.new.reading.items ≡ known.old.reading.items) }
 {
     match known.context.scope.tags.meaning(name) {
@@ -88,7 +88,7 @@ fn begin_struct(
     place: Place,
     tag: &Option<Name>,
 ) -> Result<u32, TypeRefusal>
-    ensures told { AnswersWith opened_as (opening place tag.now (known_of known.old)) result known.new }
+    ensures reported { AnswersWith opened_as (opening place tag.now (known_of known.old)) result known.new }
     ensures reading { IfOk result (λ number. known.new.reading.items ≡ known.old.reading.items ++ number ∷ []) }
 {
     let number = match tag {
@@ -112,7 +112,7 @@ fn struct_body(
     tag: &Option<Name>,
     members: &[RawMember],
 ) -> Result<CType, TypeRefusal>
-    ensures told { AnswersWith typing (struct_body (known_of known.old) place tag.now members.now) result known.new }
+    ensures reported { AnswersWith typing (struct_body (known_of known.old) place tag.now members.now) result known.new }
     ensures reading { OnOk result (known.new.reading.items ≡ known.old.reading.items) }
 {
     let number = begin_struct(alloc, known, place, tag)?;
@@ -128,7 +128,7 @@ fn members_read(
     known: &mut Known,
     groups: &[RawMember],
 ) -> Result<Laying, TypeRefusal>
-    ensures told { AnswersWith body (members_of_list (known_of known.old) groups.now nothing_laid) result known.new }
+    ensures reported { AnswersWith body (members_of_list (known_of known.old) groups.now nothing_laid) result known.new }
     ensures reading { OnOk result (known.new.reading.items ≡ known.old.reading.items) }
 {
     let mut so_far = Laying {
@@ -142,7 +142,7 @@ fn members_read(
     Ok(so_far)
 }
 
-// Members of one type, behind others.
+// Members of one type, after others.
 #[cycle(specs)]
 fn group_read(
     alloc: Global,
@@ -150,7 +150,7 @@ fn group_read(
     group: &RawMember,
     before: Laying,
 ) -> Result<Laying, TypeRefusal>
-    ensures told { AnswersWith body (group_of (known_of known.old) group.now (laying before)) result known.new }
+    ensures reported { AnswersWith body (group_of (known_of known.old) group.now (laying before)) result known.new }
     ensures reading { OnOk result (known.new.reading.items ≡ known.old.reading.items) }
 {
     let place = first_name(&group.declarators);

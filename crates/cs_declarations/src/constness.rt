@@ -27,7 +27,7 @@ fn is_const_word(word: &SpecWord) -> bool
     }
 }
 
-/// For the last star and for the one before it, if they are there, whether `const` stands behind it.
+/// For the last star and for the one before it, if they are there, whether `const` stands after it.
 #[derive(Clone, Copy)]
 pub struct Stars {
     pub last: Option<bool>,
@@ -43,14 +43,14 @@ pub fn last_stars(pointers: &[PointerWord]) -> Stars
         before: None,
     };
     for word in pointers {
-        stars = stars.behind(*word);
+        stars = stars.following(*word);
     }
     stars
 }
 
 impl Stars {
-    // The last two stars behind one more word.
-    fn behind(self, word: PointerWord) -> Stars
+    // The last two stars after one more word.
+    fn following(self, word: PointerWord) -> Stars
         ensures { (before : List PointerWord) → AreLastStars before self → AreLastStars (before ++ word ∷ []) result }
     {
         match (word, self.last) {
@@ -87,7 +87,7 @@ pub fn points_to_const(
     }
 }
 
-/// Whether a file-scope object may not be stored to: `const` behind its last star, or without a star among its words.
+/// Whether a file-scope object may not be stored to: `const` after its last star, or without a star among its words.
 pub fn is_constant_object(specs: &RawSpecs, pointers: &[PointerWord]) -> bool
     ensures { result ≡ is_constant_object specs.now pointers.now }
 {

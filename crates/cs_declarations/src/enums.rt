@@ -41,7 +41,7 @@ fn declare_constant(
     next: i128,
     constant: &RawEnumerator,
 ) -> Result<i128, TypeRefusal>
-    ensures told { AnswersWith counting (constant_declared constant.now (counting next known.old)) result known.new }
+    ensures reported { AnswersWith counting (constant_declared constant.now (counting next known.old)) result known.new }
     ensures reading { OnOk result (known.new.reading.items ≡ known.old.reading.items) }
     ensures tags { OnOk result (known.new.context.scope.tags ≡ known.old.context.scope.tags) }
 {
@@ -62,7 +62,7 @@ fn declare_constants(
     known: &mut Known,
     constants: &[RawEnumerator],
 ) -> Result<i128, TypeRefusal>
-    ensures told { AnswersWith counting (constants_declared constants.now (counting (pos 0) known.old)) result known.new }
+    ensures reported { AnswersWith counting (constants_declared constants.now (counting (pos 0) known.old)) result known.new }
     ensures reading { OnOk result (known.new.reading.items ≡ known.old.reading.items) }
     ensures tags { OnOk result (known.new.context.scope.tags ≡ known.old.context.scope.tags) }
 {
@@ -73,7 +73,7 @@ fn declare_constants(
     Ok(next)
 }
 
-/// The type that the body of an enum names, at the place of its tag: the tag is new, and known behind the body.
+/// The type that the body of an enum names, at the place of its tag: the tag is new, and known after the body.
 #[tactic(auto, using(cs_consts::proofs::Lifting::lifts))]
 pub fn enum_body(
     alloc: Global,
@@ -82,7 +82,7 @@ pub fn enum_body(
     tag: &Option<Name>,
     constants: &[RawEnumerator],
 ) -> Result<CType, TypeRefusal>
-    ensures told { AnswersWith typing (enum_body (known_of known.old) place tag.now constants.now) result known.new }
+    ensures reported { AnswersWith typing (enum_body (known_of known.old) place tag.now constants.now) result known.new }
     ensures reading { OnOk result (known.new.reading.items ≡ known.old.reading.items) }
 {
     if let Some(name) = tag

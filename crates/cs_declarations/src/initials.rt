@@ -79,7 +79,7 @@ fn items_read(
     parts: Parts,
     items: &[RawInitial],
 ) -> Result<Vec<Initial>, TypeRefusal>
-    ensures { AnswersWith (λ list behind. readings list.items behind) (list_read context.now literals.old.items (types_of parts.entry) items.now) result literals.new.items }
+    ensures { AnswersWith (λ list following. readings list.items following) (list_read context.now literals.old.items (types_of parts.entry) items.now) result literals.new.items }
 {
     let mut list = Vec::new(alloc);
     for item in items {
@@ -91,7 +91,7 @@ fn items_read(
     Ok(list)
 }
 
-/// The initializer behind an `=`: its form, its values in their order, and then what the `=` asks of them.
+/// The initializer after an `=`: its form, its values in their order, and then what the `=` asks of them.
 pub fn initial_typed(
     alloc: Global,
     context: &Context,

@@ -1,4 +1,4 @@
-//! What the `=` of a declaration asks of the values behind it (C11 6.7.9, paragraph 11).
+//! What the `=` of a declaration asks of the values after it (C11 6.7.9, paragraph 11).
 ghost use Rattle.std.specs.Prelude.{◌≡◌};
 ghost use Rattle.cs_types.specs.Shape.{shape_of};
 ghost use Rattle.cs_consts.specs.Verdicts.{Answers};

@@ -189,14 +189,14 @@ impl Known {
         Ok(())
     }
 
-    /// Declares the names of a typedef, behind whose words stands a type.
+    /// Declares the names of a typedef, after whose words stands a type.
     pub fn declare_typedefs(
         &mut self,
         alloc: Global,
         base: &CType,
         declarators: &[RawDeclarator],
     ) -> Result<(), TypeRefusal>
-        ensures told { Leaves (typedefs_added (shape_of base.now) declarators.now (known_of self.old)) result (known_of self.new) }
+        ensures reported { Leaves (typedefs_added (shape_of base.now) declarators.now (known_of self.old)) result (known_of self.new) }
         ensures laid_out { IsSound (known_of self.old) → OnOk result (IsSound (known_of self.new)) }
     {
         for declarator in declarators {

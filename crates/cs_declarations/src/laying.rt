@@ -1,4 +1,4 @@
-//! Members of structs, one behind another (C11 6.7.2.1).
+//! Members of structs, one after another (C11 6.7.2.1).
 ghost use Rattle.std.specs.Prelude.{◌≡◌, ◌≤◌, ◌+◌, ◌^◌, nat_le, Some, None, IfSome, if◌then◌else◌};
 ghost use Rattle.cs_types.specs.Shape.{shape_of};
 ghost use Rattle.cs_types.specs.Layout.{round_up};
@@ -88,7 +88,7 @@ impl Laying {
         }
     }
 
-    // A member of so many bytes with this alignment, behind the others.
+    // A member of so many bytes with this alignment, after the others.
     fn put(
         &mut self,
         place: Place,
@@ -111,7 +111,7 @@ impl Laying {
     }
 }
 
-// What a member's declarator adds, behind whose words stands a type: its name is new in the struct.
+// What a member's declarator adds, after whose words stands a type: its name is new in the struct.
 #[tactic(auto, using(cs_consts::proofs::Lifting::lifts))]
 fn add_member(
     alloc: Global,
@@ -129,7 +129,7 @@ fn add_member(
     so_far.add(context, declarator.place, &declarator.name, ty)
 }
 
-/// What the declarators of members add, behind whose words stands a type.
+/// What the declarators of members add, after whose words stands a type.
 pub fn add_members(
     alloc: Global,
     context: &Context,
@@ -146,7 +146,7 @@ pub fn add_members(
     Ok(so_far)
 }
 
-// Where so many bytes with this alignment begin and end behind others, if an object may have so many.
+// Where so many bytes with this alignment begin and end after others, if an object may have so many.
 fn end_of(before: u64, bytes: u64, align: u64) -> Option<(u64, u64)>
     ensures { result ≡ (if nat_le (round_up before align + bytes) (2 ^ 20) then Some (round_up before align, round_up before align + bytes) else None) }
 {

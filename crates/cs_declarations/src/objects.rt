@@ -11,7 +11,7 @@ use cs_consts::{Context, TypeRefusal, complete_at};
 use cs_types::CType;
 use std::alloc::Global;
 
-// How many elements stand behind an `=`.
+// How many elements stand after an `=`.
 fn count_given(first: &Option<RawFirstValue>) -> Option<usize>
     ensures { result ≡ count_given first.now }
 {

@@ -19,7 +19,7 @@ use cs_names::Name;
 use cs_types::CType;
 use std::alloc::{AllocError, Global};
 
-/// The type of a parameter, with how many elements the block behind it has, where it was written with a bound.
+/// The type of a parameter, with how many elements the block after it has, where it was written with a bound.
 #[derive(Drop)]
 pub struct Passed {
     pub ty: CType,
@@ -137,7 +137,7 @@ fn is_declared(known: &Known, parameter: &RawParameter) -> bool
 }
 
 impl Head {
-    // A parameter behind the others.
+    // A parameter after the others.
     #[tactic(auto, using(cs_consts::proofs::Lifting::lifts))]
     fn add(
         &mut self,
@@ -186,13 +186,13 @@ impl Head {
     }
 }
 
-/// The parameters that stand between a function's parentheses, each known behind its declarator.
+/// The parameters that stand between a function's parentheses, each known after its declarator.
 pub fn parameters_typed(
     alloc: Global,
     known: &mut Known,
     parameters: &RawParameters,
 ) -> Result<Head, TypeRefusal>
-    ensures told { AnswersWith head (parameters_typed (known_of known.old) parameters.now) result known.new }
+    ensures reported { AnswersWith head (parameters_typed (known_of known.old) parameters.now) result known.new }
     ensures laid_out { IsSound (known_of known.old) → OnOk result (IsSound (known_of known.new)) }
 {
     let mut head = Head {

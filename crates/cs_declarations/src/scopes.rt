@@ -14,9 +14,9 @@ pub struct Inner {
     pub list: Vec<Declaration>,
 }
 
-// Takes the declarations behind the first ones, of which there are `outer`, the innermost first.
+// Takes the declarations after the first ones, of which there are `outer`, the innermost first.
 #[tactic(auto, using(crate::proofs::ScopesApart::one_taken, crate::proofs::ScopesApart::kept, crate::proofs::ScopesApart::all_left, crate::proofs::ScopesApart::all_taken))]
-fn taken_behind(
+fn taken_after(
     alloc: Global,
     declarations: &mut Declarations,
     outer: usize,
@@ -52,7 +52,7 @@ impl Known {
         ensures inner { IfOk result (λ inner. map declaration_of (reverse inner.list.items) ≡ drop around.declarations (declarations_of (known_of self.old))) }
     {
         let declarations = &mut self.context.scope.declarations;
-        let list = taken_behind(alloc, declarations, around.declarations)?;
+        let list = taken_after(alloc, declarations, around.declarations)?;
         self.outer = around.outer;
         Ok(Inner { list })
     }

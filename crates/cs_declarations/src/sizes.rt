@@ -83,7 +83,7 @@ pub fn bounded(
     }
 }
 
-/// What the elements of the outermost array are, behind whose bound these stand.
+/// What the elements of the outermost array are, after whose bound these stand.
 #[tactic(auto, using(cs_consts::proofs::Lifting::lifts))]
 pub fn element_of(
     alloc: Global,
@@ -161,7 +161,7 @@ pub fn filled(
     }
 }
 
-/// The type that a declarator gives its name, behind whose words stands a type; so many elements are given where its size isn't said.
+/// The type that a declarator gives its name, after whose words stands a type; so many elements are given where its size isn't said.
 #[tactic(auto, using(cs_consts::proofs::Lifting::lifts))]
 pub fn declarator_type(
     alloc: Global,

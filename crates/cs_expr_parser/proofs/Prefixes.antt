@@ -4,8 +4,8 @@ use Rattle.std.proofs.lemmas.Bool.{false≢true, both_ways, cases_lt}
 use Rattle.cs_ast.specs.declared.token.TokenKind.{TokenKind}
 use Rattle.cs_ast.specs.declared.token.TokenKind.TheVariants as token
 use Rattle.cs_ast.specs.declared.token.Keyword.TheVariants as keyword
-use Rattle.cs_ast.specs.declared.token.Mark.{Mark}
-use Rattle.cs_ast.specs.declared.token.Mark.TheVariants as mark
+use Rattle.cs_ast.specs.declared.token.Punctuator.{Punctuator}
+use Rattle.cs_ast.specs.declared.token.Punctuator.TheVariants as punctuator
 use Rattle.cs_ast.specs.declared.raw.operator.Step.{Step}
 use Rattle.cs_ast.specs.declared.raw.operator.Step.TheVariants.{Up, Down}
 use Rattle.cs_ast.specs.declared.raw.operator.PrefixOp.{PrefixOp}
@@ -13,14 +13,14 @@ use Rattle.cs_ast.specs.declared.raw.operator.PrefixOp.TheVariants as prefix
 use Rattle.cs_ast.specs.declared.raw.written_type.TypeWord.{TypeWord}
 use Rattle.cs_ast.specs.declared.raw.written_type.TypeWord.TheVariants as word
 use Rattle.cs_ast.specs.declared.raw.written_type.PointerWord.{PointerWord}
-use Rattle.cs_ast.specs.RawTree.{Written, WrittenList, Named, Numeral, Character, Literal, Enclosed, Index, Call, Member, Arrow, StepBehind, StepBefore, Prefix, SizeOf, SizeOfType, Cast, Infix, Choice, Assign, Comma, End, More}
+use Rattle.cs_ast.specs.RawTree.{Written, WrittenList, Named, Numeral, Character, Literal, Enclosed, Index, Call, Member, Arrow, StepAfter, StepBefore, Prefix, SizeOf, SizeOfType, Cast, Infix, Choice, Assign, Comma, End, More}
 use Rattle.cs_ast.specs.RawHeight.{height, highest}
 use Rattle.cs_grammar.specs.TypeWords.{Names, is_type, is_pointer}
 use Rattle.cs_grammar.specs.Levels.{level_of, infix_level}
-use Rattle.cs_grammar.specs.Marks.{step_mark, prefix_mark}
+use Rattle.cs_grammar.specs.Punctuators.{step_punctuator, prefix_punctuator}
 use Rattle.cs_grammar.specs.Text.{Kinds, text, words_text, type_text}
 use Rattle.cs_grammar.specs.Phrases.{IsPhrase, IsWell, ArePhrases}
-use Rattle.cs_grammar.specs.Continuing.{join, mark_join, join_of}
+use Rattle.cs_grammar.specs.Continuing.{join, punctuator_join, join_of}
 use Rattle.cs_grammar.specs.FirstTokens.{begins_primary, begins_expression, begins_type}
 use Rattle.cs_grammar.specs.Parsing.{Class, Expressions, Near, IsOver, Begins, BeginsLow, Took, Refused, Exactly}
 use Rattle.cs_grammar.proofs.Levels.{infix_levels, text_law, pass_took, pass_refused}
@@ -33,21 +33,21 @@ use Rattle.cs_expr_parser.specs.declared.unary.Before.{Before}
 use Rattle.cs_expr_parser.specs.declared.unary.Before.TheVariants as before
 use Rattle.cs_expr_parser.proofs.Closings.{zero, height_some, open_parenthesis, close_parenthesis}
 
--- the level of the operand behind this
+-- the level of the operand after this
 abbrev pub operand_level : Before → ℕ
 operand_level (before.Step by) = 14
 operand_level (before.Operator op) = 13
 operand_level before.Size = 14
 
 abbrev of_text : TokenKind → Option Before
-of_text (token.Mark mark.Increment) = Some (before.Step Up)
-of_text (token.Mark mark.Decrement) = Some (before.Step Down)
-of_text (token.Mark mark.Ampersand) = Some (before.Operator prefix.Address)
-of_text (token.Mark mark.Star) = Some (before.Operator prefix.Through)
-of_text (token.Mark mark.Plus) = Some (before.Operator prefix.Plus)
-of_text (token.Mark mark.Minus) = Some (before.Operator prefix.Minus)
-of_text (token.Mark mark.Tilde) = Some (before.Operator prefix.Complement)
-of_text (token.Mark mark.Exclamation) = Some (before.Operator prefix.Not)
+of_text (token.Punctuator punctuator.Increment) = Some (before.Step Up)
+of_text (token.Punctuator punctuator.Decrement) = Some (before.Step Down)
+of_text (token.Punctuator punctuator.Ampersand) = Some (before.Operator prefix.Address)
+of_text (token.Punctuator punctuator.Star) = Some (before.Operator prefix.Through)
+of_text (token.Punctuator punctuator.Plus) = Some (before.Operator prefix.Plus)
+of_text (token.Punctuator punctuator.Minus) = Some (before.Operator prefix.Minus)
+of_text (token.Punctuator punctuator.Tilde) = Some (before.Operator prefix.Complement)
+of_text (token.Punctuator punctuator.Exclamation) = Some (before.Operator prefix.Not)
 of_text (token.Keyword keyword.Sizeof) = Some before.Size
 of_text other = None
 
@@ -96,7 +96,7 @@ unary_is names (Index a n) after is = plain (omega arith)
 unary_is names (Call f es) after is = plain (omega arith)
 unary_is names (Member o n) after is = plain (omega arith)
 unary_is names (Arrow o n) after is = plain (omega arith)
-unary_is names (StepBehind s o) after is = plain (omega arith)
+unary_is names (StepAfter s o) after is = plain (omega arith)
 unary_is names (Cast ws ps bs o) after is = absurd (omega (arith, is.0))
 unary_is names (Infix op l r) after is = absurd (omega (arith, is.0, (infix_levels op).1))
 unary_is names (Choice t o e) after is = absurd (omega (arith, is.0))
@@ -123,7 +123,7 @@ cast_is names (Index a n) after is = tighter (omega arith)
 cast_is names (Call f es) after is = tighter (omega arith)
 cast_is names (Member o n) after is = tighter (omega arith)
 cast_is names (Arrow o n) after is = tighter (omega arith)
-cast_is names (StepBehind s o) after is = tighter (omega arith)
+cast_is names (StepAfter s o) after is = tighter (omega arith)
 cast_is names (Infix op l r) after is = absurd (omega (arith, is.0, (infix_levels op).1))
 cast_is names (Choice t o e) after is = absurd (omega (arith, is.0))
 cast_is names (Assign op l r) after is = absurd (omega (arith, is.0))
@@ -149,30 +149,30 @@ no_type_inner names e after rest parts is ty same =
     let i = unary_inner names e after (type_closed_text parts rest) is same in
     type_no_expression names (type_closed_text parts rest) (type_text_begins names parts rest ty) (subst (BeginsWith (begins_expression names)) (sym i.are) (expression_begins names i.inner (close_parenthesis ∷ i.rest) i.is_well))
 
-mark_gap : (m : Mark) → mark_join m ≤ 15 → mark_join m ≤ 13
-mark_gap mark.OpenBracket h = absurd (omega (arith, h))
-mark_gap mark.OpenParenthesis h = absurd (omega (arith, h))
-mark_gap mark.Dot h = absurd (omega (arith, h))
-mark_gap mark.Arrow h = absurd (omega (arith, h))
-mark_gap mark.Increment h = absurd (omega (arith, h))
-mark_gap mark.Decrement h = absurd (omega (arith, h))
-mark_gap _ h = omega arith
+punctuator_gap : (m : Punctuator) → punctuator_join m ≤ 15 → punctuator_join m ≤ 13
+punctuator_gap punctuator.OpenBracket h = absurd (omega (arith, h))
+punctuator_gap punctuator.OpenParenthesis h = absurd (omega (arith, h))
+punctuator_gap punctuator.Dot h = absurd (omega (arith, h))
+punctuator_gap punctuator.Arrow h = absurd (omega (arith, h))
+punctuator_gap punctuator.Increment h = absurd (omega (arith, h))
+punctuator_gap punctuator.Decrement h = absurd (omega (arith, h))
+punctuator_gap _ h = omega arith
 
 -- no token goes on with a cast or a unary expression
 pub join_gap : (tokens : Kinds) → join_of tokens ≤ 15 → join_of tokens ≤ 13
 join_gap [] h = omega arith
-join_gap (token.Mark m ∷ others) h = mark_gap m h
+join_gap (token.Punctuator m ∷ others) h = punctuator_gap m h
 join_gap (token.Keyword k ∷ others) h = omega arith
-join_gap (token.LeftOut k ∷ others) h = omega arith
+join_gap (token.Unsupported k ∷ others) h = omega arith
 join_gap (token.Attribute ∷ others) h = omega arith
 join_gap (token.Name k ∷ others) h = omega arith
 join_gap (token.Number k ∷ others) h = omega arith
 join_gap (token.Character k ∷ others) h = omega arith
 join_gap (token.Text k ∷ others) h = omega arith
 
--- behind `sizeof` no type stands between parentheses
+-- after `sizeof` no type stands between parentheses
 abbrev pub NoType : Names → Before → Kinds → Type 0
-NoType names b behind = b ≡ before.Size → (parts : TypeParts) (rest : Kinds) → IsTypeOf names parts → behind ≡ open_parenthesis ∷ type_closed_text parts rest → ⊥
+NoType names b following = b ≡ before.Size → (parts : TypeParts) (rest : Kinds) → IsTypeOf names parts → following ≡ open_parenthesis ∷ type_closed_text parts rest → ⊥
 
 prefixed_text : (b : Before) (e : Written) (after : Kinds) → text (prefixed_tree b e) after ≡ before_text b ∷ text e after
 prefixed_text (before.Step by) e after = refl
@@ -200,20 +200,20 @@ zero_phrase names (before.Operator op) = (omega arith, tt)
 zero_phrase names before.Size = (omega arith, tt)
 
 -- an operand with something before it
-pub before_tail : (names : Names) (room : ℕ) (b : Before) → 2 ≤ room → Tail (Expressions names 14) (Expressions names (operand_level b)) room (room - 1) (before_text b ∷ []) (prefixed_tree b) (NoType names b)
-before_tail names room b least = record {
+pub before_tail : (names : Names) (limit : ℕ) (b : Before) → 2 ≤ limit → Tail (Expressions names 14) (Expressions names (operand_level b)) limit (limit - 1) (before_text b ∷ []) (prefixed_tree b) (NoType names b)
+before_tail names limit b least = record {
   started =
       let h = prefixed_height b zero in
       inr (record { phrase = prefixed_tree b zero; more = text zero []; is_phrase = prefixed_phrase names b zero (zero_phrase names b); low = omega arith; spelled = prefixed_text b zero [] });
-  invert = λ whole after behind is shut fit same.
+  invert = λ whole after following is shut fit same.
       elim (unary_is names whole after is) [
-        | plain l ↦ absurd (both_ways (begins_primary names (before_text b)) (before_not_primary names b) (passes_first (begins_primary names) (text whole after) (before_text b) behind (postfix_begins names whole after (l, is.1)) same))
+        | plain l ↦ absurd (both_ways (begins_primary names (before_text b)) (before_not_primary names b) (passes_first (begins_primary names) (text whole after) (before_text b) following (postfix_begins names whole after (l, is.1)) same))
         | prefixed b' o w i t ↦
-            let s : before_text b' ∷ text o after ≡ before_text b ∷ behind = sym t ∙ same in
+            let s : before_text b' ∷ text o after ≡ before_text b ∷ following = sym t ∙ same in
             let k : b' ≡ b = before_same b' b cc in
             (o, w ∙ ap (λ (x : Before). prefixed_tree x o) k, subst (λ (x : Before). IsPhrase names (operand_level x) o) k i, cc)
         | measured parts w ty t ↦
-            let s : before_text before.Size ∷ open_parenthesis ∷ type_closed_text parts after ≡ before_text b ∷ behind = sym t ∙ same in
+            let s : before_text before.Size ∷ open_parenthesis ∷ type_closed_text parts after ≡ before_text b ∷ following = sym t ∙ same in
             absurd (fit (sym (before_same before.Size b cc)) parts after ty cc)
       ];
   shut = λ part after shut. operand_shut b after shut;
@@ -227,22 +227,22 @@ no_tokens : (names : Names) (e : Written) (after : Kinds) → IsPhrase names 14 
 no_tokens names e after is same = let b = expression_begins names e after is.1 in let s = sym b.are ∙ same in cc
 
 -- what `sizeof` begins: it stands before a unary expression, or before a type
-pub size_is : (names : Names) (e : Written) (after behind : Kinds) → IsPhrase names 14 e → text e after ≡ token.Keyword keyword.Sizeof ∷ behind → ((x : Written) × (e ≡ SizeOf x) × IsPhrase names 14 x × (behind ≡ text x after)) ⊎ ((parts : TypeParts) × (e ≡ SizeOfType parts.words parts.pointers parts.bounds) × IsTypeOf names parts × (behind ≡ open_parenthesis ∷ type_closed_text parts after))
-size_is names e after behind is same =
+pub size_is : (names : Names) (e : Written) (after following : Kinds) → IsPhrase names 14 e → text e after ≡ token.Keyword keyword.Sizeof ∷ following → ((x : Written) × (e ≡ SizeOf x) × IsPhrase names 14 x × (following ≡ text x after)) ⊎ ((parts : TypeParts) × (e ≡ SizeOfType parts.words parts.pointers parts.bounds) × IsTypeOf names parts × (following ≡ open_parenthesis ∷ type_closed_text parts after))
+size_is names e after following is same =
     elim (unary_is names e after is) [
-      | plain l ↦ absurd (both_ways (begins_primary names (before_text before.Size)) (before_not_primary names before.Size) (passes_first (begins_primary names) (text e after) (before_text before.Size) behind (postfix_begins names e after (l, is.1)) same))
+      | plain l ↦ absurd (both_ways (begins_primary names (before_text before.Size)) (before_not_primary names before.Size) (passes_first (begins_primary names) (text e after) (before_text before.Size) following (postfix_begins names e after (l, is.1)) same))
       | prefixed b o w i t ↦
-          let s : before_text b ∷ text o after ≡ before_text before.Size ∷ behind = sym t ∙ same in
+          let s : before_text b ∷ text o after ≡ before_text before.Size ∷ following = sym t ∙ same in
           let k : b ≡ before.Size = before_same b before.Size cc in
           inl (o, w ∙ ap (λ (x : Before). prefixed_tree x o) k, subst (λ (x : Before). IsPhrase names (operand_level x) o) k i, cc)
       | measured parts w ty t ↦ let s = sym t ∙ same in inr (parts, w, ty, cc)
     ]
 
 -- what stands before an operand, and no room for the operand
-pub before_full : (names : Names) (room : ℕ) (b : Before) → room < 2 → Refused (Expressions names 14) room [] (before_text b) true
-before_full names room b full = record {
+pub before_full : (names : Names) (limit : ℕ) (b : Before) → limit < 2 → Refused (Expressions names 14) limit [] (before_text b) true
+before_full names limit b full = record {
   begun = inl refl;
-  never = λ other after behind is shut near same.
+  never = λ other after following is shut near same.
       elim near [
         | inl none ↦ absurd (no_tokens names other after is (same ∙ none))
         | inr m ↦
@@ -251,32 +251,32 @@ before_full names room b full = record {
               | prefixed b' o w i t ↦
                   let h = prefixed_height b' o in
                   let g = height_some o in
-                  record { told = refl; high = subst (λ (x : Written). room < height x) (sym w) (omega arith); onward = λ none. let z = sym m.1 ∙ none in cc }
-              | measured parts w ty t ↦ record { told = refl; high = subst (λ (x : Written). room < height x) (sym w) (omega arith); onward = λ none. let z = sym m.1 ∙ none in cc }
+                  record { reported = refl; high = subst (λ (x : Written). limit < height x) (sym w) (omega arith); onward = λ none. let z = sym m.1 ∙ none in cc }
+              | measured parts w ty t ↦ record { reported = refl; high = subst (λ (x : Written). limit < height x) (sym w) (omega arith); onward = λ none. let z = sym m.1 ∙ none in cc }
             ]
       ];
-  further = λ told. record { phrase = prefixed_tree b zero; more = text zero []; is_phrase = prefixed_phrase names b zero (zero_phrase names b); spelled = prefixed_text b zero [] };
+  further = λ reported. record { phrase = prefixed_tree b zero; more = text zero []; is_phrase = prefixed_phrase names b zero (zero_phrase names b); spelled = prefixed_text b zero [] };
 }
 
 -- what was taken with nothing before it
-pub unary_passes : (names : Names) (room : ℕ) (e : Written) (next : TokenKind) (deep : Bool) → Took (Expressions names 15) room e next deep → Took (Expressions names 14) room e next deep
-unary_passes names room e next deep t =
-    pass_took names 14 15 room e next deep (omega arith) t
-    (λ other after behind is loose shut near same.
+pub unary_passes : (names : Names) (limit : ℕ) (e : Written) (next : TokenKind) (deep : Bool) → Took (Expressions names 15) limit e next deep → Took (Expressions names 14) limit e next deep
+unary_passes names limit e next deep t =
+    pass_took names 14 15 limit e next deep (omega arith) t
+    (λ other after following is loose shut near same.
     absurd (elim (unary_is names other after is) [
       | plain l ↦ omega arith
-      | prefixed b o w i s ↦ both_ways (begins_primary names (before_text b)) (before_not_primary names b) (passes_first (begins_primary names) (text e behind) (before_text b) (text o after) (postfix_begins names e behind t.is_phrase) (sym same ∙ s))
-      | measured parts w ty s ↦ both_ways (begins_primary names (before_text before.Size)) (before_not_primary names before.Size) (passes_first (begins_primary names) (text e behind) (before_text before.Size) (open_parenthesis ∷ type_closed_text parts after) (postfix_begins names e behind t.is_phrase) (sym same ∙ s))
+      | prefixed b o w i s ↦ both_ways (begins_primary names (before_text b)) (before_not_primary names b) (passes_first (begins_primary names) (text e following) (before_text b) (text o after) (postfix_begins names e following t.is_phrase) (sym same ∙ s))
+      | measured parts w ty s ↦ both_ways (begins_primary names (before_text before.Size)) (before_not_primary names before.Size) (passes_first (begins_primary names) (text e following) (before_text before.Size) (open_parenthesis ∷ type_closed_text parts after) (postfix_begins names e following t.is_phrase) (sym same ∙ s))
     ]))
 
 -- a token before an operand doesn't stand first where a postfix expression was refused
-not_before : (names : Names) (room : ℕ) (front : Kinds) (next : TokenKind) (deep : Bool) (b : Before) (others behind : Kinds) → Refused (Expressions names 15) room front next deep → (front ≡ [] → next ≡ before_text b → ⊥) → Near next behind → before_text b ∷ others ≡ front ++ behind → ⊥
-not_before names room [] next deep b others behind r none near same =
+not_before : (names : Names) (limit : ℕ) (front : Kinds) (next : TokenKind) (deep : Bool) (b : Before) (others following : Kinds) → Refused (Expressions names 15) limit front next deep → (front ≡ [] → next ≡ before_text b → ⊥) → Near next following → before_text b ∷ others ≡ front ++ following → ⊥
+not_before names limit [] next deep b others following r none near same =
     elim near [
       | inl e ↦ let s = same ∙ e in cc
       | inr m ↦ let s = same ∙ m.1 in none refl cc
     ]
-not_before names room (f ∷ fs) next deep b others behind r none near same =
+not_before names limit (f ∷ fs) next deep b others following r none near same =
     elim r.begun [
       | inl e ↦ cc
       | inr l ↦
@@ -285,27 +285,27 @@ not_before names room (f ∷ fs) next deep b others behind r none near same =
           both_ways (begins_primary names (before_text b)) (before_not_primary names b) (ap (begins_primary names) e ∙ p)
     ]
 
-pub unary_passes_refused : (names : Names) (room : ℕ) (front : Kinds) (next : TokenKind) (deep : Bool) → ((b : Before) → front ≡ [] → next ≡ before_text b → ⊥) → Refused (Expressions names 15) room front next deep → Refused (Expressions names 14) room front next deep
-unary_passes_refused names room front next deep none r =
-    pass_refused names 14 15 room front next deep (omega arith) r
-    (λ other after behind is loose shut near same.
+pub unary_passes_refused : (names : Names) (limit : ℕ) (front : Kinds) (next : TokenKind) (deep : Bool) → ((b : Before) → front ≡ [] → next ≡ before_text b → ⊥) → Refused (Expressions names 15) limit front next deep → Refused (Expressions names 14) limit front next deep
+unary_passes_refused names limit front next deep none r =
+    pass_refused names 14 15 limit front next deep (omega arith) r
+    (λ other after following is loose shut near same.
     absurd (elim (unary_is names other after is) [
       | plain l ↦ omega arith
-      | prefixed b o w i s ↦ not_before names room front next deep b (text o after) behind r (none b) near (sym s ∙ same)
-      | measured parts w ty s ↦ not_before names room front next deep before.Size (open_parenthesis ∷ type_closed_text parts after) behind r (none before.Size) near (sym s ∙ same)
+      | prefixed b o w i s ↦ not_before names limit front next deep b (text o after) following r (none b) near (sym s ∙ same)
+      | measured parts w ty s ↦ not_before names limit front next deep before.Size (open_parenthesis ∷ type_closed_text parts after) following r (none before.Size) near (sym s ∙ same)
     ]))
 
 -- where a unary expression was refused, no type between parentheses stands but where there is no room for one
-pub not_type : (names : Names) (room : ℕ) (front : Kinds) (next : TokenKind) (deep : Bool) (parts : TypeParts) (rest behind : Kinds) → Refused (Expressions names 14) room front next deep → (front ≡ open_parenthesis ∷ [] → begins_type names next ≡ false) → IsTypeOf names parts → Near next behind → open_parenthesis ∷ type_closed_text parts rest ≡ front ++ behind → (front ≡ []) × (next ≡ open_parenthesis)
-not_type names room [] next deep parts rest behind r none ty near same =
+pub not_type : (names : Names) (limit : ℕ) (front : Kinds) (next : TokenKind) (deep : Bool) (parts : TypeParts) (rest following : Kinds) → Refused (Expressions names 14) limit front next deep → (front ≡ open_parenthesis ∷ [] → begins_type names next ≡ false) → IsTypeOf names parts → Near next following → open_parenthesis ∷ type_closed_text parts rest ≡ front ++ following → (front ≡ []) × (next ≡ open_parenthesis)
+not_type names limit [] next deep parts rest following r none ty near same =
     elim near [
       | inl e ↦ absurd (let s = same ∙ e in cc)
       | inr m ↦ let s = same ∙ m.1 in (refl, cc)
     ]
-not_type names room (f ∷ []) next deep parts rest behind r none ty near same =
+not_type names limit (f ∷ []) next deep parts rest following r none ty near same =
     let b = type_text_begins names parts rest ty in
     let e : open_parenthesis ≡ f = cc in
-    let t : type_closed_text parts rest ≡ behind = cc in
+    let t : type_closed_text parts rest ≡ following = cc in
     absurd (elim near [
       | inl n ↦ let s = sym b.are ∙ t ∙ n in cc
       | inr m ↦
@@ -313,41 +313,41 @@ not_type names room (f ∷ []) next deep parts rest behind r none ty near same =
           let k : next ≡ b.first = cc in
           both_ways (begins_type names next) (none (ap (λ (x : TokenKind). x ∷ []) (sym e))) (ap (begins_type names) k ∙ b.passes)
     ])
-not_type names room (f ∷ g ∷ fs) next deep parts rest behind r none ty near same =
+not_type names limit (f ∷ g ∷ fs) next deep parts rest following r none ty near same =
     let b = type_text_begins names parts rest ty in
     let e : open_parenthesis ≡ f = cc in
-    let t : type_closed_text parts rest ≡ (g ∷ fs) ++ behind = cc in
+    let t : type_closed_text parts rest ≡ (g ∷ fs) ++ following = cc in
     absurd (elim r.begun [
       | inl n ↦ cc
       | inr l ↦
           let i = unary_inner names l.phrase [] ((g ∷ fs) ++ l.more) l.is_phrase (l.spelled ∙ ap (λ (x : TokenKind). x ∷ ((g ∷ fs) ++ l.more)) (sym e)) in
           let w = expression_begins names i.inner (close_parenthesis ∷ i.rest) i.is_well in
           let p = passes_first (begins_expression names) (text i.inner (close_parenthesis ∷ i.rest)) g (fs ++ l.more) w (sym i.are) in
-          let s : b.first ∷ b.others ≡ g ∷ (fs ++ behind) = sym b.are ∙ t in
+          let s : b.first ∷ b.others ≡ g ∷ (fs ++ following) = sym b.are ∙ t in
           let k : g ≡ b.first = cc in
           begins_one names g p (ap (begins_type names) k ∙ b.passes)
     ])
 
 -- what was taken without a type between parentheses before it
-pub cast_passes : (names : Names) (room : ℕ) (e : Written) (next : TokenKind) (deep : Bool) → Took (Expressions names 14) room e next deep → Took (Expressions names 13) room e next deep
-cast_passes names room e next deep t =
-    pass_took names 13 14 room e next deep (omega arith) t
-    (λ other after behind is loose shut near same.
+pub cast_passes : (names : Names) (limit : ℕ) (e : Written) (next : TokenKind) (deep : Bool) → Took (Expressions names 14) limit e next deep → Took (Expressions names 13) limit e next deep
+cast_passes names limit e next deep t =
+    pass_took names 13 14 limit e next deep (omega arith) t
+    (λ other after following is loose shut near same.
     absurd (elim (cast_is names other after is) [
       | tighter l ↦ omega arith
-      | converted parts o w ty i s ↦ no_type_inner names e behind (text o after) parts t.is_phrase ty (sym same ∙ s)
+      | converted parts o w ty i s ↦ no_type_inner names e following (text o after) parts t.is_phrase ty (sym same ∙ s)
     ]))
 
-pub cast_passes_refused : (names : Names) (room : ℕ) (front : Kinds) (next : TokenKind) (deep : Bool) → (front ≡ open_parenthesis ∷ [] → begins_type names next ≡ false) → Refused (Expressions names 14) room front next deep → Refused (Expressions names 13) room front next deep
-cast_passes_refused names room front next deep none r =
-    pass_refused names 13 14 room front next deep (omega arith) r
-    (λ other after behind is loose shut near same.
+pub cast_passes_refused : (names : Names) (limit : ℕ) (front : Kinds) (next : TokenKind) (deep : Bool) → (front ≡ open_parenthesis ∷ [] → begins_type names next ≡ false) → Refused (Expressions names 14) limit front next deep → Refused (Expressions names 13) limit front next deep
+cast_passes_refused names limit front next deep none r =
+    pass_refused names 13 14 limit front next deep (omega arith) r
+    (λ other after following is loose shut near same.
     elim (cast_is names other after is) [
       | tighter l ↦ absurd (omega arith)
       | converted parts o w ty i s ↦
-          let n = not_type names room front next deep parts (text o after) behind r none ty near (sym s ∙ same) in
+          let n = not_type names limit front next deep parts (text o after) following r none ty near (sym s ∙ same) in
           let v = r.never (Enclosed zero) [] (open_parenthesis ∷ text zero (close_parenthesis ∷ [])) (omega arith, tt) (omega arith) (inr (text zero (close_parenthesis ∷ []), ap (λ (x : TokenKind). x ∷ text zero (close_parenthesis ∷ [])) (sym n.1))) (ap (λ (x : Kinds). x ++ (open_parenthesis ∷ text zero (close_parenthesis ∷ []))) (sym n.0)) in
-          let full : room < 2 = v.high in
+          let full : limit < 2 = v.high in
           let h = height_some o in
-          record { told = v.told; high = subst (λ (x : Written). room < height x) (sym w) (omega arith); onward = λ none'. let z = sym s ∙ same ∙ ap (λ (x : Kinds). x ++ behind) n.0 ∙ none' in cc }
+          record { reported = v.reported; high = subst (λ (x : Written). limit < height x) (sym w) (omega arith); onward = λ none'. let z = sym s ∙ same ∙ ap (λ (x : Kinds). x ++ following) n.0 ∙ none' in cc }
     ])

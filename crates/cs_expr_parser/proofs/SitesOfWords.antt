@@ -8,7 +8,7 @@ use Rattle.cs_ast.specs.declared.token.TokenKind.{TokenKind}
 use Rattle.cs_ast.specs.declared.token.TokenKind.TheVariants as token
 use Rattle.cs_ast.specs.declared.token.Keyword.{Keyword}
 use Rattle.cs_ast.specs.declared.token.Keyword.TheVariants as keyword
-use Rattle.cs_ast.specs.declared.token.Mark.TheVariants as mark
+use Rattle.cs_ast.specs.declared.token.Punctuator.TheVariants as punctuator
 use Rattle.cs_ast.specs.declared.raw.written_type.TypeWord.{TypeWord}
 use Rattle.cs_ast.specs.declared.raw.written_type.TypeWord.TheVariants as word
 use Rattle.cs_ast.specs.declared.raw.written_type.IntegerWord.{IntegerWord}
@@ -163,18 +163,18 @@ pub name_no_word : (names : Names) (so_far : TypeSoFar) (next : TokenKind) (name
 name_no_word names so_far next name n none one e = name_unusable names so_far name none one (e ∙ n)
 
 -- nor is what is neither a name nor a keyword
-pub mark_no_word : (names : Names) (so_far : TypeSoFar) (next : TokenKind) → name_of next ≡ None → keyword_of next ≡ None → NoWord names so_far next
-mark_no_word names so_far next n k word.Const e = absurd (let z = ap keyword_of e ∙ k in cc)
-mark_no_word names so_far next n k (word.Integer Char) e = absurd (let z = ap keyword_of e ∙ k in cc)
-mark_no_word names so_far next n k (word.Integer Short) e = absurd (let z = ap keyword_of e ∙ k in cc)
-mark_no_word names so_far next n k (word.Integer Int) e = absurd (let z = ap keyword_of e ∙ k in cc)
-mark_no_word names so_far next n k (word.Integer Long) e = absurd (let z = ap keyword_of e ∙ k in cc)
-mark_no_word names so_far next n k (word.Integer Signed) e = absurd (let z = ap keyword_of e ∙ k in cc)
-mark_no_word names so_far next n k (word.Integer Unsigned) e = absurd (let z = ap keyword_of e ∙ k in cc)
-mark_no_word names so_far next n k word.Void e = absurd (let z = ap keyword_of e ∙ k in cc)
-mark_no_word names so_far next n k (word.Typedef name) e = absurd (let z = ap name_of e ∙ n in cc)
-mark_no_word names so_far next n k (word.Struct tag) e = absurd (let z = ap keyword_of e ∙ k in cc)
-mark_no_word names so_far next n k (word.Enum tag) e = absurd (let z = ap keyword_of e ∙ k in cc)
+pub punctuator_no_word : (names : Names) (so_far : TypeSoFar) (next : TokenKind) → name_of next ≡ None → keyword_of next ≡ None → NoWord names so_far next
+punctuator_no_word names so_far next n k word.Const e = absurd (let z = ap keyword_of e ∙ k in cc)
+punctuator_no_word names so_far next n k (word.Integer Char) e = absurd (let z = ap keyword_of e ∙ k in cc)
+punctuator_no_word names so_far next n k (word.Integer Short) e = absurd (let z = ap keyword_of e ∙ k in cc)
+punctuator_no_word names so_far next n k (word.Integer Int) e = absurd (let z = ap keyword_of e ∙ k in cc)
+punctuator_no_word names so_far next n k (word.Integer Long) e = absurd (let z = ap keyword_of e ∙ k in cc)
+punctuator_no_word names so_far next n k (word.Integer Signed) e = absurd (let z = ap keyword_of e ∙ k in cc)
+punctuator_no_word names so_far next n k (word.Integer Unsigned) e = absurd (let z = ap keyword_of e ∙ k in cc)
+punctuator_no_word names so_far next n k word.Void e = absurd (let z = ap keyword_of e ∙ k in cc)
+punctuator_no_word names so_far next n k (word.Typedef name) e = absurd (let z = ap name_of e ∙ n in cc)
+punctuator_no_word names so_far next n k (word.Struct tag) e = absurd (let z = ap keyword_of e ∙ k in cc)
+punctuator_no_word names so_far next n k (word.Enum tag) e = absurd (let z = ap keyword_of e ∙ k in cc)
 
 -- words without a tag are told by their first tokens
 first_integer : (a b : IntegerWord) → integer_word_text a ≡ integer_word_text b → a ≡ b
@@ -238,9 +238,9 @@ nothing_named names Nothing words d none = d
 nothing_named names (Integers all) words d none = absurd cc
 nothing_named names Whole words d none = absurd cc
 
-stuck_behind : (names : Names) (so_far : TypeSoFar) (words : List TypeWord) (found : NextWord) (tagged : Bool) → has_tag found.word ≡ tagged → Describes names so_far words → (tagged ≡ true → names_some so_far ≡ false) → ((more : List TypeWord) → is_type names (words ++ found.word ∷ more) ≡ false) → IsStuck names words (first_of_word found.word)
-stuck_behind names so_far words found false t d fresh none one more e = subst (λ (x : TypeWord). is_type names (words ++ x ∷ more) ≡ false) (sym (same_first one found.word t e)) (none more)
-stuck_behind names so_far words found true t d fresh none one more e =
+stuck_following : (names : Names) (so_far : TypeSoFar) (words : List TypeWord) (found : NextWord) (tagged : Bool) → has_tag found.word ≡ tagged → Describes names so_far words → (tagged ≡ true → names_some so_far ≡ false) → ((more : List TypeWord) → is_type names (words ++ found.word ∷ more) ≡ false) → IsStuck names words (first_of_word found.word)
+stuck_following names so_far words found false t d fresh none one more e = subst (λ (x : TypeWord). is_type names (words ++ x ∷ more) ≡ false) (sym (same_first one found.word t e)) (none more)
+stuck_following names so_far words found true t d fresh none one more e =
     let k = tag_known names found.word t in
     let n = nothing_named names so_far words d (fresh refl) in
     absurd (both_ways (is_type names (words ++ found.word ∷ [])) (none [])
@@ -255,7 +255,7 @@ word_stands tokens at next w sp =
 pub unjoined_stuck : (names : Names) (tokens : List Token) (at : ℕ) (so_far : TypeSoFar) (words : List TypeWord) (found : NextWord) → Describes names so_far words → IsWordAt names tokens at so_far found → IsExtended names words found.word None → IsStuck names words (kind_or_end tokens at)
 unjoined_stuck names tokens at so_far words found d w none =
     subst (IsStuck names words) (sym (word_stands tokens at found.next found.word w.spelled))
-    (stuck_behind names so_far words found (has_tag found.word) refl d w.fresh none)
+    (stuck_following names so_far words found (has_tag found.word) refl d w.fresh none)
 
 word_known : (names : Names) (w : TypeWord) → ((name : List ℕ) → w ≡ word.Typedef name → is_among names name ≡ true) → is_known names w ≡ true
 word_known names (word.Typedef name) k = k name refl
@@ -300,30 +300,30 @@ words_one_more names tokens from next so_far words joining w j = record {
   describes = j.described;
 }
 
-missing_stops : (names : Names) (tokens : List Token) (from next refused : ℕ) (so_far : TypeSoFar) (words : List TypeWord) (reason : Reason) (room : ℕ) → WordsSoFar names tokens from next so_far words → IsTagMissing tokens next refused → named_by words ≡ [] → reason ≡ plain_reason (kind_or_end tokens refused) true → Stops (Types names) room tokens from (stop.Refused refused reason)
-missing_stops names tokens from next refused so_far words reason room w m none why =
+missing_stops : (names : Names) (tokens : List Token) (from next refused : ℕ) (so_far : TypeSoFar) (words : List TypeWord) (reason : Reason) (limit : ℕ) → WordsSoFar names tokens from next so_far words → IsTagMissing tokens next refused → named_by words ≡ [] → reason ≡ plain_reason (kind_or_end tokens refused) true → Stops (Types names) limit tokens from (stop.Refused refused reason)
+missing_stops names tokens from next refused so_far words reason limit w m none why =
     let kw : TokenKind = token.Keyword (if m.is_struct then keyword.Struct else keyword.Enum) in
-    subst (λ (at : ℕ). Stops (Types names) room tokens from (stop.Refused at reason)) (sym m.refused_is)
-    (refused_at (Types names) room tokens from (next + 1) reason false (words_text words (token.Keyword (if m.is_struct then keyword.Struct else keyword.Enum) ∷ []))
+    subst (λ (at : ℕ). Stops (Types names) limit tokens from (stop.Refused at reason)) (sym m.refused_is)
+    (refused_at (Types names) limit tokens from (next + 1) reason false (words_text words (token.Keyword (if m.is_struct then keyword.Struct else keyword.Enum) ∷ []))
     (spells_as tokens from (next + 1) (λ rest. words_text words (token.Keyword (if m.is_struct then keyword.Struct else keyword.Enum) ∷ rest)) (λ rest. words_text words (token.Keyword (if m.is_struct then keyword.Struct else keyword.Enum) ∷ []) ++ rest)
     (spells_more tokens from next (next + 1) (words_text words) (λ rest. token.Keyword (if m.is_struct then keyword.Struct else keyword.Enum) ∷ rest) w.spelled (keyword_stands tokens next (if m.is_struct then keyword.Struct else keyword.Enum) m.stands))
     (λ rest. sym (words_append words (token.Keyword (if m.is_struct then keyword.Struct else keyword.Enum) ∷ []) rest)))
     (ap is_deep why ∙ plain_not_deep (kind_or_end tokens refused) true)
-    (tag_refused names room words m.is_struct (kind_or_end tokens (next + 1)) none m.none))
+    (tag_refused names limit words m.is_struct (kind_or_end tokens (next + 1)) none m.none))
 
 -- a word was refused
-pub word_stops : (names : Names) (tokens : List Token) (from next : ℕ) (so_far : TypeSoFar) (words : List TypeWord) (s : Stop) → WordsSoFar names tokens from next so_far words → JoiningAnswer names words tokens next (Err s) → (room : ℕ) → Stops (Types names) room tokens from s
-word_stops names tokens from next so_far words stop.Memory w j room = tt
-word_stops names tokens from next so_far words (stop.Refused refused reason) w (missing, none, why) room = missing_stops names tokens from next refused so_far words reason room w missing none why
+pub word_stops : (names : Names) (tokens : List Token) (from next : ℕ) (so_far : TypeSoFar) (words : List TypeWord) (s : Stop) → WordsSoFar names tokens from next so_far words → JoiningAnswer names words tokens next (Err s) → (limit : ℕ) → Stops (Types names) limit tokens from s
+word_stops names tokens from next so_far words stop.Memory w j limit = tt
+word_stops names tokens from next so_far words (stop.Refused refused reason) w (missing, none, why) limit = missing_stops names tokens from next refused so_far words reason limit w missing none why
 
 -- the words name no type
-pub words_name_nothing : (names : Names) (tokens : List Token) (from next : ℕ) (so_far : TypeSoFar) (words : List TypeWord) (s : Stop) → WordsSoFar names tokens from next so_far words → names_some so_far ≡ false → IsStuck names words (kind_or_end tokens next) → s ≡ stop.Refused next (reason_of false (kind_or_end tokens next) false) → (room : ℕ) → Stops (Types names) room tokens from s
-words_name_nothing names tokens from next so_far words s w none stuck is room =
-    subst (Stops (Types names) room tokens from) (sym is)
-    (refused_at (Types names) room tokens from next (reason_of false (kind_or_end tokens next) false) false (words_text words [])
+pub words_name_nothing : (names : Names) (tokens : List Token) (from next : ℕ) (so_far : TypeSoFar) (words : List TypeWord) (s : Stop) → WordsSoFar names tokens from next so_far words → names_some so_far ≡ false → IsStuck names words (kind_or_end tokens next) → s ≡ stop.Refused next (reason_of false (kind_or_end tokens next) false) → (limit : ℕ) → Stops (Types names) limit tokens from s
+words_name_nothing names tokens from next so_far words s w none stuck is limit =
+    subst (Stops (Types names) limit tokens from) (sym is)
+    (refused_at (Types names) limit tokens from next (reason_of false (kind_or_end tokens next) false) false (words_text words [])
     (spells_as tokens from next (words_text words) (λ rest. words_text words [] ++ rest) w.spelled (λ rest. sym (words_append words [] rest)))
     (deep_reason false (kind_or_end tokens next) false)
-    (not_type_refused names room words (kind_or_end tokens next) (nothing_named names so_far words w.describes none) stuck))
+    (not_type_refused names limit words (kind_or_end tokens next) (nothing_named names so_far words w.describes none) stuck))
 
 integers_named : (names : Names) (all : IntegerWords) (first : TypeWord) (others : List TypeWord) → AreIntegers all first others → names_type names (first ∷ others) ≡ true
 integers_named names all (word.Integer k) others a =
@@ -352,7 +352,7 @@ some_type names Whole words (only, named, whole) some = ap (names_type names) na
 pub words_taken : (names : Names) (tokens : List Token) (from : ℕ) (so_far : TypeSoFar) (taken : TypeWords) → WordsSoFar names tokens from taken.next so_far taken.words.items → names_some so_far ≡ true → IsStuck names taken.words.items (kind_or_end tokens taken.next) → taken.tagged ≡ last_tagged taken.words.items → IsWordsFrom names tokens from taken
 words_taken names tokens from so_far taken w some stuck tagged = record { spelled = w.spelled; is_type = some_type names so_far taken.words.items w.describes some; stuck = stuck; tagged = tagged }
 
--- behind the words of a type stands no `const`
+-- after the words of a type stands no `const`
 pub words_no_const : (names : Names) (tokens : List Token) (from : ℕ) (taken : TypeWords) → IsWordsFrom names tokens from taken → kind_or_end tokens taken.next ≡ token.Keyword keyword.Const → ⊥
 words_no_const names tokens from taken w k =
     let s = w.stuck word.Const [] (sym k) in
@@ -373,7 +373,7 @@ pointers_text_more [] w rest = refl
 pointers_text_more (p ∷ ps) w rest = ap (λ (x : Kinds). pointer_word_text p ∷ x) (pointers_text_more ps w rest)
 
 pointer_stands : (tokens : List Token) (at : ℕ) (w : PointerWord) → IsPointerAt (kind_or_end tokens at) (Some w) → Spells tokens at (at + 1) (λ rest. pointer_word_text w ∷ rest)
-pointer_stands tokens at pointer.Star k = spells_one tokens at (token.Mark mark.Star) k (λ x. cc)
+pointer_stands tokens at pointer.Star k = spells_one tokens at (token.Punctuator punctuator.Star) k (λ x. cc)
 pointer_stands tokens at pointer.Const k = spells_one tokens at (token.Keyword keyword.Const) k (λ x. cc)
 
 more_is_pointer : (tokens : List Token) (from next : ℕ) (words : List PointerWord) (w : PointerWord) → (kind_or_end tokens from ≡ token.Keyword keyword.Const → ⊥) → is_pointer words ≡ true → (words ≡ [] → next ≡ from) → IsPointerAt (kind_or_end tokens next) (Some w) → is_pointer (words ++ w ∷ []) ≡ true

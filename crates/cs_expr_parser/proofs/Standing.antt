@@ -8,10 +8,10 @@ use Rattle.cs_ast.specs.declared.token.Token.{Token}
 use Rattle.cs_ast.specs.declared.token.TokenKind.{TokenKind}
 use Rattle.cs_ast.specs.declared.token.TokenKind.TheVariants as token
 use Rattle.cs_ast.specs.declared.token.Keyword.{Keyword}
-use Rattle.cs_ast.specs.declared.token.Mark.{Mark}
+use Rattle.cs_ast.specs.declared.token.Punctuator.{Punctuator}
 use Rattle.cs_grammar.specs.Text.{Kinds}
 use Rattle.cs_grammar.specs.Parsing.{Near}
-use Rattle.cs_expr_parser.specs.Positions.{kinds, first_kind, kind_or_end, mark_of, keyword_of, name_of}
+use Rattle.cs_expr_parser.specs.Positions.{kinds, first_kind, kind_or_end, punctuator_of, keyword_of, name_of}
 use Rattle.cs_expr_parser.specs.Parts.{Spells}
 
 pub kind_of_some : (tokens : List Token) (at : ℕ) (t : Token) → slice_get tokens at ≡ Some t → kind_or_end tokens at ≡ t.kind
@@ -30,7 +30,7 @@ past_end (t ∷ ts) at e =
 pub kind_of_none : (tokens : List Token) (at : ℕ) → slice_get tokens at ≡ None → kind_or_end tokens at ≡ token.Attribute
 kind_of_none tokens at e = ap first_kind (drop_of_length-le tokens (past_end tokens at e))
 
--- a token that isn't the end stands there, and the others behind it
+-- a token that isn't the end stands there, and the others after it
 pub stands : (tokens : List Token) (at : ℕ) (kind : TokenKind) → kind_or_end tokens at ≡ kind → (kind ≡ token.Attribute → ⊥) → (at < length tokens) × (kinds (drop at tokens) ≡ kind ∷ kinds (drop (at + 1) tokens))
 stands [] at kind e ne =
     absurd (ne (sym e ∙ ap first_kind (drop_of_length-le [] {i = at} (omega arith))))
@@ -66,7 +66,7 @@ spells_one tokens at kind e ne =
 pub spells_none : (tokens : List Token) (at : ℕ) → at ≤ length tokens → Spells tokens at at (λ rest. rest)
 spells_none tokens at within = record { onward = omega arith; within = within; spelled = refl }
 
--- tokens, and tokens behind them
+-- tokens, and tokens after them
 pub spells_more : (tokens : List Token) (from mid next : ℕ) (f g : Kinds → Kinds) → Spells tokens from mid f → Spells tokens mid next g → Spells tokens from next (λ rest. f (g rest))
 spells_more tokens from mid next f g a b = record { onward = omega (arith, a.onward, b.onward); within = b.within; spelled = a.spelled ∙ ap f b.spelled }
 
@@ -74,20 +74,20 @@ spells_more tokens from mid next f g a b = record { onward = omega (arith, a.onw
 pub spells_as : (tokens : List Token) (from next : ℕ) (f g : Kinds → Kinds) → Spells tokens from next f → ((rest : Kinds) → f rest ≡ g rest) → Spells tokens from next g
 spells_as tokens from next f g a same = record { onward = a.onward; within = a.within; spelled = a.spelled ∙ same (kinds (drop next tokens)) }
 
-pub mark_is : (kind : TokenKind) (m : Mark) → mark_of kind ≡ Some m → kind ≡ token.Mark m
-mark_is (token.Mark n) m e = cc
-mark_is (token.Keyword k) m e = absurd cc
-mark_is (token.LeftOut k) m e = absurd cc
-mark_is token.Attribute m e = absurd cc
-mark_is (token.Name k) m e = absurd cc
-mark_is (token.Number k) m e = absurd cc
-mark_is (token.Character k) m e = absurd cc
-mark_is (token.Text k) m e = absurd cc
+pub punctuator_is : (kind : TokenKind) (m : Punctuator) → punctuator_of kind ≡ Some m → kind ≡ token.Punctuator m
+punctuator_is (token.Punctuator n) m e = cc
+punctuator_is (token.Keyword k) m e = absurd cc
+punctuator_is (token.Unsupported k) m e = absurd cc
+punctuator_is token.Attribute m e = absurd cc
+punctuator_is (token.Name k) m e = absurd cc
+punctuator_is (token.Number k) m e = absurd cc
+punctuator_is (token.Character k) m e = absurd cc
+punctuator_is (token.Text k) m e = absurd cc
 
 pub keyword_is : (kind : TokenKind) (m : Keyword) → keyword_of kind ≡ Some m → kind ≡ token.Keyword m
-keyword_is (token.Mark n) m e = absurd cc
+keyword_is (token.Punctuator n) m e = absurd cc
 keyword_is (token.Keyword k) m e = cc
-keyword_is (token.LeftOut k) m e = absurd cc
+keyword_is (token.Unsupported k) m e = absurd cc
 keyword_is token.Attribute m e = absurd cc
 keyword_is (token.Name k) m e = absurd cc
 keyword_is (token.Number k) m e = absurd cc
@@ -95,9 +95,9 @@ keyword_is (token.Character k) m e = absurd cc
 keyword_is (token.Text k) m e = absurd cc
 
 pub name_is : (kind : TokenKind) (m : List ℕ) → name_of kind ≡ Some m → kind ≡ token.Name m
-name_is (token.Mark n) m e = absurd cc
+name_is (token.Punctuator n) m e = absurd cc
 name_is (token.Keyword k) m e = absurd cc
-name_is (token.LeftOut k) m e = absurd cc
+name_is (token.Unsupported k) m e = absurd cc
 name_is token.Attribute m e = absurd cc
 name_is (token.Name k) m e = cc
 name_is (token.Number k) m e = absurd cc

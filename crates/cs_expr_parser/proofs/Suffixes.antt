@@ -1,18 +1,18 @@
--- What stands behind an operand and belongs to it: for the contracts of `suffixed`, `infix` and `comma`.
+-- What stands after an operand and belongs to it: for the contracts of `suffixed`, `infix` and `comma`.
 use Rattle.std.proofs.Common.{◌≡◌, ℕ, suc, ◌+◌, ◌-◌, ◌<◌, ◌≤◌, ◌⊎◌, inl, inr, Bool, true, false, List, [], ◌∷◌, ◌++◌, refl, sym, ap, ◌∙◌, subst, arith}
 use Rattle.cs_ast.specs.declared.token.TokenKind.{TokenKind}
 use Rattle.cs_ast.specs.declared.token.TokenKind.TheVariants as token
-use Rattle.cs_ast.specs.declared.token.Mark.{Mark}
-use Rattle.cs_ast.specs.declared.token.Mark.TheVariants as mark
+use Rattle.cs_ast.specs.declared.token.Punctuator.{Punctuator}
+use Rattle.cs_ast.specs.declared.token.Punctuator.TheVariants as punctuator
 use Rattle.cs_ast.specs.declared.raw.operator.Step.{Step}
 use Rattle.cs_ast.specs.declared.raw.operator.Step.TheVariants.{Up, Down}
 use Rattle.cs_ast.specs.declared.raw.operator.InfixOp.{InfixOp}
 use Rattle.cs_ast.specs.declared.raw.operator.InfixOp.TheVariants as between
-use Rattle.cs_ast.specs.RawTree.{Written, WrittenList, Index, Call, Member, Arrow, StepBehind, Infix, Comma, End, More}
+use Rattle.cs_ast.specs.RawTree.{Written, WrittenList, Index, Call, Member, Arrow, StepAfter, Infix, Comma, End, More}
 use Rattle.cs_ast.specs.RawHeight.{height, highest}
 use Rattle.cs_grammar.specs.TypeWords.{Names}
 use Rattle.cs_grammar.specs.Levels.{level_of, infix_level}
-use Rattle.cs_grammar.specs.Marks.{step_mark, infix_mark}
+use Rattle.cs_grammar.specs.Punctuators.{step_punctuator, infix_punctuator}
 use Rattle.cs_grammar.specs.Text.{Kinds, text, listed}
 use Rattle.cs_grammar.specs.Phrases.{IsPhrase, IsWell, ArePhrases}
 use Rattle.cs_grammar.specs.Continuing.{join, join_of}
@@ -26,26 +26,26 @@ use Rattle.cs_expr_parser.specs.Parts.{Rows, arguments_text}
 use Rattle.cs_expr_parser.proofs.Closings.{zero, height_some, close_parenthesis}
 
 abbrev close_bracket : TokenKind
-close_bracket = token.Mark mark.CloseBracket
+close_bracket = token.Punctuator punctuator.CloseBracket
 
-step_token : (s : Step) (m : Mark) → (m ≡ mark.Increment → ⊥) → (m ≡ mark.Decrement → ⊥) → step_mark s ≡ m → ⊥
+step_token : (s : Step) (m : Punctuator) → (m ≡ punctuator.Increment → ⊥) → (m ≡ punctuator.Decrement → ⊥) → step_punctuator s ≡ m → ⊥
 step_token Up m i d e = i (sym e)
 step_token Down m i d e = d (sym e)
 
 -- `left [ number ]`
-pub index_addition : (names : Names) (left : Written) (room : ℕ) → IsPhrase names 15 left → height left < room → Addition names 15 left room (token.Mark mark.OpenBracket) (ClosedBy (Expressions names 0) (token.Mark mark.CloseBracket)) (room - 1) (Index left)
-index_addition names left room is low = record {
+pub index_addition : (names : Names) (left : Written) (limit : ℕ) → IsPhrase names 15 left → height left < limit → Addition names 15 left limit (token.Punctuator punctuator.OpenBracket) (ClosedBy (Expressions names 0) (token.Punctuator punctuator.CloseBracket)) (limit - 1) (Index left)
+index_addition names left limit is low = record {
   chain = refl;
   started =
       let h = height_some left in
-      record { phrase = Index left zero; more = text zero (close_bracket ∷ []); is_phrase = (omega arith, (is.0, is.1, tt)); low = omega arith; spelled = sym (text_append left (token.Mark mark.OpenBracket ∷ []) (text zero (close_bracket ∷ []))) };
-  invert = λ whole after behind is' s.
+      record { phrase = Index left zero; more = text zero (close_bracket ∷ []); is_phrase = (omega arith, (is.0, is.1, tt)); low = omega arith; spelled = sym (text_append left (token.Punctuator punctuator.OpenBracket ∷ []) (text zero (close_bracket ∷ []))) };
+  invert = λ whole after following is' s.
       elim s [
         | indexed n l w b ↦ let p = subst (IsPhrase names 15) w is' in (n, w, (omega arith, p.1.2), cc)
         | called es l w b ↦ absurd cc
         | selected n l w b ↦ absurd cc
         | followed_by n l w b ↦ absurd cc
-        | stepped k l w b ↦ absurd (step_token k mark.OpenBracket (λ e. cc) (λ e. cc) cc)
+        | stepped k l w b ↦ absurd (step_token k punctuator.OpenBracket (λ e. cc) (λ e. cc) cc)
         | joined op r l w b ↦ absurd (let i = (infix_levels op).1 in omega arith)
         | continued f l w b ↦ absurd (omega arith)
       ];
@@ -57,19 +57,19 @@ index_addition names left room is low = record {
 }
 
 -- `left ( arguments )`
-pub call_addition : (names : Names) (left : Written) (room : ℕ) → IsPhrase names 15 left → height left < room → Addition names 15 left room (token.Mark mark.OpenParenthesis) (Rows arguments_text (ArePhrases names 1)) (room - 2) (Call left)
-call_addition names left room is low = record {
+pub call_addition : (names : Names) (left : Written) (limit : ℕ) → IsPhrase names 15 left → height left < limit → Addition names 15 left limit (token.Punctuator punctuator.OpenParenthesis) (Rows arguments_text (ArePhrases names 1)) (limit - 2) (Call left)
+call_addition names left limit is low = record {
   chain = refl;
   started =
       let h = height_some left in
-      record { phrase = Call left End; more = close_parenthesis ∷ []; is_phrase = (omega arith, (is.0, is.1, tt)); low = omega arith; spelled = sym (text_append left (token.Mark mark.OpenParenthesis ∷ []) (close_parenthesis ∷ [])) };
-  invert = λ whole after behind is' s.
+      record { phrase = Call left End; more = close_parenthesis ∷ []; is_phrase = (omega arith, (is.0, is.1, tt)); low = omega arith; spelled = sym (text_append left (token.Punctuator punctuator.OpenParenthesis ∷ []) (close_parenthesis ∷ [])) };
+  invert = λ whole after following is' s.
       elim s [
         | called es l w b ↦ let p = subst (IsPhrase names 15) w is' in (es, w, p.1.2, cc)
         | indexed n l w b ↦ absurd cc
         | selected n l w b ↦ absurd cc
         | followed_by n l w b ↦ absurd cc
-        | stepped k l w b ↦ absurd (step_token k mark.OpenParenthesis (λ e. cc) (λ e. cc) cc)
+        | stepped k l w b ↦ absurd (step_token k punctuator.OpenParenthesis (λ e. cc) (λ e. cc) cc)
         | joined op r l w b ↦ absurd (let i = (infix_levels op).1 in omega arith)
         | continued f l w b ↦ absurd (omega arith)
       ];
@@ -81,17 +81,17 @@ call_addition names left room is low = record {
 }
 
 -- `left . name`
-pub member_addition : (names : Names) (left : Written) (room : ℕ) → IsPhrase names 15 left → height left < room → Addition names 15 left room (token.Mark mark.Dot) AnyName 0 (Member left)
-member_addition names left room is low = record {
+pub member_addition : (names : Names) (left : Written) (limit : ℕ) → IsPhrase names 15 left → height left < limit → Addition names 15 left limit (token.Punctuator punctuator.Dot) AnyName 0 (Member left)
+member_addition names left limit is low = record {
   chain = refl;
-  started = record { phrase = Member left []; more = token.Name [] ∷ []; is_phrase = (omega arith, (is.0, is.1)); low = omega arith; spelled = sym (text_append left (token.Mark mark.Dot ∷ []) (token.Name [] ∷ [])) };
-  invert = λ whole after behind is' s.
+  started = record { phrase = Member left []; more = token.Name [] ∷ []; is_phrase = (omega arith, (is.0, is.1)); low = omega arith; spelled = sym (text_append left (token.Punctuator punctuator.Dot ∷ []) (token.Name [] ∷ [])) };
+  invert = λ whole after following is' s.
       elim s [
         | selected n l w b ↦ (n, w, tt, cc)
         | called es l w b ↦ absurd cc
         | indexed n l w b ↦ absurd cc
         | followed_by n l w b ↦ absurd cc
-        | stepped k l w b ↦ absurd (step_token k mark.Dot (λ e. cc) (λ e. cc) cc)
+        | stepped k l w b ↦ absurd (step_token k punctuator.Dot (λ e. cc) (λ e. cc) cc)
         | joined op r l w b ↦ absurd (let i = (infix_levels op).1 in omega arith)
         | continued f l w b ↦ absurd (omega arith)
       ];
@@ -103,17 +103,17 @@ member_addition names left room is low = record {
 }
 
 -- `left -> name`
-pub arrow_addition : (names : Names) (left : Written) (room : ℕ) → IsPhrase names 15 left → height left < room → Addition names 15 left room (token.Mark mark.Arrow) AnyName 0 (Arrow left)
-arrow_addition names left room is low = record {
+pub arrow_addition : (names : Names) (left : Written) (limit : ℕ) → IsPhrase names 15 left → height left < limit → Addition names 15 left limit (token.Punctuator punctuator.Arrow) AnyName 0 (Arrow left)
+arrow_addition names left limit is low = record {
   chain = refl;
-  started = record { phrase = Arrow left []; more = token.Name [] ∷ []; is_phrase = (omega arith, (is.0, is.1)); low = omega arith; spelled = sym (text_append left (token.Mark mark.Arrow ∷ []) (token.Name [] ∷ [])) };
-  invert = λ whole after behind is' s.
+  started = record { phrase = Arrow left []; more = token.Name [] ∷ []; is_phrase = (omega arith, (is.0, is.1)); low = omega arith; spelled = sym (text_append left (token.Punctuator punctuator.Arrow ∷ []) (token.Name [] ∷ [])) };
+  invert = λ whole after following is' s.
       elim s [
         | followed_by n l w b ↦ (n, w, tt, cc)
         | called es l w b ↦ absurd cc
         | indexed n l w b ↦ absurd cc
         | selected n l w b ↦ absurd cc
-        | stepped k l w b ↦ absurd (step_token k mark.Arrow (λ e. cc) (λ e. cc) cc)
+        | stepped k l w b ↦ absurd (step_token k punctuator.Arrow (λ e. cc) (λ e. cc) cc)
         | joined op r l w b ↦ absurd (let i = (infix_levels op).1 in omega arith)
         | continued f l w b ↦ absurd (omega arith)
       ];
@@ -124,28 +124,28 @@ arrow_addition names left room is low = record {
   rises = λ part high. absurd (omega (arith, high));
 }
 
-steps_differ : (s t : Step) → step_mark s ≡ step_mark t → s ≡ t
+steps_differ : (s t : Step) → step_punctuator s ≡ step_punctuator t → s ≡ t
 steps_differ Up Up e = refl
 steps_differ Down Down e = refl
 steps_differ Up Down e = absurd cc
 steps_differ Down Up e = absurd cc
 
-step_tokens : (s : Step) → (step_mark s ≡ mark.OpenBracket → ⊥) × (step_mark s ≡ mark.OpenParenthesis → ⊥) × (step_mark s ≡ mark.Dot → ⊥) × (step_mark s ≡ mark.Arrow → ⊥)
+step_tokens : (s : Step) → (step_punctuator s ≡ punctuator.OpenBracket → ⊥) × (step_punctuator s ≡ punctuator.OpenParenthesis → ⊥) × (step_punctuator s ≡ punctuator.Dot → ⊥) × (step_punctuator s ≡ punctuator.Arrow → ⊥)
 step_tokens Up = (λ e. cc, λ e. cc, λ e. cc, λ e. cc)
 step_tokens Down = (λ e. cc, λ e. cc, λ e. cc, λ e. cc)
 
 -- `left ++`
-pub step_addition : (names : Names) (left : Written) (room : ℕ) (by : Step) → IsPhrase names 15 left → height left < room → Addition names 15 left room (token.Mark (step_mark by)) Ended 0 (λ (end : Unit {0}). StepBehind by left)
-step_addition names left room by is low = record {
+pub step_addition : (names : Names) (left : Written) (limit : ℕ) (by : Step) → IsPhrase names 15 left → height left < limit → Addition names 15 left limit (token.Punctuator (step_punctuator by)) Ended 0 (λ (end : Unit {0}). StepAfter by left)
+step_addition names left limit by is low = record {
   chain = step_join by;
-  started = record { phrase = StepBehind by left; more = []; is_phrase = (omega arith, (is.0, is.1)); low = omega arith; spelled = sym (text_append left (token.Mark (step_mark by) ∷ []) []) };
-  invert = λ whole after behind is' s.
+  started = record { phrase = StepAfter by left; more = []; is_phrase = (omega arith, (is.0, is.1)); low = omega arith; spelled = sym (text_append left (token.Punctuator (step_punctuator by) ∷ []) []) };
+  invert = λ whole after following is' s.
       let d = step_tokens by in
       elim s [
         | stepped k l w b ↦
-            let e : step_mark by ≡ step_mark k = cc in
+            let e : step_punctuator by ≡ step_punctuator k = cc in
             let k' : k ≡ by = sym (steps_differ by k e) in
-            (tt, w ∙ ap (λ (x : Step). StepBehind x left) k', tt, cc)
+            (tt, w ∙ ap (λ (x : Step). StepAfter x left) k', tt, cc)
         | called es l w b ↦ absurd (d.1 cc)
         | indexed n l w b ↦ absurd (d.0 cc)
         | selected n l w b ↦ absurd (d.2 cc)
@@ -160,67 +160,67 @@ step_addition names left room by is low = record {
   rises = λ part high. absurd (omega (arith, high));
 }
 
--- the operator of a mark
-abbrev of_mark : Mark → InfixOp
-of_mark mark.BarBar = between.Or
-of_mark mark.AndAnd = between.And
-of_mark mark.Bar = between.BitOr
-of_mark mark.Caret = between.BitXor
-of_mark mark.Ampersand = between.BitAnd
-of_mark mark.EqualEqual = between.Equal
-of_mark mark.Differs = between.Differs
-of_mark mark.Less = between.Less
-of_mark mark.AtMost = between.AtMost
-of_mark mark.More = between.More
-of_mark mark.AtLeast = between.AtLeast
-of_mark mark.ShiftLeft = between.ShiftLeft
-of_mark mark.ShiftRight = between.ShiftRight
-of_mark mark.Plus = between.Add
-of_mark mark.Minus = between.Subtract
-of_mark mark.Star = between.Multiply
-of_mark mark.Slash = between.Divide
-of_mark mark.Percent = between.Remainder
-of_mark other = between.Or
+-- the operator of a punctuator
+abbrev of_punctuator : Punctuator → InfixOp
+of_punctuator punctuator.BarBar = between.Or
+of_punctuator punctuator.AndAnd = between.And
+of_punctuator punctuator.Bar = between.BitOr
+of_punctuator punctuator.Caret = between.BitXor
+of_punctuator punctuator.Ampersand = between.BitAnd
+of_punctuator punctuator.EqualEqual = between.Equal
+of_punctuator punctuator.Differs = between.Differs
+of_punctuator punctuator.Less = between.Less
+of_punctuator punctuator.AtMost = between.AtMost
+of_punctuator punctuator.More = between.More
+of_punctuator punctuator.AtLeast = between.AtLeast
+of_punctuator punctuator.ShiftLeft = between.ShiftLeft
+of_punctuator punctuator.ShiftRight = between.ShiftRight
+of_punctuator punctuator.Plus = between.Add
+of_punctuator punctuator.Minus = between.Subtract
+of_punctuator punctuator.Star = between.Multiply
+of_punctuator punctuator.Slash = between.Divide
+of_punctuator punctuator.Percent = between.Remainder
+of_punctuator other = between.Or
 
-of_mark_infix : (op : InfixOp) → of_mark (infix_mark op) ≡ op
-of_mark_infix between.Or = refl
-of_mark_infix between.And = refl
-of_mark_infix between.BitOr = refl
-of_mark_infix between.BitXor = refl
-of_mark_infix between.BitAnd = refl
-of_mark_infix between.Equal = refl
-of_mark_infix between.Differs = refl
-of_mark_infix between.Less = refl
-of_mark_infix between.AtMost = refl
-of_mark_infix between.More = refl
-of_mark_infix between.AtLeast = refl
-of_mark_infix between.ShiftLeft = refl
-of_mark_infix between.ShiftRight = refl
-of_mark_infix between.Add = refl
-of_mark_infix between.Subtract = refl
-of_mark_infix between.Multiply = refl
-of_mark_infix between.Divide = refl
-of_mark_infix between.Remainder = refl
+of_punctuator_infix : (op : InfixOp) → of_punctuator (infix_punctuator op) ≡ op
+of_punctuator_infix between.Or = refl
+of_punctuator_infix between.And = refl
+of_punctuator_infix between.BitOr = refl
+of_punctuator_infix between.BitXor = refl
+of_punctuator_infix between.BitAnd = refl
+of_punctuator_infix between.Equal = refl
+of_punctuator_infix between.Differs = refl
+of_punctuator_infix between.Less = refl
+of_punctuator_infix between.AtMost = refl
+of_punctuator_infix between.More = refl
+of_punctuator_infix between.AtLeast = refl
+of_punctuator_infix between.ShiftLeft = refl
+of_punctuator_infix between.ShiftRight = refl
+of_punctuator_infix between.Add = refl
+of_punctuator_infix between.Subtract = refl
+of_punctuator_infix between.Multiply = refl
+of_punctuator_infix between.Divide = refl
+of_punctuator_infix between.Remainder = refl
 
--- operators with one mark are one
-pub infix_same : (a b : InfixOp) → infix_mark a ≡ infix_mark b → a ≡ b
-infix_same a b e = sym (of_mark_infix a) ∙ ap of_mark e ∙ of_mark_infix b
+-- operators with one punctuator are one
+pub infix_same : (a b : InfixOp) → infix_punctuator a ≡ infix_punctuator b → a ≡ b
+infix_same a b e = sym (of_punctuator_infix a) ∙ ap of_punctuator e ∙ of_punctuator_infix b
 
 -- `left operator right`
-pub infix_addition : (names : Names) (left : Written) (room : ℕ) (op : InfixOp) → IsPhrase names (infix_level op) left → height left < room → Addition names (infix_level op) left room (token.Mark (infix_mark op)) (Expressions names (suc (infix_level op))) (room - 1) (Infix op left)
-infix_addition names left room op is low = record {
+pub infix_addition : (names : Names) (left : Written) (limit : ℕ) (op : InfixOp) → IsPhrase names (infix_level op) left → height left < limit → Addition names (infix_level op) left limit (token.Punctuator (infix_punctuator op)) (Expressions names (suc (infix_level op))) (limit - 1) (Infix op left)
+infix_addition names left limit op is low = record {
   chain = infix_join op;
   started =
       let h = height_some left in
       let i = (infix_levels op).1 in
-      record { phrase = Infix op left zero; more = text zero []; is_phrase = (omega arith, (is.0, is.1, omega arith, tt)); low = omega arith; spelled = sym (text_append left (token.Mark (infix_mark op) ∷ []) (text zero [])) };
-  invert = λ whole after behind is' s.
+      record { phrase = Infix op left zero; more = text zero []; is_phrase = (omega arith, (is.0, is.1, omega arith, tt)); low = omega arith; spelled = sym (text_append left (token.Punctuator (infix_punctuator op) ∷ []) (text zero [])) };
+  invert = λ whole after following is' s.
       let i = infix_levels op in
       let i1 = i.0 in
       let i2 = i.1 in
       elim s [
         | joined op' r l w b ↦
-            let m : infix_mark op ≡ infix_mark op' = cc in
+            let m : infix_punctuator op ≡ infix_punctuator op' = cc in
             let o : op' ≡ op = sym (infix_same op op' m) in
             let p = subst (IsPhrase names (infix_level op)) w is' in
             let bound : suc (infix_level op') ≤ level_of r = p.1.2 in
@@ -240,13 +240,13 @@ infix_addition names left room op is low = record {
 }
 
 -- `first , second`
-pub comma_addition : (names : Names) (left : Written) (room : ℕ) → IsPhrase names 0 left → height left < room → Addition names 0 left room (token.Mark mark.Comma) (Expressions names 1) (room - 1) (Comma left)
-comma_addition names left room is low = record {
+pub comma_addition : (names : Names) (left : Written) (limit : ℕ) → IsPhrase names 0 left → height left < limit → Addition names 0 left limit (token.Punctuator punctuator.Comma) (Expressions names 1) (limit - 1) (Comma left)
+comma_addition names left limit is low = record {
   chain = refl;
   started =
       let h = height_some left in
-      record { phrase = Comma left zero; more = text zero []; is_phrase = (omega arith, (is.1, omega arith, tt)); low = omega arith; spelled = sym (text_append left (token.Mark mark.Comma ∷ []) (text zero [])) };
-  invert = λ whole after behind is' s.
+      record { phrase = Comma left zero; more = text zero []; is_phrase = (omega arith, (is.1, omega arith, tt)); low = omega arith; spelled = sym (text_append left (token.Punctuator punctuator.Comma ∷ []) (text zero [])) };
+  invert = λ whole after following is' s.
       elim s [
         | continued f l w b ↦ let p = subst (IsPhrase names 0) w is' in (f, w, (p.1.1, p.1.2), cc)
         | joined op r l w b ↦ absurd (let i = (infix_levels op).0 in omega arith)

@@ -1,10 +1,10 @@
--- Types between parentheses before an operand or behind `sizeof`: for the contracts of `cast` and `sized`.
+-- Types between parentheses before an operand or after `sizeof`: for the contracts of `cast` and `sized`.
 use Rattle.std.proofs.Common.{◌≡◌, ℕ, suc, ◌+◌, ◌-◌, ◌<◌, ◌≤◌, max, ◌⊎◌, inl, inr, Bool, true, false, List, [], ◌∷◌, ◌++◌, refl, sym, ap, ◌∙◌, subst, arith, append_assoc}
 use Rattle.std.proofs.lemmas.Bool.{false≢true, both_ways}
 use Rattle.cs_ast.specs.declared.token.TokenKind.{TokenKind}
 use Rattle.cs_ast.specs.declared.token.TokenKind.TheVariants as token
 use Rattle.cs_ast.specs.declared.token.Keyword.TheVariants as keyword
-use Rattle.cs_ast.specs.declared.token.Mark.TheVariants as mark
+use Rattle.cs_ast.specs.declared.token.Punctuator.TheVariants as punctuator
 use Rattle.cs_ast.specs.declared.raw.written_type.TypeWord.{TypeWord}
 use Rattle.cs_ast.specs.declared.raw.written_type.TypeWord.TheVariants as word
 use Rattle.cs_ast.specs.RawTree.{Written, WrittenList, Enclosed, SizeOf, SizeOfType, Cast, End, More}
@@ -40,32 +40,32 @@ void_is : (names : Names) → IsTypeOf names void_type
 void_is names = record { words = refl; pointers = refl; bounds = tt }
 
 -- where a type is refused, no expression stands
-pub refused_type : (names : Names) (room : ℕ) (front : Kinds) (next : TokenKind) (deep : Bool) → Refused (Types names) room front next deep → (front ≡ [] → begins_type names next ≡ true) → (behind : Kinds) → Near next behind → NoExpression names (front ++ behind)
-refused_type names room [] next deep r starts behind near e =
+pub refused_type : (names : Names) (limit : ℕ) (front : Kinds) (next : TokenKind) (deep : Bool) → Refused (Types names) limit front next deep → (front ≡ [] → begins_type names next ≡ true) → (following : Kinds) → Near next following → NoExpression names (front ++ following)
+refused_type names limit [] next deep r starts following near e =
     elim near [
       | inl n ↦ let s = sym e.are ∙ n in cc
-      | inr m ↦ begins_one names next (passes_first (begins_expression names) behind next m.0 e m.1) (starts refl)
+      | inr m ↦ begins_one names next (passes_first (begins_expression names) following next m.0 e m.1) (starts refl)
     ]
-refused_type names room (f ∷ fs) next deep r starts behind near e =
+refused_type names limit (f ∷ fs) next deep r starts following near e =
     elim r.begun [
       | inl n ↦ cc
       | inr l ↦
           let t = passes_first (begins_type names) (type_closed_text l.phrase []) f (fs ++ l.more) (type_text_begins names l.phrase [] l.is_phrase) l.spelled in
-          begins_one names f (passes_first (begins_expression names) ((f ∷ fs) ++ behind) f (fs ++ behind) e refl) t
+          begins_one names f (passes_first (begins_expression names) ((f ∷ fs) ++ following) f (fs ++ following) e refl) t
     ]
 
 -- the type of a cast
-cast_hole : (names : Names) (room : ℕ) → 2 ≤ room → Hole (Expressions names 13) (Types names) room (room - 1) (open_parenthesis ∷ []) (NoExpression names) (λ rest. Unit {0})
-cast_hole names room least = record {
+cast_hole : (names : Names) (limit : ℕ) → 2 ≤ limit → Hole (Expressions names 13) (Types names) limit (limit - 1) (open_parenthesis ∷ []) (NoExpression names) (λ rest. Unit {0})
+cast_hole names limit least = record {
   started = inr (record { phrase = Cast (word.Void ∷ []) [] End zero; more = token.Keyword keyword.Void ∷ close_parenthesis ∷ text zero []; is_phrase = (omega arith, (refl, refl, tt, omega arith, tt)); low = omega arith; spelled = refl });
-  invert = λ whole after behind is shut fit same.
+  invert = λ whole after following is shut fit same.
       elim (cast_is names whole after is) [
         | tighter l ↦
-            let i = unary_inner names whole after behind (l, is.1) same in
+            let i = unary_inner names whole after following (l, is.1) same in
             absurd (fit (subst (BeginsWith (begins_expression names)) (sym i.are) (expression_begins names i.inner (close_parenthesis ∷ i.rest) i.is_well)))
         | converted parts o w ty i t ↦
             let s = sym t ∙ same in
-            record { part = parts; rest = text o after; is_phrase = ty; spelled = cc; shut = tt; after = tt; rises = λ high. subst (λ (x : Written). room < height x) (sym w) (omega (arith, high)) }
+            record { part = parts; rest = text o after; is_phrase = ty; spelled = cc; shut = tt; after = tt; rises = λ high. subst (λ (x : Written). limit < height x) (sym w) (omega (arith, high)) }
       ];
   complete = λ part is. record {
     whole = Cast part.words part.pointers part.bounds zero;
@@ -76,13 +76,13 @@ cast_hole names room least = record {
   };
 }
 
-pub cast_type_refused : (names : Names) (room : ℕ) → 2 ≤ room → (front : Kinds) (next : TokenKind) (deep : Bool) → (front ≡ [] → begins_type names next ≡ true) → Refused (Types names) (room - 1) front next deep → Refused (Expressions names 13) room (open_parenthesis ∷ front) next deep
-cast_type_refused names room least front next deep starts r =
-    hole_refused (Expressions names 13) (Types names) room (room - 1) (open_parenthesis ∷ []) (NoExpression names) (λ rest. Unit {0}) (types_law names) (cast_hole names room least) front next deep (refused_type names (room - 1) front next deep r starts) r
+pub cast_type_refused : (names : Names) (limit : ℕ) → 2 ≤ limit → (front : Kinds) (next : TokenKind) (deep : Bool) → (front ≡ [] → begins_type names next ≡ true) → Refused (Types names) (limit - 1) front next deep → Refused (Expressions names 13) limit (open_parenthesis ∷ front) next deep
+cast_type_refused names limit least front next deep starts r =
+    hole_refused (Expressions names 13) (Types names) limit (limit - 1) (open_parenthesis ∷ []) (NoExpression names) (λ rest. Unit {0}) (types_law names) (cast_hole names limit least) front next deep (refused_type names (limit - 1) front next deep r starts) r
 
 -- the operand of a cast
-cast_tail : (names : Names) (room : ℕ) (parts : TypeParts) → 2 ≤ room → Exactly (Types names) (room - 1) parts → Tail (Expressions names 13) (Expressions names 13) room (room - 1) (open_parenthesis ∷ type_closed_text parts []) (Cast parts.words parts.pointers parts.bounds) (λ rest. Unit {0})
-cast_tail names room parts least e =
+cast_tail : (names : Names) (limit : ℕ) (parts : TypeParts) → 2 ≤ limit → Exactly (Types names) (limit - 1) parts → Tail (Expressions names 13) (Expressions names 13) limit (limit - 1) (open_parenthesis ∷ type_closed_text parts []) (Cast parts.words parts.pointers parts.bounds) (λ rest. Unit {0})
+cast_tail names limit parts least e =
     let low' = e.low in
     record {
       started = inr (record {
@@ -92,13 +92,13 @@ cast_tail names room parts least e =
         low = omega (arith, low');
         spelled = ap (λ (x : Kinds). open_parenthesis ∷ x) (sym (types_law names parts [] (text zero [])));
       });
-      invert = λ whole after behind is shut fit same.
-          let s : text whole after ≡ open_parenthesis ∷ type_closed_text parts behind = same ∙ ap (λ (x : Kinds). open_parenthesis ∷ x) (types_law names parts [] behind) in
+      invert = λ whole after following is shut fit same.
+          let s : text whole after ≡ open_parenthesis ∷ type_closed_text parts following = same ∙ ap (λ (x : Kinds). open_parenthesis ∷ x) (types_law names parts [] following) in
           elim (cast_is names whole after is) [
-            | tighter l ↦ absurd (no_type_inner names whole after behind parts (l, is.1) e.is_phrase s)
+            | tighter l ↦ absurd (no_type_inner names whole after following parts (l, is.1) e.is_phrase s)
             | converted parts' o w ty i t ↦
-                let k : open_parenthesis ∷ type_closed_text parts' (text o after) ≡ open_parenthesis ∷ type_closed_text parts behind = sym t ∙ s in
-                let x = e.exact parts' (text o after) behind ty cc in
+                let k : open_parenthesis ∷ type_closed_text parts' (text o after) ≡ open_parenthesis ∷ type_closed_text parts following = sym t ∙ s in
+                let x = e.exact parts' (text o after) following ty cc in
                 (o, w ∙ ap (λ (p : TypeParts). Cast p.words p.pointers p.bounds o) x.0, i, sym x.1)
           ];
       shut = λ part after shut. shut;
@@ -108,19 +108,19 @@ cast_tail names room parts least e =
       rises = λ part high. omega arith;
     }
 
-pub cast_refused : (names : Names) (room : ℕ) (parts : TypeParts) → 2 ≤ room → Exactly (Types names) (room - 1) parts → (front : Kinds) (next : TokenKind) (deep : Bool) → Refused (Expressions names 13) (room - 1) front next deep → Refused (Expressions names 13) room ((open_parenthesis ∷ type_closed_text parts []) ++ front) next deep
-cast_refused names room parts least e front next deep r =
-    tail_refused (Expressions names 13) (Expressions names 13) room (room - 1) (open_parenthesis ∷ type_closed_text parts []) (Cast parts.words parts.pointers parts.bounds) (λ rest. Unit {0}) (text_law names 13) (cast_tail names room parts least e) front next deep (λ behind near. tt) r
+pub cast_refused : (names : Names) (limit : ℕ) (parts : TypeParts) → 2 ≤ limit → Exactly (Types names) (limit - 1) parts → (front : Kinds) (next : TokenKind) (deep : Bool) → Refused (Expressions names 13) (limit - 1) front next deep → Refused (Expressions names 13) limit ((open_parenthesis ∷ type_closed_text parts []) ++ front) next deep
+cast_refused names limit parts least e front next deep r =
+    tail_refused (Expressions names 13) (Expressions names 13) limit (limit - 1) (open_parenthesis ∷ type_closed_text parts []) (Cast parts.words parts.pointers parts.bounds) (λ rest. Unit {0}) (text_law names 13) (cast_tail names limit parts least e) front next deep (λ following near. tt) r
 
-pub cast_took : (names : Names) (room : ℕ) (parts : TypeParts) → 2 ≤ room → Exactly (Types names) (room - 1) parts → (part : Written) (next : TokenKind) (deep : Bool) → Took (Expressions names 13) (room - 1) part next deep → Took (Expressions names 13) room (Cast parts.words parts.pointers parts.bounds part) next deep
-cast_took names room parts least e part next deep t =
-    tail_took (Expressions names 13) (Expressions names 13) room (room - 1) (open_parenthesis ∷ type_closed_text parts []) (Cast parts.words parts.pointers parts.bounds) (λ rest. Unit {0}) (text_law names 13) (cast_tail names room parts least e) part next deep (λ behind near. tt) t
+pub cast_took : (names : Names) (limit : ℕ) (parts : TypeParts) → 2 ≤ limit → Exactly (Types names) (limit - 1) parts → (part : Written) (next : TokenKind) (deep : Bool) → Took (Expressions names 13) (limit - 1) part next deep → Took (Expressions names 13) limit (Cast parts.words parts.pointers parts.bounds part) next deep
+cast_took names limit parts least e part next deep t =
+    tail_took (Expressions names 13) (Expressions names 13) limit (limit - 1) (open_parenthesis ∷ type_closed_text parts []) (Cast parts.words parts.pointers parts.bounds) (λ rest. Unit {0}) (text_law names 13) (cast_tail names limit parts least e) part next deep (λ following near. tt) t
 
 -- a parenthesis and a type for which there is no room
-pub cast_full : (names : Names) (room : ℕ) → room < 2 → Refused (Expressions names 13) room [] open_parenthesis true
-cast_full names room full = record {
+pub cast_full : (names : Names) (limit : ℕ) → limit < 2 → Refused (Expressions names 13) limit [] open_parenthesis true
+cast_full names limit full = record {
   begun = inl refl;
-  never = λ other after behind is shut near same.
+  never = λ other after following is shut near same.
       elim near [
         | inl none ↦ absurd (let b = expression_begins names other after is.1 in let s = sym b.are ∙ same ∙ none in cc)
         | inr m ↦
@@ -129,23 +129,23 @@ cast_full names room full = record {
                   let i = unary_inner names other after m.0 (l, is.1) (same ∙ m.1) in
                   let h = height_some i.inner in
                   let k = i.lower in
-                  record { told = refl; high = omega (arith, k); onward = λ none. let z = sym m.1 ∙ none in cc }
+                  record { reported = refl; high = omega (arith, k); onward = λ none. let z = sym m.1 ∙ none in cc }
               | converted parts o w ty i t ↦
                   let h = height_some o in
-                  record { told = refl; high = subst (λ (x : Written). room < height x) (sym w) (omega arith); onward = λ none. let z = sym m.1 ∙ none in cc }
+                  record { reported = refl; high = subst (λ (x : Written). limit < height x) (sym w) (omega arith); onward = λ none. let z = sym m.1 ∙ none in cc }
             ]
       ];
-  further = λ told. record { phrase = Enclosed zero; more = text zero (close_parenthesis ∷ []); is_phrase = (omega arith, tt); spelled = refl };
+  further = λ reported. record { phrase = Enclosed zero; more = text zero (close_parenthesis ∷ []); is_phrase = (omega arith, tt); spelled = refl };
 }
 
--- the type behind `sizeof`
-size_tail : (names : Names) (room : ℕ) → 2 ≤ room → Tail (Expressions names 14) (Types names) room (room - 1) (sizeof_token ∷ open_parenthesis ∷ []) (λ (parts : TypeParts). SizeOfType parts.words parts.pointers parts.bounds) (NoExpression names)
-size_tail names room least = record {
+-- the type after `sizeof`
+size_tail : (names : Names) (limit : ℕ) → 2 ≤ limit → Tail (Expressions names 14) (Types names) limit (limit - 1) (sizeof_token ∷ open_parenthesis ∷ []) (λ (parts : TypeParts). SizeOfType parts.words parts.pointers parts.bounds) (NoExpression names)
+size_tail names limit least = record {
   started = inr (record { phrase = SizeOfType (word.Void ∷ []) [] End; more = token.Keyword keyword.Void ∷ close_parenthesis ∷ []; is_phrase = (omega arith, (refl, refl, tt)); low = omega arith; spelled = refl });
-  invert = λ whole after behind is shut fit same.
-      elim (size_is names whole after (open_parenthesis ∷ behind) is same) [
+  invert = λ whole after following is shut fit same.
+      elim (size_is names whole after (open_parenthesis ∷ following) is same) [
         | inl x ↦
-            let i = unary_inner names x.0 after behind x.2 (sym x.3) in
+            let i = unary_inner names x.0 after following x.2 (sym x.3) in
             absurd (fit (subst (BeginsWith (begins_expression names)) (sym i.are) (expression_begins names i.inner (close_parenthesis ∷ i.rest) i.is_well)))
         | inr y ↦ let s = y.3 in (y.0, y.1, y.2, cc)
       ];
@@ -156,34 +156,34 @@ size_tail names room least = record {
   rises = λ part high. omega arith;
 }
 
-pub size_type_refused : (names : Names) (room : ℕ) → 2 ≤ room → (front : Kinds) (next : TokenKind) (deep : Bool) → (front ≡ [] → begins_type names next ≡ true) → Refused (Types names) (room - 1) front next deep → Refused (Expressions names 14) room (sizeof_token ∷ open_parenthesis ∷ front) next deep
-size_type_refused names room least front next deep starts r =
-    tail_refused (Expressions names 14) (Types names) room (room - 1) (sizeof_token ∷ open_parenthesis ∷ []) (λ (parts : TypeParts). SizeOfType parts.words parts.pointers parts.bounds) (NoExpression names) (types_law names) (size_tail names room least) front next deep (refused_type names (room - 1) front next deep r starts) r
+pub size_type_refused : (names : Names) (limit : ℕ) → 2 ≤ limit → (front : Kinds) (next : TokenKind) (deep : Bool) → (front ≡ [] → begins_type names next ≡ true) → Refused (Types names) (limit - 1) front next deep → Refused (Expressions names 14) limit (sizeof_token ∷ open_parenthesis ∷ front) next deep
+size_type_refused names limit least front next deep starts r =
+    tail_refused (Expressions names 14) (Types names) limit (limit - 1) (sizeof_token ∷ open_parenthesis ∷ []) (λ (parts : TypeParts). SizeOfType parts.words parts.pointers parts.bounds) (NoExpression names) (types_law names) (size_tail names limit least) front next deep (refused_type names (limit - 1) front next deep r starts) r
 
-pub size_type_took : (names : Names) (room : ℕ) → 2 ≤ room → (parts : TypeParts) (next : TokenKind) → Exactly (Types names) (room - 1) parts → Took (Expressions names 14) room (SizeOfType parts.words parts.pointers parts.bounds) next false
-size_type_took names room least parts next e =
-    tail_took (Expressions names 14) (Types names) room (room - 1) (sizeof_token ∷ open_parenthesis ∷ []) (λ (parts : TypeParts). SizeOfType parts.words parts.pointers parts.bounds) (NoExpression names) (types_law names) (size_tail names room least) parts next false
-    (λ behind near x. type_no_expression names (type_closed_text parts behind) (type_text_begins names parts behind e.is_phrase) x)
-    (exact_took (Types names) (room - 1) parts e next)
+pub size_type_took : (names : Names) (limit : ℕ) → 2 ≤ limit → (parts : TypeParts) (next : TokenKind) → Exactly (Types names) (limit - 1) parts → Took (Expressions names 14) limit (SizeOfType parts.words parts.pointers parts.bounds) next false
+size_type_took names limit least parts next e =
+    tail_took (Expressions names 14) (Types names) limit (limit - 1) (sizeof_token ∷ open_parenthesis ∷ []) (λ (parts : TypeParts). SizeOfType parts.words parts.pointers parts.bounds) (NoExpression names) (types_law names) (size_tail names limit least) parts next false
+    (λ following near x. type_no_expression names (type_closed_text parts following) (type_text_begins names parts following e.is_phrase) x)
+    (exact_took (Types names) (limit - 1) parts e next)
 
--- the expression behind `sizeof`
-pub size_refused : (names : Names) (room : ℕ) → 2 ≤ room → (front : Kinds) (next : TokenKind) (deep : Bool) → (front ≡ open_parenthesis ∷ [] → begins_type names next ≡ false) → (next ≡ open_parenthesis → 3 ≤ room) → Refused (Expressions names 14) (room - 1) front next deep → Refused (Expressions names 14) room (sizeof_token ∷ front) next deep
-size_refused names room least front next deep none wide r =
-    tail_refused (Expressions names 14) (Expressions names 14) room (room - 1) (sizeof_token ∷ []) SizeOf (NoType names before.Size) (text_law names 14) (before_tail names room before.Size least) front next deep
-    (λ behind near e parts rest ty same.
-    let n = not_type names (room - 1) front next deep parts rest behind r none ty near (sym same) in
+-- the expression after `sizeof`
+pub size_refused : (names : Names) (limit : ℕ) → 2 ≤ limit → (front : Kinds) (next : TokenKind) (deep : Bool) → (front ≡ open_parenthesis ∷ [] → begins_type names next ≡ false) → (next ≡ open_parenthesis → 3 ≤ limit) → Refused (Expressions names 14) (limit - 1) front next deep → Refused (Expressions names 14) limit (sizeof_token ∷ front) next deep
+size_refused names limit least front next deep none wide r =
+    tail_refused (Expressions names 14) (Expressions names 14) limit (limit - 1) (sizeof_token ∷ []) SizeOf (NoType names before.Size) (text_law names 14) (before_tail names limit before.Size least) front next deep
+    (λ following near e parts rest ty same.
+    let n = not_type names (limit - 1) front next deep parts rest following r none ty near (sym same) in
     let v = r.never (Enclosed zero) [] (open_parenthesis ∷ text zero (close_parenthesis ∷ [])) (omega arith, tt) (omega arith) (inr (text zero (close_parenthesis ∷ []), ap (λ (x : TokenKind). x ∷ text zero (close_parenthesis ∷ [])) (sym n.1))) (ap (λ (x : Kinds). x ++ (open_parenthesis ∷ text zero (close_parenthesis ∷ []))) (sym n.0)) in
-    let full : room - 1 < 2 = v.high in
+    let full : limit - 1 < 2 = v.high in
     let w = wide n.1 in
     omega arith)
     r
 
-pub size_took : (names : Names) (room : ℕ) → 2 ≤ room → (part : Written) (next : TokenKind) (deep : Bool) → Took (Expressions names 14) (room - 1) part next deep → Took (Expressions names 14) room (SizeOf part) next deep
-size_took names room least part next deep t =
-    tail_took (Expressions names 14) (Expressions names 14) room (room - 1) (sizeof_token ∷ []) SizeOf (NoType names before.Size) (text_law names 14) (before_tail names room before.Size least) part next deep
-    (λ behind near e parts rest ty same. no_type_inner names part behind rest parts t.is_phrase ty same) t
+pub size_took : (names : Names) (limit : ℕ) → 2 ≤ limit → (part : Written) (next : TokenKind) (deep : Bool) → Took (Expressions names 14) (limit - 1) part next deep → Took (Expressions names 14) limit (SizeOf part) next deep
+size_took names limit least part next deep t =
+    tail_took (Expressions names 14) (Expressions names 14) limit (limit - 1) (sizeof_token ∷ []) SizeOf (NoType names before.Size) (text_law names 14) (before_tail names limit before.Size least) part next deep
+    (λ following near e parts rest ty same. no_type_inner names part following rest parts t.is_phrase ty same) t
 
--- a parenthesis behind `sizeof` where there is room for a type alone
+-- a parenthesis after `sizeof` where there is room for a type alone
 pub size_full : (names : Names) (front : Kinds) (next : TokenKind) (deep : Bool) → (front ≡ [] → begins_type names next ≡ false) → Refused (Expressions names 0) 0 front next deep → Refused (Expressions names 14) 2 (sizeof_token ∷ open_parenthesis ∷ front) next deep
 size_full names front next deep none r =
     let empty : front ≡ [] = elim r.begun [ inl e ↦ e | inr l ↦ absurd (let h = height_some l.phrase in let k : height l.phrase ≤ 0 = l.low in omega arith) ] in
@@ -195,25 +195,25 @@ size_full names front next deep none r =
         low = omega arith;
         spelled = ap (λ (x : Kinds). (sizeof_token ∷ open_parenthesis ∷ x) ++ (token.Keyword keyword.Void ∷ close_parenthesis ∷ [])) (sym empty);
       });
-      never = λ other after behind is shut near same.
-          elim (size_is names other after (open_parenthesis ∷ (front ++ behind)) is same) [
+      never = λ other after following is shut near same.
+          elim (size_is names other after (open_parenthesis ∷ (front ++ following)) is same) [
             | inl x ↦
-                let i = unary_inner names x.0 after (front ++ behind) x.2 (sym x.3) in
-                let v = r.never i.inner (close_parenthesis ∷ i.rest) behind (omega arith, i.is_well) (omega arith) near (sym i.are) in
+                let i = unary_inner names x.0 after (front ++ following) x.2 (sym x.3) in
+                let v = r.never i.inner (close_parenthesis ∷ i.rest) following (omega arith, i.is_well) (omega arith) near (sym i.are) in
                 let h = height_some i.inner in
                 let k = i.lower in
-                record { told = v.told; high = subst (λ (x : Written). 2 < height x) (sym x.1) (omega (arith, k)); onward = v.onward }
+                record { reported = v.reported; high = subst (λ (x : Written). 2 < height x) (sym x.1) (omega (arith, k)); onward = v.onward }
             | inr y ↦
                 let b = type_text_begins names y.0 after y.2 in
-                let s : front ++ behind ≡ type_closed_text y.0 after = let z = y.3 in cc in
-                let s' : behind ≡ b.first ∷ b.others = sym (ap (λ (x : Kinds). x ++ behind) empty) ∙ s ∙ b.are in
+                let s : front ++ following ≡ type_closed_text y.0 after = let z = y.3 in cc in
+                let s' : following ≡ b.first ∷ b.others = sym (ap (λ (x : Kinds). x ++ following) empty) ∙ s ∙ b.are in
                 absurd (elim near [
                   | inl n ↦ let z = sym s' ∙ n in cc
                   | inr m ↦ let z : next ∷ m.0 ≡ b.first ∷ b.others = sym m.1 ∙ s' in let k : next ≡ b.first = cc in both_ways (begins_type names next) (none empty) (ap (begins_type names) k ∙ b.passes)
                 ])
           ];
-      further = λ told.
-          let b = r.further told in
+      further = λ reported.
+          let b = r.further reported in
           record {
             phrase = SizeOf (Enclosed b.phrase);
             more = b.more ++ (close_parenthesis ∷ []);

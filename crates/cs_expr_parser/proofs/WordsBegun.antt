@@ -22,7 +22,7 @@ use Rattle.cs_expr_parser.specs.Parts.{TypeParts, IsTypeOf, Types, type_closed_t
 use Rattle.cs_expr_parser.specs.Positions.{name_of}
 use Rattle.cs_expr_parser.specs.Words.{first_of_word, IsStuck, IsUnusable, NoWord, names_some, word_of_tag}
 use Rattle.cs_expr_parser.proofs.Closings.{close_parenthesis}
-use Rattle.cs_expr_parser.proofs.TypesInside.{words_go_on, word_first, IsMarked, pointers_marked, word_no_mark}
+use Rattle.cs_expr_parser.proofs.TypesInside.{words_go_on, word_first, IsMarked, pointers_marked, word_no_punctuator}
 
 -- words of a type and another word that names a type, or a name that is none, name no type
 whole_joins : (names : Names) (first : TypeWord) (others : List TypeWord) (one : TypeWord) (more : List TypeWord) → is_integer_word one ≡ false → names_type names ((first ∷ others) ++ one ∷ more) ≡ false
@@ -77,11 +77,11 @@ pub more_words : (ws : List TypeWord) (one : TypeWord) (rest : Kinds) → words_
 more_words [] one rest = refl
 more_words (w ∷ ws) one rest = ap (type_word_text w) (more_words ws one rest)
 
-not_type_step : (names : Names) (ws : List TypeWord) (next : TokenKind) (other : List TypeWord) (rest behind : Kinds) → named_by ws ≡ [] → IsStuck names ws next → is_type names other ≡ true → Near next behind → (more : List TypeWord) → other ≡ ws ++ more → words_text more rest ≡ behind → ⊥
-not_type_step names ws next other rest behind none stuck is near [] o same =
+not_type_step : (names : Names) (ws : List TypeWord) (next : TokenKind) (other : List TypeWord) (rest following : Kinds) → named_by ws ≡ [] → IsStuck names ws next → is_type names other ≡ true → Near next following → (more : List TypeWord) → other ≡ ws ++ more → words_text more rest ≡ following → ⊥
+not_type_step names ws next other rest following none stuck is near [] o same =
     let e : is_type names other ≡ false = ap (is_type names) (o ∙ append-nil ws) ∙ ap (names_type names) none in
     both_ways (is_type names other) e is
-not_type_step names ws next other rest behind none stuck is near (w ∷ more) o same =
+not_type_step names ws next other rest following none stuck is near (w ∷ more) o same =
     let f = word_first w (words_text more rest) in
     elim near [
       | inl n ↦ let s = sym f.1 ∙ same ∙ n in cc
@@ -92,8 +92,8 @@ not_type_step names ws next other rest behind none stuck is near (w ∷ more) o 
     ]
 
 -- words that name nothing, and no word that goes on with them
-pub not_type_refused : (names : Names) (room : ℕ) (ws : List TypeWord) (next : TokenKind) → named_by ws ≡ [] → IsStuck names ws next → Refused (Types names) room (words_text ws []) next false
-not_type_refused names room ws next none stuck = record {
+pub not_type_refused : (names : Names) (limit : ℕ) (ws : List TypeWord) (next : TokenKind) → named_by ws ≡ [] → IsStuck names ws next → Refused (Types names) limit (words_text ws []) next false
+not_type_refused names limit ws next none stuck = record {
   begun = inr (record {
     phrase = record { words = ws ++ word.Void ∷ []; pointers = []; bounds = End };
     more = token.Keyword keyword.Void ∷ close_parenthesis ∷ [];
@@ -101,10 +101,10 @@ not_type_refused names room ws next none stuck = record {
     low = omega arith;
     spelled = more_words ws word.Void (close_parenthesis ∷ []) ∙ sym (words_append ws [] (token.Keyword keyword.Void ∷ close_parenthesis ∷ []));
   });
-  never = λ other after behind is shut near same.
-      let f = words_go_on ws other.words (pointers_text other.pointers (closed_bounds_text other.bounds after)) behind (pointers_marked other.pointers other.bounds after is.pointers) (same ∙ words_append ws [] behind) in
-      absurd (not_type_step names ws next other.words (pointers_text other.pointers (closed_bounds_text other.bounds after)) behind none stuck is.words near f.0 f.1 f.2);
-  further = λ told. absurd (false≢true told);
+  never = λ other after following is shut near same.
+      let f = words_go_on ws other.words (pointers_text other.pointers (closed_bounds_text other.bounds after)) following (pointers_marked other.pointers other.bounds after is.pointers) (same ∙ words_append ws [] following) in
+      absurd (not_type_step names ws next other.words (pointers_text other.pointers (closed_bounds_text other.bounds after)) following none stuck is.words near f.0 f.1 f.2);
+  further = λ reported. absurd (false≢true reported);
 }
 
 pub tag_first : (is_struct : Bool) (tag : List ℕ) (x : Kinds) → type_word_text (word_of_tag is_struct tag) x ≡ token.Keyword (if is_struct then keyword.Struct else keyword.Enum) ∷ token.Name tag ∷ x
@@ -143,10 +143,10 @@ tag_word_text false (word.Typedef name) x more same = absurd cc
 tag_word_text false (word.Struct tag) x more same = absurd cc
 tag_word_text false (word.Enum tag) x more same = (tag, cc)
 
-tag_step : (is_struct : Bool) (next : TokenKind) (rest behind : Kinds) → IsMarked rest → name_of next ≡ None → Near next behind → (more : List TypeWord) → words_text more rest ≡ token.Keyword (if is_struct then keyword.Struct else keyword.Enum) ∷ behind → ⊥
-tag_step is_struct next rest behind m none near [] same = let s = sym m.are ∙ same in cc
-tag_step is_struct next rest behind m none near (w ∷ more) same =
-    let t = tag_word_text is_struct w (words_text more rest) behind same in
+tag_step : (is_struct : Bool) (next : TokenKind) (rest following : Kinds) → IsMarked rest → name_of next ≡ None → Near next following → (more : List TypeWord) → words_text more rest ≡ token.Keyword (if is_struct then keyword.Struct else keyword.Enum) ∷ following → ⊥
+tag_step is_struct next rest following m none near [] same = let s = sym m.are ∙ same in cc
+tag_step is_struct next rest following m none near (w ∷ more) same =
+    let t = tag_word_text is_struct w (words_text more rest) following same in
     elim near [
       | inl n ↦ let s = sym t.1 ∙ n in cc
       | inr k ↦
@@ -157,8 +157,8 @@ tag_step is_struct next rest behind m none near (w ∷ more) same =
     ]
 
 -- a tag is missing
-pub tag_refused : (names : Names) (room : ℕ) (ws : List TypeWord) (is_struct : Bool) (next : TokenKind) → named_by ws ≡ [] → name_of next ≡ None → Refused (Types names) room (words_text ws (token.Keyword (if is_struct then keyword.Struct else keyword.Enum) ∷ [])) next false
-tag_refused names room ws is_struct next empty none = record {
+pub tag_refused : (names : Names) (limit : ℕ) (ws : List TypeWord) (is_struct : Bool) (next : TokenKind) → named_by ws ≡ [] → name_of next ≡ None → Refused (Types names) limit (words_text ws (token.Keyword (if is_struct then keyword.Struct else keyword.Enum) ∷ [])) next false
+tag_refused names limit ws is_struct next empty none = record {
   begun = inr (record {
     phrase = record { words = ws ++ word_of_tag is_struct [] ∷ []; pointers = []; bounds = End };
     more = token.Name [] ∷ close_parenthesis ∷ [];
@@ -166,8 +166,8 @@ tag_refused names room ws is_struct next empty none = record {
     low = omega arith;
     spelled = more_words ws (word_of_tag is_struct []) (close_parenthesis ∷ []) ∙ ap (words_text ws) (tag_first is_struct [] (close_parenthesis ∷ [])) ∙ sym (words_append ws (token.Keyword (if is_struct then keyword.Struct else keyword.Enum) ∷ []) (token.Name [] ∷ close_parenthesis ∷ []));
   });
-  never = λ other after behind is shut near same.
-      let f = words_go_on ws other.words (pointers_text other.pointers (closed_bounds_text other.bounds after)) (token.Keyword (if is_struct then keyword.Struct else keyword.Enum) ∷ behind) (pointers_marked other.pointers other.bounds after is.pointers) (same ∙ words_append ws (token.Keyword (if is_struct then keyword.Struct else keyword.Enum) ∷ []) behind) in
-      absurd (tag_step is_struct next (pointers_text other.pointers (closed_bounds_text other.bounds after)) behind (pointers_marked other.pointers other.bounds after is.pointers) none near f.0 f.2);
-  further = λ told. absurd (false≢true told);
+  never = λ other after following is shut near same.
+      let f = words_go_on ws other.words (pointers_text other.pointers (closed_bounds_text other.bounds after)) (token.Keyword (if is_struct then keyword.Struct else keyword.Enum) ∷ following) (pointers_marked other.pointers other.bounds after is.pointers) (same ∙ words_append ws (token.Keyword (if is_struct then keyword.Struct else keyword.Enum) ∷ []) following) in
+      absurd (tag_step is_struct next (pointers_text other.pointers (closed_bounds_text other.bounds after)) following (pointers_marked other.pointers other.bounds after is.pointers) none near f.0 f.2);
+  further = λ reported. absurd (false≢true reported);
 }

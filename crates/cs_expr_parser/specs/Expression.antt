@@ -8,7 +8,7 @@ use Rattle.cs_ast.specs.RawTree.{Written}
 use Rattle.cs_ast.specs.RawView.{written}
 use Rattle.cs_ast.specs.RawHeight.{height}
 use Rattle.cs_grammar.specs.declared.refusal.Reason.{Reason}
-use Rattle.cs_grammar.specs.declared.refusal.Reason.TheVariants.{Syntax, LeftOut, TooDeep}
+use Rattle.cs_grammar.specs.declared.refusal.Reason.TheVariants.{Syntax, Unsupported, TooDeep}
 use Rattle.cs_grammar.specs.declared.refusal.SyntaxRefusal.{SyntaxRefusal}
 use Rattle.cs_grammar.specs.declared.refusal.SyntaxRefusal.TheVariants as refusal
 use Rattle.cs_grammar.specs.TypeWords.{Names}
@@ -18,10 +18,10 @@ use Rattle.cs_grammar.specs.Phrases.{IsPhrase, BeginsLowPhrase, IsLowPhrase}
 use Rattle.cs_grammar.specs.Refusals.{IsReason}
 use Rattle.cs_grammar.specs.Places.{HasPlaces}
 use Rattle.cs_grammar.specs.Parsing.{Expressions, Took, Refused}
-use Rattle.cs_grammar.specs.Spelling.{left_out_spelling}
+use Rattle.cs_grammar.specs.Spelling.{unsupported_spelling}
 use Rattle.cs_expr_parser.specs.Positions.{kinds, kind_or_end}
 use Rattle.cs_expr_parser.specs.Parts.{Spells, IsRefused, is_deep}
-use Rattle.cs_expr_parser.specs.LastTokens.{IsToldAt}
+use Rattle.cs_expr_parser.specs.LastTokens.{IsReportedAt}
 use Rattle.cs_expr_parser.specs.declared.stop.Stop.{Stop}
 use Rattle.cs_expr_parser.specs.declared.stop.Stop.TheVariants as stop
 use Rattle.cs_expr_parser.specs.declared.answer.ExprLevel.{ExprLevel}
@@ -40,38 +40,38 @@ kind_at tokens at = option_map (λ (token : Token). token.kind) (slice_get token
 
 -- no phrase of the level that is low enough begins with these tokens and the next one
 abbrev pub GoesNoFurther : Names → ℕ → ℕ → Kinds → Option TokenKind → Type 0
-GoesNoFurther names level room front (Some next) = BeginsLowPhrase names level room (front ++ next ∷ []) → ⊥
-GoesNoFurther names level room front None = Unit {0}
+GoesNoFurther names level limit front (Some next) = BeginsLowPhrase names level limit (front ++ next ∷ []) → ⊥
+GoesNoFurther names level limit front None = Unit {0}
 
 -- the tokens from a number on begin with this phrase of the level, and no phrase that is low enough goes further; `took` says
 -- the same for parsers that go on
-pub record IsTaken (names : Names) (level room : ℕ) (tokens : List Token) (from : ℕ) (phrase : Phrase) : Type 0 where
+pub record IsTaken (names : Names) (level limit : ℕ) (tokens : List Token) (from : ℕ) (phrase : Phrase) : Type 0 where
   pub is_phrase : IsPhrase names level (written phrase.tree)
-  pub low : height (written phrase.tree) ≤ room
+  pub low : height (written phrase.tree) ≤ limit
   pub height_is : phrase.height ≡ height (written phrase.tree)
   pub spelled : Spells tokens from phrase.next (text (written phrase.tree))
   pub some : from < phrase.next
   pub placed : HasPlaces phrase.tree (drop from tokens)
   pub only : (other : Written) → IsPhrase names level other → text other [] ≡ text (written phrase.tree) [] → other ≡ written phrase.tree
-  pub furthest : GoesNoFurther names level room (text (written phrase.tree) []) (kind_at tokens phrase.next)
+  pub furthest : GoesNoFurther names level limit (text (written phrase.tree) []) (kind_at tokens phrase.next)
   pub otherwise : IsReason names level (text (written phrase.tree) []) (kind_at tokens phrase.next) phrase.otherwise
-  pub took : Took (Expressions names level) room (written phrase.tree) (kind_or_end tokens phrase.next) (is_deep phrase.otherwise)
+  pub took : Took (Expressions names level) limit (written phrase.tree) (kind_or_end tokens phrase.next) (is_deep phrase.otherwise)
 
 -- the tokens from a number on, up to another one, begin a phrase of the level that is low enough, if there are any, but aren't
 -- one; with the next token they begin none, for this reason; `refused` says the same for parsers that go on
-pub record IsRefusedAt (names : Names) (level room : ℕ) (tokens : List Token) (from at : ℕ) (reason : Reason) : Type 0 where
+pub record IsRefusedAt (names : Names) (level limit : ℕ) (tokens : List Token) (from at : ℕ) (reason : Reason) : Type 0 where
   pub front : Kinds
   pub spelled : Spells tokens from at (λ rest. front ++ rest)
-  pub begun : (front ≡ []) ⊎ BeginsLowPhrase names level room front
-  pub unfinished : IsLowPhrase names level room front → ⊥
-  pub furthest : GoesNoFurther names level room front (kind_at tokens at)
+  pub begun : (front ≡ []) ⊎ BeginsLowPhrase names level limit front
+  pub unfinished : IsLowPhrase names level limit front → ⊥
+  pub furthest : GoesNoFurther names level limit front (kind_at tokens at)
   pub why : IsReason names level front (kind_at tokens at) reason
-  pub refused : Refused (Expressions names level) room front (kind_or_end tokens at) (is_deep reason)
+  pub refused : Refused (Expressions names level) limit front (kind_or_end tokens at) (is_deep reason)
 
 -- want of memory, or a token is refused for the right reason, as the parts of the parser say it to one another
 abbrev pub IsStopped : Names → ℕ → ℕ → List Token → ℕ → Stop → Type 0
-IsStopped names level room tokens from stop.Memory = Unit {0}
-IsStopped names level room tokens from (stop.Refused at reason) = IsRefused (Expressions names level) room tokens from at reason × IsToldAt names tokens from at reason
+IsStopped names level limit tokens from stop.Memory = Unit {0}
+IsStopped names level limit tokens from (stop.Refused at reason) = IsRefused (Expressions names level) limit tokens from at reason × IsReportedAt names tokens from at reason
 
 -- the place of the first of these tokens, or of the end of input
 abbrev pub first_place : Place → List Token → Place
@@ -85,7 +85,7 @@ place_or_end tokens end at = first_place end (drop at tokens)
 -- a refusal of this token, for this reason, or want of memory
 abbrev pub IsRefusalBy : Token → Reason → SyntaxRefusal → Type 0
 IsRefusalBy token Syntax (refusal.Syntax place) = place ≡ token.place
-IsRefusalBy token LeftOut (refusal.LeftOut place word) = (place ≡ token.place) × (word ≡ left_out_spelling token.kind)
+IsRefusalBy token Unsupported (refusal.Unsupported place word) = (place ≡ token.place) × (word ≡ unsupported_spelling token.kind)
 IsRefusalBy token TooDeep (refusal.TooDeep place) = place ≡ token.place
 IsRefusalBy token reason refusal.Memory = Unit {0}
 IsRefusalBy token reason other = ⊥
@@ -93,7 +93,7 @@ IsRefusalBy token reason other = ⊥
 -- a refusal of the token with this number, for this reason, or want of memory
 abbrev pub IsRefusalFor : List Token → Place → ℕ → Reason → SyntaxRefusal → Type 0
 IsRefusalFor tokens end at Syntax (refusal.Syntax place) = place ≡ place_or_end tokens end at
-IsRefusalFor tokens end at LeftOut (refusal.LeftOut place word) = (place ≡ place_or_end tokens end at) × (word ≡ left_out_spelling (kind_or_end tokens at))
+IsRefusalFor tokens end at Unsupported (refusal.Unsupported place word) = (place ≡ place_or_end tokens end at) × (word ≡ unsupported_spelling (kind_or_end tokens at))
 IsRefusalFor tokens end at TooDeep (refusal.TooDeep place) = place ≡ place_or_end tokens end at
 IsRefusalFor tokens end at reason refusal.Memory = Unit {0}
 IsRefusalFor tokens end at reason other = ⊥
@@ -105,5 +105,5 @@ reason_there None reason = Syntax
 
 -- want of memory, or the refusal of the first token with which no phrase of the level that is low enough goes on
 abbrev pub IsRefusal : Names → ℕ → ℕ → List Token → Place → ℕ → SyntaxRefusal → Type 0
-IsRefusal names level room tokens end from refusal.Memory = Unit {0}
-IsRefusal names level room tokens end from other = (at : ℕ) × (reason : Reason) × IsRefusalFor tokens end at reason other × IsRefusedAt names level room tokens from at reason
+IsRefusal names level limit tokens end from refusal.Memory = Unit {0}
+IsRefusal names level limit tokens end from other = (at : ℕ) × (reason : Reason) × IsRefusalFor tokens end at reason other × IsRefusedAt names level limit tokens from at reason

@@ -5,14 +5,14 @@ use Rattle.cs_ast.specs.declared.token.TokenKind.TheVariants as token
 use Rattle.cs_ast.specs.declared.raw.operator.InfixOp.{InfixOp}
 use Rattle.cs_ast.specs.declared.raw.operator.AssignOp.{AssignOp}
 use Rattle.cs_grammar.specs.Levels.{infix_level}
-use Rattle.cs_grammar.specs.Marks.{infix_mark, assign_mark}
+use Rattle.cs_grammar.specs.Punctuators.{infix_punctuator, assign_punctuator}
 
 -- the answer for a token: the operator of this level that it is, none where it is none
 abbrev pub IsInfixAt : ℕ → TokenKind → Option InfixOp → Type 0
-IsInfixAt level kind (Some operator) = (kind ≡ token.Mark (infix_mark operator)) × (infix_level operator ≡ level)
-IsInfixAt level kind None = (operator : InfixOp) → kind ≡ token.Mark (infix_mark operator) → infix_level operator ≡ level → ⊥
+IsInfixAt level kind (Some operator) = (kind ≡ token.Punctuator (infix_punctuator operator)) × (infix_level operator ≡ level)
+IsInfixAt level kind None = (operator : InfixOp) → kind ≡ token.Punctuator (infix_punctuator operator) → infix_level operator ≡ level → ⊥
 
 -- the answer for a token: the operator that stores that it is, none where it is none
 abbrev pub IsAssignAt : TokenKind → Option AssignOp → Type 0
-IsAssignAt kind (Some operator) = kind ≡ token.Mark (assign_mark operator)
-IsAssignAt kind None = (operator : AssignOp) → kind ≡ token.Mark (assign_mark operator) → ⊥
+IsAssignAt kind (Some operator) = kind ≡ token.Punctuator (assign_punctuator operator)
+IsAssignAt kind None = (operator : AssignOp) → kind ≡ token.Punctuator (assign_punctuator operator) → ⊥

@@ -3,14 +3,14 @@ use Rattle.std.specs.Prelude.{◌≡◌, ℕ, ◌+◌, ◌≤◌, ◌<◌, Bool,
 use Rattle.cs_ast.specs.declared.token.Token.{Token}
 use Rattle.cs_ast.specs.declared.token.TokenKind.{TokenKind}
 use Rattle.cs_ast.specs.declared.token.TokenKind.TheVariants as token
-use Rattle.cs_ast.specs.declared.token.Mark.TheVariants as mark
+use Rattle.cs_ast.specs.declared.token.Punctuator.TheVariants as punctuator
 use Rattle.cs_ast.specs.declared.raw.written_type.TypeWord.{TypeWord}
 use Rattle.cs_ast.specs.declared.raw.written_type.PointerWord.{PointerWord}
 use Rattle.cs_ast.specs.RawTree.{Written, WrittenList, Member, Arrow}
 use Rattle.cs_ast.specs.RawView.{written, written_list}
 use Rattle.cs_ast.specs.RawHeight.{height, highest}
 use Rattle.cs_grammar.specs.declared.refusal.Reason.{Reason}
-use Rattle.cs_grammar.specs.declared.refusal.Reason.TheVariants.{Syntax, LeftOut, TooDeep}
+use Rattle.cs_grammar.specs.declared.refusal.Reason.TheVariants.{Syntax, Unsupported, TooDeep}
 use Rattle.cs_grammar.specs.TypeWords.{Names, is_type, is_pointer}
 use Rattle.cs_grammar.specs.Levels.{ASSIGN, CHOICE}
 use Rattle.cs_grammar.specs.Text.{Kinds, text, listed, words_text, pointers_text, bounds_text, type_text}
@@ -37,27 +37,27 @@ pub record Spells (tokens : List Token) (from next : ℕ) (spell : Kinds → Kin
   pub spelled : kinds (drop from tokens) ≡ spell (kinds (drop next tokens))
 
 -- a token is refused: no phrase of the class goes on with it that is low enough
-pub record IsRefused (C : Class) (room : ℕ) (tokens : List Token) (from at : ℕ) (reason : Reason) : Type 0 where
+pub record IsRefused (C : Class) (limit : ℕ) (tokens : List Token) (from at : ℕ) (reason : Reason) : Type 0 where
   pub front : Kinds
   pub spelled : Spells tokens from at (λ rest. front ++ rest)
-  pub refused : Refused C room front (kind_or_end tokens at) (is_deep reason)
+  pub refused : Refused C limit front (kind_or_end tokens at) (is_deep reason)
 
 -- what is known where no phrase is given
 abbrev pub Stops : Class → ℕ → List Token → ℕ → Stop → Type 0
-Stops C room tokens from stop.Memory = Unit {0}
-Stops C room tokens from (stop.Refused at reason) = IsRefused C room tokens from at reason
+Stops C limit tokens from stop.Memory = Unit {0}
+Stops C limit tokens from (stop.Refused at reason) = IsRefused C limit tokens from at reason
 
 -- an expression of the level was taken
-pub record IsTakenFrom (names : Names) (level room : ℕ) (tokens : List Token) (from : ℕ) (taken : Taken) : Type 0 where
+pub record IsTakenFrom (names : Names) (level limit : ℕ) (tokens : List Token) (from : ℕ) (taken : Taken) : Type 0 where
   pub height_is : taken.height ≡ height (written taken.tree)
   pub spelled : Spells tokens from taken.next (text (written taken.tree))
   pub some : from < taken.next
-  pub took : Took (Expressions names level) room (written taken.tree) (kind_or_end tokens taken.next) taken.deep
+  pub took : Took (Expressions names level) limit (written taken.tree) (kind_or_end tokens taken.next) taken.deep
 
 -- an expression of the level was taken, or a token was refused
 abbrev pub Answers : Names → ℕ → ℕ → List Token → ℕ → Result Taken Stop → Type 0
-Answers names level room tokens from (Ok taken) = IsTakenFrom names level room tokens from taken
-Answers names level room tokens from (Err stop) = Stops (Expressions names level) room tokens from stop
+Answers names level limit tokens from (Ok taken) = IsTakenFrom names level limit tokens from taken
+Answers names level limit tokens from (Err stop) = Stops (Expressions names level) limit tokens from stop
 
 -- what was taken is this tree of this height, up to this token
 pub record IsNode (tree : Written) (tall next : ℕ) (deep : Bool) (taken : Taken) : Type 0 where
@@ -66,7 +66,7 @@ pub record IsNode (tree : Written) (tall next : ℕ) (deep : Bool) (taken : Take
   pub next_is : taken.next ≡ next
   pub deep_is : taken.deep ≡ deep
 
--- the answer for a dot or an arrow: the name behind it, or the refusal of what stands there
+-- the answer for a dot or an arrow: the name after it, or the refusal of what stands there
 abbrev pub IsSelected : Bool → Written → ℕ → ℕ → List Token → Result Taken Stop → Type 0
 IsSelected through left tall next tokens (Ok taken) =
     (name : List ℕ) × (kind_or_end tokens (next + 1) ≡ token.Name name)
@@ -76,16 +76,16 @@ IsSelected through left tall next tokens (Err (stop.Refused at reason)) =
     (name_of (kind_or_end tokens (next + 1)) ≡ None) × (at ≡ next + 1) × (reason ≡ reason_of false (kind_or_end tokens (next + 1)) false)
 
 -- a chain so far was taken
-pub record IsChainFrom (names : Names) (level room : ℕ) (tokens : List Token) (from : ℕ) (taken : Taken) : Type 0 where
+pub record IsChainFrom (names : Names) (level limit : ℕ) (tokens : List Token) (from : ℕ) (taken : Taken) : Type 0 where
   pub height_is : taken.height ≡ height (written taken.tree)
   pub spelled : Spells tokens from taken.next (text (written taken.tree))
   pub some : from < taken.next
-  pub grows : Grows names level room (written taken.tree) (kind_or_end tokens taken.next) taken.deep
+  pub grows : Grows names level limit (written taken.tree) (kind_or_end tokens taken.next) taken.deep
 
 -- a chain with one more suffix was taken, or a token was refused
 abbrev pub ChainAnswers : Names → ℕ → ℕ → List Token → ℕ → Result Taken Stop → Type 0
-ChainAnswers names level room tokens from (Ok taken) = IsChainFrom names level room tokens from taken
-ChainAnswers names level room tokens from (Err stop) = Stops (Expressions names level) room tokens from stop
+ChainAnswers names level limit tokens from (Ok taken) = IsChainFrom names level limit tokens from taken
+ChainAnswers names level limit tokens from (Err stop) = Stops (Expressions names level) limit tokens from stop
 
 -- phrases in a row, with what closes them
 abbrev pub Rows : (WrittenList → Kinds → Kinds) → (WrittenList → Type 0) → Class
@@ -93,11 +93,11 @@ Rows spell Is = record { Tree = WrittenList; spell = spell; tall = highest; Is =
 
 -- the tokens of arguments, with the parenthesis that closes them
 abbrev pub arguments_text : WrittenList → Kinds → Kinds
-arguments_text arguments after = listed arguments (token.Mark mark.CloseParenthesis ∷ after)
+arguments_text arguments after = listed arguments (token.Punctuator punctuator.CloseParenthesis ∷ after)
 
 -- the tokens of the bounds of a type, with the parenthesis that closes it
 abbrev pub closed_bounds_text : WrittenList → Kinds → Kinds
-closed_bounds_text bounds after = bounds_text bounds (token.Mark mark.CloseParenthesis ∷ after)
+closed_bounds_text bounds after = bounds_text bounds (token.Punctuator punctuator.CloseParenthesis ∷ after)
 
 -- a type's words, pointers and bounds
 pub record TypeParts : Type 0 where
@@ -113,7 +113,7 @@ pub record IsTypeOf (names : Names) (parts : TypeParts) : Type 0 where
 
 -- the tokens of a type, with the parenthesis that closes it
 abbrev pub type_closed_text : TypeParts → Kinds → Kinds
-type_closed_text parts after = type_text parts.words parts.pointers parts.bounds (token.Mark mark.CloseParenthesis ∷ after)
+type_closed_text parts after = type_text parts.words parts.pointers parts.bounds (token.Punctuator punctuator.CloseParenthesis ∷ after)
 
 -- the parts of a type that was taken
 abbrev pub parts_of : TakenType → TypeParts
@@ -130,42 +130,42 @@ Types names = record {
 }
 
 -- phrases in a row were taken
-pub record IsRowFrom (spell : WrittenList → Kinds → Kinds) (Is : WrittenList → Type 0) (room : ℕ) (tokens : List Token) (from : ℕ) (taken : Listed) : Type 0 where
+pub record IsRowFrom (spell : WrittenList → Kinds → Kinds) (Is : WrittenList → Type 0) (limit : ℕ) (tokens : List Token) (from : ℕ) (taken : Listed) : Type 0 where
   pub height_is : taken.height ≡ highest (written_list taken.trees.items)
   pub spelled : Spells tokens from taken.next (spell (written_list taken.trees.items))
-  pub exactly : Exactly (Rows spell Is) room (written_list taken.trees.items)
+  pub exactly : Exactly (Rows spell Is) limit (written_list taken.trees.items)
 
 -- phrases in a row were taken, or a token was refused
 abbrev pub RowAnswers : (WrittenList → Kinds → Kinds) → (WrittenList → Type 0) → ℕ → List Token → ℕ → Result Listed Stop → Type 0
-RowAnswers spell Is room tokens from (Ok taken) = IsRowFrom spell Is room tokens from taken
-RowAnswers spell Is room tokens from (Err stop) = Stops (Rows spell Is) room tokens from stop
+RowAnswers spell Is limit tokens from (Ok taken) = IsRowFrom spell Is limit tokens from taken
+RowAnswers spell Is limit tokens from (Err stop) = Stops (Rows spell Is) limit tokens from stop
 
 -- a type was taken
-pub record IsTypeFrom (names : Names) (room : ℕ) (tokens : List Token) (from : ℕ) (taken : TakenType) : Type 0 where
+pub record IsTypeFrom (names : Names) (limit : ℕ) (tokens : List Token) (from : ℕ) (taken : TakenType) : Type 0 where
   pub height_is : taken.height ≡ highest (written_list taken.bounds.items)
   pub spelled : Spells tokens from taken.next (type_closed_text (parts_of taken))
-  pub exactly : Exactly (Types names) room (parts_of taken)
+  pub exactly : Exactly (Types names) limit (parts_of taken)
 
 -- a type was taken, or a token was refused
 abbrev pub TypeAnswers : Names → ℕ → List Token → ℕ → Result TakenType Stop → Type 0
-TypeAnswers names room tokens from (Ok taken) = IsTypeFrom names room tokens from taken
-TypeAnswers names room tokens from (Err stop) = Stops (Types names) room tokens from stop
+TypeAnswers names limit tokens from (Ok taken) = IsTypeFrom names limit tokens from taken
+TypeAnswers names limit tokens from (Err stop) = Stops (Types names) limit tokens from stop
 
 -- what was taken lies inside the tokens, has some, and is low enough
 abbrev pub IsBounded : ℕ → List Token → ℕ → Result Taken Stop → Type 0
-IsBounded room tokens from (Ok taken) = (from < taken.next) × (taken.next ≤ length tokens) × (1 ≤ taken.height) × (taken.height ≤ room)
-IsBounded room tokens from (Err (stop.Refused at reason)) = (from ≤ at) × (at ≤ length tokens)
-IsBounded room tokens from (Err stop.Memory) = Unit {0}
+IsBounded limit tokens from (Ok taken) = (from < taken.next) × (taken.next ≤ length tokens) × (1 ≤ taken.height) × (taken.height ≤ limit)
+IsBounded limit tokens from (Err (stop.Refused at reason)) = (from ≤ at) × (at ≤ length tokens)
+IsBounded limit tokens from (Err stop.Memory) = Unit {0}
 
 abbrev pub IsRowBounded : ℕ → List Token → ℕ → Result Listed Stop → Type 0
-IsRowBounded room tokens from (Ok taken) = (from < taken.next) × (taken.next ≤ length tokens) × (taken.height ≤ room)
-IsRowBounded room tokens from (Err (stop.Refused at reason)) = (from ≤ at) × (at ≤ length tokens)
-IsRowBounded room tokens from (Err stop.Memory) = Unit {0}
+IsRowBounded limit tokens from (Ok taken) = (from < taken.next) × (taken.next ≤ length tokens) × (taken.height ≤ limit)
+IsRowBounded limit tokens from (Err (stop.Refused at reason)) = (from ≤ at) × (at ≤ length tokens)
+IsRowBounded limit tokens from (Err stop.Memory) = Unit {0}
 
 abbrev pub IsTypeBounded : ℕ → List Token → ℕ → Result TakenType Stop → Type 0
-IsTypeBounded room tokens from (Ok taken) = (from < taken.next) × (taken.next ≤ length tokens) × (taken.height ≤ room)
-IsTypeBounded room tokens from (Err (stop.Refused at reason)) = (from ≤ at) × (at ≤ length tokens)
-IsTypeBounded room tokens from (Err stop.Memory) = Unit {0}
+IsTypeBounded limit tokens from (Ok taken) = (from < taken.next) × (taken.next ≤ length tokens) × (taken.height ≤ limit)
+IsTypeBounded limit tokens from (Err (stop.Refused at reason)) = (from ≤ at) × (at ≤ length tokens)
+IsTypeBounded limit tokens from (Err stop.Memory) = Unit {0}
 
 -- what was refused lies inside the tokens
 abbrev pub IsStopBounded : {Answer : Type 0} → List Token → ℕ → Result Answer Stop → Type 0

@@ -6,7 +6,7 @@ use Rattle.cs_ast.specs.declared.token.Token.{Token}
 use Rattle.cs_ast.specs.declared.raw.expression.RawExpr.{RawExpr}
 use Rattle.cs_ast.specs.declared.raw.expression.RawExprKind.{RawExprKind}
 use Rattle.cs_ast.specs.declared.raw.written_type.TypeWord.{TypeWord}
-use Rattle.cs_grammar.specs.Places.{HasPlaces, HasTagPlace, StandsAt, IsPlaced, before_tag, behind, behind_words}
+use Rattle.cs_grammar.specs.Places.{HasPlaces, HasTagPlace, StandsAt, IsPlaced, before_tag, following, after_words}
 use Rattle.cs_expr_parser.specs.declared.stop.Stop.{Stop}
 use Rattle.cs_expr_parser.specs.declared.stop.Taken.{Taken}
 use Rattle.cs_expr_parser.specs.declared.lists.Listed.{Listed}
@@ -20,20 +20,20 @@ abbrev pub IsOkPlaced : List Token → ℕ → Result Taken Stop → Type 0
 IsOkPlaced tokens from (Ok taken) = HasPlaces taken.tree (drop from tokens)
 IsOkPlaced tokens from (Err stop) = Unit {0}
 
--- expressions with a mark behind each have their places
+-- expressions with a punctuator after each have their places
 abbrev pub AreInRow : List RawExpr → List Token → Type 0
 AreInRow [] tokens = Unit {0}
-AreInRow (tree ∷ trees) tokens = HasPlaces tree tokens × AreInRow trees (drop 1 (behind tree.kind tokens))
+AreInRow (tree ∷ trees) tokens = HasPlaces tree tokens × AreInRow trees (drop 1 (following tree.kind tokens))
 
--- the tokens behind expressions between brackets
-abbrev pub behind_brackets : List RawExpr → List Token → List Token
-behind_brackets [] tokens = tokens
-behind_brackets (tree ∷ trees) tokens = behind_brackets trees (drop 1 (behind tree.kind (drop 1 tokens)))
+-- the tokens after expressions between brackets
+abbrev pub after_brackets : List RawExpr → List Token → List Token
+after_brackets [] tokens = tokens
+after_brackets (tree ∷ trees) tokens = after_brackets trees (drop 1 (following tree.kind (drop 1 tokens)))
 
 -- expressions between brackets have their places
 abbrev pub AreInBrackets : List RawExpr → List Token → Type 0
 AreInBrackets [] tokens = Unit {0}
-AreInBrackets (tree ∷ trees) tokens = HasPlaces tree (drop 1 tokens) × AreInBrackets trees (drop 1 (behind tree.kind (drop 1 tokens)))
+AreInBrackets (tree ∷ trees) tokens = HasPlaces tree (drop 1 tokens) × AreInBrackets trees (drop 1 (following tree.kind (drop 1 tokens)))
 
 abbrev pub IsRowPlaced : List Token → ℕ → Result Listed Stop → Type 0
 IsRowPlaced tokens from (Ok taken) = AreInRow taken.trees.items (drop from tokens)
@@ -42,7 +42,7 @@ IsRowPlaced tokens from (Err stop) = Unit {0}
 -- the bounds of a type that were taken have their places, and end before a token
 pub record AreBoundsFrom (tokens : List Token) (from : ℕ) (taken : Listed) : Type 0 where
   pub brackets : AreInBrackets taken.trees.items (drop from tokens)
-  pub ends : drop 1 (behind_brackets taken.trees.items (drop from tokens)) ≡ drop taken.next tokens
+  pub ends : drop 1 (after_brackets taken.trees.items (drop from tokens)) ≡ drop taken.next tokens
 
 abbrev pub AreBoundsPlaced : List Token → ℕ → Result Listed Stop → Type 0
 AreBoundsPlaced tokens from (Ok taken) = AreBoundsFrom tokens from taken
@@ -53,13 +53,13 @@ abbrev pub IsFoundPlaced : Option RawExpr → List Token → Type 0
 IsFoundPlaced (Some tree) tokens = HasPlaces tree tokens
 IsFoundPlaced None tokens = Unit {0}
 
--- behind the tokens of an expression, which begin at a number, stand those from another number on
+-- after the tokens of an expression, which begin at a number, stand those from another number on
 abbrev pub EndsAt : List Token → ℕ → RawExpr → ℕ → Type 0
-EndsAt tokens from tree next = behind tree.kind (drop from tokens) ≡ drop next tokens
+EndsAt tokens from tree next = following tree.kind (drop from tokens) ≡ drop next tokens
 
 -- the node has its places where its operand has
-abbrev pub IsBuiltBehind : List Token → Taken → Taken → Type 0
-IsBuiltBehind tokens left whole = (from : ℕ) → HasPlaces left.tree (drop from tokens) → EndsAt tokens from left.tree left.next → HasPlaces whole.tree (drop from tokens)
+abbrev pub IsBuiltAfter : List Token → Taken → Taken → Type 0
+IsBuiltAfter tokens left whole = (from : ℕ) → HasPlaces left.tree (drop from tokens) → EndsAt tokens from left.tree left.next → HasPlaces whole.tree (drop from tokens)
 
 -- the node has its places where its two operands have, with one token between them
 abbrev pub IsBuiltWith : List Token → Taken → Taken → Taken → Type 0
@@ -84,8 +84,8 @@ IsBuiltOfThree tokens test one other whole =
 -- a type that was taken has its places, and ends before a token
 pub record IsTypePlaced (tokens : List Token) (from : ℕ) (taken : TakenType) : Type 0 where
   pub tag : HasTagPlace taken.ty (drop from tokens)
-  pub bounds : AreInBrackets taken.bounds.items (behind_words taken.ty (drop from tokens))
-  pub behind : drop 1 (behind_brackets taken.bounds.items (behind_words taken.ty (drop from tokens))) ≡ drop taken.next tokens
+  pub bounds : AreInBrackets taken.bounds.items (after_words taken.ty (drop from tokens))
+  pub following : drop 1 (after_brackets taken.bounds.items (after_words taken.ty (drop from tokens))) ≡ drop taken.next tokens
 
 abbrev pub IsOkTypePlaced : List Token → ℕ → Result TakenType Stop → Type 0
 IsOkTypePlaced tokens from (Ok taken) = IsTypePlaced tokens from taken

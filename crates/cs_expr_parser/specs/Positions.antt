@@ -1,12 +1,12 @@
--- Tokens by their numbers; behind the last one stands a token that no expression takes.
+-- Tokens by their numbers; after the last one stands a token that no expression takes.
 use Rattle.std.specs.Prelude.{◌≡◌, ℕ, List, [], ◌∷◌, Option, Some, None, Bool, true, false, drop, map}
 use Rattle.cs_ast.specs.declared.token.Token.{Token}
 use Rattle.cs_ast.specs.declared.token.TokenKind.{TokenKind}
 use Rattle.cs_ast.specs.declared.token.TokenKind.TheVariants as token
 use Rattle.cs_ast.specs.declared.token.Keyword.{Keyword}
 use Rattle.cs_ast.specs.declared.token.Keyword.TheVariants as keyword
-use Rattle.cs_ast.specs.declared.token.Mark.{Mark}
-use Rattle.cs_ast.specs.declared.token.Mark.TheVariants as mark
+use Rattle.cs_ast.specs.declared.token.Punctuator.{Punctuator}
+use Rattle.cs_ast.specs.declared.token.Punctuator.TheVariants as punctuator
 use Rattle.cs_grammar.specs.Text.{Kinds}
 
 -- the kinds of tokens
@@ -22,10 +22,10 @@ first_kind (first ∷ others) = first.kind
 abbrev pub kind_or_end : List Token → ℕ → TokenKind
 kind_or_end tokens at = first_kind (drop at tokens)
 
--- the mark that a token is
-abbrev pub mark_of : TokenKind → Option Mark
-mark_of (token.Mark mark) = Some mark
-mark_of other = None
+-- the punctuator that a token is
+abbrev pub punctuator_of : TokenKind → Option Punctuator
+punctuator_of (token.Punctuator punctuator) = Some punctuator
+punctuator_of other = None
 
 -- the keyword that a token is
 abbrev pub keyword_of : TokenKind → Option Keyword
@@ -37,30 +37,30 @@ abbrev pub name_of : TokenKind → Option (List ℕ)
 name_of (token.Name name) = Some name
 name_of other = None
 
--- the token is a word or mark that is left out wherever it stands in an expression
-abbrev pub is_left_out : TokenKind → Bool
-is_left_out (token.LeftOut word) = true
-is_left_out (token.Mark mark.Ellipsis) = true
-is_left_out (token.Keyword keyword.Static) = true
-is_left_out (token.Keyword keyword.Typedef) = true
-is_left_out other = false
+-- the token is a word or punctuator that is left out wherever it stands in an expression
+abbrev pub is_unsupported : TokenKind → Bool
+is_unsupported (token.Unsupported word) = true
+is_unsupported (token.Punctuator punctuator.Ellipsis) = true
+is_unsupported (token.Keyword keyword.Static) = true
+is_unsupported (token.Keyword keyword.Typedef) = true
+is_unsupported other = false
 
 -- the token is an opening brace
 abbrev pub is_brace : TokenKind → Bool
-is_brace (token.Mark mark.OpenBrace) = true
+is_brace (token.Punctuator punctuator.OpenBrace) = true
 is_brace other = false
 
--- the mark stands behind an operand and belongs to it
-abbrev pub is_suffix : Mark → Bool
-is_suffix mark.OpenBracket = true
-is_suffix mark.OpenParenthesis = true
-is_suffix mark.Dot = true
-is_suffix mark.Arrow = true
-is_suffix mark.Increment = true
-is_suffix mark.Decrement = true
+-- the punctuator stands after an operand and belongs to it
+abbrev pub is_suffix : Punctuator → Bool
+is_suffix punctuator.OpenBracket = true
+is_suffix punctuator.OpenParenthesis = true
+is_suffix punctuator.Dot = true
+is_suffix punctuator.Arrow = true
+is_suffix punctuator.Increment = true
+is_suffix punctuator.Decrement = true
 is_suffix other = false
 
--- the answer for a token: the mark that it is, if that stands behind an operand and belongs to it
-abbrev pub IsSuffixAt : TokenKind → Option Mark → Type 0
-IsSuffixAt kind (Some mark) = (kind ≡ token.Mark mark) × (is_suffix mark ≡ true)
-IsSuffixAt kind None = (mark : Mark) → kind ≡ token.Mark mark → is_suffix mark ≡ false
+-- the answer for a token: the punctuator that it is, if that stands after an operand and belongs to it
+abbrev pub IsSuffixAt : TokenKind → Option Punctuator → Type 0
+IsSuffixAt kind (Some punctuator) = (kind ≡ token.Punctuator punctuator) × (is_suffix punctuator ≡ true)
+IsSuffixAt kind None = (punctuator : Punctuator) → kind ≡ token.Punctuator punctuator → is_suffix punctuator ≡ false

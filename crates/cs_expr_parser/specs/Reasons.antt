@@ -1,10 +1,10 @@
 -- Why a token is refused, by what stands before it.
 use Rattle.std.specs.Prelude.{Bool, true, false, ◌&&◌, ◌||◌, if◌then◌else◌}
 use Rattle.cs_ast.specs.declared.token.TokenKind.{TokenKind}
-use Rattle.cs_ast.specs.RawTree.{Written, Named, Numeral, Character, Literal, Enclosed, Index, Call, Member, Arrow, StepBehind, StepBefore, Prefix, SizeOf, SizeOfType, Cast, Infix, Choice, Assign, Comma}
+use Rattle.cs_ast.specs.RawTree.{Written, Named, Numeral, Character, Literal, Enclosed, Index, Call, Member, Arrow, StepAfter, StepBefore, Prefix, SizeOf, SizeOfType, Cast, Infix, Choice, Assign, Comma}
 use Rattle.cs_grammar.specs.declared.refusal.Reason.{Reason}
-use Rattle.cs_grammar.specs.declared.refusal.Reason.TheVariants.{Syntax, LeftOut, TooDeep}
-use Rattle.cs_expr_parser.specs.Positions.{is_left_out, is_brace}
+use Rattle.cs_grammar.specs.declared.refusal.Reason.TheVariants.{Syntax, Unsupported, TooDeep}
+use Rattle.cs_expr_parser.specs.Positions.{is_unsupported, is_brace}
 
 -- the last part of an expression is a type between parentheses
 abbrev pub ends_in_type : Written → Bool
@@ -19,10 +19,10 @@ ends_in_type (Assign operator object value) = ends_in_type value
 ends_in_type (Comma first second) = ends_in_type second
 ends_in_type other = false
 
--- why a token is refused with which no phrase of any height goes on, behind a type or a tag or not
+-- why a token is refused with which no phrase of any height goes on, after a type or a tag or not
 abbrev pub plain_reason : TokenKind → Bool → Reason
-plain_reason next behind_type = if is_left_out next || (behind_type && is_brace next) then LeftOut else Syntax
+plain_reason next after_type = if is_unsupported next || (after_type && is_brace next) then Unsupported else Syntax
 
 -- why a token is refused, if a higher phrase goes on with it and if not
 abbrev pub reason_of : Bool → TokenKind → Bool → Reason
-reason_of deep next behind_type = if deep then TooDeep else plain_reason next behind_type
+reason_of deep next after_type = if deep then TooDeep else plain_reason next after_type

@@ -3,25 +3,25 @@ use Rattle.std.specs.Prelude.{◌≡◌, Bool, true, false, Option, Some, None}
 use Rattle.cs_ast.specs.declared.token.TokenKind.{TokenKind}
 use Rattle.cs_ast.specs.declared.token.TokenKind.TheVariants as token
 use Rattle.cs_ast.specs.declared.token.Keyword.TheVariants as keyword
-use Rattle.cs_ast.specs.declared.token.Mark.TheVariants as mark
+use Rattle.cs_ast.specs.declared.token.Punctuator.TheVariants as punctuator
 use Rattle.cs_ast.specs.declared.raw.operator.Step.{Step}
 use Rattle.cs_ast.specs.declared.raw.operator.PrefixOp.{PrefixOp}
 use Rattle.cs_ast.specs.RawTree.{Written, StepBefore, Prefix, SizeOf}
 use Rattle.cs_grammar.specs.TypeWords.{Names}
-use Rattle.cs_grammar.specs.Marks.{step_mark, prefix_mark}
+use Rattle.cs_grammar.specs.Punctuators.{step_punctuator, prefix_punctuator}
 use Rattle.cs_grammar.specs.FirstTokens.{begins_type}
 use Rattle.cs_expr_parser.specs.declared.unary.Before.{Before}
 use Rattle.cs_expr_parser.specs.declared.unary.Before.TheVariants as before
 
--- a parenthesis and the token behind it begin a type
+-- a parenthesis and the token after it begin a type
 abbrev pub opens_type : Names → TokenKind → TokenKind → Bool
-opens_type names (token.Mark mark.OpenParenthesis) second = begins_type names second
+opens_type names (token.Punctuator punctuator.OpenParenthesis) second = begins_type names second
 opens_type names other second = false
 
 -- the token of what stands before an operand
 abbrev pub before_text : Before → TokenKind
-before_text (before.Step by) = token.Mark (step_mark by)
-before_text (before.Operator operator) = token.Mark (prefix_mark operator)
+before_text (before.Step by) = token.Punctuator (step_punctuator by)
+before_text (before.Operator operator) = token.Punctuator (prefix_punctuator operator)
 before_text before.Size = token.Keyword keyword.Sizeof
 
 -- the answer for a token: what it is before an operand, none where it is nothing of that kind

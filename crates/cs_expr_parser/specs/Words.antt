@@ -5,7 +5,7 @@ use Rattle.cs_ast.specs.declared.token.TokenKind.{TokenKind}
 use Rattle.cs_ast.specs.declared.token.TokenKind.TheVariants as token
 use Rattle.cs_ast.specs.declared.token.Keyword.{Keyword}
 use Rattle.cs_ast.specs.declared.token.Keyword.TheVariants as keyword
-use Rattle.cs_ast.specs.declared.token.Mark.TheVariants as mark
+use Rattle.cs_ast.specs.declared.token.Punctuator.TheVariants as punctuator
 use Rattle.cs_ast.specs.declared.raw.written_type.TypeWord.{TypeWord}
 use Rattle.cs_ast.specs.declared.raw.written_type.TypeWord.TheVariants as word
 use Rattle.cs_ast.specs.declared.raw.written_type.IntegerWord.{IntegerWord}
@@ -51,7 +51,7 @@ last_tagged [] = false
 last_tagged (last ∷ []) = has_tag last
 last_tagged (first ∷ second ∷ words) = last_tagged (second ∷ words)
 
--- a tag that stood last still does, where these stand behind it
+-- a tag that stood last still does, where these stand after it
 abbrev pub is_last_tag : {Item : Type 0} → Bool → List Item → Bool
 is_last_tag tagged [] = tagged
 is_last_tag tagged (first ∷ others) = false
@@ -65,7 +65,7 @@ pub record IsWordsFrom (names : Names) (tokens : List Token) (from : ℕ) (taken
 
 abbrev pub WordsAnswer : Names → List Token → ℕ → Result TypeWords Stop → Type 0
 WordsAnswer names tokens from (Ok taken) = IsWordsFrom names tokens from taken
-WordsAnswer names tokens from (Err stop) = (room : ℕ) → Stops (Types names) room tokens from stop
+WordsAnswer names tokens from (Err stop) = (limit : ℕ) → Stops (Types names) limit tokens from stop
 
 -- the words so far name a type
 abbrev pub names_some : TypeSoFar → Bool
@@ -90,7 +90,7 @@ IsUnusable names so_far other = ⊥
 abbrev pub NoWord : Names → TypeSoFar → TokenKind → Type 0
 NoWord names so_far next = (one : TypeWord) → first_of_word one ≡ next → IsUnusable names so_far one
 
--- a tag is missing behind `struct` or `enum`, where the words so far name no type
+-- a tag is missing after `struct` or `enum`, where the words so far name no type
 pub record IsTagMissing (tokens : List Token) (at refused : ℕ) : Type 0 where
   pub is_struct : Bool
   pub stands : kind_or_end tokens at ≡ token.Keyword (if is_struct then keyword.Struct else keyword.Enum)
@@ -136,15 +136,15 @@ IsIntegerAt kind at (Some found) = (one : IntegerWord) × (word_of kind ≡ Some
 IsIntegerAt kind at None = word_of kind ≡ None
 
 abbrev pub IsPointerAt : TokenKind → Option PointerWord → Type 0
-IsPointerAt kind (Some pointer.Star) = kind ≡ token.Mark mark.Star
+IsPointerAt kind (Some pointer.Star) = kind ≡ token.Punctuator punctuator.Star
 IsPointerAt kind (Some pointer.Const) = kind ≡ token.Keyword keyword.Const
-IsPointerAt kind None = (kind ≡ token.Mark mark.Star → ⊥) × (kind ≡ token.Keyword keyword.Const → ⊥)
+IsPointerAt kind None = (kind ≡ token.Punctuator punctuator.Star → ⊥) × (kind ≡ token.Keyword keyword.Const → ⊥)
 
 -- the words of pointers were taken, as many as there are
 pub record IsPointersFrom (tokens : List Token) (from : ℕ) (taken : PointerWords) : Type 0 where
   pub spelled : Spells tokens from taken.next (pointers_text taken.words.items)
   pub is_pointer : is_pointer taken.words.items ≡ true
-  pub no_star : kind_or_end tokens taken.next ≡ token.Mark mark.Star → ⊥
+  pub no_star : kind_or_end tokens taken.next ≡ token.Punctuator punctuator.Star → ⊥
   pub no_const : kind_or_end tokens taken.next ≡ token.Keyword keyword.Const → ⊥
 
 abbrev pub PointersAnswer : List Token → ℕ → Result PointerWords Stop → Type 0

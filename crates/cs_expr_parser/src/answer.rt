@@ -20,8 +20,8 @@ pub struct Phrase {
     pub tree: RawExpr,
     /// The height of the tree.
     pub height: u32,
-    /// The number of the token behind it.
+    /// The number of the token after it.
     pub next: usize,
-    /// Why the token behind it is refused, if the caller can't go on with it either.
+    /// Why the token after it is refused, if the caller can't go on with it either.
     pub otherwise: Reason,
 }

@@ -3,7 +3,7 @@ ghost use Rattle.std.specs.Prelude.{◌≡◌, ◌≤◌, ◌<◌, ◌^◌, ◌+
 ghost use Rattle.cs_expr_parser.specs.Places.{IsOkPlaced, IsBuiltWith};
 ghost use Rattle.cs_ast.specs.RawTree.{Infix};
 ghost use Rattle.cs_ast.specs.RawView.{written};
-ghost use Rattle.cs_expr_parser.specs.LastTokens.{IsStopTold};
+ghost use Rattle.cs_expr_parser.specs.LastTokens.{IsStopReported};
 ghost use Rattle.cs_expr_parser.specs.Parts.{IsBounded, IsNode, Answers};
 ghost use Rattle.cs_expr_parser.specs.Operators.{IsInfixAt};
 ghost use Rattle.cs_expr_parser.specs.Positions.{kind_or_end};
@@ -11,7 +11,7 @@ ghost use Rattle.cs_expr_parser.specs.Positions.{kind_or_end};
 use crate::nodes::infix as infix_node;
 use crate::postfix::deepened;
 use crate::stop::{Stop, Taken};
-use crate::tokens::{mark_at, place_at};
+use crate::tokens::{place_at, punctuator_at};
 use crate::unary::cast;
 use cs_ast::Token;
 use cs_ast::raw::operator::InfixOp;
@@ -28,27 +28,27 @@ pub fn infix(
     tokens: &[Token],
     names: &TypedefNames,
     from: usize,
-    room: u32,
+    limit: u32,
     level: u32,
 ) -> Result<Taken, Stop>
     requires within { from ≤ length tokens.now }
     requires few { length tokens.now < 2 ^ 32 }
     requires infix { 3 ≤ level }
     requires tight { level ≤ 13 }
-    ensures bounds { IsBounded room tokens.now from result }
-    ensures parsed { Answers names.now level room tokens.now from result }
-    ensures told { IsStopTold names.now tokens.now from result }
+    ensures bounds { IsBounded limit tokens.now from result }
+    ensures parsed { Answers names.now level limit tokens.now from result }
+    ensures reported { IsStopReported names.now tokens.now from result }
     ensures placed { IsOkPlaced tokens.now from result }
 {
     if level == CASTS {
-        return cast(alloc, tokens, names, from, room);
+        return cast(alloc, tokens, names, from, limit);
     }
-    let mut left = infix(alloc, tokens, names, from, room, level + 1)?;
+    let mut left = infix(alloc, tokens, names, from, limit, level + 1)?;
     'chain: while let Some(operator) = operator_at(tokens, left.next, level) {
-        if left.height >= room {
+        if left.height >= limit {
             return Ok(deepened(left));
         }
-        let right = infix(alloc, tokens, names, left.next + 1, room - 1, level + 1)?;
+        let right = infix(alloc, tokens, names, left.next + 1, limit - 1, level + 1)?;
         left = joined(alloc, tokens, operator, left, right)?;
     }
     Ok(left)
@@ -59,7 +59,7 @@ fn operator_at(tokens: &[Token], at: usize, level: u32) -> Option<InfixOp>
     ensures within { IsSome result → at < length tokens.now }
     ensures operator { IsInfixAt level (kind_or_end tokens.now at) result }
 {
-    let operator = infix_operator(mark_at(tokens, at)?)?;
+    let operator = infix_operator(punctuator_at(tokens, at)?)?;
     if infix_level(operator) == level {
         Some(operator)
     } else {

@@ -18,4 +18,4 @@ mod unary;
 pub use answer::{ExprLevel, Phrase};
 pub use parser::{expression, expression_at, refusal};
 pub use stop::Stop;
-pub use tokens::{begins_type, is_mark, keyword_at, mark_at, name_at, place_at};
+pub use tokens::{begins_type, is_punctuator, keyword_at, name_at, place_at, punctuator_at};

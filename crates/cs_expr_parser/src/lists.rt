@@ -4,15 +4,15 @@ ghost use Rattle.cs_expr_parser.specs.Places.{IsRowPlaced, AreBoundsPlaced};
 ghost use Rattle.cs_grammar.specs.Levels.{ASSIGN, CHOICE};
 ghost use Rattle.cs_grammar.specs.Phrases.{ArePhrases};
 ghost use Rattle.cs_grammar.specs.Text.{Kinds};
-ghost use Rattle.cs_expr_parser.specs.LastTokens.{IsStopTold, IsStopToldBehind, TellsBehind};
+ghost use Rattle.cs_expr_parser.specs.LastTokens.{IsStopReported, IsStopReportedAfter, YieldsAfter};
 ghost use Rattle.cs_expr_parser.specs.Words.{is_last_tag};
 ghost use Rattle.cs_expr_parser.specs.Parts.{IsRowBounded, RowAnswers, arguments_text, closed_bounds_text};
 
 use crate::loose::{assign, choice};
 use crate::stop::Stop;
-use crate::tokens::{is_mark, refuse_behind, refuse_in_type};
+use crate::tokens::{is_punctuator, refuse_after, refuse_in_type};
 use cs_ast::raw::expression::RawExpr;
-use cs_ast::{Mark, Token};
+use cs_ast::{Punctuator, Token};
 use cs_grammar::TypedefNames;
 use std::alloc::Global;
 
@@ -22,44 +22,44 @@ pub struct Listed {
     pub trees: Vec<RawExpr>,
     /// The height of the highest, 0 where there is none.
     pub height: u32,
-    /// The number of the token behind what closes them.
+    /// The number of the token after what closes them.
     pub next: usize,
 }
 
-/// The arguments of a call, from behind its opening parenthesis to behind the closing one (C11 6.5.2.2).
+/// The arguments of a call, from after its opening parenthesis to after the closing one (C11 6.5.2.2).
 #[cycle(expression)]
 pub fn arguments(
     alloc: Global,
     tokens: &[Token],
     names: &TypedefNames,
     from: usize,
-    room: u32,
+    limit: u32,
 ) -> Result<Listed, Stop>
     requires within { from ≤ length tokens.now }
     requires few { length tokens.now < 2 ^ 32 }
-    ensures bounds { IsRowBounded room tokens.now from result }
-    ensures parsed { RowAnswers arguments_text (ArePhrases names.now ASSIGN) room tokens.now from result }
-    ensures told { IsStopTold names.now tokens.now from result }
+    ensures bounds { IsRowBounded limit tokens.now from result }
+    ensures parsed { RowAnswers arguments_text (ArePhrases names.now ASSIGN) limit tokens.now from result }
+    ensures reported { IsStopReported names.now tokens.now from result }
     ensures placed { IsRowPlaced tokens.now from result }
 {
     let mut trees = Vec::new(alloc);
-    if is_mark(tokens, from, Mark::CloseParenthesis) {
+    if is_punctuator(tokens, from, Punctuator::CloseParenthesis) {
         return Ok(Listed {
             trees,
             height: 0,
             next: from + 1,
         });
     }
-    let mut last = assign(alloc, tokens, names, from, room)?;
+    let mut last = assign(alloc, tokens, names, from, limit)?;
     let mut height = last.height;
-    'row: while is_mark(tokens, last.next, Mark::Comma) {
-        let following = assign(alloc, tokens, names, last.next + 1, room)?;
+    'row: while is_punctuator(tokens, last.next, Punctuator::Comma) {
+        let another = assign(alloc, tokens, names, last.next + 1, limit)?;
         trees.push(last.tree)?;
-        height = height.max(following.height);
-        last = following;
+        height = height.max(another.height);
+        last = another;
     }
-    if !is_mark(tokens, last.next, Mark::CloseParenthesis) {
-        return Err(refuse_behind(tokens, &last));
+    if !is_punctuator(tokens, last.next, Punctuator::CloseParenthesis) {
+        return Err(refuse_after(tokens, &last));
     }
     trees.push(last.tree)?;
     Ok(Listed {
@@ -69,7 +69,7 @@ pub fn arguments(
     })
 }
 
-/// The bounds of a type's arrays, each between brackets, to behind the parenthesis that closes the type (C11 6.7.6.2). Whether
+/// The bounds of a type's arrays, each between brackets, to after the parenthesis that closes the type (C11 6.7.6.2). Whether
 /// a tag stands before them tells why a brace is refused.
 #[cycle(expression)]
 pub fn bounds(
@@ -77,31 +77,31 @@ pub fn bounds(
     tokens: &[Token],
     names: &TypedefNames,
     from: usize,
-    room: u32,
-    behind_tag: bool,
+    limit: u32,
+    after_tag: bool,
 ) -> Result<Listed, Stop>
     requires within { from ≤ length tokens.now }
     requires few { length tokens.now < 2 ^ 32 }
-    requires least { 1 ≤ room }
-    ensures bounds { IsRowBounded room tokens.now from result }
-    ensures parsed { RowAnswers closed_bounds_text (ArePhrases names.now CHOICE) room tokens.now from result }
-    ensures told { (before : Kinds) → TellsBehind names.now before behind_tag → IsStopToldBehind names.now before tokens.now from result }
+    requires least { 1 ≤ limit }
+    ensures bounds { IsRowBounded limit tokens.now from result }
+    ensures parsed { RowAnswers closed_bounds_text (ArePhrases names.now CHOICE) limit tokens.now from result }
+    ensures reported { (before : Kinds) → YieldsAfter names.now before after_tag → IsStopReportedAfter names.now before tokens.now from result }
     ensures placed { AreBoundsPlaced tokens.now from result }
 {
     let mut trees = Vec::new(alloc);
     let mut height: u32 = 0;
     let mut next = from;
-    'row: while is_mark(tokens, next, Mark::OpenBracket) {
-        let bound = choice(alloc, tokens, names, next + 1, room)?;
-        if !is_mark(tokens, bound.next, Mark::CloseBracket) {
-            return Err(refuse_behind(tokens, &bound));
+    'row: while is_punctuator(tokens, next, Punctuator::OpenBracket) {
+        let bound = choice(alloc, tokens, names, next + 1, limit)?;
+        if !is_punctuator(tokens, bound.next, Punctuator::CloseBracket) {
+            return Err(refuse_after(tokens, &bound));
         }
         height = height.max(bound.height);
         next = bound.next + 1;
         trees.push(bound.tree)?;
     }
-    if !is_mark(tokens, next, Mark::CloseParenthesis) {
-        return Err(refuse_in_type(tokens, next, is_last_word(behind_tag, &trees)));
+    if !is_punctuator(tokens, next, Punctuator::CloseParenthesis) {
+        return Err(refuse_in_type(tokens, next, is_last_word(after_tag, &trees)));
     }
     Ok(Listed {
         trees,
@@ -111,8 +111,8 @@ pub fn bounds(
 }
 
 /// Whether what stood last before these still does.
-pub fn is_last_word<T>(last: bool, behind: &[T]) -> bool
-    ensures { result ≡ is_last_tag last behind.now }
+pub fn is_last_word<T>(last: bool, following: &[T]) -> bool
+    ensures { result ≡ is_last_tag last following.now }
 {
-    last && behind.is_empty()
+    last && following.is_empty()
 }

@@ -4,7 +4,7 @@ ghost use Rattle.cs_expr_parser.specs.Places.{IsOkPlaced, IsBuiltWith, IsBuiltOf
 ghost use Rattle.cs_ast.specs.RawTree.{Choice, Assign, Comma};
 ghost use Rattle.cs_ast.specs.RawView.{written};
 ghost use Rattle.cs_grammar.specs.Levels.{COMMA, ASSIGN, CHOICE};
-ghost use Rattle.cs_expr_parser.specs.LastTokens.{IsStopTold};
+ghost use Rattle.cs_expr_parser.specs.LastTokens.{IsStopReported};
 ghost use Rattle.cs_expr_parser.specs.Parts.{IsBounded, IsNode, Answers};
 ghost use Rattle.cs_expr_parser.specs.Operators.{IsAssignAt};
 ghost use Rattle.cs_expr_parser.specs.Positions.{kind_or_end};
@@ -14,9 +14,9 @@ use crate::infix::infix;
 use crate::nodes::{assign as assign_node, choice as choice_node, comma as comma_node};
 use crate::postfix::deepened;
 use crate::stop::{Stop, Taken};
-use crate::tokens::{is_mark, mark_at, place_at, refuse_behind};
+use crate::tokens::{is_punctuator, place_at, punctuator_at, refuse_after};
 use cs_ast::raw::operator::AssignOp;
-use cs_ast::{Mark, Token};
+use cs_ast::{Punctuator, Token};
 use cs_grammar::{TypedefNames, assign_operator};
 use std::alloc::{AllocError, Global};
 
@@ -30,27 +30,27 @@ pub fn choice(
     tokens: &[Token],
     names: &TypedefNames,
     from: usize,
-    room: u32,
+    limit: u32,
 ) -> Result<Taken, Stop>
     requires within { from ≤ length tokens.now }
     requires few { length tokens.now < 2 ^ 32 }
-    ensures bounds { IsBounded room tokens.now from result }
-    ensures parsed { Answers names.now CHOICE room tokens.now from result }
-    ensures told { IsStopTold names.now tokens.now from result }
+    ensures bounds { IsBounded limit tokens.now from result }
+    ensures parsed { Answers names.now CHOICE limit tokens.now from result }
+    ensures reported { IsStopReported names.now tokens.now from result }
     ensures placed { IsOkPlaced tokens.now from result }
 {
-    let test = infix(alloc, tokens, names, from, room, INFIX)?;
-    if !is_mark(tokens, test.next, Mark::Question) {
+    let test = infix(alloc, tokens, names, from, limit, INFIX)?;
+    if !is_punctuator(tokens, test.next, Punctuator::Question) {
         return Ok(test);
     }
-    if test.height >= room {
+    if test.height >= limit {
         return Ok(deepened(test));
     }
-    let one = comma(alloc, tokens, names, test.next + 1, room - 1)?;
-    if !is_mark(tokens, one.next, Mark::Colon) {
-        return Err(refuse_behind(tokens, &one));
+    let one = comma(alloc, tokens, names, test.next + 1, limit - 1)?;
+    if !is_punctuator(tokens, one.next, Punctuator::Colon) {
+        return Err(refuse_after(tokens, &one));
     }
-    let other = choice(alloc, tokens, names, one.next + 1, room - 1)?;
+    let other = choice(alloc, tokens, names, one.next + 1, limit - 1)?;
     Ok(chosen(alloc, tokens, test, one, other)?)
 }
 
@@ -84,26 +84,26 @@ pub fn assign(
     tokens: &[Token],
     names: &TypedefNames,
     from: usize,
-    room: u32,
+    limit: u32,
 ) -> Result<Taken, Stop>
     requires within { from ≤ length tokens.now }
     requires few { length tokens.now < 2 ^ 32 }
-    ensures bounds { IsBounded room tokens.now from result }
-    ensures parsed { Answers names.now ASSIGN room tokens.now from result }
-    ensures told { IsStopTold names.now tokens.now from result }
+    ensures bounds { IsBounded limit tokens.now from result }
+    ensures parsed { Answers names.now ASSIGN limit tokens.now from result }
+    ensures reported { IsStopReported names.now tokens.now from result }
     ensures placed { IsOkPlaced tokens.now from result }
 {
-    let object = choice(alloc, tokens, names, from, room)?;
+    let object = choice(alloc, tokens, names, from, limit)?;
     let Some(operator) = assign_operator_at(tokens, object.next) else {
         return Ok(object);
     };
     if !is_unary(&object.tree) {
         return Ok(object);
     }
-    if object.height >= room {
+    if object.height >= limit {
         return Ok(deepened(object));
     }
-    let value = assign(alloc, tokens, names, object.next + 1, room - 1)?;
+    let value = assign(alloc, tokens, names, object.next + 1, limit - 1)?;
     Ok(stored(alloc, tokens, operator, object, value)?)
 }
 
@@ -112,7 +112,7 @@ fn assign_operator_at(tokens: &[Token], at: usize) -> Option<AssignOp>
     ensures within { IsSome result → at < length tokens.now }
     ensures operator { IsAssignAt (kind_or_end tokens.now at) result }
 {
-    assign_operator(mark_at(tokens, at)?)
+    assign_operator(punctuator_at(tokens, at)?)
 }
 
 /// An object and a value with the operator between them.
@@ -145,21 +145,21 @@ pub fn comma(
     tokens: &[Token],
     names: &TypedefNames,
     from: usize,
-    room: u32,
+    limit: u32,
 ) -> Result<Taken, Stop>
     requires within { from ≤ length tokens.now }
     requires few { length tokens.now < 2 ^ 32 }
-    ensures bounds { IsBounded room tokens.now from result }
-    ensures parsed { Answers names.now COMMA room tokens.now from result }
-    ensures told { IsStopTold names.now tokens.now from result }
+    ensures bounds { IsBounded limit tokens.now from result }
+    ensures parsed { Answers names.now COMMA limit tokens.now from result }
+    ensures reported { IsStopReported names.now tokens.now from result }
     ensures placed { IsOkPlaced tokens.now from result }
 {
-    let mut first = assign(alloc, tokens, names, from, room)?;
-    'chain: while is_mark(tokens, first.next, Mark::Comma) {
-        if first.height >= room {
+    let mut first = assign(alloc, tokens, names, from, limit)?;
+    'chain: while is_punctuator(tokens, first.next, Punctuator::Comma) {
+        if first.height >= limit {
             return Ok(deepened(first));
         }
-        let second = assign(alloc, tokens, names, first.next + 1, room - 1)?;
+        let second = assign(alloc, tokens, names, first.next + 1, limit - 1)?;
         first = followed(alloc, tokens, first, second)?;
     }
     Ok(first)

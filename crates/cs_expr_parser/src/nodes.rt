@@ -1,9 +1,9 @@
 //! The nodes of trees, each made of its parts.
 ghost use Rattle.std.specs.Prelude.{◌≡◌, ◌<◌, ◌∷◌, List, drop, IfOk, IsSome, length};
 ghost use Rattle.cs_ast.specs.declared.token.Token.{Token as OneToken};
-ghost use Rattle.cs_grammar.specs.Places.{HasPlaces, HasTagPlace, StandsAt, behind, behind_words};
-ghost use Rattle.cs_expr_parser.specs.Places.{AreInRow, AreInBrackets, behind_brackets, IsFoundPlaced, IsPlacedAnywhere};
-ghost use Rattle.cs_ast.specs.RawTree.{Enclosed, Index as IndexNode, Call as CallNode, Member as MemberNode, Arrow as ArrowNode, StepBehind as StepBehindNode, StepBefore as StepBeforeNode, Prefix as PrefixNode, SizeOf as SizeOfNode, SizeOfType as SizeOfTypeNode, Cast as CastNode, Infix as InfixNode, Choice as ChoiceNode, Assign as AssignNode, Comma as CommaNode};
+ghost use Rattle.cs_grammar.specs.Places.{HasPlaces, HasTagPlace, StandsAt, following, after_words};
+ghost use Rattle.cs_expr_parser.specs.Places.{AreInRow, AreInBrackets, after_brackets, IsFoundPlaced, IsPlacedAnywhere};
+ghost use Rattle.cs_ast.specs.RawTree.{Enclosed, Index as IndexNode, Call as CallNode, Member as MemberNode, Arrow as ArrowNode, StepAfter as StepAfterNode, StepBefore as StepBeforeNode, Prefix as PrefixNode, SizeOf as SizeOfNode, SizeOfType as SizeOfTypeNode, Cast as CastNode, Infix as InfixNode, Choice as ChoiceNode, Assign as AssignNode, Comma as CommaNode};
 ghost use Rattle.cs_ast.specs.RawView.{written, written_list};
 ghost use Rattle.cs_expr_parser.specs.Leaves.{IsLeafOf, IsLeafKindOf};
 ghost use Rattle.cs_expr_parser.specs.Positions.{kind_or_end};
@@ -85,7 +85,7 @@ pub fn index(
     number: RawExpr,
 ) -> Result<RawExpr, AllocError>
     ensures tree { IfOk result (λ tree. written tree ≡ IndexNode (written array) (written number)) }
-    ensures placed { IfOk result (λ tree. (list : List OneToken) → HasPlaces array list → StandsAt place (behind array.kind list) → HasPlaces number (drop 1 (behind array.kind list)) → HasPlaces tree list) }
+    ensures placed { IfOk result (λ tree. (list : List OneToken) → HasPlaces array list → StandsAt place (following array.kind list) → HasPlaces number (drop 1 (following array.kind list)) → HasPlaces tree list) }
 {
     let array = Box::new(alloc, array)?;
     let number = Box::new(alloc, number)?;
@@ -103,7 +103,7 @@ pub fn call(
     arguments: Vec<RawExpr>,
 ) -> Result<RawExpr, AllocError>
     ensures tree { IfOk result (λ tree. written tree ≡ CallNode (written function) (written_list arguments.items)) }
-    ensures placed { IfOk result (λ tree. (list : List OneToken) → HasPlaces function list → StandsAt place (behind function.kind list) → AreInRow arguments.items (drop 1 (behind function.kind list)) → HasPlaces tree list) }
+    ensures placed { IfOk result (λ tree. (list : List OneToken) → HasPlaces function list → StandsAt place (following function.kind list) → AreInRow arguments.items (drop 1 (following function.kind list)) → HasPlaces tree list) }
 {
     let function = Box::new(alloc, function)?;
     Ok(RawExpr {
@@ -120,7 +120,7 @@ pub fn member(
     name: RawName,
 ) -> Result<RawExpr, AllocError>
     ensures tree { IfOk result (λ tree. written tree ≡ MemberNode (written object) name.name) }
-    ensures placed { IfOk result (λ tree. (list : List OneToken) → HasPlaces object list → StandsAt place (behind object.kind list) → StandsAt name.place (drop 1 (behind object.kind list)) → HasPlaces tree list) }
+    ensures placed { IfOk result (λ tree. (list : List OneToken) → HasPlaces object list → StandsAt place (following object.kind list) → StandsAt name.place (drop 1 (following object.kind list)) → HasPlaces tree list) }
 {
     let object = Box::new(alloc, object)?;
     Ok(RawExpr {
@@ -137,7 +137,7 @@ pub fn arrow(
     name: RawName,
 ) -> Result<RawExpr, AllocError>
     ensures tree { IfOk result (λ tree. written tree ≡ ArrowNode (written pointer) name.name) }
-    ensures placed { IfOk result (λ tree. (list : List OneToken) → HasPlaces pointer list → StandsAt place (behind pointer.kind list) → StandsAt name.place (drop 1 (behind pointer.kind list)) → HasPlaces tree list) }
+    ensures placed { IfOk result (λ tree. (list : List OneToken) → HasPlaces pointer list → StandsAt place (following pointer.kind list) → StandsAt name.place (drop 1 (following pointer.kind list)) → HasPlaces tree list) }
 {
     let pointer = Box::new(alloc, pointer)?;
     Ok(RawExpr {
@@ -147,19 +147,19 @@ pub fn arrow(
 }
 
 /// `object ++` or `object --`
-pub fn step_behind(
+pub fn step_after(
     alloc: Global,
     place: Place,
     step: Step,
     object: RawExpr,
 ) -> Result<RawExpr, AllocError>
-    ensures tree { IfOk result (λ tree. written tree ≡ StepBehindNode step (written object)) }
-    ensures placed { IfOk result (λ tree. (list : List OneToken) → HasPlaces object list → StandsAt place (behind object.kind list) → HasPlaces tree list) }
+    ensures tree { IfOk result (λ tree. written tree ≡ StepAfterNode step (written object)) }
+    ensures placed { IfOk result (λ tree. (list : List OneToken) → HasPlaces object list → StandsAt place (following object.kind list) → HasPlaces tree list) }
 {
     let object = Box::new(alloc, object)?;
     Ok(RawExpr {
         place,
-        kind: RawExprKind::StepBehind(step, object),
+        kind: RawExprKind::StepAfter(step, object),
     })
 }
 
@@ -212,7 +212,7 @@ pub fn size_of(alloc: Global, place: Place, operand: RawExpr) -> Result<RawExpr,
 /// `sizeof ( type )`
 pub fn size_of_type(place: Place, ty: WrittenType, bounds: Vec<RawExpr>) -> RawExpr
     ensures tree { written result ≡ SizeOfTypeNode ty.words.items ty.pointers.items (written_list bounds.items) }
-    ensures placed { (list : List OneToken) → StandsAt place list → HasTagPlace ty (drop 2 list) → AreInBrackets bounds.items (behind_words ty (drop 2 list)) → HasPlaces result list }
+    ensures placed { (list : List OneToken) → StandsAt place list → HasTagPlace ty (drop 2 list) → AreInBrackets bounds.items (after_words ty (drop 2 list)) → HasPlaces result list }
 {
     RawExpr {
         place,
@@ -229,7 +229,7 @@ pub fn cast(
     operand: RawExpr,
 ) -> Result<RawExpr, AllocError>
     ensures tree { IfOk result (λ tree. written tree ≡ CastNode ty.words.items ty.pointers.items (written_list bounds.items) (written operand)) }
-    ensures placed { IfOk result (λ tree. (list : List OneToken) → StandsAt place list → HasTagPlace ty (drop 1 list) → AreInBrackets bounds.items (behind_words ty (drop 1 list)) → HasPlaces operand (drop 1 (behind_brackets bounds.items (behind_words ty (drop 1 list)))) → HasPlaces tree list) }
+    ensures placed { IfOk result (λ tree. (list : List OneToken) → StandsAt place list → HasTagPlace ty (drop 1 list) → AreInBrackets bounds.items (after_words ty (drop 1 list)) → HasPlaces operand (drop 1 (after_brackets bounds.items (after_words ty (drop 1 list)))) → HasPlaces tree list) }
 {
     let operand = Box::new(alloc, operand)?;
     Ok(RawExpr {
@@ -247,7 +247,7 @@ pub fn infix(
     right: RawExpr,
 ) -> Result<RawExpr, AllocError>
     ensures tree { IfOk result (λ tree. written tree ≡ InfixNode operator (written left) (written right)) }
-    ensures placed { IfOk result (λ tree. (list : List OneToken) → HasPlaces left list → StandsAt place (behind left.kind list) → HasPlaces right (drop 1 (behind left.kind list)) → HasPlaces tree list) }
+    ensures placed { IfOk result (λ tree. (list : List OneToken) → HasPlaces left list → StandsAt place (following left.kind list) → HasPlaces right (drop 1 (following left.kind list)) → HasPlaces tree list) }
 {
     let left = Box::new(alloc, left)?;
     let right = Box::new(alloc, right)?;
@@ -266,7 +266,7 @@ pub fn choice(
     other: RawExpr,
 ) -> Result<RawExpr, AllocError>
     ensures tree { IfOk result (λ tree. written tree ≡ ChoiceNode (written test) (written one) (written other)) }
-    ensures placed { IfOk result (λ tree. (list : List OneToken) → HasPlaces test list → StandsAt place (behind test.kind list) → HasPlaces one (drop 1 (behind test.kind list)) → HasPlaces other (drop 1 (behind one.kind (drop 1 (behind test.kind list)))) → HasPlaces tree list) }
+    ensures placed { IfOk result (λ tree. (list : List OneToken) → HasPlaces test list → StandsAt place (following test.kind list) → HasPlaces one (drop 1 (following test.kind list)) → HasPlaces other (drop 1 (following one.kind (drop 1 (following test.kind list)))) → HasPlaces tree list) }
 {
     let test = Box::new(alloc, test)?;
     let one = Box::new(alloc, one)?;
@@ -286,7 +286,7 @@ pub fn assign(
     value: RawExpr,
 ) -> Result<RawExpr, AllocError>
     ensures tree { IfOk result (λ tree. written tree ≡ AssignNode operator (written object) (written value)) }
-    ensures placed { IfOk result (λ tree. (list : List OneToken) → HasPlaces object list → StandsAt place (behind object.kind list) → HasPlaces value (drop 1 (behind object.kind list)) → HasPlaces tree list) }
+    ensures placed { IfOk result (λ tree. (list : List OneToken) → HasPlaces object list → StandsAt place (following object.kind list) → HasPlaces value (drop 1 (following object.kind list)) → HasPlaces tree list) }
 {
     let object = Box::new(alloc, object)?;
     let value = Box::new(alloc, value)?;
@@ -304,7 +304,7 @@ pub fn comma(
     second: RawExpr,
 ) -> Result<RawExpr, AllocError>
     ensures tree { IfOk result (λ tree. written tree ≡ CommaNode (written first) (written second)) }
-    ensures placed { IfOk result (λ tree. (list : List OneToken) → HasPlaces first list → StandsAt place (behind first.kind list) → HasPlaces second (drop 1 (behind first.kind list)) → HasPlaces tree list) }
+    ensures placed { IfOk result (λ tree. (list : List OneToken) → HasPlaces first list → StandsAt place (following first.kind list) → HasPlaces second (drop 1 (following first.kind list)) → HasPlaces tree list) }
 {
     let first = Box::new(alloc, first)?;
     let second = Box::new(alloc, second)?;

@@ -4,7 +4,7 @@ ghost use Rattle.cs_expr_parser.specs.Places.{IsOkPlaced};
 ghost use Rattle.std.specs.Result.{IfErr};
 ghost use Rattle.cs_ast.specs.RawView.{written};
 ghost use Rattle.cs_expr_parser.specs.Positions.{kind_or_end};
-ghost use Rattle.cs_expr_parser.specs.LastTokens.{IsStopTold};
+ghost use Rattle.cs_expr_parser.specs.LastTokens.{IsStopReported};
 ghost use Rattle.cs_expr_parser.specs.Parts.{Answers};
 ghost use Rattle.cs_expr_parser.specs.Reasons.{reason_of, ends_in_type};
 ghost use Rattle.cs_expr_parser.specs.Expression.{level_asked, kind_at, reason_there, IsTaken, IsStopped, IsRefusal, IsRefusalFor, IsRefusalBy};
@@ -12,9 +12,9 @@ ghost use Rattle.cs_expr_parser.specs.Expression.{level_asked, kind_at, reason_t
 use crate::answer::{ExprLevel, Phrase};
 use crate::loose::{assign, choice, comma};
 use crate::stop::{Stop, Taken};
-use crate::tokens::reason_behind;
+use crate::tokens::reason_after;
 use cs_ast::{Place, Token};
-use cs_grammar::{Reason, SyntaxRefusal, TypedefNames, left_out_text};
+use cs_grammar::{Reason, SyntaxRefusal, TypedefNames, unsupported_text};
 use cs_names::Name;
 use std::alloc::Global;
 
@@ -28,15 +28,15 @@ pub fn expression(
     end: Place,
     from: usize,
     names: &TypedefNames,
-    room: u32,
+    limit: u32,
     level: ExprLevel,
 ) -> Result<Phrase, SyntaxRefusal>
     requires within { from ≤ length tokens.now }
     requires few { length tokens.now < 2 ^ 32 }
-    ensures taken { IfOk result (IsTaken names.now (level_asked level) room tokens.now from) }
-    ensures refused { IfErr result (IsRefusal names.now (level_asked level) room tokens.now end from) }
+    ensures taken { IfOk result (IsTaken names.now (level_asked level) limit tokens.now from) }
+    ensures refused { IfErr result (IsRefusal names.now (level_asked level) limit tokens.now end from) }
 {
-    match expression_at(alloc, tokens, names, from, room, level) {
+    match expression_at(alloc, tokens, names, from, limit, level) {
         Ok(phrase) => Ok(phrase),
         Err(Stop::Refused(at, reason)) => Err(refusal(alloc, tokens, end, at, reason)),
         Err(Stop::Memory) => Err(SyntaxRefusal::Memory),
@@ -49,15 +49,15 @@ pub fn expression_at(
     tokens: &[Token],
     names: &TypedefNames,
     from: usize,
-    room: u32,
+    limit: u32,
     level: ExprLevel,
 ) -> Result<Phrase, Stop>
     requires within { from ≤ length tokens.now }
     requires few { length tokens.now < 2 ^ 32 }
-    ensures taken { IfOk result (IsTaken names.now (level_asked level) room tokens.now from) }
-    ensures stopped { IfErr result (IsStopped names.now (level_asked level) room tokens.now from) }
+    ensures taken { IfOk result (IsTaken names.now (level_asked level) limit tokens.now from) }
+    ensures stopped { IfErr result (IsStopped names.now (level_asked level) limit tokens.now from) }
 {
-    let taken = part(alloc, tokens, names, from, room, level)?;
+    let taken = part(alloc, tokens, names, from, limit, level)?;
     Ok(phrase(tokens, taken))
 }
 
@@ -67,30 +67,30 @@ fn part(
     tokens: &[Token],
     names: &TypedefNames,
     from: usize,
-    room: u32,
+    limit: u32,
     level: ExprLevel,
 ) -> Result<Taken, Stop>
     requires within { from ≤ length tokens.now }
     requires few { length tokens.now < 2 ^ 32 }
-    ensures parsed { Answers names.now (level_asked level) room tokens.now from result }
-    ensures told { IsStopTold names.now tokens.now from result }
+    ensures parsed { Answers names.now (level_asked level) limit tokens.now from result }
+    ensures reported { IsStopReported names.now tokens.now from result }
     ensures placed { IsOkPlaced tokens.now from result }
 {
     match level {
-        ExprLevel::Expr => comma(alloc, tokens, names, from, room),
-        ExprLevel::Assign => assign(alloc, tokens, names, from, room),
-        ExprLevel::Cond => choice(alloc, tokens, names, from, room),
+        ExprLevel::Expr => comma(alloc, tokens, names, from, limit),
+        ExprLevel::Assign => assign(alloc, tokens, names, from, limit),
+        ExprLevel::Cond => choice(alloc, tokens, names, from, limit),
     }
 }
 
-/// The expression that was taken, with the reason for which the token behind it is refused where nothing else goes on with it.
+/// The expression that was taken, with the reason for which the token after it is refused where nothing else goes on with it.
 fn phrase(tokens: &[Token], taken: Taken) -> Phrase
     ensures tree { result.tree ≡ taken.tree }
     ensures height { result.height ≡ taken.height }
     ensures next { result.next ≡ taken.next }
     ensures otherwise { result.otherwise ≡ reason_of taken.deep (kind_or_end tokens.now taken.next) (ends_in_type (written taken.tree)) }
 {
-    let otherwise = reason_behind(tokens, &taken);
+    let otherwise = reason_after(tokens, &taken);
     Phrase {
         tree: taken.tree,
         height: taken.height,
@@ -121,8 +121,8 @@ fn refusal_of(alloc: Global, token: &Token, reason: Reason) -> SyntaxRefusal
     match reason {
         Reason::Syntax => SyntaxRefusal::Syntax(token.place),
         Reason::TooDeep => SyntaxRefusal::TooDeep(token.place),
-        Reason::LeftOut => match Name::from_slice(alloc, left_out_text(&token.kind)) {
-            Ok(word) => SyntaxRefusal::LeftOut(token.place, word),
+        Reason::Unsupported => match Name::from_slice(alloc, unsupported_text(&token.kind)) {
+            Ok(word) => SyntaxRefusal::Unsupported(token.place, word),
             Err(_) => SyntaxRefusal::Memory,
         },
     }

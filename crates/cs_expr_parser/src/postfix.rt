@@ -1,26 +1,26 @@
 //! Postfix expressions (C11 6.5.2).
 ghost use Rattle.std.specs.Prelude.{◌≡◌, ℕ, ◌≤◌, ◌<◌, ◌^◌, ◌+◌, ◌-◌, false, true, Some, length, max, IfOk, IsSome, drop, List, if◌then◌else◌};
 ghost use Rattle.cs_ast.specs.declared.token.Token.{Token as OneToken};
-ghost use Rattle.cs_grammar.specs.Places.{HasPlaces, StandsAt, behind};
-ghost use Rattle.cs_expr_parser.specs.Places.{IsOkPlaced, IsBuiltBehind, IsBuiltWith, IsBuiltWithRow};
-ghost use Rattle.cs_ast.specs.RawTree.{Index, Call, Member, Arrow, StepBehind};
+ghost use Rattle.cs_grammar.specs.Places.{HasPlaces, StandsAt, following};
+ghost use Rattle.cs_expr_parser.specs.Places.{IsOkPlaced, IsBuiltAfter, IsBuiltWith, IsBuiltWithRow};
+ghost use Rattle.cs_ast.specs.RawTree.{Index, Call, Member, Arrow, StepAfter};
 ghost use Rattle.cs_ast.specs.RawView.{written, written_list};
 ghost use Rattle.cs_grammar.specs.Levels.{POSTFIX};
 ghost use Rattle.cs_ast.specs.declared.token.TokenKind.TheVariants as token;
-ghost use Rattle.cs_expr_parser.specs.LastTokens.{IsStopTold};
+ghost use Rattle.cs_expr_parser.specs.LastTokens.{IsStopReported};
 ghost use Rattle.cs_expr_parser.specs.Parts.{IsBounded, IsNode, IsSelected, IsChainFrom, Answers, ChainAnswers};
 ghost use Rattle.cs_expr_parser.specs.Positions.{kind_or_end, IsSuffixAt};
 
 use crate::lists::{Listed, arguments};
 use crate::loose::comma;
-use crate::nodes::{arrow, call, index, member, step_behind};
+use crate::nodes::{arrow, call, index, member, step_after};
 use crate::primary::primary;
 use crate::stop::{Stop, Taken};
-use crate::tokens::{is_mark, mark_at, name_at, place_at, refuse, refuse_behind};
+use crate::tokens::{is_punctuator, name_at, place_at, punctuator_at, refuse, refuse_after};
 use cs_ast::raw::expression::RawExpr;
 use cs_ast::raw::name::RawName;
 use cs_ast::raw::operator::Step;
-use cs_ast::{Mark, Place, Token};
+use cs_ast::{Place, Punctuator, Token};
 use cs_grammar::TypedefNames;
 use std::alloc::{AllocError, Global};
 
@@ -31,26 +31,26 @@ pub fn postfix(
     tokens: &[Token],
     names: &TypedefNames,
     from: usize,
-    room: u32,
+    limit: u32,
 ) -> Result<Taken, Stop>
     requires within { from ≤ length tokens.now }
     requires few { length tokens.now < 2 ^ 32 }
-    ensures bounds { IsBounded room tokens.now from result }
-    ensures parsed { Answers names.now POSTFIX room tokens.now from result }
-    ensures told { IsStopTold names.now tokens.now from result }
+    ensures bounds { IsBounded limit tokens.now from result }
+    ensures parsed { Answers names.now POSTFIX limit tokens.now from result }
+    ensures reported { IsStopReported names.now tokens.now from result }
     ensures placed { IsOkPlaced tokens.now from result }
 {
-    let mut left = primary(alloc, tokens, names, from, room)?;
-    'chain: while let Some(mark) = suffix_at(tokens, left.next) {
-        if left.height >= room {
+    let mut left = primary(alloc, tokens, names, from, limit)?;
+    'chain: while let Some(punctuator) = suffix_at(tokens, left.next) {
+        if left.height >= limit {
             return Ok(deepened(left));
         }
-        left = suffixed(alloc, tokens, names, left, mark, room)?;
+        left = suffixed(alloc, tokens, names, left, punctuator, limit)?;
     }
     Ok(left)
 }
 
-/// The expression, of which it is told that a higher one goes on with the token behind it.
+/// The expression, of which it is told that a higher one goes on with the token after it.
 pub fn deepened(taken: Taken) -> Taken
     ensures node { IsNode (written taken.tree) taken.height taken.next true result }
     ensures same { result.tree ≡ taken.tree }
@@ -63,66 +63,66 @@ pub fn deepened(taken: Taken) -> Taken
     }
 }
 
-/// The mark at a number, if it stands behind an operand and belongs to it.
-fn suffix_at(tokens: &[Token], at: usize) -> Option<Mark>
+/// The punctuator at a number, if it stands after an operand and belongs to it.
+fn suffix_at(tokens: &[Token], at: usize) -> Option<Punctuator>
     ensures within { IsSome result → at < length tokens.now }
-    ensures mark { IsSuffixAt (kind_or_end tokens.now at) result }
+    ensures punctuator { IsSuffixAt (kind_or_end tokens.now at) result }
 {
-    match mark_at(tokens, at) {
-        Some(mark) => suffix_of(mark),
+    match punctuator_at(tokens, at) {
+        Some(punctuator) => suffix_of(punctuator),
         None => None,
     }
 }
 
-fn suffix_of(mark: Mark) -> Option<Mark>
-    ensures { IsSuffixAt (token.Mark mark) result }
+fn suffix_of(punctuator: Punctuator) -> Option<Punctuator>
+    ensures { IsSuffixAt (token.Punctuator punctuator) result }
 {
-    match mark {
-        Mark::OpenBracket => Some(mark),
-        Mark::OpenParenthesis => Some(mark),
-        Mark::Dot => Some(mark),
-        Mark::Arrow => Some(mark),
-        Mark::Increment => Some(mark),
-        Mark::Decrement => Some(mark),
+    match punctuator {
+        Punctuator::OpenBracket => Some(punctuator),
+        Punctuator::OpenParenthesis => Some(punctuator),
+        Punctuator::Dot => Some(punctuator),
+        Punctuator::Arrow => Some(punctuator),
+        Punctuator::Increment => Some(punctuator),
+        Punctuator::Decrement => Some(punctuator),
         _ => None,
     }
 }
 
-/// The operand with what begins with this mark behind it.
+/// The operand with what begins with this punctuator after it.
 #[cycle(expression)]
 fn suffixed(
     alloc: Global,
     tokens: &[Token],
     names: &TypedefNames,
     left: Taken,
-    mark: Mark,
-    room: u32,
+    punctuator: Punctuator,
+    limit: u32,
 ) -> Result<Taken, Stop>
     requires within { left.next < length tokens.now }
-    requires stands { IsSuffixAt (kind_or_end tokens.now left.next) (Some mark) }
-    requires low { left.height < room }
+    requires stands { IsSuffixAt (kind_or_end tokens.now left.next) (Some punctuator) }
+    requires low { left.height < limit }
     requires some { 1 ≤ left.height }
     requires few { length tokens.now < 2 ^ 32 }
-    ensures bounds { IsBounded room tokens.now left.next result }
-    ensures chained { (from : ℕ) → IsChainFrom names.now POSTFIX room tokens.now from left → ChainAnswers names.now POSTFIX room tokens.now from result }
-    ensures told { (from : ℕ) → IsChainFrom names.now POSTFIX room tokens.now from left → IsStopTold names.now tokens.now from result }
-    ensures placed { (from : ℕ) → IsChainFrom names.now POSTFIX room tokens.now from left → HasPlaces left.tree (drop from tokens.now) → IsOkPlaced tokens.now from result }
+    ensures bounds { IsBounded limit tokens.now left.next result }
+    ensures chained { (from : ℕ) → IsChainFrom names.now POSTFIX limit tokens.now from left → ChainAnswers names.now POSTFIX limit tokens.now from result }
+    ensures reported { (from : ℕ) → IsChainFrom names.now POSTFIX limit tokens.now from left → IsStopReported names.now tokens.now from result }
+    ensures placed { (from : ℕ) → IsChainFrom names.now POSTFIX limit tokens.now from left → HasPlaces left.tree (drop from tokens.now) → IsOkPlaced tokens.now from result }
 {
-    match mark {
-        Mark::OpenBracket => {
-            let number = comma(alloc, tokens, names, left.next + 1, room - 1)?;
-            if !is_mark(tokens, number.next, Mark::CloseBracket) {
-                return Err(refuse_behind(tokens, &number));
+    match punctuator {
+        Punctuator::OpenBracket => {
+            let number = comma(alloc, tokens, names, left.next + 1, limit - 1)?;
+            if !is_punctuator(tokens, number.next, Punctuator::CloseBracket) {
+                return Err(refuse_after(tokens, &number));
             }
             Ok(indexed(alloc, tokens, left, number)?)
         }
-        Mark::OpenParenthesis => {
-            let listed = arguments(alloc, tokens, names, left.next + 1, room - 2)?;
+        Punctuator::OpenParenthesis => {
+            let listed = arguments(alloc, tokens, names, left.next + 1, limit - 2)?;
             Ok(called(alloc, tokens, left, listed)?)
         }
-        Mark::Dot => selected(alloc, tokens, left, false),
-        Mark::Arrow => selected(alloc, tokens, left, true),
-        Mark::Increment => Ok(stepped(alloc, tokens, left, Step::Up)?),
+        Punctuator::Dot => selected(alloc, tokens, left, false),
+        Punctuator::Arrow => selected(alloc, tokens, left, true),
+        Punctuator::Increment => Ok(stepped(alloc, tokens, left, Step::Up)?),
         _ => Ok(stepped(alloc, tokens, left, Step::Down)?),
     }
 }
@@ -160,13 +160,13 @@ fn called(alloc: Global, tokens: &[Token], left: Taken, listed: Listed) -> Resul
     })
 }
 
-/// The operand with a dot or an arrow and the name of a member behind it.
+/// The operand with a dot or an arrow and the name of a member after it.
 fn selected(alloc: Global, tokens: &[Token], left: Taken, through: bool) -> Result<Taken, Stop>
     requires within { left.next < length tokens.now }
     requires low { left.height < 2 ^ 32 - 1 }
     requires few { left.next < 2 ^ 32 }
     ensures node { IsSelected through (written left.tree) left.height left.next tokens.now result }
-    ensures placed { IfOk result (IsBuiltBehind tokens.now left) }
+    ensures placed { IfOk result (IsBuiltAfter tokens.now left) }
 {
     let Some(name) = name_at(tokens, left.next + 1) else {
         return Err(refuse(tokens, left.next + 1, false));
@@ -193,7 +193,7 @@ fn selected_node(
     through: bool,
 ) -> Result<RawExpr, AllocError>
     ensures tree { IfOk result (λ tree. written tree ≡ (if through then Arrow (written object) name.name else Member (written object) name.name)) }
-    ensures placed { IfOk result (λ tree. (list : List OneToken) → HasPlaces object list → StandsAt place (behind object.kind list) → StandsAt name.place (drop 1 (behind object.kind list)) → HasPlaces tree list) }
+    ensures placed { IfOk result (λ tree. (list : List OneToken) → HasPlaces object list → StandsAt place (following object.kind list) → StandsAt name.place (drop 1 (following object.kind list)) → HasPlaces tree list) }
 {
     if through {
         arrow(alloc, place, object, name)
@@ -202,15 +202,15 @@ fn selected_node(
     }
 }
 
-/// The operand with a step behind it.
+/// The operand with a step after it.
 fn stepped(alloc: Global, tokens: &[Token], left: Taken, by: Step) -> Result<Taken, AllocError>
     requires within { left.next < length tokens.now }
     requires low { left.height < 2 ^ 32 - 1 }
     requires few { left.next < 2 ^ 32 }
-    ensures node { IfOk result (IsNode (StepBehind by (written left.tree)) (left.height + 1) (left.next + 1) false) }
-    ensures placed { IfOk result (IsBuiltBehind tokens.now left) }
+    ensures node { IfOk result (IsNode (StepAfter by (written left.tree)) (left.height + 1) (left.next + 1) false) }
+    ensures placed { IfOk result (IsBuiltAfter tokens.now left) }
 {
-    let tree = step_behind(alloc, place_at(tokens, left.next), by, left.tree)?;
+    let tree = step_after(alloc, place_at(tokens, left.next), by, left.tree)?;
     Ok(Taken {
         tree,
         height: left.height + 1,

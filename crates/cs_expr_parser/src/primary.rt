@@ -4,14 +4,14 @@ ghost use Rattle.cs_expr_parser.specs.Places.{IsOkPlaced, IsBuiltBefore};
 ghost use Rattle.cs_ast.specs.RawTree.{Enclosed};
 ghost use Rattle.cs_ast.specs.RawView.{written};
 ghost use Rattle.cs_grammar.specs.Levels.{PRIMARY};
-ghost use Rattle.cs_expr_parser.specs.LastTokens.{IsStopTold};
+ghost use Rattle.cs_expr_parser.specs.LastTokens.{IsStopReported};
 ghost use Rattle.cs_expr_parser.specs.Parts.{IsBounded, IsNode, Answers};
 
 use crate::loose::comma;
 use crate::nodes::{leaf_at, parenthesis};
 use crate::stop::{Stop, Taken};
-use crate::tokens::{is_mark, place_at, refuse, refuse_behind};
-use cs_ast::{Mark, Token};
+use crate::tokens::{is_punctuator, place_at, refuse, refuse_after};
+use cs_ast::{Punctuator, Token};
 use cs_grammar::TypedefNames;
 use std::alloc::{AllocError, Global};
 
@@ -22,29 +22,29 @@ pub fn primary(
     tokens: &[Token],
     names: &TypedefNames,
     from: usize,
-    room: u32,
+    limit: u32,
 ) -> Result<Taken, Stop>
     requires within { from ≤ length tokens.now }
     requires few { length tokens.now < 2 ^ 32 }
-    ensures bounds { IsBounded room tokens.now from result }
-    ensures parsed { Answers names.now PRIMARY room tokens.now from result }
-    ensures told { IsStopTold names.now tokens.now from result }
+    ensures bounds { IsBounded limit tokens.now from result }
+    ensures parsed { Answers names.now PRIMARY limit tokens.now from result }
+    ensures reported { IsStopReported names.now tokens.now from result }
     ensures placed { IsOkPlaced tokens.now from result }
 {
-    if is_mark(tokens, from, Mark::OpenParenthesis) {
-        if room < 2 {
+    if is_punctuator(tokens, from, Punctuator::OpenParenthesis) {
+        if limit < 2 {
             return Err(refuse(tokens, from, true));
         }
-        let inner = comma(alloc, tokens, names, from + 1, room - 1)?;
-        if !is_mark(tokens, inner.next, Mark::CloseParenthesis) {
-            return Err(refuse_behind(tokens, &inner));
+        let inner = comma(alloc, tokens, names, from + 1, limit - 1)?;
+        if !is_punctuator(tokens, inner.next, Punctuator::CloseParenthesis) {
+            return Err(refuse_after(tokens, &inner));
         }
         return Ok(enclosed(alloc, tokens, from, inner)?);
     }
     let Some(tree) = leaf_at(tokens, names, from)? else {
         return Err(refuse(tokens, from, false));
     };
-    if room == 0 {
+    if limit == 0 {
         return Err(refuse(tokens, from, true));
     }
     Ok(Taken {

@@ -12,9 +12,9 @@ pub struct Taken {
     pub tree: RawExpr,
     /// The height of the tree.
     pub height: u32,
-    /// The number of the token behind it.
+    /// The number of the token after it.
     pub next: usize,
-    /// Whether an expression of the same level that is too high goes on with the token behind it.
+    /// Whether an expression of the same level that is too high goes on with the token after it.
     pub deep: bool,
 }
 

@@ -6,41 +6,41 @@ ghost use Rattle.cs_grammar.specs.Places.{StandsAt};
 ghost use Rattle.cs_ast.specs.declared.token.TokenKind.TheVariants as token;
 ghost use Rattle.cs_ast.specs.RawView.{written};
 ghost use Rattle.cs_expr_parser.specs.Reasons.{plain_reason, reason_of, ends_in_type};
-ghost use Rattle.cs_expr_parser.specs.Positions.{kind_or_end, mark_of as mark_of_kind, keyword_of as keyword_of_kind, name_of as name_of_kind, is_left_out as left_out, is_brace as brace};
+ghost use Rattle.cs_expr_parser.specs.Positions.{kind_or_end, punctuator_of as punctuator_of_kind, keyword_of as keyword_of_kind, name_of as name_of_kind, is_unsupported as unsupported, is_brace as brace};
 
 use crate::ends::ends_with_type;
 use crate::stop::{Stop, Taken};
-use cs_ast::{Keyword, Mark, Place, Token, TokenKind};
+use cs_ast::{Keyword, Place, Punctuator, Token, TokenKind};
 use cs_grammar::{Reason, TypedefNames};
 use cs_names::Name;
 
-/// The mark that stands at a number, if one does.
+/// The punctuator that stands at a number, if one does.
 #[tactic(auto, using(std::proofs::lemmas::Option::slice_get_within))]
-pub fn mark_at(tokens: &[Token], at: usize) -> Option<Mark>
-    ensures mark { result ≡ mark_of_kind (kind_or_end tokens.now at) }
+pub fn punctuator_at(tokens: &[Token], at: usize) -> Option<Punctuator>
+    ensures punctuator { result ≡ punctuator_of_kind (kind_or_end tokens.now at) }
     ensures within { IsSome result → at < length tokens.now }
 {
     match tokens.get(at) {
-        Some(token) => mark_of(&token.kind),
+        Some(token) => punctuator_of(&token.kind),
         None => None,
     }
 }
 
-fn mark_of(kind: &TokenKind) -> Option<Mark>
-    ensures { result ≡ mark_of_kind kind.now }
+fn punctuator_of(kind: &TokenKind) -> Option<Punctuator>
+    ensures { result ≡ punctuator_of_kind kind.now }
 {
     match kind {
-        TokenKind::Mark(mark) => Some(*mark),
+        TokenKind::Punctuator(punctuator) => Some(*punctuator),
         _ => None,
     }
 }
 
-/// Whether this mark stands at a number.
-pub fn is_mark(tokens: &[Token], at: usize, mark: Mark) -> bool
-    ensures mark { IsTrue result ↔ (kind_or_end tokens.now at ≡ token.Mark mark) }
+/// Whether this punctuator stands at a number.
+pub fn is_punctuator(tokens: &[Token], at: usize, punctuator: Punctuator) -> bool
+    ensures punctuator { IsTrue result ↔ (kind_or_end tokens.now at ≡ token.Punctuator punctuator) }
     ensures within { IsTrue result → at < length tokens.now }
 {
-    mark_at(tokens, at) == Some(mark)
+    punctuator_at(tokens, at) == Some(punctuator)
 }
 
 /// The keyword that stands at a number, if one does.
@@ -117,21 +117,21 @@ fn is_type_keyword(keyword: Keyword) -> bool
 }
 
 /// Whether the token at a number is left out wherever it stands in an expression.
-fn is_left_out(tokens: &[Token], at: usize) -> bool
-    ensures { result ≡ left_out (kind_or_end tokens.now at) }
+fn is_unsupported(tokens: &[Token], at: usize) -> bool
+    ensures { result ≡ unsupported (kind_or_end tokens.now at) }
 {
     match tokens.get(at) {
-        Some(token) => is_left_out_kind(&token.kind),
+        Some(token) => is_unsupported_kind(&token.kind),
         None => false,
     }
 }
 
-fn is_left_out_kind(kind: &TokenKind) -> bool
-    ensures { result ≡ left_out kind.now }
+fn is_unsupported_kind(kind: &TokenKind) -> bool
+    ensures { result ≡ unsupported kind.now }
 {
     match kind {
-        TokenKind::LeftOut(_) => true,
-        TokenKind::Mark(Mark::Ellipsis) => true,
+        TokenKind::Unsupported(_) => true,
+        TokenKind::Punctuator(Punctuator::Ellipsis) => true,
         TokenKind::Keyword(Keyword::Static) => true,
         TokenKind::Keyword(Keyword::Typedef) => true,
         _ => false,
@@ -142,18 +142,18 @@ fn is_left_out_kind(kind: &TokenKind) -> bool
 pub fn is_brace(tokens: &[Token], at: usize) -> bool
     ensures { result ≡ brace (kind_or_end tokens.now at) }
 {
-    match mark_at(tokens, at) {
-        Some(Mark::OpenBrace) => true,
+    match punctuator_at(tokens, at) {
+        Some(Punctuator::OpenBrace) => true,
         _ => false,
     }
 }
 
-/// Why the token at a number is refused where no expression goes on with it, behind a type or a tag or not.
-pub fn reason_at(tokens: &[Token], at: usize, behind_type: bool) -> Reason
-    ensures { result ≡ plain_reason (kind_or_end tokens.now at) behind_type }
+/// Why the token at a number is refused where no expression goes on with it, after a type or a tag or not.
+pub fn reason_at(tokens: &[Token], at: usize, after_type: bool) -> Reason
+    ensures { result ≡ plain_reason (kind_or_end tokens.now at) after_type }
 {
-    if is_left_out(tokens, at) || behind_type && is_brace(tokens, at) {
-        Reason::LeftOut
+    if is_unsupported(tokens, at) || after_type && is_brace(tokens, at) {
+        Reason::Unsupported
     } else {
         Reason::Syntax
     }
@@ -170,15 +170,15 @@ pub fn refuse(tokens: &[Token], at: usize, deep: bool) -> Stop
     }
 }
 
-/// The refusal of the token at a number, behind a type between parentheses or a tag or not.
-pub fn refuse_in_type(tokens: &[Token], at: usize, behind_type: bool) -> Stop
-    ensures { result ≡ Stop.Refused at (plain_reason (kind_or_end tokens.now at) behind_type) }
+/// The refusal of the token at a number, after a type between parentheses or a tag or not.
+pub fn refuse_in_type(tokens: &[Token], at: usize, after_type: bool) -> Stop
+    ensures { result ≡ Stop.Refused at (plain_reason (kind_or_end tokens.now at) after_type) }
 {
-    Stop::Refused(at, reason_at(tokens, at, behind_type))
+    Stop::Refused(at, reason_at(tokens, at, after_type))
 }
 
-/// Why the token behind an expression is refused, if nothing else goes on with it.
-pub fn reason_behind(tokens: &[Token], taken: &Taken) -> Reason
+/// Why the token after an expression is refused, if nothing else goes on with it.
+pub fn reason_after(tokens: &[Token], taken: &Taken) -> Reason
     ensures { result ≡ reason_of taken.now.deep (kind_or_end tokens.now taken.now.next) (ends_in_type (written taken.now.tree)) }
 {
     if taken.deep {
@@ -190,11 +190,11 @@ pub fn reason_behind(tokens: &[Token], taken: &Taken) -> Reason
     reason_at(tokens, taken.next, false)
 }
 
-/// The refusal of the token behind an expression.
-pub fn refuse_behind(tokens: &[Token], taken: &Taken) -> Stop
+/// The refusal of the token after an expression.
+pub fn refuse_after(tokens: &[Token], taken: &Taken) -> Stop
     ensures { result ≡ Stop.Refused taken.now.next (reason_of taken.now.deep (kind_or_end tokens.now taken.now.next) (ends_in_type (written taken.now.tree))) }
 {
-    Stop::Refused(taken.next, reason_behind(tokens, taken))
+    Stop::Refused(taken.next, reason_after(tokens, taken))
 }
 
 /// The place of the token at a number.

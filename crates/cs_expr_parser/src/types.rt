@@ -5,17 +5,17 @@ ghost use Rattle.cs_ast.specs.declared.token.TokenKind.TheVariants as token;
 ghost use Rattle.cs_ast.specs.declared.token.Keyword.TheVariants as keyword;
 ghost use Rattle.cs_ast.specs.declared.raw.written_type.TypeWord.{TypeWord as WordOfType};
 ghost use Rattle.cs_grammar.specs.TypesSoFar.{Describes};
-ghost use Rattle.cs_expr_parser.specs.LastTokens.{IsStopTold};
+ghost use Rattle.cs_expr_parser.specs.LastTokens.{IsStopReported};
 ghost use Rattle.cs_expr_parser.specs.Parts.{IsTypeBounded, IsStopBounded, TypeAnswers};
 ghost use Rattle.cs_expr_parser.specs.Words.{IsNextBounded, IsJoiningBounded, IsIntegerAt, IsPointerAt, names_some, word_of_tag, has_tag as is_tagged, WordsAnswer, WordAnswer, JoiningAnswer, TagAnswer, PointersAnswer};
 ghost use Rattle.cs_expr_parser.specs.Positions.{kind_or_end};
 
 use crate::lists::{bounds, is_last_word};
 use crate::stop::Stop;
-use crate::tokens::{is_mark, keyword_at, name_at, place_at, refuse, refuse_in_type};
+use crate::tokens::{is_punctuator, keyword_at, name_at, place_at, refuse, refuse_in_type};
 use cs_ast::raw::expression::RawExpr;
 use cs_ast::raw::written_type::{PointerWord, TypeWord, WrittenType};
-use cs_ast::{Keyword, Mark, Place, Token};
+use cs_ast::{Keyword, Place, Punctuator, Token};
 use cs_grammar::{TypeSoFar, TypedefNames, integer_word};
 use cs_names::Name;
 use std::alloc::Global;
@@ -27,11 +27,11 @@ pub struct TakenType {
     pub bounds: Vec<RawExpr>,
     /// The height of the highest bound, 0 where there is none.
     pub height: u32,
-    /// The number of the token behind the closing parenthesis.
+    /// The number of the token after the closing parenthesis.
     pub next: usize,
 }
 
-/// The words of a type, and the number of the token behind them.
+/// The words of a type, and the number of the token after them.
 #[derive(Drop)]
 pub struct TypeWords {
     pub words: Vec<TypeWord>,
@@ -41,14 +41,14 @@ pub struct TypeWords {
     pub next: usize,
 }
 
-/// The words of pointers, and the number of the token behind them.
+/// The words of pointers, and the number of the token after them.
 #[derive(Drop)]
 pub struct PointerWords {
     pub words: Vec<PointerWord>,
     pub next: usize,
 }
 
-/// A word of a type, with the place of its tag, and the number of the token behind it.
+/// A word of a type, with the place of its tag, and the number of the token after it.
 #[derive(Drop)]
 pub struct NextWord {
     pub word: TypeWord,
@@ -63,27 +63,27 @@ pub struct JoiningWord {
     pub after: TypeSoFar,
 }
 
-/// The type from behind an opening parenthesis to behind the closing one.
+/// The type from after an opening parenthesis to after the closing one.
 #[cycle(expression)]
 pub fn parenthesised_type(
     alloc: Global,
     tokens: &[Token],
     names: &TypedefNames,
     from: usize,
-    room: u32,
+    limit: u32,
 ) -> Result<TakenType, Stop>
     requires within { from ≤ length tokens.now }
     requires few { length tokens.now < 2 ^ 32 }
-    requires least { 1 ≤ room }
-    ensures bounds { IsTypeBounded room tokens.now from result }
-    ensures parsed { TypeAnswers names.now room tokens.now from result }
-    ensures told { IsStopTold names.now tokens.now from result }
+    requires least { 1 ≤ limit }
+    ensures bounds { IsTypeBounded limit tokens.now from result }
+    ensures parsed { TypeAnswers names.now limit tokens.now from result }
+    ensures reported { IsStopReported names.now tokens.now from result }
     ensures placed { IsOkTypePlaced tokens.now from result }
 {
     let words = type_words(alloc, tokens, names, from)?;
     let pointers = pointer_words(alloc, tokens, words.next)?;
-    let behind_tag = is_last_word(words.tagged, &pointers.words);
-    let listed = bounds(alloc, tokens, names, pointers.next, room, behind_tag)?;
+    let after_tag = is_last_word(words.tagged, &pointers.words);
+    let listed = bounds(alloc, tokens, names, pointers.next, limit, after_tag)?;
     Ok(TakenType {
         ty: WrittenType {
             words: words.words,
@@ -108,7 +108,7 @@ fn type_words(
     ensures bounds { IfOk result (λ taken. (from ≤ taken.next) × (taken.next ≤ length tokens.now)) }
     ensures refused { IsStopBounded tokens.now from result }
     ensures words { WordsAnswer names.now tokens.now from result }
-    ensures told { IsStopTold names.now tokens.now from result }
+    ensures reported { IsStopReported names.now tokens.now from result }
     ensures placed { IfOk result (λ taken. IsTagPlaced taken.tag taken.words.items (drop from tokens.now)) }
 {
     let mut words = Vec::new(alloc);
@@ -210,7 +210,7 @@ fn untagged(word: TypeWord, at: usize) -> NextWord
     }
 }
 
-/// `struct` or `enum`, at a number, with the tag behind it.
+/// `struct` or `enum`, at a number, with the tag after it.
 fn tagged(
     tokens: &[Token],
     at: usize,
@@ -269,7 +269,7 @@ fn tag_word(tag: Name, is_struct: bool) -> TypeWord
     }
 }
 
-/// The stars and the `const`s behind them.
+/// The stars and the `const`s after them.
 fn pointer_words(alloc: Global, tokens: &[Token], from: usize) -> Result<PointerWords, Stop>
     requires within { from ≤ length tokens.now }
     requires few { length tokens.now < 2 ^ 32 }
@@ -291,7 +291,7 @@ fn pointer_word_at(tokens: &[Token], at: usize) -> Option<PointerWord>
     ensures within { IsSome result → at < length tokens.now }
     ensures word { IsPointerAt (kind_or_end tokens.now at) result }
 {
-    if is_mark(tokens, at, Mark::Star) {
+    if is_punctuator(tokens, at, Punctuator::Star) {
         return Some(PointerWord::Star);
     }
     match keyword_at(tokens, at) {

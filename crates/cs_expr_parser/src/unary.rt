@@ -8,8 +8,8 @@ ghost use Rattle.cs_ast.specs.RawView.{written, written_list};
 ghost use Rattle.cs_grammar.specs.Levels.{CAST, UNARY};
 ghost use Rattle.cs_expr_parser.specs.declared.unary.Before.TheVariants.{Size};
 ghost use Rattle.cs_ast.specs.declared.token.TokenKind.TheVariants as token;
-ghost use Rattle.cs_ast.specs.declared.token.Mark.TheVariants.{OpenParenthesis};
-ghost use Rattle.cs_expr_parser.specs.LastTokens.{IsStopTold};
+ghost use Rattle.cs_ast.specs.declared.token.Punctuator.TheVariants.{OpenParenthesis};
+ghost use Rattle.cs_expr_parser.specs.LastTokens.{IsStopReported};
 ghost use Rattle.cs_expr_parser.specs.Parts.{IsBounded, IsNode, Answers};
 ghost use Rattle.cs_expr_parser.specs.Unary.{opens_type as type_opens, before_text, prefixed_tree, IsOperatorAt};
 ghost use Rattle.cs_expr_parser.specs.Positions.{kind_or_end};
@@ -19,12 +19,13 @@ use crate::nodes::{cast as cast_node, prefix, size_of, size_of_type, step_before
 use crate::postfix::postfix;
 use crate::stop::{Stop, Taken};
 use crate::tokens::{
-    begins_type, is_brace, is_mark, keyword_at, mark_at, place_at, refuse, refuse_in_type,
+    begins_type, is_brace, is_punctuator, keyword_at, place_at, punctuator_at, refuse,
+    refuse_in_type,
 };
 use crate::types::{TakenType, parenthesised_type};
 use cs_ast::raw::expression::RawExpr;
 use cs_ast::raw::operator::{PrefixOp, Step};
-use cs_ast::{Keyword, Mark, Place, Token};
+use cs_ast::{Keyword, Place, Punctuator, Token};
 use cs_grammar::{TypedefNames, prefix_operator, step};
 use std::alloc::{AllocError, Global};
 
@@ -39,13 +40,13 @@ pub enum Before {
     Size,
 }
 
-/// Whether an opening parenthesis and a type behind it stand at a number.
+/// Whether an opening parenthesis and a type after it stand at a number.
 fn opens_type(tokens: &[Token], names: &TypedefNames, at: usize) -> bool
     requires few { at < 2 ^ 33 }
     ensures opens { result ≡ type_opens names.now (kind_or_end tokens.now at) (kind_or_end tokens.now (at + 1)) }
     ensures within { IsTrue result → at < length tokens.now }
 {
-    is_mark(tokens, at, Mark::OpenParenthesis) && begins_type(tokens, names, at + 1)
+    is_punctuator(tokens, at, Punctuator::OpenParenthesis) && begins_type(tokens, names, at + 1)
 }
 
 /// The cast, or the unary expression, that the tokens from a number on begin with.
@@ -55,26 +56,26 @@ pub fn cast(
     tokens: &[Token],
     names: &TypedefNames,
     from: usize,
-    room: u32,
+    limit: u32,
 ) -> Result<Taken, Stop>
     requires within { from ≤ length tokens.now }
     requires few { length tokens.now < 2 ^ 32 }
-    ensures bounds { IsBounded room tokens.now from result }
-    ensures parsed { Answers names.now CAST room tokens.now from result }
-    ensures told { IsStopTold names.now tokens.now from result }
+    ensures bounds { IsBounded limit tokens.now from result }
+    ensures parsed { Answers names.now CAST limit tokens.now from result }
+    ensures reported { IsStopReported names.now tokens.now from result }
     ensures placed { IsOkPlaced tokens.now from result }
 {
     if !opens_type(tokens, names, from) {
-        return unary(alloc, tokens, names, from, room);
+        return unary(alloc, tokens, names, from, limit);
     }
-    if room < 2 {
+    if limit < 2 {
         return Err(refuse(tokens, from, true));
     }
-    let taken = parenthesised_type(alloc, tokens, names, from + 1, room - 1)?;
+    let taken = parenthesised_type(alloc, tokens, names, from + 1, limit - 1)?;
     if is_brace(tokens, taken.next) {
         return Err(refuse_in_type(tokens, taken.next, true));
     }
-    let operand = cast(alloc, tokens, names, taken.next, room - 1)?;
+    let operand = cast(alloc, tokens, names, taken.next, limit - 1)?;
     Ok(converted(alloc, tokens, from, taken, operand)?)
 }
 
@@ -108,41 +109,41 @@ pub fn unary(
     tokens: &[Token],
     names: &TypedefNames,
     from: usize,
-    room: u32,
+    limit: u32,
 ) -> Result<Taken, Stop>
     requires within { from ≤ length tokens.now }
     requires few { length tokens.now < 2 ^ 32 }
-    ensures bounds { IsBounded room tokens.now from result }
-    ensures parsed { Answers names.now UNARY room tokens.now from result }
-    ensures told { IsStopTold names.now tokens.now from result }
+    ensures bounds { IsBounded limit tokens.now from result }
+    ensures parsed { Answers names.now UNARY limit tokens.now from result }
+    ensures reported { IsStopReported names.now tokens.now from result }
     ensures placed { IsOkPlaced tokens.now from result }
 {
     let Some(before) = operator_at(tokens, from) else {
-        return postfix(alloc, tokens, names, from, room);
+        return postfix(alloc, tokens, names, from, limit);
     };
-    if room < 2 {
+    if limit < 2 {
         return Err(refuse(tokens, from, true));
     }
     match before {
         Before::Step(_) => {
-            let operand = unary(alloc, tokens, names, from + 1, room - 1)?;
+            let operand = unary(alloc, tokens, names, from + 1, limit - 1)?;
             Ok(prefixed(alloc, tokens, from, before, operand)?)
         }
         Before::Operator(_) => {
-            let operand = cast(alloc, tokens, names, from + 1, room - 1)?;
+            let operand = cast(alloc, tokens, names, from + 1, limit - 1)?;
             Ok(prefixed(alloc, tokens, from, before, operand)?)
         }
-        Before::Size => sized(alloc, tokens, names, from, room),
+        Before::Size => sized(alloc, tokens, names, from, limit),
     }
 }
 
-/// What stands at a number, if an operand may stand behind it.
+/// What stands at a number, if an operand may stand after it.
 fn operator_at(tokens: &[Token], at: usize) -> Option<Before>
     ensures within { IsSome result → at < length tokens.now }
     ensures operator { IsOperatorAt (kind_or_end tokens.now at) result }
 {
-    if let Some(mark) = mark_at(tokens, at) {
-        return operator_of(mark);
+    if let Some(punctuator) = punctuator_at(tokens, at) {
+        return operator_of(punctuator);
     }
     match keyword_at(tokens, at) {
         Some(Keyword::Sizeof) => Some(Before::Size),
@@ -150,13 +151,13 @@ fn operator_at(tokens: &[Token], at: usize) -> Option<Before>
     }
 }
 
-fn operator_of(mark: Mark) -> Option<Before>
-    ensures { IsOperatorAt (token.Mark mark) result }
+fn operator_of(punctuator: Punctuator) -> Option<Before>
+    ensures { IsOperatorAt (token.Punctuator punctuator) result }
 {
-    if let Some(by) = step(mark) {
+    if let Some(by) = step(punctuator) {
         return Some(Before::Step(by));
     }
-    if let Some(operator) = prefix_operator(mark) {
+    if let Some(operator) = prefix_operator(punctuator) {
         return Some(Before::Operator(operator));
     }
     None
@@ -208,34 +209,34 @@ fn sized(
     tokens: &[Token],
     names: &TypedefNames,
     from: usize,
-    room: u32,
+    limit: u32,
 ) -> Result<Taken, Stop>
     requires within { from < length tokens.now }
-    requires least { 2 ≤ room }
+    requires least { 2 ≤ limit }
     requires few { length tokens.now < 2 ^ 32 }
     requires stands { kind_or_end tokens.now from ≡ before_text Size }
-    ensures bounds { IsBounded room tokens.now from result }
-    ensures parsed { Answers names.now UNARY room tokens.now from result }
-    ensures told { IsStopTold names.now tokens.now from result }
+    ensures bounds { IsBounded limit tokens.now from result }
+    ensures parsed { Answers names.now UNARY limit tokens.now from result }
+    ensures reported { IsStopReported names.now tokens.now from result }
     ensures placed { IsOkPlaced tokens.now from result }
 {
     if opens_type(tokens, names, from + 1) {
-        let taken = parenthesised_type(alloc, tokens, names, from + 2, room - 1)?;
+        let taken = parenthesised_type(alloc, tokens, names, from + 2, limit - 1)?;
         return Ok(measured(tokens, from, taken));
     }
-    // At a room of 2 the parenthesis may stand for that of a type alone, so that the token behind it is refused.
-    if is_narrow(tokens, from + 1, room) {
+    // At a room of 2 the parenthesis may stand for that of a type alone, so that the token after it is refused.
+    if is_narrow(tokens, from + 1, limit) {
         return comma(alloc, tokens, names, from + 2, 0);
     }
-    let operand = unary(alloc, tokens, names, from + 1, room - 1)?;
+    let operand = unary(alloc, tokens, names, from + 1, limit - 1)?;
     Ok(prefixed(alloc, tokens, from, Before::Size, operand)?)
 }
 
-/// Whether an opening parenthesis stands at a number, and there is room for a type alone behind it.
-fn is_narrow(tokens: &[Token], at: usize, room: u32) -> bool
-    ensures { IsTrue result ↔ ((room ≡ 2) × (kind_or_end tokens.now at ≡ token.Mark OpenParenthesis)) }
+/// Whether an opening parenthesis stands at a number, and there is room for a type alone after it.
+fn is_narrow(tokens: &[Token], at: usize, limit: u32) -> bool
+    ensures { IsTrue result ↔ ((limit ≡ 2) × (kind_or_end tokens.now at ≡ token.Punctuator OpenParenthesis)) }
 {
-    room == 2 && is_mark(tokens, at, Mark::OpenParenthesis)
+    limit == 2 && is_punctuator(tokens, at, Punctuator::OpenParenthesis)
 }
 
 /// The `sizeof`, at a number, of a type.

@@ -32,7 +32,7 @@ use Rattle.cs_ast.specs.RawStatementView.{first_of, sentence, item, switch_item,
 use Rattle.cs_ast.specs.RawView.{written, written_kind}
 use Rattle.cs_grammar.specs.Text.{Kinds, size, words_text, pointers_text}
 use Rattle.cs_grammar.specs.FileText.{declarator_text, specs_text, initial_text, declared_text, head_text, some_text, first_text, test_text, sentence_text, item_text, items_text, switch_item_text, external_text}
-use Rattle.cs_grammar.specs.Places.{StandsAt, behind, behind_words, behind_bounds, IsPlaced, ArePlaced, HasPlaces}
+use Rattle.cs_grammar.specs.Places.{StandsAt, following, after_words, after_bounds, IsPlaced, ArePlaced, HasPlaces}
 use Rattle.cs_decl_parser.specs.FilePlaces.{past, AreInRow, AreSideBySide, IsSomePlaced, IsInitialPlaced, AreInitialsPlaced, IsFirstValuePlaced, IsDeclaredPlaced, AreObjectsPlaced, IsDeclarationPlaced, IsFirstPlaced, ArePartsPlaced, IsItemPlaced, AreItemsPlaced, IsSwitchItemPlaced, AreSwitchItemsPlaced, IsBodyPlaced, IsExternalInside, IsExternalPlaced, AreFilePlaced}
 use Rattle.cs_well_formed.specs.WrittenPlaces.{WrittenAmong, RowAmong, ExpressionAmong, ValuesAmong, AllValuesAmong, FirstValueAmong, DeclaredAmong, FirstAmong, SentenceAmong, ItemAmong, ItemsAmong, SwitchItemAmong, SwitchItemsAmong, BodyAmong, ExternalKindAmong, ExternalAmong}
 
@@ -45,11 +45,11 @@ module _ (Is : Place → Type 0) where
   among at [] all h = absurd h
   among at (t ∷ ts) all h = subst Is (sym h) (All-head (λ (t : Token). Is t.place) t ts all.each)
 
-  -- tokens behind so many of them, behind an expression, behind a text
+  -- tokens after so many of them, after an expression, after a text
   later : {tokens : List Token} (n : ℕ) → TokensAmong Is tokens → TokensAmong Is (drop n tokens)
   later {tokens = tokens} n all = record { each = All-drop (λ (t : Token). Is t.place) n tokens all.each }
 
-  past_expression : {tokens : List Token} (e : RawExprKind) → TokensAmong Is tokens → TokensAmong Is (behind e tokens)
+  past_expression : {tokens : List Token} (e : RawExprKind) → TokensAmong Is tokens → TokensAmong Is (following e tokens)
   past_expression e all = later (size (written_kind e)) all
 
   past_text : {tokens : List Token} (spell : Kinds → Kinds) → TokensAmong Is tokens → TokensAmong Is (past spell tokens)
@@ -59,7 +59,7 @@ module _ (Is : Place → Type 0) where
   abbrev Carries : {A : Type 0} → (A → List Token → Type 0) → (A → Type 0) → Type 0
   Carries {A = A} Has P = (a : A) (tokens : List Token) → TokensAmong Is tokens → Has a tokens → P a
 
-  -- each of a list with a token behind it
+  -- each of a list with a token after it
   in_row : {A : Type 0} (Has : A → List Token → Type 0) (spell : A → Kinds → Kinds) (P : A → Type 0) → Carries Has P
       → (list : List A) (tokens : List Token) → TokensAmong Is tokens → AreInRow Has spell list tokens → AllByRecursion P list
   in_row Has spell P each [] tokens all h = tt
@@ -75,13 +75,13 @@ module _ (Is : Place → Type 0) where
 
   -- ---- expressions
 
-  -- tokens behind the words and pointers of a type, and behind its bounds
-  past_words : {tokens : List Token} (ty : WrittenType) → TokensAmong Is tokens → TokensAmong Is (behind_words ty tokens)
+  -- tokens after the words and pointers of a type, and after its bounds
+  past_words : {tokens : List Token} (ty : WrittenType) → TokensAmong Is tokens → TokensAmong Is (after_words ty tokens)
   past_words ty all = later (length (words_text ty.words.items (pointers_text ty.pointers.items []))) all
 
-  behind_all : {n : _} (row : Row_of-RawExpr n) (tokens : List Token) → TokensAmong Is tokens → TokensAmong Is (behind_bounds row tokens)
-  behind_all end_of-RawExpr tokens all = all
-  behind_all (more_of-RawExpr at first others) tokens all = behind_all others _ (later 1 (past_expression first (later 1 all)))
+  after_all : {n : _} (row : Row_of-RawExpr n) (tokens : List Token) → TokensAmong Is tokens → TokensAmong Is (after_bounds row tokens)
+  after_all end_of-RawExpr tokens all = all
+  after_all (more_of-RawExpr at first others) tokens all = after_all others _ (later 1 (past_expression first (later 1 all)))
 
   mutual
     written-among : (at : Place) (e : RawExprKind) (tokens : List Token) → TokensAmong Is tokens → IsPlaced at e tokens → WrittenAmong Is at e
@@ -96,13 +96,13 @@ module _ (Is : Place → Type 0) where
         (among at _ (past_expression function all) h.1, written-among place function tokens all h.0, row-among row _ (later 1 (past_expression function all)) h.2)
     written-among at (kind.Member' p place object name) tokens all h = (among at _ (past_expression object all) h.1, written-among place object tokens all h.0)
     written-among at (kind.Arrow' p place pointer name) tokens all h = (among at _ (past_expression pointer all) h.1, written-among place pointer tokens all h.0)
-    written-among at (kind.StepBehind' step p place object) tokens all h = (among at _ (past_expression object all) h.1, written-among place object tokens all h.0)
+    written-among at (kind.StepAfter' step p place object) tokens all h = (among at _ (past_expression object all) h.1, written-among place object tokens all h.0)
     written-among at (kind.StepBefore' step p place object) tokens all h = (among at tokens all h.0, written-among place object _ (later 1 all) h.1)
     written-among at (kind.Prefix' operator p place operand) tokens all h = (among at tokens all h.0, written-among place operand _ (later 1 all) h.1)
     written-among at (kind.SizeOf' p place operand) tokens all h = (among at tokens all h.0, written-among place operand _ (later 1 all) h.1)
     written-among at (kind.SizeOfType' ty shape row) tokens all h = among at tokens all h.0
     written-among at (kind.Cast' ty shape row p place operand) tokens all h =
-        (among at tokens all h.0, written-among place operand _ (later 1 (behind_all row (behind_words ty (drop 1 tokens)) (past_words ty (later 1 all)))) h.3)
+        (among at tokens all h.0, written-among place operand _ (later 1 (after_all row (after_words ty (drop 1 tokens)) (past_words ty (later 1 all)))) h.3)
     written-among at (kind.Infix' operator p place left q place' right) tokens all h =
         (among at _ (past_expression left all) h.1, written-among place left tokens all h.0, written-among place' right _ (later 1 (past_expression left all)) h.2)
     written-among at (kind.Choice' p place test q place' one r place'' other) tokens all h = (
@@ -184,13 +184,13 @@ module _ (Is : Place → Type 0) where
     sentence-among at (statement.Do' p place body test) tokens all h =
         (among at tokens all h.0, sentence-among place body _ (later 1 all) h.1.0, expression-among test _ (later 2 (past_text (sentence_text (sentence body)) (later 1 all))) h.1.1)
     sentence-among at (statement.For' first test last p place body) tokens all h =
-        let behind_first = past_text (first_text (first_of first)) (later 2 all) in
-        let behind_test = later 1 (past_text (some_text (option_map written test)) behind_first) in (
+        let following_first = past_text (first_text (first_of first)) (later 2 all) in
+        let following_test = later 1 (past_text (some_text (option_map written test)) following_first) in (
           among at tokens all h.0,
           first-among first _ (later 2 all) h.1.0,
-          some-among test _ behind_first h.1.1,
-          some-among last _ behind_test h.1.2,
-          sentence-among place body _ (later 1 (past_text (some_text (option_map written last)) behind_test)) h.1.3,
+          some-among test _ following_first h.1.1,
+          some-among last _ following_test h.1.2,
+          sentence-among place body _ (later 1 (past_text (some_text (option_map written last)) following_test)) h.1.3,
         )
     sentence-among at (statement.Switch' value shape row) tokens all h =
         (among at tokens all h.0, expression-among value _ (later 2 all) h.1.0, switch_items-among row _ (later 1 (past_test_text value (later 1 all))) h.1.1)

@@ -1,11 +1,11 @@
--- Where a label stands in a statement and in those behind it: for the contracts of the table of labels.
+-- Where a label stands in a statement and in those after it: for the contracts of the table of labels.
 use Rattle.std.proofs.Common.{◌≡◌, ℕ, ◌+◌, ◌==◌, Bool, true, false, List, [], ◌∷◌, Option, Some, None, Result, Ok, Err, OnOk, if◌then◌else◌, refl, sym, ap, ◌∙◌}
 use Rattle.cs_ast.specs.declared.place.Place.{Place}
 use Rattle.cs_ast.specs.declared.typed.statement.Case.{Case}
 use Rattle.cs_ast.specs.TypedTree.{Typed, Statement, Block, Declare, Run, If, IfElse, While, Do, For, Switch, Goto, Label, Break, Continue, Return, Statements, Empty, Then}
-use Rattle.cs_plain.specs.Jumps.{Landing, landing, landing_in, first_of_two, executes}
-use Rattle.cs_plain.specs.Machine.{Item, Again, Out}
-use Rattle.cs_plain.specs.Marks.{marks, marks_in}
+use Rattle.cs_meaning.specs.Jumps.{Landing, landing, landing_in, first_of_two, executes}
+use Rattle.cs_meaning.specs.Machine.{Item, Again, Out}
+use Rattle.cs_meaning.specs.Marks.{marks, marks_in}
 use Rattle.cs_cfg.specs.ControlPoints.{Next, at_label, landed}
 use Rattle.cs_flow.specs.LabelView.{label_in, label_in_list, one_label}
 
@@ -27,7 +27,7 @@ landed-here true one other a b at same = ap (λ (p : Place). landed (Some (recor
 landed-here false one other a b at same = same
 
 mutual
-  -- neither the marks nor what is to be done behind a statement says where a label stands
+  -- neither the marks nor what is to be done after a statement says where a label stands
   pub landed-anywhere : (wanted : ℕ) (s : Statement) (m n : ℕ) (a b : List Item) → landed (landing wanted s m a) ≡ landed (landing wanted s n b)
   landed-anywhere wanted (Block at statements) m n a b = landed_in-anywhere wanted statements m n a b
   landed-anywhere wanted (Declare at declaration initial) m n a b = refl

@@ -3,8 +3,8 @@ use Rattle.std.specs.Prelude.{ℕ, ◌==◌, nat_eq, [], Option, Some, None, if�
 use Rattle.std.specs.HashMap.{get}
 use Rattle.cs_ast.specs.declared.place.Place.{Place}
 use Rattle.cs_ast.specs.TypedTree.{Statement, Statements}
-use Rattle.cs_runs.specs.declared.point.PointKind.TheVariants as point
-use Rattle.cs_plain.specs.Jumps.{landing, landing_in}
+use Rattle.cs_events.specs.declared.point.PointKind.TheVariants as point
+use Rattle.cs_meaning.specs.Jumps.{landing, landing_in}
 use Rattle.cs_cfg.specs.ControlPoints.{Next, met, landed}
 use Rattle.cs_flow.specs.declared.labels.Labels.{Labels}
 

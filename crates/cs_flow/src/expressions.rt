@@ -1,7 +1,7 @@
 //! The control points of expressions (C11 6.5).
 ghost use Rattle.std.specs.Prelude.{◌≡◌, ◌++◌, ◌∷◌, IfOk, OnOk};
 ghost use Rattle.cs_ast.specs.TypedView.{typed, typed_list, some_typed};
-ghost use Rattle.cs_runs.specs.declared.point.PointKind.TheVariants as kinds;
+ghost use Rattle.cs_events.specs.declared.point.PointKind.TheVariants as kinds;
 ghost use Rattle.cs_cfg.specs.ControlPoints as cfg;
 ghost use Rattle.cs_flow.specs.PointView.{next_of, points_of};
 
@@ -10,19 +10,19 @@ use crate::points::Points;
 use cs_ast::Place;
 use cs_ast::typed::expression::{Expr, ExprKind};
 use cs_ast::typed::operator::Order;
-use cs_runs::PointKind;
+use cs_events::PointKind;
 use std::alloc::AllocError;
 
 impl Points {
-    /// Puts the control points of an expression before the others, which are met behind it, and gives what is met first.
+    /// Puts the control points of an expression before the others, which are met after it, and gives what is met first.
     #[cycle(expression)]
-    pub(crate) fn expression(&mut self, e: &Expr, behind: Next) -> Result<Next, AllocError>
-        ensures points { OnOk result (points_of self.new ≡ cfg.points (typed e.now) (next_of behind) ++ points_of self.old) }
-        ensures first { IfOk result (λ first. next_of first ≡ cfg.first (typed e.now) (next_of behind)) }
+    pub(crate) fn expression(&mut self, e: &Expr, following: Next) -> Result<Next, AllocError>
+        ensures points { OnOk result (points_of self.new ≡ cfg.points (typed e.now) (next_of following) ++ points_of self.old) }
+        ensures first { IfOk result (λ first. next_of first ≡ cfg.first (typed e.now) (next_of following)) }
     {
         match &e.kind {
-            ExprKind::Number(_) | ExprKind::Null | ExprKind::Text(_) => Ok(behind),
-            ExprKind::Local(_) | ExprKind::Global(_) => Ok(behind),
+            ExprKind::Number(_) | ExprKind::Null | ExprKind::Text(_) => Ok(following),
+            ExprKind::Local(_) | ExprKind::Global(_) => Ok(following),
             ExprKind::Through(a)
             | ExprKind::Member(a, _)
             | ExprKind::Arrow(a, _)
@@ -32,40 +32,40 @@ impl Points {
             | ExprKind::Convert(a)
             | ExprKind::Unary(_, a)
             | ExprKind::Not(a)
-            | ExprKind::Free(a) => self.expression(a, behind),
-            ExprKind::Index(a, b, Order::PointerFirst) => self.pair(a, b, behind),
-            ExprKind::Index(a, b, Order::AmountFirst) => self.pair(b, a, behind),
-            ExprKind::Sum(a, b, _, Order::PointerFirst) => self.pair(a, b, behind),
-            ExprKind::Sum(a, b, _, Order::AmountFirst) => self.pair(b, a, behind),
-            ExprKind::Binary(_, a, b) | ExprKind::Compare(_, a, b) => self.pair(a, b, behind),
-            ExprKind::Difference(a, b) | ExprKind::Comma(a, b) => self.pair(a, b, behind),
-            ExprKind::Assign(a, b) | ExprKind::Move(a, b, _, _) => self.pair(a, b, behind),
-            ExprKind::Update(_, a, b, _, _) => self.pair(a, b, behind),
+            | ExprKind::Free(a) => self.expression(a, following),
+            ExprKind::Index(a, b, Order::PointerFirst) => self.pair(a, b, following),
+            ExprKind::Index(a, b, Order::AmountFirst) => self.pair(b, a, following),
+            ExprKind::Sum(a, b, _, Order::PointerFirst) => self.pair(a, b, following),
+            ExprKind::Sum(a, b, _, Order::AmountFirst) => self.pair(b, a, following),
+            ExprKind::Binary(_, a, b) | ExprKind::Compare(_, a, b) => self.pair(a, b, following),
+            ExprKind::Difference(a, b) | ExprKind::Comma(a, b) => self.pair(a, b, following),
+            ExprKind::Assign(a, b) | ExprKind::Move(a, b, _, _) => self.pair(a, b, following),
+            ExprKind::Update(_, a, b, _, _) => self.pair(a, b, following),
             ExprKind::And(a, b) => {
-                let right = self.expression(b, behind)?;
-                self.test(e.place, a, right, behind)
+                let right = self.expression(b, following)?;
+                self.test(e.place, a, right, following)
             }
             ExprKind::Or(a, b) => {
-                let right = self.expression(b, behind)?;
-                self.test(e.place, a, behind, right)
+                let right = self.expression(b, following)?;
+                self.test(e.place, a, following, right)
             }
             ExprKind::Choice(a, b, c) => {
-                let other = self.expression(c, behind)?;
-                let one = self.expression(b, behind)?;
+                let other = self.expression(c, following)?;
+                let one = self.expression(b, following)?;
                 self.test(e.place, a, one, other)
             }
-            ExprKind::Call(_, arguments) => self.expressions(arguments, behind),
-            ExprKind::Allocate(_, arguments, _) => self.expressions(arguments, behind),
+            ExprKind::Call(_, arguments) => self.expressions(arguments, following),
+            ExprKind::Allocate(_, arguments, _) => self.expressions(arguments, following),
         }
     }
 
     /// The same of two expressions, of which the first is evaluated first.
     #[cycle(expression)]
-    fn pair(&mut self, a: &Expr, b: &Expr, behind: Next) -> Result<Next, AllocError>
-        ensures points { OnOk result (points_of self.new ≡ cfg.points (typed a.now) (cfg.first (typed b.now) (next_of behind)) ++ cfg.points (typed b.now) (next_of behind) ++ points_of self.old) }
-        ensures first { IfOk result (λ first. next_of first ≡ cfg.first (typed a.now) (cfg.first (typed b.now) (next_of behind))) }
+    fn pair(&mut self, a: &Expr, b: &Expr, following: Next) -> Result<Next, AllocError>
+        ensures points { OnOk result (points_of self.new ≡ cfg.points (typed a.now) (cfg.first (typed b.now) (next_of following)) ++ cfg.points (typed b.now) (next_of following) ++ points_of self.old) }
+        ensures first { IfOk result (λ first. next_of first ≡ cfg.first (typed a.now) (cfg.first (typed b.now) (next_of following))) }
     {
-        let second = self.expression(b, behind)?;
+        let second = self.expression(b, following)?;
         self.expression(a, second)
     }
 
@@ -87,11 +87,11 @@ impl Points {
 
     /// The same of expressions one after another.
     #[cycle(expression)]
-    fn expressions(&mut self, list: &[Expr], behind: Next) -> Result<Next, AllocError>
-        ensures points { OnOk result (points_of self.new ≡ cfg.points_in (typed_list list.now) (next_of behind) ++ points_of self.old) }
-        ensures first { IfOk result (λ first. next_of first ≡ cfg.first_in (typed_list list.now) (next_of behind)) }
+    fn expressions(&mut self, list: &[Expr], following: Next) -> Result<Next, AllocError>
+        ensures points { OnOk result (points_of self.new ≡ cfg.points_in (typed_list list.now) (next_of following) ++ points_of self.old) }
+        ensures first { IfOk result (λ first. next_of first ≡ cfg.first_in (typed_list list.now) (next_of following)) }
     {
-        let mut next = behind;
+        let mut next = following;
         for e in list.iter().rev() {
             next = self.expression(e, next)?;
         }
@@ -99,13 +99,13 @@ impl Points {
     }
 
     /// The same of an expression that may be left out.
-    pub(crate) fn optional(&mut self, e: &Option<Expr>, behind: Next) -> Result<Next, AllocError>
-        ensures points { OnOk result (points_of self.new ≡ cfg.points_some (some_typed e.now) (next_of behind) ++ points_of self.old) }
-        ensures first { IfOk result (λ first. next_of first ≡ cfg.first_some (some_typed e.now) (next_of behind)) }
+    pub(crate) fn optional(&mut self, e: &Option<Expr>, following: Next) -> Result<Next, AllocError>
+        ensures points { OnOk result (points_of self.new ≡ cfg.points_some (some_typed e.now) (next_of following) ++ points_of self.old) }
+        ensures first { IfOk result (λ first. next_of first ≡ cfg.first_some (some_typed e.now) (next_of following)) }
     {
         match e {
-            Some(e) => self.expression(e, behind),
-            None => Ok(behind),
+            Some(e) => self.expression(e, following),
+            None => Ok(following),
         }
     }
 }

@@ -10,7 +10,7 @@ use crate::points::Points;
 use crate::targets::Targets;
 use cs_ast::typed::program::Function;
 use cs_ast::typed::statement::Stmt;
-use cs_runs::PointKind;
+use cs_events::PointKind;
 use std::alloc::{AllocError, Global};
 
 /// The control points of a function with a body, in the order in which they stand in the file. Outside of loops and `switch`,

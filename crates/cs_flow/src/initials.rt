@@ -10,26 +10,26 @@ use cs_ast::typed::statement::Initial;
 use std::alloc::AllocError;
 
 impl Points {
-    /// Puts the control points of an initializer before the others, which are met behind it, and gives what is met first.
+    /// Puts the control points of an initializer before the others, which are met after it, and gives what is met first.
     #[cycle(initial)]
-    pub(crate) fn initial(&mut self, first: &Initial, behind: Next) -> Result<Next, AllocError>
-        ensures points { OnOk result (points_of self.new ≡ cfg.points_initial (initial first.now) (next_of behind) ++ points_of self.old) }
-        ensures first { IfOk result (λ first_met. next_of first_met ≡ cfg.first_initial (initial first.now) (next_of behind)) }
+    pub(crate) fn initial(&mut self, first: &Initial, following: Next) -> Result<Next, AllocError>
+        ensures points { OnOk result (points_of self.new ≡ cfg.points_initial (initial first.now) (next_of following) ++ points_of self.old) }
+        ensures first { IfOk result (λ first_met. next_of first_met ≡ cfg.first_initial (initial first.now) (next_of following)) }
     {
         match first {
-            Initial::Value(e) => self.expression(e, behind),
-            Initial::List(parts) => self.parts(parts, behind),
-            Initial::Text(_) => Ok(behind),
+            Initial::Value(e) => self.expression(e, following),
+            Initial::List(parts) => self.parts(parts, following),
+            Initial::Text(_) => Ok(following),
         }
     }
 
     /// The same of the initializers of parts, which are stored one after another.
     #[cycle(initial)]
-    fn parts(&mut self, list: &[Initial], behind: Next) -> Result<Next, AllocError>
-        ensures points { OnOk result (points_of self.new ≡ cfg.points_parts (initial_list list.now) (next_of behind) ++ points_of self.old) }
-        ensures first { IfOk result (λ first_met. next_of first_met ≡ cfg.first_parts (initial_list list.now) (next_of behind)) }
+    fn parts(&mut self, list: &[Initial], following: Next) -> Result<Next, AllocError>
+        ensures points { OnOk result (points_of self.new ≡ cfg.points_parts (initial_list list.now) (next_of following) ++ points_of self.old) }
+        ensures first { IfOk result (λ first_met. next_of first_met ≡ cfg.first_parts (initial_list list.now) (next_of following)) }
     {
-        let mut next = behind;
+        let mut next = following;
         for part in list.iter().rev() {
             next = self.initial(part, next)?;
         }

@@ -8,7 +8,7 @@ ghost use Rattle.cs_flow.specs.PointView.{next_of};
 use crate::point::{Next, meets};
 use cs_ast::Place;
 use cs_ast::typed::statement::{Stmt, StmtKind};
-use cs_runs::PointKind;
+use cs_events::PointKind;
 use std::alloc::{AllocError, Global};
 use std::collections::HashMap;
 

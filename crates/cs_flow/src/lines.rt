@@ -6,9 +6,9 @@ ghost use Rattle.cs_flow.specs.PointView.{exit_of, from_of, next_of, point_of, p
 
 use crate::point::{ControlPoint, Exit, Met, Way};
 use crate::points::Points;
+use cs_events::PointKind;
 use cs_names::Name;
 use cs_report::{append, append_place};
-use cs_runs::PointKind;
 use std::alloc::AllocError;
 
 /// Appends the lines of control points, in their order.

@@ -12,11 +12,11 @@ use crate::targets::Targets;
 use cs_ast::Place;
 use cs_ast::typed::expression::Expr;
 use cs_ast::typed::statement::Stmt;
-use cs_runs::PointKind;
+use cs_events::PointKind;
 use std::alloc::AllocError;
 
 impl Points {
-    /// Puts the control points of a `while` before the others, which are met behind it, and gives what is met first (C11 6.8.5.1).
+    /// Puts the control points of a `while` before the others, which are met after it, and gives what is met first (C11 6.8.5.1).
     #[cycle(statement)]
     pub(crate) fn while_loop(
         &mut self,
@@ -24,14 +24,14 @@ impl Points {
         test: &Expr,
         body: &Stmt,
         to: Targets<'_>,
-        behind: Next,
+        following: Next,
     ) -> Result<Next, AllocError>
-        ensures points { OnOk result (points_of self.new ≡ cfg.flows (targets_of to.entry) (While place (typed test.now) (statement body.now)) (next_of behind) ++ points_of self.old) }
-        ensures first { IfOk result (λ first. next_of first ≡ cfg.starts (targets_of to.entry) (While place (typed test.now) (statement body.now)) (next_of behind)) }
+        ensures points { OnOk result (points_of self.new ≡ cfg.flows (targets_of to.entry) (While place (typed test.now) (statement body.now)) (next_of following) ++ points_of self.old) }
+        ensures first { IfOk result (λ first. next_of first ≡ cfg.starts (targets_of to.entry) (While place (typed test.now) (statement body.now)) (next_of following)) }
     {
         let head = meets(PointKind::Head, place);
-        let one = self.statement(body, to.in_loop(behind, head), head)?;
-        let first = self.decision(place, test, one, behind)?;
+        let one = self.statement(body, to.in_loop(following, head), head)?;
+        let first = self.decision(place, test, one, following)?;
         self.put_passed(PointKind::Head, place, first)?;
         Ok(head)
     }
@@ -44,20 +44,20 @@ impl Points {
         body: &Stmt,
         test: &Expr,
         to: Targets<'_>,
-        behind: Next,
+        following: Next,
     ) -> Result<Next, AllocError>
-        ensures points { OnOk result (points_of self.new ≡ cfg.flows (targets_of to.entry) (Do place (statement body.now) (typed test.now)) (next_of behind) ++ points_of self.old) }
-        ensures first { IfOk result (λ first. next_of first ≡ cfg.starts (targets_of to.entry) (Do place (statement body.now) (typed test.now)) (next_of behind)) }
+        ensures points { OnOk result (points_of self.new ≡ cfg.flows (targets_of to.entry) (Do place (statement body.now) (typed test.now)) (next_of following) ++ points_of self.old) }
+        ensures first { IfOk result (λ first. next_of first ≡ cfg.starts (targets_of to.entry) (Do place (statement body.now) (typed test.now)) (next_of following)) }
     {
         let head = meets(PointKind::Head, place);
         let again = self.expression(test, meets(PointKind::Branch, place))?;
-        let first = self.statement(body, to.in_loop(behind, again), again)?;
-        self.put_tested(place, head, behind)?;
+        let first = self.statement(body, to.in_loop(following, again), again)?;
+        self.put_tested(place, head, following)?;
         self.put_passed(PointKind::Head, place, first)?;
         Ok(head)
     }
 
-    /// The same of a `for` (C11 6.8.5.3), behind which a `break` in its first part leads too. Its body stands behind its last part, and is
+    /// The same of a `for` (C11 6.8.5.3), after which a `break` in its first part leads too. Its body stands after its last part, and is
     /// met before it.
     #[cycle(statement)]
     pub(crate) fn for_loop(
@@ -68,26 +68,26 @@ impl Points {
         last: &Option<Expr>,
         body: &Stmt,
         to: Targets<'_>,
-        behind: Next,
+        following: Next,
     ) -> Result<Next, AllocError>
-        ensures points { OnOk result (points_of self.new ≡ cfg.flows (targets_of to.entry) (For place (statement_list first.now) (some_typed test.now) (some_typed last.now) (statement body.now)) (next_of behind) ++ points_of self.old) }
-        ensures first { IfOk result (λ first_met. next_of first_met ≡ cfg.starts (targets_of to.entry) (For place (statement_list first.now) (some_typed test.now) (some_typed last.now) (statement body.now)) (next_of behind)) }
+        ensures points { OnOk result (points_of self.new ≡ cfg.flows (targets_of to.entry) (For place (statement_list first.now) (some_typed test.now) (some_typed last.now) (statement body.now)) (next_of following) ++ points_of self.old) }
+        ensures first { IfOk result (λ first_met. next_of first_met ≡ cfg.starts (targets_of to.entry) (For place (statement_list first.now) (some_typed test.now) (some_typed last.now) (statement body.now)) (next_of following)) }
     {
         let head = meets(PointKind::Head, place);
         let mut last_points = Points::new(*self.list.allocator());
         let again = last_points.optional(last, head)?;
-        let one = self.statement(body, to.in_loop(behind, again), again)?;
+        let one = self.statement(body, to.in_loop(following, again), again)?;
         self.put_all(last_points)?;
         let next = self.for_test(place, test, one)?;
-        let start = self.statements(first, to.in_switch(behind), head)?;
+        let start = self.statements(first, to.in_switch(following), head)?;
         if test.is_some() {
-            self.put_tested(place, one, behind)?;
+            self.put_tested(place, one, following)?;
         }
         self.put_passed(PointKind::Head, place, next)?;
         Ok(start)
     }
 
-    /// Puts the control points in the test of a `for`, if there is one, and gives what is met behind the head: what the body begins
+    /// Puts the control points in the test of a `for`, if there is one, and gives what is met after the head: what the body begins
     /// with where there is no test.
     fn for_test(
         &mut self,

@@ -4,7 +4,7 @@ ghost use Rattle.cs_cfg.specs.ControlPoints as cfg;
 ghost use Rattle.cs_flow.specs.PointView.{next_of};
 
 use cs_ast::Place;
-use cs_runs::PointKind;
+use cs_events::PointKind;
 
 /// A control point that a run meets.
 #[derive(Clone, Copy, Debug, PartialEq, Eq)]
@@ -13,7 +13,7 @@ pub struct Met {
     pub place: Place,
 }
 
-/// What is met next: nothing where the frame is left without a control point, as behind a `break` that stands in no loop.
+/// What is met next: nothing where the frame is left without a control point, as after a `break` that stands in no loop.
 pub type Next = Option<Met>;
 
 /// A control point of a kind at a place, which is met next.

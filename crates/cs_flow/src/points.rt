@@ -1,17 +1,17 @@
 //! The control points of a function, which are found from its end.
 ghost use Rattle.std.specs.Prelude.{◌≡◌, ◌∷◌, ◌++◌, List, [], OnOk, map, true, false};
-ghost use Rattle.cs_runs.specs.declared.point.PointKind.TheVariants as kinds;
+ghost use Rattle.cs_events.specs.declared.point.PointKind.TheVariants as kinds;
 ghost use Rattle.cs_cfg.specs.ControlPoints as cfg;
 ghost use Rattle.cs_flow.specs.PointView.{next_of, point_of, points_of};
 
 use crate::point::{ControlPoint, Exit, Next, Way};
 use cs_ast::Place;
-use cs_runs::PointKind;
+use cs_events::PointKind;
 use std::alloc::{AllocError, Global};
 use std::collections::VecDeque;
 
 /// Control points in the order in which they stand in the file. What comes before them is put before them, so that all that is met
-/// behind a part of a function is known where its points are made.
+/// after a part of a function is known where its points are made.
 #[derive(Drop)]
 pub(crate) struct Points {
     pub(crate) list: VecDeque<ControlPoint>,
@@ -83,7 +83,7 @@ impl Points {
         self.put(ControlPoint { kind, place, ways })
     }
 
-    /// Puts a control point before the others, behind which nothing of the function is met.
+    /// Puts a control point before the others, after which nothing of the function is met.
     pub(crate) fn put_last(&mut self, kind: PointKind, place: Place) -> Result<(), AllocError>
         ensures { OnOk result (points_of self.new ≡ cfg.last_point kind place ∷ points_of self.old) }
     {

@@ -2,7 +2,7 @@
 ghost use Rattle.std.specs.Prelude.{◌≡◌, ◌++◌, map, IfOk, OnOk};
 ghost use Rattle.cs_ast.specs.TypedTree.{Switch};
 ghost use Rattle.cs_ast.specs.TypedView.{typed, statement, statement_list};
-ghost use Rattle.cs_plain.specs.Statements as plain;
+ghost use Rattle.cs_meaning.specs.Statements as meaning;
 ghost use Rattle.cs_cfg.specs.ControlPoints as cfg;
 ghost use Rattle.cs_flow.specs.PointView.{next_of, way_of, points_of};
 ghost use Rattle.cs_flow.specs.SwitchView.{all_starts, start_at, ways_of_cases};
@@ -14,12 +14,12 @@ use crate::targets::Targets;
 use cs_ast::Place;
 use cs_ast::typed::expression::Expr;
 use cs_ast::typed::statement::{Case, Stmt};
-use cs_runs::PointKind;
+use cs_events::PointKind;
 use std::alloc::{AllocError, Global};
 use std::collections::VecDeque;
 
 impl Points {
-    /// Puts the control points of a `switch` before the others, which are met behind it, and gives what is met first.
+    /// Puts the control points of a `switch` before the others, which are met after it, and gives what is met first.
     #[cycle(statement)]
     pub(crate) fn switch(
         &mut self,
@@ -28,15 +28,15 @@ impl Points {
         cases: &[Case],
         value: &Expr,
         to: Targets<'_>,
-        behind: Next,
+        following: Next,
     ) -> Result<Next, AllocError>
-        ensures points { OnOk result (points_of self.new ≡ cfg.flows (targets_of to.entry) (Switch place (typed value.now) cases.now (statement_list list.now)) (next_of behind) ++ points_of self.old) }
-        ensures first { IfOk result (λ first. next_of first ≡ cfg.starts (targets_of to.entry) (Switch place (typed value.now) cases.now (statement_list list.now)) (next_of behind)) }
+        ensures points { OnOk result (points_of self.new ≡ cfg.flows (targets_of to.entry) (Switch place (typed value.now) cases.now (statement_list list.now)) (next_of following) ++ points_of self.old) }
+        ensures first { IfOk result (λ first. next_of first ≡ cfg.starts (targets_of to.entry) (Switch place (typed value.now) cases.now (statement_list list.now)) (next_of following)) }
     {
         let kind = PointKind::Switch;
-        let starts = self.each_statement(list, to.in_switch(behind), behind)?;
+        let starts = self.each_statement(list, to.in_switch(following), following)?;
         let first = self.expression(value, meets(kind, place))?;
-        let ways = case_ways(*self.list.allocator(), cases, &starts, behind)?;
+        let ways = case_ways(*self.list.allocator(), cases, &starts, following)?;
         self.put(ControlPoint { kind, place, ways })?;
         Ok(first)
     }
@@ -47,13 +47,13 @@ impl Points {
         &mut self,
         list: &[Stmt],
         to: Targets<'_>,
-        behind: Next,
+        following: Next,
     ) -> Result<VecDeque<Next>, AllocError>
-        ensures points { OnOk result (points_of self.new ≡ cfg.flows_in (targets_of to.entry) (statement_list list.now) (next_of behind) ++ points_of self.old) }
-        ensures starts { IfOk result (λ starts. map next_of starts.items ≡ all_starts (targets_of to.entry) (statement_list list.now) (next_of behind)) }
+        ensures points { OnOk result (points_of self.new ≡ cfg.flows_in (targets_of to.entry) (statement_list list.now) (next_of following) ++ points_of self.old) }
+        ensures starts { IfOk result (λ starts. map next_of starts.items ≡ all_starts (targets_of to.entry) (statement_list list.now) (next_of following)) }
     {
         let mut starts = VecDeque::new(*self.list.allocator());
-        let mut next = behind;
+        let mut next = following;
         for s in list.iter().rev() {
             next = self.statement(s, to, next)?;
             starts.push_front(next)?;
@@ -67,34 +67,34 @@ fn case_ways(
     alloc: Global,
     cases: &[Case],
     starts: &VecDeque<Next>,
-    behind: Next,
+    following: Next,
 ) -> Result<Vec<Way>, AllocError>
-    ensures { IfOk result (λ ways. map way_of ways.items ≡ ways_of_cases (map next_of starts.now.items) (next_of behind) cases.now 0) }
+    ensures { IfOk result (λ ways. map way_of ways.items ≡ ways_of_cases (map next_of starts.now.items) (next_of following) cases.now 0) }
 {
     let mut ways = Vec::new(alloc);
     for case in cases {
         if case.value.is_some() {
             let exit = Exit::Case(ways.len());
-            let next = start_at(starts, case.item as usize, behind);
+            let next = start_at(starts, case.item as usize, following);
             ways.push(Way { exit, next })?;
         }
     }
     let exit = Exit::Case(ways.len());
-    let next = start_at(starts, default_item(cases, starts.len()), behind);
+    let next = start_at(starts, default_item(cases, starts.len()), following);
     ways.push(Way { exit, next })?;
     Ok(ways)
 }
 
-/// What is met first from the statement with a number on: what is met behind them all where there is no such statement.
-fn start_at(starts: &VecDeque<Next>, item: usize, behind: Next) -> Next
-    ensures { next_of result ≡ start_at (map next_of starts.now.items) (next_of behind) item }
+/// What is met first from the statement with a number on: what is met after them all where there is no such statement.
+fn start_at(starts: &VecDeque<Next>, item: usize, following: Next) -> Next
+    ensures { next_of result ≡ start_at (map next_of starts.now.items) (next_of following) item }
 {
-    starts.get(item).copied().unwrap_or(behind)
+    starts.get(item).copied().unwrap_or(following)
 }
 
 /// The number of the statement that `default` leads to, or another number where there is no `default`.
 fn default_item(cases: &[Case], otherwise: usize) -> usize
-    ensures { result ≡ plain.default_item cases.now otherwise }
+    ensures { result ≡ meaning.default_item cases.now otherwise }
 {
     for case in cases {
         if case.value.is_none() {

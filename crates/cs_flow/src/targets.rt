@@ -10,7 +10,7 @@ use crate::point::Next;
 /// Where jumps lead.
 #[derive(Clone, Copy)]
 pub(crate) struct Targets<'a> {
-    /// What is met behind the nearest loop or `switch`.
+    /// What is met after the nearest loop or `switch`.
     pub(crate) out: Next,
     /// What `continue` leads to.
     pub(crate) again: Next,
@@ -18,7 +18,7 @@ pub(crate) struct Targets<'a> {
 }
 
 impl<'a> Targets<'a> {
-    /// The targets inside a loop: what is met behind it, and what `continue` leads to.
+    /// The targets inside a loop: what is met after it, and what `continue` leads to.
     pub(crate) fn in_loop(self, out: Next, again: Next) -> Targets<'a>
         ensures { targets_of result ≡ cfg.in_loop (targets_of self.entry) (next_of out) (next_of again) }
     {
@@ -26,7 +26,7 @@ impl<'a> Targets<'a> {
         Targets { out, again, labels }
     }
 
-    /// The targets inside a `switch`: what is met behind it.
+    /// The targets inside a `switch`: what is met after it.
     pub(crate) fn in_switch(self, out: Next) -> Targets<'a>
         ensures { targets_of result ≡ cfg.in_switch (targets_of self.entry) (next_of out) }
     {

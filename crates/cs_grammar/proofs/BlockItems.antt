@@ -5,7 +5,7 @@ use Rattle.cs_ast.specs.declared.token.TokenKind.{TokenKind}
 use Rattle.cs_ast.specs.declared.token.TokenKind.TheVariants as token
 use Rattle.cs_ast.specs.declared.token.Keyword.{Keyword}
 use Rattle.cs_ast.specs.declared.token.Keyword.TheVariants as keyword
-use Rattle.cs_ast.specs.declared.token.Mark.TheVariants as mark
+use Rattle.cs_ast.specs.declared.token.Punctuator.TheVariants as punctuator
 use Rattle.cs_ast.specs.declared.raw.written_type.TypeWord.{TypeWord}
 use Rattle.cs_ast.specs.declared.raw.written_type.TypeWord.TheVariants as word_of
 use Rattle.cs_ast.specs.declared.raw.written_type.IntegerWord.TheVariants.{Char, Short, Int, Long, Signed, Unsigned}
@@ -20,7 +20,7 @@ use Rattle.cs_grammar.specs.Text.{Kinds, text, words_text, type_word_text, point
 use Rattle.cs_grammar.specs.Phrases.{IsPhrase}
 use Rattle.cs_grammar.specs.FirstTokens.{begins_type, keyword_begins_type}
 use Rattle.cs_grammar.specs.FileFirstTokens.{begins_sentence, keyword_begins_sentence, begins_item, is_case, begins_switch_part}
-use Rattle.cs_grammar.specs.FileText.{brackets_text, first_value_text, declared_text, each_behind_comma, with_commas, specs_text, declaration_text, sentence_text, item_text, items_text, switch_item_text, switch_text}
+use Rattle.cs_grammar.specs.FileText.{brackets_text, first_value_text, declared_text, each_after_comma, with_commas, specs_text, declaration_text, sentence_text, item_text, items_text, switch_item_text, switch_text}
 use Rattle.cs_grammar.specs.FilePhrases.{AreAll, IsSomeList, IsDeclared, AreBlockSpecs, IsSentence, IsItem, AreItems, IsSwitchItem, AreSwitchItems}
 use Rattle.cs_grammar.specs.DeclarationClasses.{Follows, ends_specs, Objects, BlockSpecs}
 use Rattle.cs_grammar.specs.FileClasses.{HasNoElse, Sentences, BlockItems, BlockRows, SwitchParts, SwitchRows}
@@ -41,7 +41,7 @@ use Rattle.cs_grammar.proofs.DeclaredObjects.{objects_law, objects_least}
 
 -- a declarator begins with a star or a name
 pub data Starts : Kinds → Type 0 where
-  with_star : {tokens : Kinds} (more : Kinds) → tokens ≡ token.Mark mark.Star ∷ more → Starts tokens
+  with_star : {tokens : Kinds} (more : Kinds) → tokens ≡ token.Punctuator punctuator.Star ∷ more → Starts tokens
   with_name : {tokens : Kinds} (name : List ℕ) (more : Kinds) → tokens ≡ token.Name name ∷ more → Starts tokens
 
 pub pointers_start : (ps : List PointerWord) (n : List ℕ) (rest : Kinds) → IsTrue (is_pointer ps) → Starts (pointers_text ps (token.Name n ∷ rest))
@@ -53,7 +53,7 @@ pub objects_start : (names : Names) (list : List Declared) (rest : Kinds) → Is
 objects_start names [] rest some are = absurd some
 objects_start names (d ∷ ds) rest some are =
     let i = are.0 in
-    pointers_start d.declarator.pointers d.declarator.name (brackets_text d.declarator.bounds (first_value_text d.initial (each_behind_comma declared_text ds rest))) i.declarator.pointers
+    pointers_start d.declarator.pointers d.declarator.name (brackets_text d.declarator.bounds (first_value_text d.initial (each_after_comma declared_text ds rest))) i.declarator.pointers
 
 pub starts_end_specs : (tokens : Kinds) → Starts tokens → Follows ends_specs tokens
 starts_end_specs tokens (with_star more e) = subst (Follows ends_specs) (sym e) refl
@@ -63,7 +63,7 @@ pub starts_no_colon : (tokens more : Kinds) → Starts tokens → tokens ≡ col
 starts_no_colon tokens more (with_star m e) same = let z = sym e ∙ same in cc
 starts_no_colon tokens more (with_name n m e) same = let z = sym e ∙ same in cc
 
--- objects may stand behind what stands before declarators
+-- objects may stand after what stands before declarators
 pub block_joins : (names : Names) → Joins (BlockSpecs names) (Separated (Objects names) semicolon)
 block_joins names = λ c d after is are shut. starts_end_specs (with_commas declared_text d (semicolon ∷ after)) (objects_start names d (semicolon ∷ after) are.0 are.1)
 
@@ -125,8 +125,8 @@ both_begin names (token.Keyword k) e t = absurd (keyword_both k e t)
 both_begin names (token.Number c) e t = absurd cc
 both_begin names (token.Character v) e t = absurd cc
 both_begin names (token.Text b) e t = absurd cc
-both_begin names (token.Mark m) e t = absurd cc
-both_begin names (token.LeftOut w) e t = absurd cc
+both_begin names (token.Punctuator m) e t = absurd cc
+both_begin names (token.Unsupported w) e t = absurd cc
 both_begin names token.Attribute e t = absurd cc
 
 -- a statement that begins with a typedef name is labelled
@@ -137,27 +137,27 @@ name_sentence names (Runs e) after n more is among same =
     absurd (both_ways (is_among names n) (not-true (is_among names n) f) among)
 name_sentence names _ after n more is among same = absurd cc
 
-no_statement : (names : Names) (s : Sentence) (after behind : Kinds) → IsSentence names s → IsDeclaration names behind → sentence_text s after ≡ behind → ⊥
-no_statement names s after behind is d same =
+no_statement : (names : Names) (s : Sentence) (after following : Kinds) → IsSentence names s → IsDeclaration names following → sentence_text s after ≡ following → ⊥
+no_statement names s after following is d same =
     let b = sentence_begins names s after is in
-    let t : behind ≡ b.first ∷ b.others = sym same ∙ b.are in
+    let t : following ≡ b.first ∷ b.others = sym same ∙ b.are in
     let n = both_begin names b.first b.passes (d.typed b.first b.others t) in
-    let u : behind ≡ token.Name n.0 ∷ b.others = t ∙ ap (λ (x : TokenKind). x ∷ b.others) n.1 in
+    let u : following ≡ token.Name n.0 ∷ b.others = t ∙ ap (λ (x : TokenKind). x ∷ b.others) n.1 in
     let m = name_sentence names s after n.0 b.others is n.2 (same ∙ u) in
     d.unlabelled n.0 m.0 (u ∙ ap (λ (x : Kinds). token.Name n.0 ∷ x) m.1)
 
 abbrev pub Declaration : Type 0
 Declaration = Specs × List Declared
 
-pub declares_invert : (names : Names) (whole : Item) (after behind : Kinds) → IsItem names whole → IsDeclaration names behind → item_text whole after ≡ behind → (part : Declaration) × (whole ≡ Declares part.0 part.1) × (AreBlockSpecs names part.0 × (IsSomeList part.1 × AreAll (IsDeclared names) part.1)) × (behind ≡ declaration_text part.0 part.1 after)
-declares_invert names (Declares specs objects) after behind is d same = ((specs, objects), refl, is, sym same)
-declares_invert names (Does s) after behind is d same = absurd (no_statement names s after behind is d same)
+pub declares_invert : (names : Names) (whole : Item) (after following : Kinds) → IsItem names whole → IsDeclaration names following → item_text whole after ≡ following → (part : Declaration) × (whole ≡ Declares part.0 part.1) × (AreBlockSpecs names part.0 × (IsSomeList part.1 × AreAll (IsDeclared names) part.1)) × (following ≡ declaration_text part.0 part.1 after)
+declares_invert names (Declares specs objects) after following is d same = ((specs, objects), refl, is, sym same)
+declares_invert names (Does s) after following is d same = absurd (no_statement names s after following is d same)
 
 -- a declaration as what stands in a block
 abbrev pub declares_single : (names : Names) → Single (BlockItems names) (BlockDeclarations names) 1 [] (λ part. Declares part.0 part.1) (IsDeclaration names)
 declares_single names = record {
   production = record {
-    invert = λ whole after behind is fit same. declares_invert names whole after behind is fit same;
+    invert = λ whole after following is fit same. declares_invert names whole after following is fit same;
     shut = λ part after shut. tt;
     spelled = λ part after. refl;
     is_phrase = λ part is. is;
@@ -196,15 +196,15 @@ pub declared_no_colon : (names : Names) (ws : List TypeWord) (rest : Kinds) (fir
 declared_no_colon names [] rest first more type s same = false≢true type
 declared_no_colon names (w ∷ ws) rest first more type s same = second_no_colon w (words_text ws rest) first more (λ m e. words_no_colon ws rest m s e) same
 
--- the first token begins no type, or a colon stands behind it
+-- the first token begins no type, or a colon stands after it
 abbrev pub IsStatement : Names → Kinds → Type 0
 IsStatement names tokens = (first : TokenKind) (more : Kinds) → tokens ≡ first ∷ more → (begins_type names first ≡ false) ⊎ ((m : Kinds) × (more ≡ colon ∷ m))
 
-no_declaration : (names : Names) (specs : Specs) (objects : List Declared) (after behind : Kinds) → AreBlockSpecs names specs → IsSomeList objects → AreAll (IsDeclared names) objects → IsStatement names behind → declaration_text specs objects after ≡ behind → ⊥
-no_declaration names specs objects after behind is some are st same =
+no_declaration : (names : Names) (specs : Specs) (objects : List Declared) (after following : Kinds) → AreBlockSpecs names specs → IsSomeList objects → AreAll (IsDeclared names) objects → IsStatement names following → declaration_text specs objects after ≡ following → ⊥
+no_declaration names specs objects after following is some are st same =
     let rest = with_commas declared_text objects (semicolon ∷ after) in
     let b = block_specs_begin names specs rest is in
-    let t : behind ≡ b.first ∷ b.others = sym same ∙ b.are in
+    let t : following ≡ b.first ∷ b.others = sym same ∙ b.are in
     let w = block_words names specs is in
     elim (st b.first b.others t) [
       | inl no_type ↦ false≢true (sym no_type ∙ b.passes)
@@ -213,15 +213,15 @@ no_declaration names specs objects after behind is some are st same =
           declared_no_colon names w.words rest b.first c.0 w.type (objects_start names objects (semicolon ∷ after) some are) s
     ]
 
-pub does_invert : (names : Names) (whole : Item) (after behind : Kinds) → IsItem names whole → IsStatement names behind → item_text whole after ≡ behind → (part : Sentence) × (whole ≡ Does part) × IsSentence names part × (behind ≡ sentence_text part after)
-does_invert names (Does s) after behind is st same = (s, refl, is, sym same)
-does_invert names (Declares specs objects) after behind is st same = absurd (no_declaration names specs objects after behind is.0 is.1.0 is.1.1 st same)
+pub does_invert : (names : Names) (whole : Item) (after following : Kinds) → IsItem names whole → IsStatement names following → item_text whole after ≡ following → (part : Sentence) × (whole ≡ Does part) × IsSentence names part × (following ≡ sentence_text part after)
+does_invert names (Does s) after following is st same = (s, refl, is, sym same)
+does_invert names (Declares specs objects) after following is st same = absurd (no_declaration names specs objects after following is.0 is.1.0 is.1.1 st same)
 
 -- a statement as what stands in a block
 abbrev pub does_single : (names : Names) → Single (BlockItems names) (Sentences names) 0 [] Does (IsStatement names)
 does_single names = record {
   production = record {
-    invert = λ whole after behind is fit same. does_invert names whole after behind is fit same;
+    invert = λ whole after following is fit same. does_invert names whole after following is fit same;
     shut = λ part after shut. shut;
     spelled = λ part after. refl;
     is_phrase = λ part is. is;
@@ -262,7 +262,7 @@ block_listing names = record {
   tall_none = refl;
   tall_more = λ c rest. refl;
   shut_more = λ c rest after shut. tt;
-  joins = λ c rest after is are shut told. items_no_else names rest after are;
+  joins = λ c rest after is are shut reported. items_no_else names rest after are;
   apart = λ c x after is shut same. item_no_brace names c x after is same;
   law = item_append;
 }
@@ -296,13 +296,13 @@ block_growing names = record {
   law = λ items x y. items_append items (close_brace ∷ x) y;
 }
 
-none_is : (names : Names) (other : Items) (after behind : Kinds) → AreItems names other → items_text other (close_brace ∷ after) ≡ close_brace ∷ behind → (other ≡ NoItem) × (after ≡ behind)
-none_is names NoItem after behind are same = (refl, cc)
-none_is names (MoreItems i is) after behind are same = absurd (item_no_brace names i (items_text is (close_brace ∷ after)) behind are.0 same)
+none_is : (names : Names) (other : Items) (after following : Kinds) → AreItems names other → items_text other (close_brace ∷ after) ≡ close_brace ∷ following → (other ≡ NoItem) × (after ≡ following)
+none_is names NoItem after following are same = (refl, cc)
+none_is names (MoreItems i is) after following are same = absurd (item_no_brace names i (items_text is (close_brace ∷ after)) following are.0 same)
 
 -- the closing brace of a block stands there
-pub block_end : (names : Names) (room : ℕ) → Exactly (BlockRows names) room NoItem
-block_end names room = record { is_phrase = tt; low = omega arith; exact = λ other after behind is same. none_is names other after behind is same }
+pub block_end : (names : Names) (limit : ℕ) → Exactly (BlockRows names) limit NoItem
+block_end names limit = record { is_phrase = tt; low = omega arith; exact = λ other after following is same. none_is names other after following is same }
 
 -- what stands in a `switch`
 pub switch_no_else : (names : Names) (items : SwitchItems) (after : Kinds) → AreSwitchItems names items → HasNoElse (switch_text items (close_brace ∷ after))
@@ -329,7 +329,7 @@ switch_listing names = record {
   tall_none = refl;
   tall_more = λ c rest. refl;
   shut_more = λ c rest after shut. tt;
-  joins = λ c rest after is are shut told. switch_no_else names rest after are;
+  joins = λ c rest after is are shut reported. switch_no_else names rest after are;
   apart = λ c x after is shut same. part_no_brace names c x after is same;
   law = switch_item_append;
 }
@@ -363,27 +363,27 @@ switch_growing names = record {
   law = λ items x y. switch_append items (close_brace ∷ x) y;
 }
 
-no_part_is : (names : Names) (other : SwitchItems) (after behind : Kinds) → AreSwitchItems names other → switch_text other (close_brace ∷ after) ≡ close_brace ∷ behind → (other ≡ NoSwitchItem) × (after ≡ behind)
-no_part_is names NoSwitchItem after behind are same = (refl, cc)
-no_part_is names (MoreSwitchItems i is) after behind are same = absurd (part_no_brace names i (switch_text is (close_brace ∷ after)) behind are.0 same)
+no_part_is : (names : Names) (other : SwitchItems) (after following : Kinds) → AreSwitchItems names other → switch_text other (close_brace ∷ after) ≡ close_brace ∷ following → (other ≡ NoSwitchItem) × (after ≡ following)
+no_part_is names NoSwitchItem after following are same = (refl, cc)
+no_part_is names (MoreSwitchItems i is) after following are same = absurd (part_no_brace names i (switch_text is (close_brace ∷ after)) following are.0 same)
 
 -- the closing brace of a `switch` stands there
-pub switch_end : (names : Names) (room : ℕ) → Exactly (SwitchRows names) room NoSwitchItem
-switch_end names room = record { is_phrase = tt; low = omega arith; exact = λ other after behind is same. no_part_is names other after behind is same }
+pub switch_end : (names : Names) (limit : ℕ) → Exactly (SwitchRows names) limit NoSwitchItem
+switch_end names limit = record { is_phrase = tt; low = omega arith; exact = λ other after following is same. no_part_is names other after following is same }
 
 item_no_case : (names : Names) (i : Item) (after more : Kinds) (t : TokenKind) → IsItem names i → begins_item names t ≡ false → item_text i after ≡ t ∷ more → ⊥
 item_no_case names i after more t is e same = false≢true (sym e ∙ first_passes (begins_item names) (item_text i after) t more (item_begins names i after is) same)
 
-pub case_invert : (names : Names) (whole : SwitchItem) (after behind : Kinds) → IsSwitchItem names whole → switch_item_text whole after ≡ word keyword.Case ∷ behind → (part : Written) × (whole ≡ Case part) × IsPhrase names 2 part × (behind ≡ text part (colon ∷ after))
-case_invert names (Case v) after behind is same = (v, refl, is, cc)
-case_invert names Default after behind is same = absurd cc
-case_invert names (Inside i) after behind is same = absurd (item_no_case names i after behind (word keyword.Case) is refl same)
+pub case_invert : (names : Names) (whole : SwitchItem) (after following : Kinds) → IsSwitchItem names whole → switch_item_text whole after ≡ word keyword.Case ∷ following → (part : Written) × (whole ≡ Case part) × IsPhrase names 2 part × (following ≡ text part (colon ∷ after))
+case_invert names (Case v) after following is same = (v, refl, is, cc)
+case_invert names Default after following is same = absurd cc
+case_invert names (Inside i) after following is same = absurd (item_no_case names i after following (word keyword.Case) is refl same)
 
 -- `case e :`
 abbrev pub case_single : (names : Names) → Single (SwitchParts names) (ClosedBy (Expressions names 2) colon) 0 (word keyword.Case ∷ []) Case (λ rest. Unit {0})
 case_single names = record {
   production = record {
-    invert = λ whole after behind is fit same. case_invert names whole after behind is same;
+    invert = λ whole after following is fit same. case_invert names whole after following is same;
     shut = λ part after shut. tt;
     spelled = λ part after. refl;
     is_phrase = λ part is. is;
@@ -393,16 +393,16 @@ case_single names = record {
   least = closed_least (Expressions names 2) colon (expression_least names 2 (omega arith));
 }
 
-pub default_invert : (names : Names) (whole : SwitchItem) (after behind : Kinds) → IsSwitchItem names whole → switch_item_text whole after ≡ word keyword.Default ∷ behind → (part : Unit {0}) × (whole ≡ Default) × Unit {0} × (behind ≡ colon ∷ after)
-default_invert names Default after behind is same = (tt, refl, tt, cc)
-default_invert names (Case v) after behind is same = absurd cc
-default_invert names (Inside i) after behind is same = absurd (item_no_case names i after behind (word keyword.Default) is refl same)
+pub default_invert : (names : Names) (whole : SwitchItem) (after following : Kinds) → IsSwitchItem names whole → switch_item_text whole after ≡ word keyword.Default ∷ following → (part : Unit {0}) × (whole ≡ Default) × Unit {0} × (following ≡ colon ∷ after)
+default_invert names Default after following is same = (tt, refl, tt, cc)
+default_invert names (Case v) after following is same = absurd cc
+default_invert names (Inside i) after following is same = absurd (item_no_case names i after following (word keyword.Default) is refl same)
 
 -- `default :`
 abbrev pub default_single : (names : Names) → Single (SwitchParts names) (ClosedBy Ended colon) 0 (word keyword.Default ∷ []) (λ part. Default) (λ rest. Unit {0})
 default_single names = record {
   production = record {
-    invert = λ whole after behind is fit same. default_invert names whole after behind is same;
+    invert = λ whole after following is fit same. default_invert names whole after following is same;
     shut = λ part after shut. tt;
     spelled = λ part after. refl;
     is_phrase = λ part is. tt;
@@ -416,10 +416,10 @@ default_single names = record {
 abbrev pub HasNoCase : Kinds → Type 0
 HasNoCase tokens = (first : TokenKind) (more : Kinds) → tokens ≡ first ∷ more → is_case first ≡ false
 
-pub inside_invert : (names : Names) (whole : SwitchItem) (after behind : Kinds) → IsSwitchItem names whole → HasNoCase behind → switch_item_text whole after ≡ behind → (part : Item) × (whole ≡ Inside part) × IsItem names part × (behind ≡ item_text part after)
-inside_invert names (Inside i) after behind is fit same = (i, refl, is, sym same)
-inside_invert names (Case v) after behind is fit same = absurd (false≢true (sym (fit (word keyword.Case) (text v (colon ∷ after)) (sym same))))
-inside_invert names Default after behind is fit same = absurd (false≢true (sym (fit (word keyword.Default) (colon ∷ after) (sym same))))
+pub inside_invert : (names : Names) (whole : SwitchItem) (after following : Kinds) → IsSwitchItem names whole → HasNoCase following → switch_item_text whole after ≡ following → (part : Item) × (whole ≡ Inside part) × IsItem names part × (following ≡ item_text part after)
+inside_invert names (Inside i) after following is fit same = (i, refl, is, sym same)
+inside_invert names (Case v) after following is fit same = absurd (false≢true (sym (fit (word keyword.Case) (text v (colon ∷ after)) (sym same))))
+inside_invert names Default after following is fit same = absurd (false≢true (sym (fit (word keyword.Default) (colon ∷ after) (sym same))))
 
 pub item_some : (names : Names) (i : Item) → IsItem names i → 1 ≤ item_height i
 item_some names (Does s) is = sentence_some s
@@ -432,7 +432,7 @@ items_least names = record { tree = Does Nothing; is_phrase = tt; below = λ oth
 abbrev pub inside_single : (names : Names) → Single (SwitchParts names) (BlockItems names) 0 [] Inside HasNoCase
 inside_single names = record {
   production = record {
-    invert = λ whole after behind is fit same. inside_invert names whole after behind is fit same;
+    invert = λ whole after following is fit same. inside_invert names whole after following is fit same;
     shut = λ part after shut. shut;
     spelled = λ part after. refl;
     is_phrase = λ part is. is;

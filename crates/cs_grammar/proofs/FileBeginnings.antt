@@ -5,16 +5,16 @@ use Rattle.cs_ast.specs.declared.token.TokenKind.{TokenKind}
 use Rattle.cs_ast.specs.declared.token.TokenKind.TheVariants as token
 use Rattle.cs_ast.specs.declared.token.Keyword.{Keyword}
 use Rattle.cs_ast.specs.declared.token.Keyword.TheVariants as keyword
-use Rattle.cs_ast.specs.declared.token.Mark.{Mark}
-use Rattle.cs_ast.specs.declared.token.Mark.TheVariants as mark
+use Rattle.cs_ast.specs.declared.token.Punctuator.{Punctuator}
+use Rattle.cs_ast.specs.declared.token.Punctuator.TheVariants as punctuator
 use Rattle.cs_ast.specs.declared.raw.written_type.TypeWord.{TypeWord}
 use Rattle.cs_ast.specs.RawDeclarations.{Static, Plain, StructBody, EnumBody, Specs, NoSpec, MoreSpecs}
 use Rattle.cs_ast.specs.RawStatements.{Sentence, Block, Nothing, Runs, If, IfElse, While, Do, For, Switch, Goto, Continue, Break, Return, Label, Item, Declares, Does, SwitchItem, Case, Default, Inside}
 use Rattle.cs_grammar.specs.TypeWords.{Names, is_type}
 use Rattle.cs_grammar.specs.Text.{Kinds, text, words_text, type_word_text}
 use Rattle.cs_grammar.specs.FirstTokens.{begins_expression, begins_type, opens_expression, is_sizeof}
-use Rattle.cs_grammar.specs.FileFirstTokens.{begins_sentence, mark_begins_sentence, keyword_begins_sentence, begins_item, is_case, begins_switch_part}
-use Rattle.cs_grammar.specs.FileText.{mark_text, specs_text, declared_text, with_commas, some_text, test_text, first_text, sentence_text, item_text, items_text, switch_item_text, switch_text}
+use Rattle.cs_grammar.specs.FileFirstTokens.{begins_sentence, punctuator_begins_sentence, keyword_begins_sentence, begins_item, is_case, begins_switch_part}
+use Rattle.cs_grammar.specs.FileText.{punctuator_text, specs_text, declared_text, with_commas, some_text, test_text, first_text, sentence_text, item_text, items_text, switch_item_text, switch_text}
 use Rattle.cs_grammar.specs.FilePhrases.{plain_words, AreBlockSpecs, IsSentence, IsItem, IsSwitchItem}
 use Rattle.cs_grammar.proofs.Beginnings.{BeginsWith, expression_begins, type_begins}
 
@@ -74,10 +74,10 @@ first_passes test tokens next more b same =
     let k : b.first ≡ next = cc in
     ap test (sym k) ∙ b.passes
 
-mark_too : (m : Mark) → opens_expression m ≡ true → mark_begins_sentence m ≡ true
-mark_too mark.OpenBrace e = refl
-mark_too mark.Semicolon e = refl
-mark_too _ e = e
+punctuator_too : (m : Punctuator) → opens_expression m ≡ true → punctuator_begins_sentence m ≡ true
+punctuator_too punctuator.OpenBrace e = refl
+punctuator_too punctuator.Semicolon e = refl
+punctuator_too _ e = e
 
 keyword_too : (k : Keyword) → is_sizeof k ≡ true → keyword_begins_sentence k ≡ true
 keyword_too keyword.Sizeof e = refl
@@ -89,9 +89,9 @@ expression_sentence names (token.Name name) e = refl
 expression_sentence names (token.Number n) e = refl
 expression_sentence names (token.Character v) e = refl
 expression_sentence names (token.Text b) e = refl
-expression_sentence names (token.Mark m) e = mark_too m e
+expression_sentence names (token.Punctuator m) e = punctuator_too m e
 expression_sentence names (token.Keyword k) e = keyword_too k e
-expression_sentence names (token.LeftOut w) e = cc
+expression_sentence names (token.Unsupported w) e = cc
 expression_sentence names token.Attribute e = cc
 
 begins_now : (test : TokenKind → Bool) (t : TokenKind) (others : Kinds) → test t ≡ true → BeginsWith test (t ∷ others)
@@ -100,21 +100,21 @@ begins_now test t others passes = record { first = t; others = others; are = ref
 -- the first token of a statement
 pub sentence_begins : (names : Names) (s : Sentence) (after : Kinds) → IsSentence names s → BeginsWith begins_sentence (sentence_text s after)
 sentence_begins names (Runs e) after is =
-    passes_too (begins_expression names) begins_sentence (text e (token.Mark mark.Semicolon ∷ after)) (expression_sentence names) (expression_begins names e (token.Mark mark.Semicolon ∷ after) is.1)
-sentence_begins names (Block items) after is = begins_now begins_sentence (token.Mark mark.OpenBrace) (items_text items (token.Mark mark.CloseBrace ∷ after)) refl
-sentence_begins names Nothing after is = begins_now begins_sentence (token.Mark mark.Semicolon) after refl
+    passes_too (begins_expression names) begins_sentence (text e (token.Punctuator punctuator.Semicolon ∷ after)) (expression_sentence names) (expression_begins names e (token.Punctuator punctuator.Semicolon ∷ after) is.1)
+sentence_begins names (Block items) after is = begins_now begins_sentence (token.Punctuator punctuator.OpenBrace) (items_text items (token.Punctuator punctuator.CloseBrace ∷ after)) refl
+sentence_begins names Nothing after is = begins_now begins_sentence (token.Punctuator punctuator.Semicolon) after refl
 sentence_begins names (If test body) after is = begins_now begins_sentence (token.Keyword keyword.If) (test_text test (sentence_text body after)) refl
 sentence_begins names (IfElse test body other) after is = begins_now begins_sentence (token.Keyword keyword.If) (test_text test (sentence_text body (token.Keyword keyword.Else ∷ sentence_text other after))) refl
 sentence_begins names (While test body) after is = begins_now begins_sentence (token.Keyword keyword.While) (test_text test (sentence_text body after)) refl
-sentence_begins names (Do body test) after is = begins_now begins_sentence (token.Keyword keyword.Do) (sentence_text body (token.Keyword keyword.While ∷ test_text test (token.Mark mark.Semicolon ∷ after))) refl
+sentence_begins names (Do body test) after is = begins_now begins_sentence (token.Keyword keyword.Do) (sentence_text body (token.Keyword keyword.While ∷ test_text test (token.Punctuator punctuator.Semicolon ∷ after))) refl
 sentence_begins names (For first test last body) after is =
-    begins_now begins_sentence (token.Keyword keyword.For) (mark_text mark.OpenParenthesis (first_text first (some_text test (mark_text mark.Semicolon (some_text last (mark_text mark.CloseParenthesis (sentence_text body after))))))) refl
-sentence_begins names (Switch value items) after is = begins_now begins_sentence (token.Keyword keyword.Switch) (test_text value (mark_text mark.OpenBrace (switch_text items (mark_text mark.CloseBrace after)))) refl
-sentence_begins names (Goto label) after is = begins_now begins_sentence (token.Keyword keyword.Goto) (token.Name label ∷ token.Mark mark.Semicolon ∷ after) refl
-sentence_begins names Continue after is = begins_now begins_sentence (token.Keyword keyword.Continue) (token.Mark mark.Semicolon ∷ after) refl
-sentence_begins names Break after is = begins_now begins_sentence (token.Keyword keyword.Break) (token.Mark mark.Semicolon ∷ after) refl
-sentence_begins names (Return value) after is = begins_now begins_sentence (token.Keyword keyword.Return) (some_text value (token.Mark mark.Semicolon ∷ after)) refl
-sentence_begins names (Label name body) after is = begins_now begins_sentence (token.Name name) (token.Mark mark.Colon ∷ sentence_text body after) refl
+    begins_now begins_sentence (token.Keyword keyword.For) (punctuator_text punctuator.OpenParenthesis (first_text first (some_text test (punctuator_text punctuator.Semicolon (some_text last (punctuator_text punctuator.CloseParenthesis (sentence_text body after))))))) refl
+sentence_begins names (Switch value items) after is = begins_now begins_sentence (token.Keyword keyword.Switch) (test_text value (punctuator_text punctuator.OpenBrace (switch_text items (punctuator_text punctuator.CloseBrace after)))) refl
+sentence_begins names (Goto label) after is = begins_now begins_sentence (token.Keyword keyword.Goto) (token.Name label ∷ token.Punctuator punctuator.Semicolon ∷ after) refl
+sentence_begins names Continue after is = begins_now begins_sentence (token.Keyword keyword.Continue) (token.Punctuator punctuator.Semicolon ∷ after) refl
+sentence_begins names Break after is = begins_now begins_sentence (token.Keyword keyword.Break) (token.Punctuator punctuator.Semicolon ∷ after) refl
+sentence_begins names (Return value) after is = begins_now begins_sentence (token.Keyword keyword.Return) (some_text value (token.Punctuator punctuator.Semicolon ∷ after)) refl
+sentence_begins names (Label name body) after is = begins_now begins_sentence (token.Name name) (token.Punctuator punctuator.Colon ∷ sentence_text body after) refl
 
 -- the first token of what stands before declarators in a block
 pub block_specs_begin : (names : Names) (specs : Specs) (rest : Kinds) → AreBlockSpecs names specs → BeginsWith (begins_type names) (specs_text specs rest)
@@ -126,13 +126,13 @@ block_specs_begin names specs rest is =
 pub item_begins : (names : Names) (i : Item) (after : Kinds) → IsItem names i → BeginsWith (begins_item names) (item_text i after)
 item_begins names (Declares specs objects) after is =
     passes_too (begins_type names) (begins_item names) (item_text (Declares specs objects) after) (λ t e. or_right (begins_sentence t) (begins_type names t) e)
-    (block_specs_begin names specs (with_commas declared_text objects (mark_text mark.Semicolon after)) is.0)
+    (block_specs_begin names specs (with_commas declared_text objects (punctuator_text punctuator.Semicolon after)) is.0)
 item_begins names (Does s) after is =
     passes_too begins_sentence (begins_item names) (sentence_text s after) (λ t e. or_left (begins_sentence t) (begins_type names t) e) (sentence_begins names s after is)
 
 -- the first token of what stands in a `switch`
 pub switch_part_begins : (names : Names) (i : SwitchItem) (after : Kinds) → IsSwitchItem names i → BeginsWith (begins_switch_part names) (switch_item_text i after)
-switch_part_begins names (Case value) after is = begins_now (begins_switch_part names) (token.Keyword keyword.Case) (text value (token.Mark mark.Colon ∷ after)) refl
-switch_part_begins names Default after is = begins_now (begins_switch_part names) (token.Keyword keyword.Default) (token.Mark mark.Colon ∷ after) refl
+switch_part_begins names (Case value) after is = begins_now (begins_switch_part names) (token.Keyword keyword.Case) (text value (token.Punctuator punctuator.Colon ∷ after)) refl
+switch_part_begins names Default after is = begins_now (begins_switch_part names) (token.Keyword keyword.Default) (token.Punctuator punctuator.Colon ∷ after) refl
 switch_part_begins names (Inside i) after is =
     passes_too (begins_item names) (begins_switch_part names) (item_text i after) (λ t e. or_right (is_case t) (begins_item names t) e) (item_begins names i after is)

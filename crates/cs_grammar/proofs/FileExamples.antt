@@ -4,7 +4,7 @@ use Rattle.std.proofs.lemmas.Bool.{false≢true}
 use Rattle.cs_ast.specs.declared.token.TokenKind.{TokenKind}
 use Rattle.cs_ast.specs.declared.token.TokenKind.TheVariants as token
 use Rattle.cs_ast.specs.declared.token.Keyword.TheVariants as keyword
-use Rattle.cs_ast.specs.declared.token.Mark.TheVariants as mark
+use Rattle.cs_ast.specs.declared.token.Punctuator.TheVariants as punctuator
 use Rattle.cs_ast.specs.declared.raw.written_type.TypeWord.TheVariants as word
 use Rattle.cs_ast.specs.declared.raw.written_type.IntegerWord.TheVariants.{Int}
 use Rattle.cs_ast.specs.RawDeclarations.{Declarator, Declared, Static, Plain, StructBody, MoreMembers, NoMember, Single, Listed, MoreItems, NoItem as NoMore, Specs, NoSpec, MoreSpecs, Parameter, ParameterList, Head, VoidAlone}
@@ -12,7 +12,7 @@ use Rattle.cs_ast.specs.RawStatements.{Sentence, Nothing, If, IfElse, NoItem, Ex
 use Rattle.cs_grammar.specs.Text.{Kinds, text}
 use Rattle.cs_grammar.specs.FileText.{sentence_text, file_text}
 use Rattle.cs_grammar.specs.FilePhrases.{IsSentence, AreBlockSpecs, AreParameters, lone_void, IsExternal, IsFile}
-use Rattle.cs_grammar.specs.FileRefusals.{IsLeftOutOfFile}
+use Rattle.cs_grammar.specs.FileRefusals.{IsUnsupportedOfFile}
 use Rattle.cs_grammar.specs.Roles.{in_expression, declared_name, another, file_roles}
 use Rattle.cs_grammar.proofs.StatementParts.{nought}
 use Rattle.cs_grammar.proofs.Declarators.{declarator_of}
@@ -44,7 +44,7 @@ grown_is = (
   (((refl, (tt, tt)), (tt, (record { declarator = record { pointers = refl; named = refl; bounds = tt }; initial = tt }, tt))), tt),
 )
 
-grown_text : file_text grown ≡ token.Keyword keyword.Typedef ∷ token.Keyword keyword.Int ∷ token.Name T ∷ token.Mark mark.Semicolon ∷ token.Name T ∷ token.Name x ∷ token.Mark mark.Semicolon ∷ []
+grown_text : file_text grown ≡ token.Keyword keyword.Typedef ∷ token.Keyword keyword.Int ∷ token.Name T ∷ token.Punctuator punctuator.Semicolon ∷ token.Name T ∷ token.Name x ∷ token.Punctuator punctuator.Semicolon ∷ []
 grown_text = refl
 
 grown_roles : file_roles grown ≡ another ∷ another ∷ declared_name ∷ another ∷ another ∷ declared_name ∷ another ∷ []
@@ -89,8 +89,8 @@ plain_x = Objects int (declared_of (declarator_of [] x []) None ∷ []) ∷ []
 plain_is : IsFile [] plain_x
 plain_is = (((refl, (tt, tt)), (tt, (record { declarator = record { pointers = refl; named = refl; bounds = tt }; initial = tt }, tt))), tt)
 
-parenthesis_out : IsLeftOutOfFile (token.Keyword keyword.Int ∷ []) (token.Mark mark.OpenParenthesis)
-parenthesis_out = record { file = plain_x; more = token.Name x ∷ token.Mark mark.Semicolon ∷ []; is_file = plain_is; spelled = refl; there = refl }
+parenthesis_out : IsUnsupportedOfFile (token.Keyword keyword.Int ∷ []) (token.Punctuator punctuator.OpenParenthesis)
+parenthesis_out = record { file = plain_x; more = token.Name x ∷ token.Punctuator punctuator.Semicolon ∷ []; is_file = plain_is; spelled = refl; there = refl }
 
 -- `int x = .`: where an initial value may begin, a dot is left out
 abbrev listed_x : List External
@@ -99,15 +99,15 @@ listed_x = Objects int (declared_of (declarator_of [] x []) (Some (Listed (MoreI
 listed_is : IsFile [] listed_x
 listed_is = (((refl, (tt, tt)), (tt, (record { declarator = record { pointers = refl; named = refl; bounds = tt }; initial = ((omega arith, tt), tt) }, tt))), tt)
 
-dot_out : IsLeftOutOfFile (token.Keyword keyword.Int ∷ token.Name x ∷ token.Mark mark.Equal ∷ []) (token.Mark mark.Dot)
-dot_out = record { file = listed_x; more = token.Mark mark.OpenBrace ∷ text nought (token.Mark mark.CloseBrace ∷ token.Mark mark.Semicolon ∷ []); is_file = listed_is; spelled = refl; there = refl }
+dot_out : IsUnsupportedOfFile (token.Keyword keyword.Int ∷ token.Name x ∷ token.Punctuator punctuator.Equal ∷ []) (token.Punctuator punctuator.Dot)
+dot_out = record { file = listed_x; more = token.Punctuator punctuator.OpenBrace ∷ text nought (token.Punctuator punctuator.CloseBrace ∷ token.Punctuator punctuator.Semicolon ∷ []); is_file = listed_is; spelled = refl; there = refl }
 
--- `struct { int x :`: behind a member's declarator a colon is left out
+-- `struct { int x :`: after a member's declarator a colon is left out
 abbrev struct_x : List External
 struct_x = TypeAlone (MoreSpecs (StructBody None (MoreMembers int (declarator_of [] x [] ∷ []) NoMember)) NoSpec) ∷ []
 
 struct_is : IsFile [] struct_x
 struct_is = ((refl, ((refl, (tt, tt), tt, (record { pointers = refl; named = tt; bounds = tt }, tt), tt), tt)), tt)
 
-colon_out : IsLeftOutOfFile (token.Keyword keyword.Struct ∷ token.Mark mark.OpenBrace ∷ token.Keyword keyword.Int ∷ token.Name x ∷ []) (token.Mark mark.Colon)
-colon_out = record { file = struct_x; more = token.Mark mark.Semicolon ∷ token.Mark mark.CloseBrace ∷ token.Mark mark.Semicolon ∷ []; is_file = struct_is; spelled = refl; there = refl }
+colon_out : IsUnsupportedOfFile (token.Keyword keyword.Struct ∷ token.Punctuator punctuator.OpenBrace ∷ token.Keyword keyword.Int ∷ token.Name x ∷ []) (token.Punctuator punctuator.Colon)
+colon_out = record { file = struct_x; more = token.Punctuator punctuator.Semicolon ∷ token.Punctuator punctuator.CloseBrace ∷ token.Punctuator punctuator.Semicolon ∷ []; is_file = struct_is; spelled = refl; there = refl }

@@ -5,15 +5,15 @@ use Rattle.cs_ast.specs.declared.token.TokenKind.{TokenKind}
 use Rattle.cs_ast.specs.declared.token.TokenKind.TheVariants as token
 use Rattle.cs_ast.specs.declared.token.Keyword.{Keyword}
 use Rattle.cs_ast.specs.declared.token.Keyword.TheVariants as keyword
-use Rattle.cs_ast.specs.declared.token.Mark.{Mark}
-use Rattle.cs_ast.specs.declared.token.Mark.TheVariants as mark
-use Rattle.cs_ast.specs.declared.token.LeftOut.{LeftOut}
+use Rattle.cs_ast.specs.declared.token.Punctuator.{Punctuator}
+use Rattle.cs_ast.specs.declared.token.Punctuator.TheVariants as punctuator
+use Rattle.cs_ast.specs.declared.token.Unsupported.{Unsupported}
 use Rattle.cs_ast.specs.RawStatements.{External}
 use Rattle.cs_grammar.specs.declared.refusal.Reason.TheVariants as reason
 use Rattle.cs_grammar.specs.Text.{Kinds}
 use Rattle.cs_grammar.specs.FileText.{file_text}
 use Rattle.cs_grammar.specs.FilePhrases.{IsFile}
-use Rattle.cs_grammar.specs.FileRefusals.{IsLeftOutOfFile, IsFileReason}
+use Rattle.cs_grammar.specs.FileRefusals.{IsUnsupportedOfFile, IsFileReason}
 use Rattle.cs_grammar.proofs.FileRules.{FileRefused}
 
 -- the keyword is left out at some places
@@ -22,42 +22,42 @@ is_placed_word keyword.Static = true
 is_placed_word keyword.Typedef = true
 is_placed_word other = false
 
--- the mark is left out at some places, or anywhere
-abbrev pub is_placed_mark : Mark → Bool
-is_placed_mark mark.Ellipsis = true
-is_placed_mark mark.OpenBrace = true
-is_placed_mark mark.OpenParenthesis = true
-is_placed_mark mark.Colon = true
-is_placed_mark mark.Dot = true
-is_placed_mark mark.OpenBracket = true
-is_placed_mark other = false
+-- the punctuator is left out at some places, or anywhere
+abbrev pub is_placed_punctuator : Punctuator → Bool
+is_placed_punctuator punctuator.Ellipsis = true
+is_placed_punctuator punctuator.OpenBrace = true
+is_placed_punctuator punctuator.OpenParenthesis = true
+is_placed_punctuator punctuator.Colon = true
+is_placed_punctuator punctuator.Dot = true
+is_placed_punctuator punctuator.OpenBracket = true
+is_placed_punctuator other = false
 
 -- the token is left out at some places, or anywhere
 abbrev pub is_placed : TokenKind → Bool
-is_placed (token.LeftOut word) = true
+is_placed (token.Unsupported word) = true
 is_placed (token.Keyword word) = is_placed_word word
-is_placed (token.Mark mark) = is_placed_mark mark
+is_placed (token.Punctuator punctuator) = is_placed_punctuator punctuator
 is_placed other = false
 
-placed_word : (front : Kinds) (k : Keyword) → is_placed_word k ≡ false → IsLeftOutOfFile front (token.Keyword k) → ⊥
+placed_word : (front : Kinds) (k : Keyword) → is_placed_word k ≡ false → IsUnsupportedOfFile front (token.Keyword k) → ⊥
 placed_word front keyword.Static e out = false≢true (sym e)
 placed_word front keyword.Typedef e out = false≢true (sym e)
 placed_word front _ e out = out
 
-placed_mark : (front : Kinds) (m : Mark) → is_placed_mark m ≡ false → IsLeftOutOfFile front (token.Mark m) → ⊥
-placed_mark front mark.Ellipsis e out = false≢true (sym e)
-placed_mark front mark.OpenBrace e out = false≢true (sym e)
-placed_mark front mark.OpenParenthesis e out = false≢true (sym e)
-placed_mark front mark.Colon e out = false≢true (sym e)
-placed_mark front mark.Dot e out = false≢true (sym e)
-placed_mark front mark.OpenBracket e out = false≢true (sym e)
-placed_mark front _ e out = out
+placed_punctuator : (front : Kinds) (m : Punctuator) → is_placed_punctuator m ≡ false → IsUnsupportedOfFile front (token.Punctuator m) → ⊥
+placed_punctuator front punctuator.Ellipsis e out = false≢true (sym e)
+placed_punctuator front punctuator.OpenBrace e out = false≢true (sym e)
+placed_punctuator front punctuator.OpenParenthesis e out = false≢true (sym e)
+placed_punctuator front punctuator.Colon e out = false≢true (sym e)
+placed_punctuator front punctuator.Dot e out = false≢true (sym e)
+placed_punctuator front punctuator.OpenBracket e out = false≢true (sym e)
+placed_punctuator front _ e out = out
 
 -- a token that is left out nowhere
-pub not_placed : (front : Kinds) (next : TokenKind) → is_placed next ≡ false → IsLeftOutOfFile front next → ⊥
-not_placed front (token.LeftOut w) e out = false≢true (sym e)
+pub not_placed : (front : Kinds) (next : TokenKind) → is_placed next ≡ false → IsUnsupportedOfFile front next → ⊥
+not_placed front (token.Unsupported w) e out = false≢true (sym e)
 not_placed front (token.Keyword k) e out = placed_word front k e out
-not_placed front (token.Mark m) e out = placed_mark front m e out
+not_placed front (token.Punctuator m) e out = placed_punctuator front m e out
 not_placed front (token.Name n) e out = out
 not_placed front (token.Number n) e out = out
 not_placed front (token.Character v) e out = out
@@ -65,27 +65,27 @@ not_placed front (token.Text b) e out = out
 not_placed front token.Attribute e out = out
 
 -- a higher file goes on with the token
-pub deep_reason : (room : ℕ) (front : Kinds) (next : TokenKind) → FileRefused room front next true → IsFileReason front (Some next) reason.TooDeep
-deep_reason room front next r = r.further refl
+pub deep_reason : (limit : ℕ) (front : Kinds) (next : TokenKind) → FileRefused limit front next true → IsFileReason front (Some next) reason.TooDeep
+deep_reason limit front next r = r.further refl
 
 -- none does, and the token is left out there
-pub left_out_reason : (room : ℕ) (front : Kinds) (next : TokenKind) → FileRefused room front next false → IsLeftOutOfFile front next → IsFileReason front (Some next) reason.LeftOut
-left_out_reason room front next r out = (r.nothing refl, out)
+pub unsupported_reason : (limit : ℕ) (front : Kinds) (next : TokenKind) → FileRefused limit front next false → IsUnsupportedOfFile front next → IsFileReason front (Some next) reason.Unsupported
+unsupported_reason limit front next r out = (r.nothing refl, out)
 
 -- none does, and the token is not left out there
-pub syntax_reason : (room : ℕ) (front : Kinds) (next : TokenKind) → FileRefused room front next false → (IsLeftOutOfFile front next → ⊥) → IsFileReason front (Some next) reason.Syntax
-syntax_reason room front next r kept = (r.nothing refl, kept)
+pub syntax_reason : (limit : ℕ) (front : Kinds) (next : TokenKind) → FileRefused limit front next false → (IsUnsupportedOfFile front next → ⊥) → IsFileReason front (Some next) reason.Syntax
+syntax_reason limit front next r kept = (r.nothing refl, kept)
 
 -- none does, and the token is left out nowhere
-pub plain_reason : (room : ℕ) (front : Kinds) (next : TokenKind) → FileRefused room front next false → is_placed next ≡ false → IsFileReason front (Some next) reason.Syntax
-plain_reason room front next r e = syntax_reason room front next r (not_placed front next e)
+pub plain_reason : (limit : ℕ) (front : Kinds) (next : TokenKind) → FileRefused limit front next false → is_placed next ≡ false → IsFileReason front (Some next) reason.Syntax
+plain_reason limit front next r e = syntax_reason limit front next r (not_placed front next e)
 
--- a left-out word, or the mark of three dots
-pub word_reason : (room : ℕ) (front : Kinds) (w : LeftOut) → FileRefused room front (token.LeftOut w) false → IsFileReason front (Some (token.LeftOut w)) reason.LeftOut
-word_reason room front w r = left_out_reason room front (token.LeftOut w) r tt
+-- a left-out word, or the punctuator of three dots
+pub word_reason : (limit : ℕ) (front : Kinds) (w : Unsupported) → FileRefused limit front (token.Unsupported w) false → IsFileReason front (Some (token.Unsupported w)) reason.Unsupported
+word_reason limit front w r = unsupported_reason limit front (token.Unsupported w) r tt
 
-pub dots_reason : (room : ℕ) (front : Kinds) → FileRefused room front (token.Mark mark.Ellipsis) false → IsFileReason front (Some (token.Mark mark.Ellipsis)) reason.LeftOut
-dots_reason room front r = left_out_reason room front (token.Mark mark.Ellipsis) r tt
+pub dots_reason : (limit : ℕ) (front : Kinds) → FileRefused limit front (token.Punctuator punctuator.Ellipsis) false → IsFileReason front (Some (token.Punctuator punctuator.Ellipsis)) reason.Unsupported
+dots_reason limit front r = unsupported_reason limit front (token.Punctuator punctuator.Ellipsis) r tt
 
 -- the tokens end, and no file has them alone
 pub end_reason : (front : Kinds) → ((file : List External) → IsFile [] file → file_text file ≡ front → ⊥) → IsFileReason front None reason.Syntax

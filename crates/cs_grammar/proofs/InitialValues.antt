@@ -3,7 +3,7 @@ use Rattle.std.proofs.Common.{◌≡◌, ℕ, ◌+◌, ◌<◌, ◌≤◌, max, 
 use Rattle.std.proofs.lemmas.Bool.{false≢true}
 use Rattle.cs_ast.specs.declared.token.TokenKind.{TokenKind}
 use Rattle.cs_ast.specs.declared.token.TokenKind.TheVariants as token
-use Rattle.cs_ast.specs.declared.token.Mark.TheVariants as mark
+use Rattle.cs_ast.specs.declared.token.Punctuator.TheVariants as punctuator
 use Rattle.cs_ast.specs.RawTree.{Written}
 use Rattle.cs_ast.specs.RawDeclarations.{Initial, Single as One, Listed, Initials, NoItem, MoreItems}
 use Rattle.cs_ast.specs.RawFileHeight.{highest_by, initial_height, initials_height}
@@ -12,7 +12,7 @@ use Rattle.cs_grammar.specs.Text.{Kinds, text}
 use Rattle.cs_grammar.specs.Phrases.{IsPhrase}
 use Rattle.cs_grammar.specs.FirstTokens.{begins_expression}
 use Rattle.cs_grammar.specs.Continuing.{join_of}
-use Rattle.cs_grammar.specs.FileText.{comma_text, with_commas, each_behind_comma, initial_text, initials_text, further_initials_text}
+use Rattle.cs_grammar.specs.FileText.{comma_text, with_commas, each_after_comma, initial_text, initials_text, further_initials_text}
 use Rattle.cs_grammar.specs.FilePhrases.{AreAll, IsSomeList, IsInitial, AreInitials}
 use Rattle.cs_grammar.specs.DeclarationClasses.{Follows, ends_value, Values}
 use Rattle.cs_grammar.specs.Parsing.{Expressions, Near, Took, Refused}
@@ -43,9 +43,9 @@ items_again : (items : Initials) → items_of (list_of items) ≡ items
 items_again NoItem = refl
 items_again (MoreItems i items) = ap (MoreItems i) (items_again items)
 
-further_text : (list : List Initial) (rest : Kinds) → further_initials_text (items_of list) rest ≡ each_behind_comma initial_text list rest
+further_text : (list : List Initial) (rest : Kinds) → further_initials_text (items_of list) rest ≡ each_after_comma initial_text list rest
 further_text [] rest = refl
-further_text (i ∷ list) rest = ap (λ (r : Kinds). token.Mark mark.Comma ∷ initial_text i r) (further_text list rest)
+further_text (i ∷ list) rest = ap (λ (r : Kinds). token.Punctuator punctuator.Comma ∷ initial_text i r) (further_text list rest)
 
 pub items_text : (list : List Initial) (rest : Kinds) → initials_text (items_of list) rest ≡ with_commas initial_text list rest
 items_text [] rest = refl
@@ -82,7 +82,7 @@ pub value_has : (names : Names) (i : Initial) (after : Kinds) → IsInitial name
 value_has names (One e) after is same = no_empty names 1 e after is same
 value_has names (Listed items comma) after is same = cc
 
-pub brace_differs : close_brace ≡ token.Mark mark.Comma → ⊥
+pub brace_differs : close_brace ≡ token.Punctuator punctuator.Comma → ⊥
 brace_differs e = cc
 
 abbrev pub value_row : (names : Names) → Separates (Values names) close_brace
@@ -94,24 +94,24 @@ no_value_closes names = λ i after more is same. value_first names i after close
 -- what ends a value goes on with no expression
 pub value_shut : (after : Kinds) → Follows ends_value after → join_of after ≤ 1
 value_shut [] f = omega arith
-value_shut (token.Mark mark.Comma ∷ x) f = omega arith
-value_shut (token.Mark mark.Semicolon ∷ x) f = omega arith
-value_shut (token.Mark mark.CloseBrace ∷ x) f = omega arith
+value_shut (token.Punctuator punctuator.Comma ∷ x) f = omega arith
+value_shut (token.Punctuator punctuator.Semicolon ∷ x) f = omega arith
+value_shut (token.Punctuator punctuator.CloseBrace ∷ x) f = omega arith
 value_shut _ f = absurd (false≢true f)
 
 -- no brace stands first
 abbrev pub HasNoBrace : Kinds → Type 0
-HasNoBrace behind = (more : Kinds) → behind ≡ open_brace ∷ more → ⊥
+HasNoBrace following = (more : Kinds) → following ≡ open_brace ∷ more → ⊥
 
-pub one_invert : (names : Names) (whole : Initial) (after behind : Kinds) → IsInitial names whole → HasNoBrace behind → initial_text whole after ≡ behind → (part : Written) × (whole ≡ One part) × IsPhrase names 1 part × (behind ≡ text part after)
-one_invert names (One e) after behind is fit same = (e, refl, is, sym same)
-one_invert names (Listed items comma) after behind is fit same = absurd (fit (initials_text items (comma_text comma (close_brace ∷ after))) (sym same))
+pub one_invert : (names : Names) (whole : Initial) (after following : Kinds) → IsInitial names whole → HasNoBrace following → initial_text whole after ≡ following → (part : Written) × (whole ≡ One part) × IsPhrase names 1 part × (following ≡ text part after)
+one_invert names (One e) after following is fit same = (e, refl, is, sym same)
+one_invert names (Listed items comma) after following is fit same = absurd (fit (initials_text items (comma_text comma (close_brace ∷ after))) (sym same))
 
 -- an expression
 abbrev pub value_single : (names : Names) → Single (Values names) (Expressions names 1) 0 [] One HasNoBrace
 value_single names = record {
   production = record {
-    invert = λ whole after behind is fit same. one_invert names whole after behind is fit same;
+    invert = λ whole after following is fit same. one_invert names whole after following is fit same;
     shut = λ part after shut. value_shut after shut;
     spelled = λ part after. refl;
     is_phrase = λ part is. is;
@@ -124,10 +124,10 @@ value_single names = record {
 no_brace_text : (names : Names) (e : Written) (x : Kinds) → IsPhrase names 1 e → HasNoBrace (text e x)
 no_brace_text names e x is more same = false≢true (first_passes (begins_expression names) (text e x) open_brace more (expression_begins names e x is.1) same)
 
-front_no_brace : (names : Names) (room : ℕ) (front : Kinds) (next : TokenKind) (deep : Bool) → (front ≡ [] → next ≡ open_brace → ⊥) → Refused (Expressions names 1) room front next deep → (behind : Kinds) → Near next behind → HasNoBrace (front ++ behind)
-front_no_brace names room [] next deep other r behind near more same =
+front_no_brace : (names : Names) (limit : ℕ) (front : Kinds) (next : TokenKind) (deep : Bool) → (front ≡ [] → next ≡ open_brace → ⊥) → Refused (Expressions names 1) limit front next deep → (following : Kinds) → Near next following → HasNoBrace (front ++ following)
+front_no_brace names limit [] next deep other r following near more same =
     elim near [ inl e ↦ let z = sym same ∙ e in cc | inr m ↦ let z : open_brace ∷ more ≡ next ∷ m.0 = sym same ∙ m.1 in other refl cc ]
-front_no_brace names room (f ∷ fs) next deep other r behind near more same =
+front_no_brace names limit (f ∷ fs) next deep other r following near more same =
     elim r.begun [
       | inl e ↦ cc
       | inr b ↦
@@ -136,12 +136,12 @@ front_no_brace names room (f ∷ fs) next deep other r behind near more same =
     ]
 
 -- the expression was refused
-pub value_refused : (names : Names) (room : ℕ) → 1 ≤ room → (front : Kinds) (next : TokenKind) (deep : Bool) → (front ≡ [] → next ≡ open_brace → ⊥) → Refused (Expressions names 1) room front next deep → Refused (Values names) room front next deep
-value_refused names room some front next deep other r = single_refused (value_single names) room room (omega arith, some) front next deep (front_no_brace names room front next deep other r) r
+pub value_refused : (names : Names) (limit : ℕ) → 1 ≤ limit → (front : Kinds) (next : TokenKind) (deep : Bool) → (front ≡ [] → next ≡ open_brace → ⊥) → Refused (Expressions names 1) limit front next deep → Refused (Values names) limit front next deep
+value_refused names limit some front next deep other r = single_refused (value_single names) limit limit (omega arith, some) front next deep (front_no_brace names limit front next deep other r) r
 
 -- the expression was taken
-pub value_took : (names : Names) (room : ℕ) → 1 ≤ room → (e : Written) (next : TokenKind) (deep : Bool) → Took (Expressions names 1) room e next deep → Took (Values names) room (One e) next deep
-value_took names room some e next deep t = single_took (value_single names) room room (omega arith, some) e next deep (λ behind near. no_brace_text names e behind t.is_phrase) t
+pub value_took : (names : Names) (limit : ℕ) → 1 ≤ limit → (e : Written) (next : TokenKind) (deep : Bool) → Took (Expressions names 1) limit e next deep → Took (Values names) limit (One e) next deep
+value_took names limit some e next deep t = single_took (value_single names) limit limit (omega arith, some) e next deep (λ following near. no_brace_text names e following t.is_phrase) t
 
 -- a list of its items
 abbrev pub listed_of : List Initial × Bool → Initial
@@ -154,14 +154,14 @@ pub listed_is : (names : Names) (list : List Initial) (comma : Bool) → IsSomeL
 listed_is names [] comma some are = absurd some
 listed_is names (i ∷ list) comma some are = (are.0, items_are names list are.1)
 
-pub list_invert : (names : Names) (whole : Initial) (after behind : Kinds) → IsInitial names whole → initial_text whole after ≡ open_brace ∷ behind → (part : ListRow) × (whole ≡ listed_of part) × (IsSomeList part.0 × AreAll (IsInitial names) part.0) × (behind ≡ with_commas initial_text part.0 (comma_text part.1 (close_brace ∷ after)))
-list_invert names (One e) after behind is same = absurd (no_brace_text names e after is behind same)
-list_invert names (Listed NoItem comma) after behind is same = absurd is
-list_invert names (Listed (MoreItems i items) comma) after behind is same = (
+pub list_invert : (names : Names) (whole : Initial) (after following : Kinds) → IsInitial names whole → initial_text whole after ≡ open_brace ∷ following → (part : ListRow) × (whole ≡ listed_of part) × (IsSomeList part.0 × AreAll (IsInitial names) part.0) × (following ≡ with_commas initial_text part.0 (comma_text part.1 (close_brace ∷ after)))
+list_invert names (One e) after following is same = absurd (no_brace_text names e after is following same)
+list_invert names (Listed NoItem comma) after following is same = absurd is
+list_invert names (Listed (MoreItems i items) comma) after following is same = (
   (i ∷ list_of items, comma),
   ap (λ (x : Initials). Listed (MoreItems i x) comma) (sym (items_again items)),
   (tt, (is.0, list_is names items is.1)),
-  let k : behind ≡ initial_text i (further_initials_text items (comma_text comma (close_brace ∷ after))) = cc in
+  let k : following ≡ initial_text i (further_initials_text items (comma_text comma (close_brace ∷ after))) = cc in
       k ∙ ap (λ (x : Initials). initial_text i (further_initials_text x (comma_text comma (close_brace ∷ after)))) (sym (items_again items)) ∙ ap (initial_text i) (further_text (list_of items) (comma_text comma (close_brace ∷ after))),
 )
 
@@ -169,7 +169,7 @@ list_invert names (Listed (MoreItems i items) comma) after behind is same = (
 abbrev pub list_single : (names : Names) → Single (Values names) (Trailing (Values names) close_brace) 1 (open_brace ∷ []) listed_of (λ rest. Unit {0})
 list_single names = record {
   production = record {
-    invert = λ whole after behind is fit same. list_invert names whole after behind is same;
+    invert = λ whole after following is fit same. list_invert names whole after following is same;
     shut = λ part after shut. tt;
     spelled = λ part after. ap (λ (r : Kinds). open_brace ∷ r) (items_text part.0 (comma_text part.1 (close_brace ∷ after)));
     is_phrase = λ part is. listed_is names part.0 part.1 is.0 is.1;
@@ -183,12 +183,12 @@ items_height : (names : Names) (items : Initials) (comma : Bool) → IsInitial n
 items_height names NoItem comma is = absurd is
 items_height names (MoreItems i items) comma is = let h = value_height i in omega (arith, h)
 
-brace_high : (names : Names) (room : ℕ) → room < 2 → (i : Initial) (after more : Kinds) → IsInitial names i → initial_text i after ≡ open_brace ∷ more → room < initial_height i
-brace_high names room full (One e) after more is same = absurd (no_brace_text names e after is more same)
-brace_high names room full (Listed items comma) after more is same = let h = items_height names items comma is in omega (arith, h, full)
+brace_high : (names : Names) (limit : ℕ) → limit < 2 → (i : Initial) (after more : Kinds) → IsInitial names i → initial_text i after ≡ open_brace ∷ more → limit < initial_height i
+brace_high names limit full (One e) after more is same = absurd (no_brace_text names e after is more same)
+brace_high names limit full (Listed items comma) after more is same = let h = items_height names items comma is in omega (arith, h, full)
 
 -- there is no room for a list
-pub list_full : (names : Names) (room : ℕ) → room < 2 → Refused (Values names) room [] open_brace true
-list_full names room full =
-    full_refused (Values names) room open_brace (value_has names) (λ i after more is same. brace_high names room full i after more is same)
+pub list_full : (names : Names) (limit : ℕ) → limit < 2 → Refused (Values names) limit [] open_brace true
+list_full names limit full =
+    full_refused (Values names) limit open_brace (value_has names) (λ i after more is same. brace_high names limit full i after more is same)
     (record { phrase = Listed (MoreItems (One nought) NoItem) false; more = text nought (close_brace ∷ []); is_phrase = ((omega arith, tt), tt); spelled = refl })

@@ -58,8 +58,8 @@ type_example names (token.Keyword k) e = keyword_type names k e
 type_example names (token.Number c) e = absurd cc
 type_example names (token.Character v) e = absurd cc
 type_example names (token.Text b) e = absurd cc
-type_example names (token.Mark m) e = absurd cc
-type_example names (token.LeftOut w) e = absurd cc
+type_example names (token.Punctuator m) e = absurd cc
+type_example names (token.Unsupported w) e = absurd cc
 type_example names token.Attribute e = absurd cc
 
 declaration_example : (names : Names) (t : TokenKind) → begins_type names t ≡ true → Begins (BlockItems names) (t ∷ [])
@@ -84,38 +84,38 @@ pub item_has : (names : Names) (i : Item) (after : Kinds) → IsItem names i →
 item_has names i after is same = some_first (begins_item names) (item_text i after) (item_begins names i after is) same
 
 -- nothing that may stand in a block begins with the token
-pub item_not : (names : Names) (room : ℕ) (next : TokenKind) → begins_item names next ≡ false → Refused (BlockItems names) room [] next false
-item_not names room next e =
-    none_refused (BlockItems names) room next (item_has names) (λ i after more is same. false≢true (sym e ∙ first_passes (begins_item names) (item_text i after) next more (item_begins names i after is) same))
+pub item_not : (names : Names) (limit : ℕ) (next : TokenKind) → begins_item names next ≡ false → Refused (BlockItems names) limit [] next false
+item_not names limit next e =
+    none_refused (BlockItems names) limit next (item_has names) (λ i after more is same. false≢true (sym e ∙ first_passes (begins_item names) (item_text i after) next more (item_begins names i after is) same))
 
 -- there is no room for anything
-pub item_none : (names : Names) (room : ℕ) (next : TokenKind) → room < 1 → begins_item names next ≡ true → Refused (BlockItems names) room [] next true
-item_none names room next full e = full_refused (BlockItems names) room next (item_has names) (λ i after more is same. let h = item_some names i is in omega (arith, h, full)) (item_example names next e)
+pub item_none : (names : Names) (limit : ℕ) (next : TokenKind) → limit < 1 → begins_item names next ≡ true → Refused (BlockItems names) limit [] next true
+item_none names limit next full e = full_refused (BlockItems names) limit next (item_has names) (λ i after more is same. let h = item_some names i is in omega (arith, h, full)) (item_example names next e)
 
 item_two : (names : Names) (i : Item) (after : Kinds) (t : TokenKind) (more : Kinds) → IsItem names i → item_text i after ≡ t ∷ more → begins_low t ≡ false → 2 ≤ item_height i
 item_two names (Does s) after t more is same l = two_high names s after t more same l
 item_two names (Declares specs objects) after t more is same l = let h = block_specs_height names specs is.0 in omega (arith, h)
 
 -- there is room for a statement without parts alone, and the token begins none
-pub item_low : (names : Names) (room : ℕ) (next : TokenKind) → room < 2 → begins_item names next ≡ true → begins_low next ≡ false → Refused (BlockItems names) room [] next true
-item_low names room next full e l = full_refused (BlockItems names) room next (item_has names) (λ i after more is same. let h = item_two names i after next more is same l in omega (arith, h, full)) (item_example names next e)
+pub item_low : (names : Names) (limit : ℕ) (next : TokenKind) → limit < 2 → begins_item names next ≡ true → begins_low next ≡ false → Refused (BlockItems names) limit [] next true
+item_low names limit next full e l = full_refused (BlockItems names) limit next (item_has names) (λ i after more is same. let h = item_two names i after next more is same l in omega (arith, h, full)) (item_example names next e)
 
-second_near : (fs behind more : Kinds) (next : TokenKind) → (first_or fs next ≡ colon → ⊥) → Near next behind → fs ++ behind ≡ colon ∷ more → ⊥
-second_near [] behind more next other near same = near_other colon next behind more other near (sym same)
-second_near (g ∷ gs) behind more next other near same = other cc
+second_near : (fs following more : Kinds) (next : TokenKind) → (first_or fs next ≡ colon → ⊥) → Near next following → fs ++ following ≡ colon ∷ more → ⊥
+second_near [] following more next other near same = near_other colon next following more other near (sym same)
+second_near (g ∷ gs) following more next other near same = other cc
 
 -- tokens of a declaration that was refused
-pub declaration_fits : (names : Names) (f : TokenKind) (fs : Kinds) (next : TokenKind) → begins_type names f ≡ true → ((n : List ℕ) → f ≡ token.Name n → first_or fs next ≡ colon → ⊥) → (behind : Kinds) → Near next behind → IsDeclaration names ((f ∷ fs) ++ behind)
-declaration_fits names f fs next e other behind near = record {
+pub declaration_fits : (names : Names) (f : TokenKind) (fs : Kinds) (next : TokenKind) → begins_type names f ≡ true → ((n : List ℕ) → f ≡ token.Name n → first_or fs next ≡ colon → ⊥) → (following : Kinds) → Near next following → IsDeclaration names ((f ∷ fs) ++ following)
+declaration_fits names f fs next e other following near = record {
   typed = λ first more same. let k : f ≡ first = cc in ap (begins_type names) (sym k) ∙ e;
-  unlabelled = λ n more same. let k : f ≡ token.Name n = cc in second_near fs behind more next (other n k) near cc;
+  unlabelled = λ n more same. let k : f ≡ token.Name n = cc in second_near fs following more next (other n k) near cc;
   some = λ none. cc;
 }
 
 -- a declaration was refused
-pub declares_refused : (names : Names) (room inner : ℕ) → room ≡ 1 + inner → 1 ≤ inner → (f : TokenKind) (fs : Kinds) (next : TokenKind) (deep : Bool) → begins_type names f ≡ true → ((n : List ℕ) → f ≡ token.Name n → first_or fs next ≡ colon → ⊥) → Refused (BlockDeclarations names) inner (f ∷ fs) next deep → Refused (BlockItems names) room (f ∷ fs) next deep
-declares_refused names room inner less some f fs next deep e other r =
-    single_refused (declares_single names) room inner (less, omega (arith, some)) (f ∷ fs) next deep (declaration_fits names f fs next e other) r
+pub declares_refused : (names : Names) (limit inner : ℕ) → limit ≡ 1 + inner → 1 ≤ inner → (f : TokenKind) (fs : Kinds) (next : TokenKind) (deep : Bool) → begins_type names f ≡ true → ((n : List ℕ) → f ≡ token.Name n → first_or fs next ≡ colon → ⊥) → Refused (BlockDeclarations names) inner (f ∷ fs) next deep → Refused (BlockItems names) limit (f ∷ fs) next deep
+declares_refused names limit inner less some f fs next deep e other r =
+    single_refused (declares_single names) limit inner (less, omega (arith, some)) (f ∷ fs) next deep (declaration_fits names f fs next e other) r
 
 declaration_is : (names : Names) (specs : Specs) (objects : List Declared) (x : Kinds) → AreBlockSpecs names specs → IsSomeList objects → AreAll (IsDeclared names) objects → IsDeclaration names (declaration_text specs objects x)
 declaration_is names specs objects x is some are =
@@ -130,9 +130,9 @@ declaration_is names specs objects x is some are =
     }
 
 -- a declaration was taken
-pub declares_took : (names : Names) (room inner : ℕ) → room ≡ 1 + inner → 1 ≤ inner → (part : Declaration) (next : TokenKind) (deep : Bool) → Took (BlockDeclarations names) inner part next deep → Took (BlockItems names) room (Declares part.0 part.1) next deep
-declares_took names room inner less some part next deep t =
-    single_took (declares_single names) room inner (less, omega (arith, some)) part next deep (λ behind near. declaration_is names part.0 part.1 behind t.is_phrase.0 t.is_phrase.1.0 t.is_phrase.1.1) t
+pub declares_took : (names : Names) (limit inner : ℕ) → limit ≡ 1 + inner → 1 ≤ inner → (part : Declaration) (next : TokenKind) (deep : Bool) → Took (BlockDeclarations names) inner part next deep → Took (BlockItems names) limit (Declares part.0 part.1) next deep
+declares_took names limit inner less some part next deep t =
+    single_took (declares_single names) limit inner (less, omega (arith, some)) part next deep (λ following near. declaration_is names part.0 part.1 following t.is_phrase.0 t.is_phrase.1.0 t.is_phrase.1.1) t
 
 either_type : (b : Bool) → (b ≡ false) ⊎ (b ≡ true)
 either_type false = inl refl
@@ -148,19 +148,19 @@ statement_is names s x is first more same =
           inr (name_sentence names s x n.0 more is n.2 (same ∙ ap (λ (t : TokenKind). t ∷ more) n.1))
     ]
 
-statement_front : (names : Names) (room : ℕ) (f : TokenKind) (fs behind : Kinds) → BeginsLow (Sentences names) room (f ∷ fs) → ((n : List ℕ) → f ∷ fs ≡ token.Name n ∷ [] → is_among names n ≡ false) → begins_type names f ≡ true → (m : Kinds) × (fs ++ behind ≡ colon ∷ m)
-statement_front names room f [] behind b lone typed =
+statement_front : (names : Names) (limit : ℕ) (f : TokenKind) (fs following : Kinds) → BeginsLow (Sentences names) limit (f ∷ fs) → ((n : List ℕ) → f ∷ fs ≡ token.Name n ∷ [] → is_among names n ≡ false) → begins_type names f ≡ true → (m : Kinds) × (fs ++ following ≡ colon ∷ m)
+statement_front names limit f [] following b lone typed =
     let n = both_begin names f (first_passes begins_sentence (sentence_text b.phrase []) f b.more (sentence_begins names b.phrase [] b.is_phrase) b.spelled) typed in
     absurd (both_ways (is_among names n.0) (lone n.0 (ap (λ (t : TokenKind). t ∷ []) n.1)) n.2)
-statement_front names room f (g ∷ gs) behind b lone typed =
+statement_front names limit f (g ∷ gs) following b lone typed =
     let n = both_begin names f (first_passes begins_sentence (sentence_text b.phrase []) f ((g ∷ gs) ++ b.more) (sentence_begins names b.phrase [] b.is_phrase) b.spelled) typed in
     let m = name_sentence names b.phrase [] n.0 ((g ∷ gs) ++ b.more) b.is_phrase n.2 (b.spelled ∙ ap (λ (t : TokenKind). t ∷ ((g ∷ gs) ++ b.more)) n.1) in
     let s : g ∷ (gs ++ b.more) ≡ colon ∷ m.0 = m.1 in
     let k : g ≡ colon = cc in
-    (gs ++ behind, ap (λ (t : TokenKind). t ∷ (gs ++ behind)) k)
+    (gs ++ following, ap (λ (t : TokenKind). t ∷ (gs ++ following)) k)
 
-statement_fits : (names : Names) (room : ℕ) (front : Kinds) (next : TokenKind) (deep : Bool) → (front ≡ [] → begins_type names next ≡ false) → ((n : List ℕ) → front ≡ token.Name n ∷ [] → is_among names n ≡ false) → Refused (Sentences names) room front next deep → (behind : Kinds) → Near next behind → IsStatement names (front ++ behind)
-statement_fits names room [] next deep first lone r behind near t more same =
+statement_fits : (names : Names) (limit : ℕ) (front : Kinds) (next : TokenKind) (deep : Bool) → (front ≡ [] → begins_type names next ≡ false) → ((n : List ℕ) → front ≡ token.Name n ∷ [] → is_among names n ≡ false) → Refused (Sentences names) limit front next deep → (following : Kinds) → Near next following → IsStatement names (front ++ following)
+statement_fits names limit [] next deep first lone r following near t more same =
     elim near [
       | inl none ↦ let z = sym same ∙ none in absurd cc
       | inr m ↦
@@ -168,27 +168,27 @@ statement_fits names room [] next deep first lone r behind near t more same =
           let k : t ≡ next = cc in
           inl (ap (begins_type names) k ∙ first refl)
     ]
-statement_fits names room (f ∷ fs) next deep first lone r behind near t more same =
+statement_fits names limit (f ∷ fs) next deep first lone r following near t more same =
     let k : f ≡ t = cc in
-    let z : fs ++ behind ≡ more = cc in
+    let z : fs ++ following ≡ more = cc in
     elim r.begun [
       | inl none ↦ absurd cc
       | inr b ↦
           elim (either_type (begins_type names t)) [
             | inl no_type ↦ inl no_type
             | inr typed ↦
-                let m = statement_front names room f fs behind b lone (ap (begins_type names) k ∙ typed) in
+                let m = statement_front names limit f fs following b lone (ap (begins_type names) k ∙ typed) in
                 inr (m.0, sym z ∙ m.1)
           ]
     ]
 
 -- a statement was refused; a typedef name without a colon begins no statement in a block
-pub does_refused : (names : Names) (room : ℕ) → 1 ≤ room → (front : Kinds) (next : TokenKind) (deep : Bool) → (front ≡ [] → begins_type names next ≡ false) → ((n : List ℕ) → front ≡ token.Name n ∷ [] → is_among names n ≡ false) → Refused (Sentences names) room front next deep → Refused (BlockItems names) room front next deep
-does_refused names room some front next deep first lone r = single_refused (does_single names) room room (omega arith, some) front next deep (statement_fits names room front next deep first lone r) r
+pub does_refused : (names : Names) (limit : ℕ) → 1 ≤ limit → (front : Kinds) (next : TokenKind) (deep : Bool) → (front ≡ [] → begins_type names next ≡ false) → ((n : List ℕ) → front ≡ token.Name n ∷ [] → is_among names n ≡ false) → Refused (Sentences names) limit front next deep → Refused (BlockItems names) limit front next deep
+does_refused names limit some front next deep first lone r = single_refused (does_single names) limit limit (omega arith, some) front next deep (statement_fits names limit front next deep first lone r) r
 
 -- a statement was taken
-pub does_took : (names : Names) (room : ℕ) → 1 ≤ room → (s : Sentence) (next : TokenKind) (deep : Bool) → Took (Sentences names) room s next deep → Took (BlockItems names) room (Does s) next deep
-does_took names room some s next deep t = single_took (does_single names) room room (omega arith, some) s next deep (λ behind near. statement_is names s behind t.is_phrase) t
+pub does_took : (names : Names) (limit : ℕ) → 1 ≤ limit → (s : Sentence) (next : TokenKind) (deep : Bool) → Took (Sentences names) limit s next deep → Took (BlockItems names) limit (Does s) next deep
+does_took names limit some s next deep t = single_took (does_single names) limit limit (omega arith, some) s next deep (λ following near. statement_is names s following t.is_phrase) t
 
 keyword_no_case : (names : Names) (k : Keyword) → begins_item names (token.Keyword k) ≡ true → is_case (token.Keyword k) ≡ false
 keyword_no_case names keyword.Case e = absurd cc
@@ -202,8 +202,8 @@ no_case names _ e = refl
 item_no_case : (names : Names) (i : Item) (x : Kinds) → IsItem names i → HasNoCase (item_text i x)
 item_no_case names i x is first more same = no_case names first (first_passes (begins_item names) (item_text i x) first more (item_begins names i x is) same)
 
-case_fits : (names : Names) (room : ℕ) (front : Kinds) (next : TokenKind) (deep : Bool) → (front ≡ [] → is_case next ≡ false) → Refused (BlockItems names) room front next deep → (behind : Kinds) → Near next behind → HasNoCase (front ++ behind)
-case_fits names room [] next deep first r behind near t more same =
+case_fits : (names : Names) (limit : ℕ) (front : Kinds) (next : TokenKind) (deep : Bool) → (front ≡ [] → is_case next ≡ false) → Refused (BlockItems names) limit front next deep → (following : Kinds) → Near next following → HasNoCase (front ++ following)
+case_fits names limit [] next deep first r following near t more same =
     elim near [
       | inl none ↦ let z = sym same ∙ none in absurd cc
       | inr m ↦
@@ -211,7 +211,7 @@ case_fits names room [] next deep first r behind near t more same =
           let k : t ≡ next = cc in
           ap is_case k ∙ first refl
     ]
-case_fits names room (f ∷ fs) next deep first r behind near t more same =
+case_fits names limit (f ∷ fs) next deep first r following near t more same =
     let k : f ≡ t = cc in
     elim r.begun [
       | inl none ↦ absurd cc
@@ -219,20 +219,20 @@ case_fits names room (f ∷ fs) next deep first r behind near t more same =
     ]
 
 -- what any block may have was refused in a `switch`
-pub inside_refused : (names : Names) (room : ℕ) → 1 ≤ room → (front : Kinds) (next : TokenKind) (deep : Bool) → (front ≡ [] → is_case next ≡ false) → Refused (BlockItems names) room front next deep → Refused (SwitchParts names) room front next deep
-inside_refused names room some front next deep first r = single_refused (inside_single names) room room (omega arith, some) front next deep (case_fits names room front next deep first r) r
+pub inside_refused : (names : Names) (limit : ℕ) → 1 ≤ limit → (front : Kinds) (next : TokenKind) (deep : Bool) → (front ≡ [] → is_case next ≡ false) → Refused (BlockItems names) limit front next deep → Refused (SwitchParts names) limit front next deep
+inside_refused names limit some front next deep first r = single_refused (inside_single names) limit limit (omega arith, some) front next deep (case_fits names limit front next deep first r) r
 
 -- it was taken
-pub inside_took : (names : Names) (room : ℕ) → 1 ≤ room → (i : Item) (next : TokenKind) (deep : Bool) → Took (BlockItems names) room i next deep → Took (SwitchParts names) room (Inside i) next deep
-inside_took names room some i next deep t = single_took (inside_single names) room room (omega arith, some) i next deep (λ behind near. item_no_case names i behind t.is_phrase) t
+pub inside_took : (names : Names) (limit : ℕ) → 1 ≤ limit → (i : Item) (next : TokenKind) (deep : Bool) → Took (BlockItems names) limit i next deep → Took (SwitchParts names) limit (Inside i) next deep
+inside_took names limit some i next deep t = single_took (inside_single names) limit limit (omega arith, some) i next deep (λ following near. item_no_case names i following t.is_phrase) t
 
 part_has : (names : Names) (i : SwitchItem) (after : Kinds) → IsSwitchItem names i → switch_item_text i after ≡ [] → ⊥
 part_has names i after is same = some_first (begins_switch_part names) (switch_item_text i after) (switch_part_begins names i after is) same
 
 -- nothing that may stand in a `switch` begins with the token
-pub part_not : (names : Names) (room : ℕ) (next : TokenKind) → begins_switch_part names next ≡ false → Refused (SwitchParts names) room [] next false
-part_not names room next e =
-    none_refused (SwitchParts names) room next (part_has names) (λ i after more is same. false≢true (sym e ∙ first_passes (begins_switch_part names) (switch_item_text i after) next more (switch_part_begins names i after is) same))
+pub part_not : (names : Names) (limit : ℕ) (next : TokenKind) → begins_switch_part names next ≡ false → Refused (SwitchParts names) limit [] next false
+part_not names limit next e =
+    none_refused (SwitchParts names) limit next (part_has names) (λ i after more is same. false≢true (sym e ∙ first_passes (begins_switch_part names) (switch_item_text i after) next more (switch_part_begins names i after is) same))
 
 part_some : (names : Names) (i : SwitchItem) (after : Kinds) (t : TokenKind) (more : Kinds) → IsSwitchItem names i → (t ≡ word keyword.Default → ⊥) → switch_item_text i after ≡ t ∷ more → 1 ≤ switch_item_height i
 part_some names (Case e) after t more is other same = expression_height e
@@ -240,14 +240,14 @@ part_some names Default after t more is other same = absurd (other cc)
 part_some names (Inside i) after t more is other same = item_some names i is
 
 -- there is no room for a `case`
-pub case_none : (names : Names) (room : ℕ) → room < 1 → Refused (SwitchParts names) room [] (word keyword.Case) true
-case_none names room full =
-    full_refused (SwitchParts names) room (word keyword.Case) (part_has names) (λ i after more is same. let h = part_some names i after (word keyword.Case) more is (λ e. cc) same in omega (arith, h, full))
+pub case_none : (names : Names) (limit : ℕ) → limit < 1 → Refused (SwitchParts names) limit [] (word keyword.Case) true
+case_none names limit full =
+    full_refused (SwitchParts names) limit (word keyword.Case) (part_has names) (λ i after more is same. let h = part_some names i after (word keyword.Case) more is (λ e. cc) same in omega (arith, h, full))
     (record { phrase = Case nought; more = text nought (colon ∷ []); is_phrase = (omega arith, tt); spelled = refl })
 
 -- there is no room for anything but `default`
-pub inside_none : (names : Names) (room : ℕ) (next : TokenKind) → room < 1 → begins_item names next ≡ true → (next ≡ word keyword.Default → ⊥) → Refused (SwitchParts names) room [] next true
-inside_none names room next full e other =
+pub inside_none : (names : Names) (limit : ℕ) (next : TokenKind) → limit < 1 → begins_item names next ≡ true → (next ≡ word keyword.Default → ⊥) → Refused (SwitchParts names) limit [] next true
+inside_none names limit next full e other =
     let b = item_example names next e in
-    full_refused (SwitchParts names) room next (part_has names) (λ i after more is same. let h = part_some names i after next more is other same in omega (arith, h, full))
+    full_refused (SwitchParts names) limit next (part_has names) (λ i after more is same. let h = part_some names i after next more is other same in omega (arith, h, full))
     (record { phrase = Inside b.phrase; more = b.more; is_phrase = b.is_phrase; spelled = b.spelled })

@@ -12,10 +12,10 @@ use Rattle.cs_ast.specs.RawTree.{Written}
 use Rattle.cs_ast.specs.RawHeight.{height}
 use Rattle.cs_grammar.specs.TypeWords.{Names}
 use Rattle.cs_grammar.specs.Levels.{level_of, infix_level}
-use Rattle.cs_grammar.specs.Marks.{step_mark, infix_mark, assign_mark}
+use Rattle.cs_grammar.specs.Punctuators.{step_punctuator, infix_punctuator, assign_punctuator}
 use Rattle.cs_grammar.specs.Text.{Kinds, text}
 use Rattle.cs_grammar.specs.Phrases.{IsPhrase}
-use Rattle.cs_grammar.specs.Continuing.{join, mark_join, join_of}
+use Rattle.cs_grammar.specs.Continuing.{join, punctuator_join, join_of}
 use Rattle.cs_grammar.specs.Parsing.{Expressions, Near, IsOver, Begins, Took, Refused}
 use Rattle.cs_grammar.proofs.Texts.{text_append}
 use Rattle.cs_grammar.proofs.Holes.{Lawful}
@@ -23,7 +23,7 @@ use Rattle.cs_grammar.proofs.Holes.{Lawful}
 pub text_law : (names : Names) (level : ℕ) → Lawful (Expressions names level)
 text_law names level = text_append
 
-pub infix_join : (op : InfixOp) → mark_join (infix_mark op) ≡ suc (infix_level op)
+pub infix_join : (op : InfixOp) → punctuator_join (infix_punctuator op) ≡ suc (infix_level op)
 infix_join between.Or = refl
 infix_join between.And = refl
 infix_join between.BitOr = refl
@@ -63,7 +63,7 @@ infix_levels between.Multiply = (omega arith, omega arith)
 infix_levels between.Divide = (omega arith, omega arith)
 infix_levels between.Remainder = (omega arith, omega arith)
 
-pub assign_join : (op : AssignOp) → mark_join (assign_mark op) ≡ 2
+pub assign_join : (op : AssignOp) → punctuator_join (assign_punctuator op) ≡ 2
 assign_join assign.Plain = refl
 assign_join assign.Multiply = refl
 assign_join assign.Divide = refl
@@ -76,7 +76,7 @@ assign_join assign.BitAnd = refl
 assign_join assign.BitXor = refl
 assign_join assign.BitOr = refl
 
-pub step_join : (step : Step) → mark_join (step_mark step) ≡ 16
+pub step_join : (step : Step) → punctuator_join (step_punctuator step) ≡ 16
 step_join Up = refl
 step_join Down = refl
 
@@ -84,60 +84,60 @@ step_join Down = refl
 pub looser : (names : Names) (level tight : ℕ) (e : Written) → level ≤ tight → IsPhrase names tight e → IsPhrase names level e
 looser names level tight e less is = (omega (arith, is.0), is.1)
 
-over_level : (names : Names) (level tight room : ℕ) (deep : Bool) (e : Written) (behind : Kinds) → IsOver (Expressions names tight) room deep e behind → IsOver (Expressions names level) room deep e behind
-over_level names level tight room deep e behind over = record { told = over.told; high = over.high; onward = over.onward }
+over_level : (names : Names) (level tight limit : ℕ) (deep : Bool) (e : Written) (following : Kinds) → IsOver (Expressions names tight) limit deep e following → IsOver (Expressions names level) limit deep e following
+over_level names level tight limit deep e following over = record { reported = over.reported; high = over.high; onward = over.onward }
 
 begins_level : (names : Names) (level tight : ℕ) (front : Kinds) → level ≤ tight → Begins (Expressions names tight) front → Begins (Expressions names level) front
 begins_level names level tight front less b = record { phrase = b.phrase; more = b.more; is_phrase = looser names level tight b.phrase less b.is_phrase; spelled = b.spelled }
 
 -- what was taken on a tighter level is taken on a looser one too, if nothing looser begins so
-pub pass_took : (names : Names) (level tight room : ℕ) (e : Written) (next : TokenKind) (deep : Bool) → level ≤ tight → Took (Expressions names tight) room e next deep → ((other : Written) (after behind : Kinds) → IsPhrase names level other → level_of other < tight → join_of after ≤ level → Near next behind → text other after ≡ text e behind → IsOver (Expressions names level) room deep other behind) → Took (Expressions names level) room e next deep
-pass_took names level tight room e next deep less t none = record {
+pub pass_took : (names : Names) (level tight limit : ℕ) (e : Written) (next : TokenKind) (deep : Bool) → level ≤ tight → Took (Expressions names tight) limit e next deep → ((other : Written) (after following : Kinds) → IsPhrase names level other → level_of other < tight → join_of after ≤ level → Near next following → text other after ≡ text e following → IsOver (Expressions names level) limit deep other following) → Took (Expressions names level) limit e next deep
+pass_took names level tight limit e next deep less t none = record {
   is_phrase = looser names level tight e less t.is_phrase;
   low = t.low;
-  only = λ other after behind is shut near same.
+  only = λ other after following is shut near same.
       elim (cases_lt (level_of other) tight) [
-        | inl loose ↦ inr (none other after behind is loose shut near same)
+        | inl loose ↦ inr (none other after following is loose shut near same)
         | inr bound ↦
-            elim (t.only other after behind (bound, is.1) (omega arith) near same) [
+            elim (t.only other after following (bound, is.1) (omega arith) near same) [
               | inl e ↦ inl e
-              | inr over ↦ inr (over_level names level tight room deep other behind over)
+              | inr over ↦ inr (over_level names level tight limit deep other following over)
             ]
       ];
-  further = λ told. begins_level names level tight (text e (next ∷ [])) less (t.further told);
-  joined = λ told more shut. t.joined told more (omega arith);
+  further = λ reported. begins_level names level tight (text e (next ∷ [])) less (t.further reported);
+  joined = λ reported more shut. t.joined reported more (omega arith);
 }
 
-pub pass_refused : (names : Names) (level tight room : ℕ) (front : Kinds) (next : TokenKind) (deep : Bool) → level ≤ tight → Refused (Expressions names tight) room front next deep → ((other : Written) (after behind : Kinds) → IsPhrase names level other → level_of other < tight → join_of after ≤ level → Near next behind → text other after ≡ front ++ behind → IsOver (Expressions names level) room deep other behind) → Refused (Expressions names level) room front next deep
-pass_refused names level tight room front next deep less r none = record {
+pub pass_refused : (names : Names) (level tight limit : ℕ) (front : Kinds) (next : TokenKind) (deep : Bool) → level ≤ tight → Refused (Expressions names tight) limit front next deep → ((other : Written) (after following : Kinds) → IsPhrase names level other → level_of other < tight → join_of after ≤ level → Near next following → text other after ≡ front ++ following → IsOver (Expressions names level) limit deep other following) → Refused (Expressions names level) limit front next deep
+pass_refused names level tight limit front next deep less r none = record {
   begun = elim r.begun [
     | inl empty ↦ inl empty
     | inr b ↦ inr (record { phrase = b.phrase; more = b.more; is_phrase = looser names level tight b.phrase less b.is_phrase; low = b.low; spelled = b.spelled })
   ];
-  never = λ other after behind is shut near same.
+  never = λ other after following is shut near same.
       elim (cases_lt (level_of other) tight) [
-        | inl loose ↦ none other after behind is loose shut near same
-        | inr bound ↦ over_level names level tight room deep other behind (r.never other after behind (bound, is.1) (omega arith) near same)
+        | inl loose ↦ none other after following is loose shut near same
+        | inr bound ↦ over_level names level tight limit deep other following (r.never other after following (bound, is.1) (omega arith) near same)
       ];
-  further = λ told. begins_level names level tight (front ++ next ∷ []) less (r.further told);
+  further = λ reported. begins_level names level tight (front ++ next ∷ []) less (r.further reported);
 }
 
 -- what was taken on a tighter level is taken on a looser one, where the looser phrases that begin so are too high
-pub deepen : (names : Names) (level tight room : ℕ) (e : Written) (next : TokenKind) (deep : Bool) → level ≤ tight → Took (Expressions names tight) room e next deep → ((more : Kinds) → join_of (next ∷ more) ≤ tight) → level < join next → ((other : Written) (after behind : Kinds) → IsPhrase names level other → level_of other < tight → join_of after ≤ level → Near next behind → text other after ≡ text e behind → (room < height other) × (behind ≡ [] → ⊥)) → Begins (Expressions names level) (text e (next ∷ [])) → Took (Expressions names level) room e next true
-deepen names level tight room e next deep less t shut joins high further = record {
+pub deepen : (names : Names) (level tight limit : ℕ) (e : Written) (next : TokenKind) (deep : Bool) → level ≤ tight → Took (Expressions names tight) limit e next deep → ((more : Kinds) → join_of (next ∷ more) ≤ tight) → level < join next → ((other : Written) (after following : Kinds) → IsPhrase names level other → level_of other < tight → join_of after ≤ level → Near next following → text other after ≡ text e following → (limit < height other) × (following ≡ [] → ⊥)) → Begins (Expressions names level) (text e (next ∷ [])) → Took (Expressions names level) limit e next true
+deepen names level tight limit e next deep less t shut joins high further = record {
   is_phrase = looser names level tight e less t.is_phrase;
   low = t.low;
-  only = λ other after behind is closed near same.
+  only = λ other after following is closed near same.
       elim (cases_lt (level_of other) tight) [
         | inl loose ↦
-            let h = high other after behind is loose closed near same in
-            inr (record { told = refl; high = h.0; onward = h.1 })
+            let h = high other after following is loose closed near same in
+            inr (record { reported = refl; high = h.0; onward = h.1 })
         | inr bound ↦
-            elim (t.only other after behind (bound, is.1) (omega arith) near same) [
+            elim (t.only other after following (bound, is.1) (omega arith) near same) [
               | inl e ↦ inl e
-              | inr over ↦ absurd (t.joined over.told [] (shut []))
+              | inr over ↦ absurd (t.joined over.reported [] (shut []))
             ]
       ];
-  further = λ told. further;
-  joined = λ told more closed. omega arith;
+  further = λ reported. further;
+  joined = λ reported more closed. omega arith;
 }

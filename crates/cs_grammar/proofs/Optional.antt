@@ -43,33 +43,33 @@ no_empty names level e after is same =
     let s : b.first ∷ b.others ≡ [] = sym b.are ∙ same in
     cc
 
-none_is : (names : Names) (level : ℕ) (MayLack : Type 0) (close : TokenKind) → Closes names level close → (other : Option Written) (after behind : Kinds) → (ClosedSome names level MayLack close).Is other → (ClosedSome names level MayLack close).spell other after ≡ close ∷ behind → (other ≡ None) × (after ≡ behind)
-none_is names level MayLack close c None after behind is same = (refl, cc)
-none_is names level MayLack close c (Some e) after behind is same = absurd (no_close names level close c e (close ∷ after) behind is same)
+none_is : (names : Names) (level : ℕ) (MayLack : Type 0) (close : TokenKind) → Closes names level close → (other : Option Written) (after following : Kinds) → (ClosedSome names level MayLack close).Is other → (ClosedSome names level MayLack close).spell other after ≡ close ∷ following → (other ≡ None) × (after ≡ following)
+none_is names level MayLack close c None after following is same = (refl, cc)
+none_is names level MayLack close c (Some e) after following is same = absurd (no_close names level close c e (close ∷ after) following is same)
 
 -- what closes it stands there
-pub some_none : (names : Names) (level : ℕ) (MayLack : Type 0) (close : TokenKind) (room : ℕ) → Closes names level close → MayLack → Exactly (ClosedSome names level MayLack close) room None
-some_none names level MayLack close room c lack = record {
+pub some_none : (names : Names) (level : ℕ) (MayLack : Type 0) (close : TokenKind) (limit : ℕ) → Closes names level close → MayLack → Exactly (ClosedSome names level MayLack close) limit None
+some_none names level MayLack close limit c lack = record {
   is_phrase = lack;
   low = omega arith;
-  exact = λ other after behind is same. none_is names level MayLack close c other after behind is same;
+  exact = λ other after following is same. none_is names level MayLack close c other after following is same;
 }
 
 -- what closes an expression doesn't stand there
 abbrev pub IsUnclosed : TokenKind → Kinds → Type 0
-IsUnclosed close behind = (more : Kinds) → behind ≡ close ∷ more → ⊥
+IsUnclosed close following = (more : Kinds) → following ≡ close ∷ more → ⊥
 
-some_invert : (names : Names) (level : ℕ) (MayLack : Type 0) (close : TokenKind) (whole : Option Written) (after behind : Kinds) → (ClosedSome names level MayLack close).Is whole → IsUnclosed close behind → (ClosedSome names level MayLack close).spell whole after ≡ behind → (part : Written) × (whole ≡ Some part) × IsPhrase names level part × (behind ≡ text part (close ∷ after))
-some_invert names level MayLack close None after behind is unclosed same = absurd (unclosed after (sym same))
-some_invert names level MayLack close (Some e) after behind is unclosed same = (e, refl, is, sym same)
+some_invert : (names : Names) (level : ℕ) (MayLack : Type 0) (close : TokenKind) (whole : Option Written) (after following : Kinds) → (ClosedSome names level MayLack close).Is whole → IsUnclosed close following → (ClosedSome names level MayLack close).spell whole after ≡ following → (part : Written) × (whole ≡ Some part) × IsPhrase names level part × (following ≡ text part (close ∷ after))
+some_invert names level MayLack close None after following is unclosed same = absurd (unclosed after (sym same))
+some_invert names level MayLack close (Some e) after following is unclosed same = (e, refl, is, sym same)
 
-some_never : (names : Names) (level : ℕ) (MayLack : Type 0) (close : TokenKind) (room : ℕ) → Closes names level close → (front : Kinds) (next : TokenKind) (deep : Bool) → (front ≡ [] → next ≡ close → ⊥) → Refused (Expressions names level) room front next deep → (other : Option Written) (after behind : Kinds) → (ClosedSome names level MayLack close).Is other → Near next behind → (ClosedSome names level MayLack close).spell other after ≡ front ++ behind → IsOver (ClosedSome names level MayLack close) room deep other behind
-some_never names level MayLack close room c front next deep open_here r (Some e) after behind is near same =
-    let v = r.never e (close ∷ after) behind is c.shut near same in
-    record { told = v.told; high = v.high; onward = v.onward }
-some_never names level MayLack close room c [] next deep open_here r None after behind is near same =
+some_never : (names : Names) (level : ℕ) (MayLack : Type 0) (close : TokenKind) (limit : ℕ) → Closes names level close → (front : Kinds) (next : TokenKind) (deep : Bool) → (front ≡ [] → next ≡ close → ⊥) → Refused (Expressions names level) limit front next deep → (other : Option Written) (after following : Kinds) → (ClosedSome names level MayLack close).Is other → Near next following → (ClosedSome names level MayLack close).spell other after ≡ front ++ following → IsOver (ClosedSome names level MayLack close) limit deep other following
+some_never names level MayLack close limit c front next deep open_here r (Some e) after following is near same =
+    let v = r.never e (close ∷ after) following is c.shut near same in
+    record { reported = v.reported; high = v.high; onward = v.onward }
+some_never names level MayLack close limit c [] next deep open_here r None after following is near same =
     absurd (elim near [ inl none ↦ let z = same ∙ none in cc | inr m ↦ let z : close ∷ after ≡ next ∷ m.0 = same ∙ m.1 in open_here refl cc ])
-some_never names level MayLack close room c (f ∷ fs) next deep open_here r None after behind is near same =
+some_never names level MayLack close limit c (f ∷ fs) next deep open_here r None after following is near same =
     absurd (elim r.begun [
       | inl none ↦ cc
       | inr b ↦
@@ -78,8 +78,8 @@ some_never names level MayLack close room c (f ∷ fs) next deep open_here r Non
     ])
 
 -- the expression was refused
-pub some_refused : (names : Names) (level : ℕ) (MayLack : Type 0) (close : TokenKind) (room : ℕ) → Closes names level close → (front : Kinds) (next : TokenKind) (deep : Bool) → (front ≡ [] → next ≡ close → ⊥) → Refused (Expressions names level) room front next deep → Refused (ClosedSome names level MayLack close) room front next deep
-some_refused names level MayLack close room c front next deep open_here r = record {
+pub some_refused : (names : Names) (level : ℕ) (MayLack : Type 0) (close : TokenKind) (limit : ℕ) → Closes names level close → (front : Kinds) (next : TokenKind) (deep : Bool) → (front ≡ [] → next ≡ close → ⊥) → Refused (Expressions names level) limit front next deep → Refused (ClosedSome names level MayLack close) limit front next deep
+some_refused names level MayLack close limit c front next deep open_here r = record {
   begun = elim r.begun [
     | inl none ↦ inl none
     | inr b ↦ inr (record {
@@ -90,9 +90,9 @@ some_refused names level MayLack close room c front next deep open_here r = reco
       spelled = sym (text_append b.phrase [] (close ∷ [])) ∙ ap (λ (x : Kinds). x ++ close ∷ []) b.spelled ∙ append_assoc front b.more (close ∷ []);
     })
   ];
-  never = λ other after behind is shut near same. some_never names level MayLack close room c front next deep open_here r other after behind is near same;
-  further = λ told.
-      let b = r.further told in
+  never = λ other after following is shut near same. some_never names level MayLack close limit c front next deep open_here r other after following is near same;
+  further = λ reported.
+      let b = r.further reported in
       record {
         phrase = Some b.phrase;
         more = b.more ++ close ∷ [];
@@ -104,34 +104,34 @@ some_refused names level MayLack close room c front next deep open_here r = reco
 unclosed_text : (names : Names) (level : ℕ) (close : TokenKind) → Closes names level close → (e : Written) (after : Kinds) → IsPhrase names level e → IsUnclosed close (text e after)
 unclosed_text names level close c e after is more same = no_close names level close c e after more is same
 
--- another token stands behind the expression
-pub some_wrong : (names : Names) (level : ℕ) (MayLack : Type 0) (close : TokenKind) (room : ℕ) → Closes names level close → (e : Written) (next : TokenKind) (deep : Bool) → Took (Expressions names level) room e next deep → (next ≡ close → ⊥) → Refused (ClosedSome names level MayLack close) room (text e []) next deep
-some_wrong names level MayLack close room c e next deep t other =
-    let r = closed_wrong (Expressions names level) close room (text_law names level) (λ part more. c.shut) e next deep t other in
+-- another token stands after the expression
+pub some_wrong : (names : Names) (level : ℕ) (MayLack : Type 0) (close : TokenKind) (limit : ℕ) → Closes names level close → (e : Written) (next : TokenKind) (deep : Bool) → Took (Expressions names level) limit e next deep → (next ≡ close → ⊥) → Refused (ClosedSome names level MayLack close) limit (text e []) next deep
+some_wrong names level MayLack close limit c e next deep t other =
+    let r = closed_wrong (Expressions names level) close limit (text_law names level) (λ part more. c.shut) e next deep t other in
     record {
       begun = elim r.begun [
         | inl none ↦ inl none
         | inr b ↦ inr (record { phrase = Some b.phrase; more = b.more; is_phrase = b.is_phrase; low = b.low; spelled = b.spelled })
       ];
-      never = λ whole after behind is shut near same.
-          let f = some_invert names level MayLack close whole after (text e [] ++ behind) is (λ more k. unclosed_text names level close c e behind t.is_phrase more (sym (text_append e [] behind) ∙ k)) same in
-          let v = r.never f.0 after behind f.2 tt near (sym f.3) in
-          record { told = v.told; high = subst (λ (o : Option Written). room < (ClosedSome names level MayLack close).tall o) (sym f.1) v.high; onward = v.onward };
-      further = λ told.
-          let b = r.further told in
+      never = λ whole after following is shut near same.
+          let f = some_invert names level MayLack close whole after (text e [] ++ following) is (λ more k. unclosed_text names level close c e following t.is_phrase more (sym (text_append e [] following) ∙ k)) same in
+          let v = r.never f.0 after following f.2 tt near (sym f.3) in
+          record { reported = v.reported; high = subst (λ (o : Option Written). limit < (ClosedSome names level MayLack close).tall o) (sym f.1) v.high; onward = v.onward };
+      further = λ reported.
+          let b = r.further reported in
           record { phrase = Some b.phrase; more = b.more; is_phrase = b.is_phrase; spelled = b.spelled };
     }
 
-some_is : (names : Names) (level : ℕ) (MayLack : Type 0) (close : TokenKind) (room : ℕ) → Closes names level close → (e : Written) → IsPhrase names level e → Exactly (ClosedBy (Expressions names level) close) room e → (other : Option Written) (after behind : Kinds) → (ClosedSome names level MayLack close).Is other → (ClosedSome names level MayLack close).spell other after ≡ text e (close ∷ behind) → (other ≡ Some e) × (after ≡ behind)
-some_is names level MayLack close room c e is' x None after behind is same = absurd (no_close names level close c e (close ∷ behind) after is' (sym same))
-some_is names level MayLack close room c e is' x (Some o) after behind is same =
-    let k = x.exact o after behind is same in
+some_is : (names : Names) (level : ℕ) (MayLack : Type 0) (close : TokenKind) (limit : ℕ) → Closes names level close → (e : Written) → IsPhrase names level e → Exactly (ClosedBy (Expressions names level) close) limit e → (other : Option Written) (after following : Kinds) → (ClosedSome names level MayLack close).Is other → (ClosedSome names level MayLack close).spell other after ≡ text e (close ∷ following) → (other ≡ Some e) × (after ≡ following)
+some_is names level MayLack close limit c e is' x None after following is same = absurd (no_close names level close c e (close ∷ following) after is' (sym same))
+some_is names level MayLack close limit c e is' x (Some o) after following is same =
+    let k = x.exact o after following is same in
     (ap Some k.0, k.1)
 
 -- the expression was taken before what closes it
-pub some_exact : (names : Names) (level : ℕ) (MayLack : Type 0) (close : TokenKind) (room : ℕ) → Closes names level close → (e : Written) (deep : Bool) → Took (Expressions names level) room e close deep → Exactly (ClosedSome names level MayLack close) room (Some e)
-some_exact names level MayLack close room c e deep t = record {
+pub some_exact : (names : Names) (level : ℕ) (MayLack : Type 0) (close : TokenKind) (limit : ℕ) → Closes names level close → (e : Written) (deep : Bool) → Took (Expressions names level) limit e close deep → Exactly (ClosedSome names level MayLack close) limit (Some e)
+some_exact names level MayLack close limit c e deep t = record {
   is_phrase = t.is_phrase;
   low = t.low;
-  exact = λ other after behind is same. some_is names level MayLack close room c e t.is_phrase (closed_exact (Expressions names level) close room (λ part more. c.shut) e deep t) other after behind is same;
+  exact = λ other after following is same. some_is names level MayLack close limit c e t.is_phrase (closed_exact (Expressions names level) close limit (λ part more. c.shut) e deep t) other after following is same;
 }

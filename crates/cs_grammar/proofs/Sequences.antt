@@ -1,10 +1,10 @@
--- One phrase behind another, and a token before or behind: for the contracts of every parser of declarations, statements and files.
+-- One phrase after another, and a token before or after: for the contracts of every parser of declarations, statements and files.
 use Rattle.std.proofs.Common.{◌≡◌, ℕ, ◌+◌, ◌≤◌, inl, inr, Bool, true, false, [], ◌∷◌, ◌++◌, refl, sym, ap, ◌∙◌, subst, arith, append_assoc}
 use Rattle.std.proofs.lemmas.Bool.{false≢true}
 use Rattle.cs_ast.specs.declared.token.TokenKind.{TokenKind}
 use Rattle.cs_grammar.specs.Text.{Kinds}
 use Rattle.cs_grammar.specs.Parsing.{Class, Near, Took, Refused, Exactly}
-use Rattle.cs_grammar.specs.Composed.{Sequence, Behind}
+use Rattle.cs_grammar.specs.Composed.{Sequence, Following}
 use Rattle.cs_grammar.proofs.Holes.{Lawful, splits, Tail, tail_refused, tail_took, ClosedBy, Ended}
 use Rattle.cs_grammar.proofs.Tails.{first_or, near_first, Least, Production, production_tail, none_refused}
 
@@ -26,8 +26,8 @@ front_text : (C D : Class) → Lawful C → (c : C.Tree) (d : D.Tree) (front mor
 front_text C D law c d front more same = splits C law c (D.spell d []) ∙ ap (λ (x : Kinds). x ++ D.spell d []) same ∙ append_assoc front more (D.spell d [])
 
 -- the first of two was refused
-pub first_refused : (C D : Class) (room : ℕ) → Lawful C → Joins C D → (least : Least D) → D.tall least.tree ≤ room → (front : Kinds) (next : TokenKind) (deep : Bool) → Refused C room front next deep → Refused (Sequence C D) room front next deep
-first_refused C D room law joins least fits front next deep r = record {
+pub first_refused : (C D : Class) (limit : ℕ) → Lawful C → Joins C D → (least : Least D) → D.tall least.tree ≤ limit → (front : Kinds) (next : TokenKind) (deep : Bool) → Refused C limit front next deep → Refused (Sequence C D) limit front next deep
+first_refused C D limit law joins least fits front next deep r = record {
   begun = elim r.begun [
     | inl none ↦ inl none
     | inr b ↦ inr (record {
@@ -38,11 +38,11 @@ first_refused C D room law joins least fits front next deep r = record {
       spelled = front_text C D law b.phrase least.tree front b.more b.spelled;
     })
   ];
-  never = λ other after behind is shut near same.
-      let v = r.never other.0 (D.spell other.1 after) behind is.0 (joins other.0 other.1 after is.0 is.1 shut) near same in
-      record { told = v.told; high = let h = v.high in omega (arith, h); onward = v.onward };
-  further = λ told.
-      let b = r.further told in
+  never = λ other after following is shut near same.
+      let v = r.never other.0 (D.spell other.1 after) following is.0 (joins other.0 other.1 after is.0 is.1 shut) near same in
+      record { reported = v.reported; high = let h = v.high in omega (arith, h); onward = v.onward };
+  further = λ reported.
+      let b = r.further reported in
       record {
         phrase = (b.phrase, least.tree);
         more = b.more ++ D.spell least.tree [];
@@ -51,9 +51,9 @@ first_refused C D room law joins least fits front next deep r = record {
       };
 }
 
--- the first of two was taken before a token that may stand behind it: what is left is the second
-pub second_tail : (C D : Class) (room : ℕ) → Lawful C → Joins C D → (least : Least D) → D.tall least.tree ≤ room → (c : C.Tree) (next : TokenKind) (deep : Bool) → Took C room c next deep → (deep ≡ true → C.Shut c (next ∷ [])) → Tail (Sequence C D) D room room (C.spell c []) (λ d. (c, d)) (Near next)
-second_tail C D room law joins least fits c next deep t settled =
+-- the first of two was taken before a token that may stand after it: what is left is the second
+pub second_tail : (C D : Class) (limit : ℕ) → Lawful C → Joins C D → (least : Least D) → D.tall least.tree ≤ limit → (c : C.Tree) (next : TokenKind) (deep : Bool) → Took C limit c next deep → (deep ≡ true → C.Shut c (next ∷ [])) → Tail (Sequence C D) D limit limit (C.spell c []) (λ d. (c, d)) (Near next)
+second_tail C D limit law joins least fits c next deep t settled =
     let low' = t.low in
     record {
       started = inr (record {
@@ -63,10 +63,10 @@ second_tail C D room law joins least fits c next deep t settled =
         low = omega (arith, low', fits);
         spelled = splits C law c (D.spell least.tree []);
       });
-      invert = λ whole after behind is shut near same.
-          elim (t.only whole.0 (D.spell whole.1 after) behind is.0 (joins whole.0 whole.1 after is.0 is.1 shut) near (same ∙ sym (splits C law c behind))) [
+      invert = λ whole after following is shut near same.
+          elim (t.only whole.0 (D.spell whole.1 after) following is.0 (joins whole.0 whole.1 after is.0 is.1 shut) near (same ∙ sym (splits C law c following))) [
             | inl e ↦ (whole.1, ap (λ (x : C.Tree). (x, whole.1)) e.0, is.1, sym e.1)
-            | inr over ↦ absurd (t.joined over.told [] (settled over.told))
+            | inr over ↦ absurd (t.joined over.reported [] (settled over.reported))
           ];
       shut = λ part after shut. shut;
       spelled = λ part after. splits C law c (D.spell part after);
@@ -76,8 +76,8 @@ second_tail C D room law joins least fits c next deep t settled =
     }
 
 -- the first of two was taken, and a token came with which none of the second begins
-pub second_wrong : (C D : Class) (room : ℕ) → Lawful C → Joins C D → (least : Least D) → D.tall least.tree ≤ room → (c : C.Tree) (next : TokenKind) (deep : Bool) → Took C room c next deep → ((d : D.Tree) (after : Kinds) → D.Is d → D.spell d after ≡ [] → ⊥) → ((d : D.Tree) (after more : Kinds) → D.Is d → D.spell d after ≡ next ∷ more → ⊥) → Refused (Sequence C D) room (C.spell c []) next deep
-second_wrong C D room law joins least fits c next deep t some none = record {
+pub second_wrong : (C D : Class) (limit : ℕ) → Lawful C → Joins C D → (least : Least D) → D.tall least.tree ≤ limit → (c : C.Tree) (next : TokenKind) (deep : Bool) → Took C limit c next deep → ((d : D.Tree) (after : Kinds) → D.Is d → D.spell d after ≡ [] → ⊥) → ((d : D.Tree) (after more : Kinds) → D.Is d → D.spell d after ≡ next ∷ more → ⊥) → Refused (Sequence C D) limit (C.spell c []) next deep
+second_wrong C D limit law joins least fits c next deep t some none = record {
   begun = inr (record {
     phrase = (c, least.tree);
     more = D.spell least.tree [];
@@ -85,13 +85,13 @@ second_wrong C D room law joins least fits c next deep t some none = record {
     low = let l = t.low in omega (arith, l, fits);
     spelled = splits C law c (D.spell least.tree []);
   });
-  never = λ other after behind is shut near same.
-      elim (t.only other.0 (D.spell other.1 after) behind is.0 (joins other.0 other.1 after is.0 is.1 shut) near (same ∙ sym (splits C law c behind))) [
+  never = λ other after following is shut near same.
+      elim (t.only other.0 (D.spell other.1 after) following is.0 (joins other.0 other.1 after is.0 is.1 shut) near (same ∙ sym (splits C law c following))) [
         | inl e ↦ absurd (elim near [ inl z ↦ some other.1 after is.1 (e.1 ∙ z) | inr m ↦ none other.1 after m.0 is.1 (e.1 ∙ m.1) ])
-        | inr over ↦ record { told = over.told; high = let h = over.high in omega (arith, h); onward = over.onward }
+        | inr over ↦ record { reported = over.reported; high = let h = over.high in omega (arith, h); onward = over.onward }
       ];
-  further = λ told.
-      let b = t.further told in
+  further = λ reported.
+      let b = t.further reported in
       record {
         phrase = (b.phrase, least.tree);
         more = b.more ++ D.spell least.tree [];
@@ -100,11 +100,11 @@ second_wrong C D room law joins least fits c next deep t some none = record {
       };
 }
 
-pub behind_law : (t : TokenKind) (D : Class) → Lawful D → Lawful (Behind t D)
-behind_law t D law = λ tree x y. ap (λ (r : Kinds). t ∷ r) (law tree x y)
+pub after_law : (t : TokenKind) (D : Class) → Lawful D → Lawful (Following t D)
+after_law t D law = λ tree x y. ap (λ (r : Kinds). t ∷ r) (law tree x y)
 
-abbrev pub behind_least : (t : TokenKind) (D : Class) → Least D → Least (Behind t D)
-behind_least t D least = record { tree = least.tree; is_phrase = least.is_phrase; below = least.below }
+abbrev pub after_least : (t : TokenKind) (D : Class) → Least D → Least (Following t D)
+after_least t D least = record { tree = least.tree; is_phrase = least.is_phrase; below = least.below }
 
 abbrev pub closed_least : (D : Class) (t : TokenKind) → Least D → Least (ClosedBy D t)
 closed_least D t least = record { tree = least.tree; is_phrase = least.is_phrase; below = least.below }
@@ -112,11 +112,11 @@ closed_least D t least = record { tree = least.tree; is_phrase = least.is_phrase
 abbrev pub ended_least : Least Ended
 ended_least = record { tree = tt; is_phrase = tt; below = λ other is. omega arith }
 
--- the token stands there: what is left is the phrase behind it
-pub behind_tail : (t : TokenKind) (D : Class) (room : ℕ) → (least : Least D) → D.tall least.tree ≤ room → Tail (Behind t D) D room room (t ∷ []) (λ d. d) (λ rest. Unit {0})
-behind_tail t D room least fits = record {
+-- the token stands there: what is left is the phrase after it
+pub after_tail : (t : TokenKind) (D : Class) (limit : ℕ) → (least : Least D) → D.tall least.tree ≤ limit → Tail (Following t D) D limit limit (t ∷ []) (λ d. d) (λ rest. Unit {0})
+after_tail t D limit least fits = record {
   started = inr (record { phrase = least.tree; more = D.spell least.tree []; is_phrase = least.is_phrase; low = fits; spelled = refl });
-  invert = λ whole after behind is shut fit same. (whole, refl, is, cc);
+  invert = λ whole after following is shut fit same. (whole, refl, is, cc);
   shut = λ part after shut. shut;
   spelled = λ part after. refl;
   is_phrase = λ part is. is;
@@ -125,12 +125,12 @@ behind_tail t D room least fits = record {
 }
 
 -- another token stands there
-pub behind_wrong : (t : TokenKind) (D : Class) (room : ℕ) (next : TokenKind) → (next ≡ t → ⊥) → Refused (Behind t D) room [] next false
-behind_wrong t D room next other = none_refused (Behind t D) room next (λ o after is same. cc) (λ o after more is same. other cc)
+pub after_wrong : (t : TokenKind) (D : Class) (limit : ℕ) (next : TokenKind) → (next ≡ t → ⊥) → Refused (Following t D) limit [] next false
+after_wrong t D limit next other = none_refused (Following t D) limit next (λ o after is same. cc) (λ o after more is same. other cc)
 
--- the first of two was taken, whatever stands behind it: what is left is the second
-pub exact_tail : (C D : Class) (room : ℕ) → Lawful C → (least : Least D) → D.tall least.tree ≤ room → (c : C.Tree) → Exactly C room c → Tail (Sequence C D) D room room (C.spell c []) (λ d. (c, d)) (λ rest. Unit {0})
-exact_tail C D room law least fits c e =
+-- the first of two was taken, whatever stands after it: what is left is the second
+pub exact_tail : (C D : Class) (limit : ℕ) → Lawful C → (least : Least D) → D.tall least.tree ≤ limit → (c : C.Tree) → Exactly C limit c → Tail (Sequence C D) D limit limit (C.spell c []) (λ d. (c, d)) (λ rest. Unit {0})
+exact_tail C D limit law least fits c e =
     let low' = e.low in
     record {
       started = inr (record {
@@ -140,8 +140,8 @@ exact_tail C D room law least fits c e =
         low = omega (arith, low', fits);
         spelled = splits C law c (D.spell least.tree []);
       });
-      invert = λ whole after behind is shut fit same.
-          let k = e.exact whole.0 (D.spell whole.1 after) behind is.0 (same ∙ sym (splits C law c behind)) in
+      invert = λ whole after following is shut fit same.
+          let k = e.exact whole.0 (D.spell whole.1 after) following is.0 (same ∙ sym (splits C law c following)) in
           (whole.1, ap (λ (x : C.Tree). (x, whole.1)) k.0, is.1, sym k.1);
       shut = λ part after shut. shut;
       spelled = λ part after. splits C law c (D.spell part after);
@@ -151,72 +151,72 @@ exact_tail C D room law least fits c e =
     }
 
 -- the first of two was taken, the second refused
-pub exact_then_refused : (C D : Class) (room : ℕ) → Lawful C → Lawful D → (least : Least D) → D.tall least.tree ≤ room → (c : C.Tree) → Exactly C room c → (front : Kinds) (next : TokenKind) (deep : Bool) → Refused D room front next deep → Refused (Sequence C D) room (C.spell c [] ++ front) next deep
-exact_then_refused C D room lc ld least fits c e front next deep r =
-    tail_refused (Sequence C D) D room room (C.spell c []) (λ d. (c, d)) (λ rest. Unit {0}) ld (exact_tail C D room lc least fits c e) front next deep (λ behind near. tt) r
+pub exact_then_refused : (C D : Class) (limit : ℕ) → Lawful C → Lawful D → (least : Least D) → D.tall least.tree ≤ limit → (c : C.Tree) → Exactly C limit c → (front : Kinds) (next : TokenKind) (deep : Bool) → Refused D limit front next deep → Refused (Sequence C D) limit (C.spell c [] ++ front) next deep
+exact_then_refused C D limit lc ld least fits c e front next deep r =
+    tail_refused (Sequence C D) D limit limit (C.spell c []) (λ d. (c, d)) (λ rest. Unit {0}) ld (exact_tail C D limit lc least fits c e) front next deep (λ following near. tt) r
 
 -- both were taken
-pub exact_then_took : (C D : Class) (room : ℕ) → Lawful C → Lawful D → (least : Least D) → D.tall least.tree ≤ room → (c : C.Tree) → Exactly C room c → (d : D.Tree) (next : TokenKind) (deep : Bool) → Took D room d next deep → Took (Sequence C D) room (c, d) next deep
-exact_then_took C D room lc ld least fits c e d next deep t =
-    tail_took (Sequence C D) D room room (C.spell c []) (λ d. (c, d)) (λ rest. Unit {0}) ld (exact_tail C D room lc least fits c e) d next deep (λ behind near. tt) t
+pub exact_then_took : (C D : Class) (limit : ℕ) → Lawful C → Lawful D → (least : Least D) → D.tall least.tree ≤ limit → (c : C.Tree) → Exactly C limit c → (d : D.Tree) (next : TokenKind) (deep : Bool) → Took D limit d next deep → Took (Sequence C D) limit (c, d) next deep
+exact_then_took C D limit lc ld least fits c e d next deep t =
+    tail_took (Sequence C D) D limit limit (C.spell c []) (λ d. (c, d)) (λ rest. Unit {0}) ld (exact_tail C D limit lc least fits c e) d next deep (λ following near. tt) t
 
--- both were taken, whatever stands behind them
-pub exact_both : (C D : Class) (room : ℕ) → (c : C.Tree) (d : D.Tree) → Exactly C room c → Exactly D room d → Exactly (Sequence C D) room (c, d)
-exact_both C D room c d ec ed =
+-- both were taken, whatever stands after them
+pub exact_both : (C D : Class) (limit : ℕ) → (c : C.Tree) (d : D.Tree) → Exactly C limit c → Exactly D limit d → Exactly (Sequence C D) limit (c, d)
+exact_both C D limit c d ec ed =
     let lc = ec.low in
     let ld = ed.low in
     record {
       is_phrase = (ec.is_phrase, ed.is_phrase);
       low = omega (arith, lc, ld);
-      exact = λ other after behind is same.
-          let k = ec.exact other.0 (D.spell other.1 after) (D.spell d behind) is.0 same in
-          let l = ed.exact other.1 after behind is.1 k.1 in
+      exact = λ other after following is same.
+          let k = ec.exact other.0 (D.spell other.1 after) (D.spell d following) is.0 same in
+          let l = ed.exact other.1 after following is.1 k.1 in
           (ap (λ (x : C.Tree). (x, other.1)) k.0 ∙ ap (λ (y : D.Tree). (c, y)) l.0, l.1);
     }
 
--- the same where the first of two was taken before a token that may stand behind it
-pub then_refused : (C D : Class) (room : ℕ) → Lawful C → Lawful D → Joins C D → (least : Least D) → D.tall least.tree ≤ room → (c : C.Tree) (first : TokenKind) (deep : Bool) → Took C room c first deep → (deep ≡ true → C.Shut c (first ∷ [])) → (front : Kinds) (next : TokenKind) (deep' : Bool) → first_or front next ≡ first → Refused D room front next deep' → Refused (Sequence C D) room (C.spell c [] ++ front) next deep'
-then_refused C D room lc ld joins least fits c first deep t settled front next deep' starts r =
-    tail_refused (Sequence C D) D room room (C.spell c []) (λ d. (c, d)) (Near first) ld (second_tail C D room lc joins least fits c first deep t settled) front next deep' (near_first front next first starts) r
+-- the same where the first of two was taken before a token that may stand after it
+pub then_refused : (C D : Class) (limit : ℕ) → Lawful C → Lawful D → Joins C D → (least : Least D) → D.tall least.tree ≤ limit → (c : C.Tree) (first : TokenKind) (deep : Bool) → Took C limit c first deep → (deep ≡ true → C.Shut c (first ∷ [])) → (front : Kinds) (next : TokenKind) (deep' : Bool) → first_or front next ≡ first → Refused D limit front next deep' → Refused (Sequence C D) limit (C.spell c [] ++ front) next deep'
+then_refused C D limit lc ld joins least fits c first deep t settled front next deep' starts r =
+    tail_refused (Sequence C D) D limit limit (C.spell c []) (λ d. (c, d)) (Near first) ld (second_tail C D limit lc joins least fits c first deep t settled) front next deep' (near_first front next first starts) r
 
-pub then_took : (C D : Class) (room : ℕ) → Lawful C → Lawful D → Joins C D → (least : Least D) → D.tall least.tree ≤ room → (c : C.Tree) (first : TokenKind) (deep : Bool) → Took C room c first deep → (deep ≡ true → C.Shut c (first ∷ [])) → (d : D.Tree) (next : TokenKind) (deep' : Bool) → first_or (D.spell d []) next ≡ first → Took D room d next deep' → Took (Sequence C D) room (c, d) next deep'
-then_took C D room lc ld joins least fits c first deep t settled d next deep' starts t' =
-    tail_took (Sequence C D) D room room (C.spell c []) (λ d. (c, d)) (Near first) ld (second_tail C D room lc joins least fits c first deep t settled) d next deep'
-    (λ behind near. subst (λ (x : Kinds). Near first x) (ld d [] behind) (near_first (D.spell d []) next first starts behind near)) t'
+pub then_took : (C D : Class) (limit : ℕ) → Lawful C → Lawful D → Joins C D → (least : Least D) → D.tall least.tree ≤ limit → (c : C.Tree) (first : TokenKind) (deep : Bool) → Took C limit c first deep → (deep ≡ true → C.Shut c (first ∷ [])) → (d : D.Tree) (next : TokenKind) (deep' : Bool) → first_or (D.spell d []) next ≡ first → Took D limit d next deep' → Took (Sequence C D) limit (c, d) next deep'
+then_took C D limit lc ld joins least fits c first deep t settled d next deep' starts t' =
+    tail_took (Sequence C D) D limit limit (C.spell c []) (λ d. (c, d)) (Near first) ld (second_tail C D limit lc joins least fits c first deep t settled) d next deep'
+    (λ following near. subst (λ (x : Kinds). Near first x) (ld d [] following) (near_first (D.spell d []) next first starts following near)) t'
 
 -- a phrase of D was taken, and nothing of C but D begins so: for productions
-pub made_refused : (C D : Class) (plus : ℕ) (before : Kinds) (build : D.Tree → C.Tree) (Fit : Kinds → Type 0) (room inner : ℕ) → room ≡ plus + inner → Production C D plus before build Fit → (least : Least D) → D.tall least.tree ≤ inner → Lawful D → (front : Kinds) (next : TokenKind) (deep : Bool) → ((behind : Kinds) → Near next behind → Fit (front ++ behind)) → Refused D inner front next deep → Refused C room (before ++ front) next deep
-made_refused C D plus before build Fit room inner less p least fits law front next deep fit r =
-    tail_refused C D room inner before build Fit law (production_tail C D plus before build Fit room inner less p least fits) front next deep fit r
+pub made_refused : (C D : Class) (plus : ℕ) (before : Kinds) (build : D.Tree → C.Tree) (Fit : Kinds → Type 0) (limit inner : ℕ) → limit ≡ plus + inner → Production C D plus before build Fit → (least : Least D) → D.tall least.tree ≤ inner → Lawful D → (front : Kinds) (next : TokenKind) (deep : Bool) → ((following : Kinds) → Near next following → Fit (front ++ following)) → Refused D inner front next deep → Refused C limit (before ++ front) next deep
+made_refused C D plus before build Fit limit inner less p least fits law front next deep fit r =
+    tail_refused C D limit inner before build Fit law (production_tail C D plus before build Fit limit inner less p least fits) front next deep fit r
 
-pub made_took : (C D : Class) (plus : ℕ) (before : Kinds) (build : D.Tree → C.Tree) (Fit : Kinds → Type 0) (room inner : ℕ) → room ≡ plus + inner → Production C D plus before build Fit → (least : Least D) → D.tall least.tree ≤ inner → Lawful D → (part : D.Tree) (next : TokenKind) (deep : Bool) → ((behind : Kinds) → Near next behind → Fit (D.spell part behind)) → Took D inner part next deep → Took C room (build part) next deep
-made_took C D plus before build Fit room inner less p least fits law part next deep fit t =
-    tail_took C D room inner before build Fit law (production_tail C D plus before build Fit room inner less p least fits) part next deep fit t
+pub made_took : (C D : Class) (plus : ℕ) (before : Kinds) (build : D.Tree → C.Tree) (Fit : Kinds → Type 0) (limit inner : ℕ) → limit ≡ plus + inner → Production C D plus before build Fit → (least : Least D) → D.tall least.tree ≤ inner → Lawful D → (part : D.Tree) (next : TokenKind) (deep : Bool) → ((following : Kinds) → Near next following → Fit (D.spell part following)) → Took D inner part next deep → Took C limit (build part) next deep
+made_took C D plus before build Fit limit inner less p least fits law part next deep fit t =
+    tail_took C D limit inner before build Fit law (production_tail C D plus before build Fit limit inner less p least fits) part next deep fit t
 
--- what was taken before a token that may stand behind it was taken in a smaller room too, if it fits
-pub took_lower : (C : Class) (room inner : ℕ) (c : C.Tree) (next : TokenKind) (deep : Bool) → Took C room c next deep → (deep ≡ true → C.Shut c (next ∷ [])) → C.tall c ≤ inner → Took C inner c next false
-took_lower C room inner c next deep t settled fits = record {
+-- what was taken before a token that may stand after it was taken in a smaller room too, if it fits
+pub took_lower : (C : Class) (limit inner : ℕ) (c : C.Tree) (next : TokenKind) (deep : Bool) → Took C limit c next deep → (deep ≡ true → C.Shut c (next ∷ [])) → C.tall c ≤ inner → Took C inner c next false
+took_lower C limit inner c next deep t settled fits = record {
   is_phrase = t.is_phrase;
   low = fits;
-  only = λ other after behind is shut near same.
-      elim (t.only other after behind is shut near same) [
+  only = λ other after following is shut near same.
+      elim (t.only other after following is shut near same) [
         | inl e ↦ inl e
-        | inr over ↦ absurd (t.joined over.told [] (settled over.told))
+        | inr over ↦ absurd (t.joined over.reported [] (settled over.reported))
       ];
-  further = λ told. absurd (false≢true told);
-  joined = λ told more shut. false≢true told;
+  further = λ reported. absurd (false≢true reported);
+  joined = λ reported more shut. false≢true reported;
 }
 
-each_took : (C : Class) (room : ℕ) (c : C.Tree) → ((next : TokenKind) → Took C room c next false) → ((other : C.Tree) (after : Kinds) → C.Shut other after) → (some : TokenKind) → (other : C.Tree) (after behind : Kinds) → C.Is other → C.spell other after ≡ C.spell c behind → (other ≡ c) × (after ≡ behind)
-each_took C room c took shut some other after [] is same =
-    elim ((took some).only other after [] is (shut other after) (inl refl) same) [ inl e ↦ e | inr over ↦ absurd (false≢true over.told) ]
-each_took C room c took shut some other after (t ∷ behind) is same =
-    elim ((took t).only other after (t ∷ behind) is (shut other after) (inr (behind, refl)) same) [ inl e ↦ e | inr over ↦ absurd (false≢true over.told) ]
+each_took : (C : Class) (limit : ℕ) (c : C.Tree) → ((next : TokenKind) → Took C limit c next false) → ((other : C.Tree) (after : Kinds) → C.Shut other after) → (some : TokenKind) → (other : C.Tree) (after following : Kinds) → C.Is other → C.spell other after ≡ C.spell c following → (other ≡ c) × (after ≡ following)
+each_took C limit c took shut some other after [] is same =
+    elim ((took some).only other after [] is (shut other after) (inl refl) same) [ inl e ↦ e | inr over ↦ absurd (false≢true over.reported) ]
+each_took C limit c took shut some other after (t ∷ following) is same =
+    elim ((took t).only other after (t ∷ following) is (shut other after) (inr (following, refl)) same) [ inl e ↦ e | inr over ↦ absurd (false≢true over.reported) ]
 
 -- what was taken before every token, and may stand before any, is told by its tokens
-pub took_exact : (C : Class) (room : ℕ) (c : C.Tree) → ((next : TokenKind) → Took C room c next false) → ((other : C.Tree) (after : Kinds) → C.Shut other after) → (some : TokenKind) → Exactly C room c
-took_exact C room c took shut some = record {
+pub took_exact : (C : Class) (limit : ℕ) (c : C.Tree) → ((next : TokenKind) → Took C limit c next false) → ((other : C.Tree) (after : Kinds) → C.Shut other after) → (some : TokenKind) → Exactly C limit c
+took_exact C limit c took shut some = record {
   is_phrase = (took some).is_phrase;
   low = (took some).low;
-  exact = λ other after behind is same. each_took C room c took shut some other after behind is same;
+  exact = λ other after following is same. each_took C limit c took shut some other after following is same;
 }

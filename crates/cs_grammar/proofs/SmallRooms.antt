@@ -101,8 +101,8 @@ specs_example names (token.Name n) e = typed_example names (token.Name n) e
 specs_example names (token.Number c) e = absurd cc
 specs_example names (token.Character v) e = absurd cc
 specs_example names (token.Text b) e = absurd cc
-specs_example names (token.Mark m) e = absurd cc
-specs_example names (token.LeftOut w) e = absurd cc
+specs_example names (token.Punctuator m) e = absurd cc
+specs_example names (token.Unsupported w) e = absurd cc
 specs_example names token.Attribute e = absurd cc
 
 group_has : (names : Names) (g : MemberGroup) (after : Kinds) → (MemberGroups names).Is g → (MemberGroups names).spell g after ≡ [] → ⊥
@@ -113,10 +113,10 @@ abbrev any_member : Declarator
 any_member = declarator_of [] [] []
 
 -- there is no room for a member
-pub group_full : (names : Names) (room : ℕ) (next : TokenKind) → room < 2 → begins_file_spec names next ≡ true → Refused (MemberGroups names) room [] next true
-group_full names room next full e =
+pub group_full : (names : Names) (limit : ℕ) (next : TokenKind) → limit < 2 → begins_file_spec names next ≡ true → Refused (MemberGroups names) limit [] next true
+group_full names limit next full e =
     let x = specs_example names next e in
-    full_refused (MemberGroups names) room next (group_has names) (λ g after more is same. let h = file_specs_height names g.0 is.0 in omega (arith, h, full))
+    full_refused (MemberGroups names) limit next (group_has names) (λ g after more is same. let h = file_specs_height names g.0 is.0 in omega (arith, h, full))
     (record {
       phrase = (x.specs, any_member ∷ []);
       more = x.more ++ token.Name [] ∷ semicolon ∷ [];
@@ -125,29 +125,29 @@ group_full names room next full e =
     })
 
 -- the first token of a member was refused
-pub members_first_refused : (names : Names) (room : ℕ) (next : TokenKind) (deep : Bool) → (next ≡ close_brace → ⊥) → Refused (MemberGroups names) room [] next deep → Refused (MemberRows names) room [] next deep
-members_first_refused names room next deep other r = row_refused (MemberRows names) (MemberGroups names) room (member_listing names) [] next deep (λ after behind shut near same. near_other close_brace next behind after other near same) r
+pub members_first_refused : (names : Names) (limit : ℕ) (next : TokenKind) (deep : Bool) → (next ≡ close_brace → ⊥) → Refused (MemberGroups names) limit [] next deep → Refused (MemberRows names) limit [] next deep
+members_first_refused names limit next deep other r = row_refused (MemberRows names) (MemberGroups names) limit (member_listing names) [] next deep (λ after following shut near same. near_other close_brace next following after other near same) r
 
 -- no member begins with the token
-pub group_not : (names : Names) (room : ℕ) (next : TokenKind) → begins_spec next ≡ false → Refused (MemberGroups names) room [] next false
-group_not names room next none =
-    none_refused (MemberGroups names) room next (group_has names) (λ g after more is same. false≢true (sym none ∙ specs_first names g.0 (with_commas declarator_text g.1 (semicolon ∷ after)) next more is.0 same))
+pub group_not : (names : Names) (limit : ℕ) (next : TokenKind) → begins_spec next ≡ false → Refused (MemberGroups names) limit [] next false
+group_not names limit next none =
+    none_refused (MemberGroups names) limit next (group_has names) (λ g after more is same. false≢true (sym none ∙ specs_first names g.0 (with_commas declarator_text g.1 (semicolon ∷ after)) next more is.0 same))
 
 enum_high : (names : Names) (list : List Constant) → IsSomeList list → 1 ≤ highest_by constant_height list
 enum_high names [] some = absurd some
 enum_high names (c ∷ cs) some = let h = constant_some c in omega (arith, h)
 
-enum_begun : (names : Names) (room : ℕ) → 1 ≤ room → (tag : Option (List ℕ)) → BeginsLow (SpecElements names) room (tag_word false ∷ name_text tag [])
-enum_begun names room some None = record { phrase = Plain (word.Enum []); more = token.Name [] ∷ []; is_phrase = tt; low = some; spelled = refl }
-enum_begun names room some (Some t) = record { phrase = Plain (word.Enum t); more = []; is_phrase = tt; low = some; spelled = refl }
+enum_begun : (names : Names) (limit : ℕ) → 1 ≤ limit → (tag : Option (List ℕ)) → BeginsLow (SpecElements names) limit (tag_word false ∷ name_text tag [])
+enum_begun names limit some None = record { phrase = Plain (word.Enum []); more = token.Name [] ∷ []; is_phrase = tt; low = some; spelled = refl }
+enum_begun names limit some (Some t) = record { phrase = Plain (word.Enum t); more = []; is_phrase = tt; low = some; spelled = refl }
 
-enum_over : (names : Names) (room : ℕ) (tag : Option (List ℕ)) → room < 2 → (s : Spec) (after more : Kinds) → HasBody names s → IsQuiet s after → spec_text s after ≡ tag_word false ∷ name_text tag (open_brace ∷ more) → room < spec_height s
-enum_over names room tag full s after more has quiet same =
+enum_over : (names : Names) (limit : ℕ) (tag : Option (List ℕ)) → limit < 2 → (s : Spec) (after more : Kinds) → HasBody names s → IsQuiet s after → spec_text s after ≡ tag_word false ∷ name_text tag (open_brace ∷ more) → limit < spec_height s
+enum_over names limit tag full s after more has quiet same =
     let f = enum_is names tag s after more has quiet same in
     let h = enum_high names f.0.0 f.2.0 in
-    subst (λ (x : Spec). room < spec_height x) (sym f.1) (omega (arith, h, full))
+    subst (λ (x : Spec). limit < spec_height x) (sym f.1) (omega (arith, h, full))
 
--- something stands behind `enum`
+-- something stands after `enum`
 enum_cut : (s : Spec) (after : Kinds) → spec_text s after ≡ tag_word false ∷ [] → ⊥
 enum_cut Static after same = cc
 enum_cut (Plain word.Const) after same = cc
@@ -166,19 +166,19 @@ enum_cut (EnumBody None constants comma) after same = cc
 enum_cut (EnumBody (Some t) constants comma) after same = cc
 
 -- an `enum` without a tag, and a brace for which there is no room
-pub enum_full : (names : Names) (room : ℕ) → room < 2 → 1 ≤ room → Refused (SpecElements names) room (tag_word false ∷ []) open_brace true
-enum_full names room full some = record {
-  begun = inr (enum_begun names room some None);
-  never = λ other after behind is shut near same.
+pub enum_full : (names : Names) (limit : ℕ) → limit < 2 → 1 ≤ limit → Refused (SpecElements names) limit (tag_word false ∷ []) open_brace true
+enum_full names limit full some = record {
+  begun = inr (enum_begun names limit some None);
+  never = λ other after following is shut near same.
       elim near [
         | inl none ↦ absurd (enum_cut other after (same ∙ ap (λ (x : Kinds). tag_word false ∷ x) none))
         | inr m ↦ record {
-          told = refl;
-          high = enum_over names room None full other after m.0 is shut (same ∙ ap (λ (x : Kinds). tag_word false ∷ x) m.1);
+          reported = refl;
+          high = enum_over names limit None full other after m.0 is shut (same ∙ ap (λ (x : Kinds). tag_word false ∷ x) m.1);
           onward = λ none. let z : open_brace ∷ m.0 ≡ [] = sym m.1 ∙ none in cc;
         }
       ];
-  further = λ told. record {
+  further = λ reported. record {
     phrase = EnumBody None (constant_of (fresh names) None ∷ []) false;
     more = token.Name (fresh names) ∷ close_brace ∷ [];
     is_phrase = (tt, (record { free = fresh_free names; value = tt }, tt));
@@ -194,37 +194,37 @@ nothing_more (MoreSpecs s more) after same = let b = spec_starts s (specs_text m
 abbrev pub with_enum : Specs → List ℕ → Specs
 with_enum before tag = with_spec before (Plain (word.Enum tag))
 
-enum_rest : (names : Names) (room : ℕ) (before : Specs) (tag : List ℕ) → room < 2 → (more : Specs) (after behind : Kinds) → HaveBodies names more → Follows ends_specs after → specs_text more after ≡ tag_word false ∷ token.Name tag ∷ open_brace ∷ behind → room < specs_height (joined_specs before more)
-enum_rest names room before tag full NoSpec after behind has f same = absurd (false≢true (subst (Follows ends_specs) same f))
-enum_rest names room before tag full (MoreSpecs s more) after behind has f same =
-    let h = enum_over names room (Some tag) full s (specs_text more after) behind has.0 (quiet_plain s (specs_text more after) (specs_no_brace more after f)) same in
+enum_rest : (names : Names) (limit : ℕ) (before : Specs) (tag : List ℕ) → limit < 2 → (more : Specs) (after following : Kinds) → HaveBodies names more → Follows ends_specs after → specs_text more after ≡ tag_word false ∷ token.Name tag ∷ open_brace ∷ following → limit < specs_height (joined_specs before more)
+enum_rest names limit before tag full NoSpec after following has f same = absurd (false≢true (subst (Follows ends_specs) same f))
+enum_rest names limit before tag full (MoreSpecs s more) after following has f same =
+    let h = enum_over names limit (Some tag) full s (specs_text more after) following has.0 (quiet_plain s (specs_text more after) (specs_no_brace more after f)) same in
     let t = joined_tall before (MoreSpecs s more) in
     omega (arith, h, t)
 
-enum_only : (names : Names) (room : ℕ) (before : Specs) (tag : List ℕ) → room < 2 → named_by (words_of before) ≡ [] → AreExact names before → (other : Specs) (after behind : Kinds) → AreSpecs names other → Follows ends_specs after → Near open_brace behind → specs_text other after ≡ specs_text (with_enum before tag) behind → ((other ≡ with_enum before tag) × (after ≡ behind)) ⊎ IsOver (FileSpecs names) room true other behind
-enum_only names room before tag full none exact other after [] is f near same =
+enum_only : (names : Names) (limit : ℕ) (before : Specs) (tag : List ℕ) → limit < 2 → named_by (words_of before) ≡ [] → AreExact names before → (other : Specs) (after following : Kinds) → AreSpecs names other → Follows ends_specs after → Near open_brace following → specs_text other after ≡ specs_text (with_enum before tag) following → ((other ≡ with_enum before tag) × (after ≡ following)) ⊎ IsOver (FileSpecs names) limit true other following
+enum_only names limit before tag full none exact other after [] is f near same =
     let done = with_enum before tag in
     let exact' = exact_more names before (Plain (word.Enum tag)) exact tt (plain_exact names (word.Enum tag)) in
     let go : MayGoOn names (words_of done) = ([], ap (is_type names) (append-nil (words_of done) ∙ joined_words before (MoreSpecs (Plain (word.Enum tag)) NoSpec)) ∙ tag_spec_type names (words_of before) (Plain (word.Enum tag)) false none refl) in
     let r = specs_go_on names [] done other after [] go is.0 is.1 exact' f (quiet_end done [] tt) same in
     let e = nothing_more r.0 after r.2 in
     inl (r.1 ∙ ap (joined_specs done) e.0 ∙ specs_joined_none done, e.1)
-enum_only names room before tag full none exact other after (t ∷ behind) is f near same =
+enum_only names limit before tag full none exact other after (t ∷ following) is f near same =
     let k : t ≡ open_brace = elim near [ inl z ↦ absurd cc | inr m ↦ let z = m.1 in cc ] in
-    let s : specs_text other after ≡ specs_text before (tag_word false ∷ token.Name tag ∷ open_brace ∷ behind) = same ∙ joined_text before (MoreSpecs (Plain (word.Enum tag)) NoSpec) (t ∷ behind) ∙ ap (λ (x : TokenKind). specs_text before (tag_word false ∷ token.Name tag ∷ x ∷ behind)) k in
+    let s : specs_text other after ≡ specs_text before (tag_word false ∷ token.Name tag ∷ open_brace ∷ following) = same ∙ joined_text before (MoreSpecs (Plain (word.Enum tag)) NoSpec) (t ∷ following) ∙ ap (λ (x : TokenKind). specs_text before (tag_word false ∷ token.Name tag ∷ x ∷ following)) k in
     let go : MayGoOn names (words_of before) = (word.Enum [] ∷ [], tag_spec_type names (words_of before) (EnumBody None [] false) false none refl) in
-    let r = specs_go_on names [] before other after (tag_word false ∷ token.Name tag ∷ open_brace ∷ behind) go is.0 is.1 exact f (tag_quiet before (token.Name tag ∷ open_brace ∷ behind) false) s in
+    let r = specs_go_on names [] before other after (tag_word false ∷ token.Name tag ∷ open_brace ∷ following) go is.0 is.1 exact f (tag_quiet before (token.Name tag ∷ open_brace ∷ following) false) s in
     let has = rest_bodies names before r.0 (subst (HaveBodies names) r.1 is.1) in
-    let h = enum_rest names room before tag full r.0 after behind has f r.2 in
-    inr (record { told = refl; high = subst (λ (x : Specs). room < specs_height x) (sym r.1) h; onward = λ z. cc })
+    let h = enum_rest names limit before tag full r.0 after following has f r.2 in
+    inr (record { reported = refl; high = subst (λ (x : Specs). limit < specs_height x) (sym r.1) h; onward = λ z. cc })
 
 -- an `enum` with a tag, and a brace for which there is no room: it is taken without a body, and a higher one goes on
-pub enum_tag_full : (names : Names) (room : ℕ) (before : Specs) (tag : List ℕ) → room < 2 → specs_height (with_enum before tag) ≤ room → named_by (words_of before) ≡ [] → AreExact names before → Took (FileSpecs names) room (with_enum before tag) open_brace true
-enum_tag_full names room before tag full low none exact = record {
+pub enum_tag_full : (names : Names) (limit : ℕ) (before : Specs) (tag : List ℕ) → limit < 2 → specs_height (with_enum before tag) ≤ limit → named_by (words_of before) ≡ [] → AreExact names before → Took (FileSpecs names) limit (with_enum before tag) open_brace true
+enum_tag_full names limit before tag full low none exact = record {
   is_phrase = with_is names before (Plain (word.Enum tag)) false exact none tt refl;
   low = low;
-  only = λ other after behind is shut near same. enum_only names room before tag full none exact other after behind is shut near same;
-  further = λ told.
+  only = λ other after following is shut near same. enum_only names limit before tag full none exact other after following is shut near same;
+  further = λ reported.
       let body = EnumBody (Some tag) (constant_of (fresh names) None ∷ []) false in
       record {
         phrase = with_spec before body;
@@ -235,5 +235,5 @@ enum_tag_full names room before tag full low none exact = record {
             ∙ sym (specs_append before (tag_word false ∷ token.Name tag ∷ open_brace ∷ []) (token.Name (fresh names) ∷ close_brace ∷ []))
             ∙ ap (λ (x : Kinds). x ++ (token.Name (fresh names) ∷ close_brace ∷ [])) (sym (joined_text before (MoreSpecs (Plain (word.Enum tag)) NoSpec) (open_brace ∷ [])));
       };
-  joined = λ told more shut. false≢true shut;
+  joined = λ reported more shut. false≢true shut;
 }

@@ -4,7 +4,7 @@ use Rattle.std.proofs.lemmas.Bool.{false≢true, both_ways}
 use Rattle.cs_ast.specs.declared.token.TokenKind.{TokenKind}
 use Rattle.cs_ast.specs.declared.token.TokenKind.TheVariants as token
 use Rattle.cs_ast.specs.declared.token.Keyword.TheVariants as keyword
-use Rattle.cs_ast.specs.declared.token.Mark.TheVariants as mark
+use Rattle.cs_ast.specs.declared.token.Punctuator.TheVariants as punctuator
 use Rattle.cs_ast.specs.declared.raw.written_type.TypeWord.{TypeWord}
 use Rattle.cs_ast.specs.declared.raw.written_type.TypeWord.TheVariants as word
 use Rattle.cs_ast.specs.declared.raw.written_type.IntegerWord.TheVariants.{Char, Short, Int, Long, Signed, Unsigned}
@@ -83,11 +83,11 @@ spec_starts (Plain word.Void) x = (x, refl)
 spec_starts (Plain (word.Typedef name)) x = (x, refl)
 spec_starts (Plain (word.Struct tag)) x = (token.Name tag ∷ x, refl)
 spec_starts (Plain (word.Enum tag)) x = (token.Name tag ∷ x, refl)
-spec_starts (StructBody tag members) x = (name_text tag (token.Mark mark.OpenBrace ∷ members_text members (token.Mark mark.CloseBrace ∷ x)), refl)
+spec_starts (StructBody tag members) x = (name_text tag (token.Punctuator punctuator.OpenBrace ∷ members_text members (token.Punctuator punctuator.CloseBrace ∷ x)), refl)
 spec_starts (EnumBody tag constants comma) x =
-    (name_text tag (token.Mark mark.OpenBrace ∷ with_commas constant_text constants (comma_text comma (token.Mark mark.CloseBrace ∷ x))), refl)
+    (name_text tag (token.Punctuator punctuator.OpenBrace ∷ with_commas constant_text constants (comma_text comma (token.Punctuator punctuator.CloseBrace ∷ x))), refl)
 
--- the first word or `static` of some tokens, and what stands behind it, where no type with a body stands there
+-- the first word or `static` of some tokens, and what stands after it, where no type with a body stands there
 abbrev read_spec : Kinds → Option (Spec × Kinds)
 read_spec (token.Keyword keyword.Static ∷ rest) = Some (Static, rest)
 read_spec (token.Keyword keyword.Const ∷ rest) = Some (Plain word.Const, rest)
@@ -98,19 +98,19 @@ read_spec (token.Keyword keyword.Int ∷ rest) = Some (Plain (word.Integer Int),
 read_spec (token.Keyword keyword.Long ∷ rest) = Some (Plain (word.Integer Long), rest)
 read_spec (token.Keyword keyword.Signed ∷ rest) = Some (Plain (word.Integer Signed), rest)
 read_spec (token.Keyword keyword.Unsigned ∷ rest) = Some (Plain (word.Integer Unsigned), rest)
-read_spec (token.Keyword keyword.Struct ∷ token.Name tag ∷ token.Mark mark.OpenBrace ∷ rest) = None
+read_spec (token.Keyword keyword.Struct ∷ token.Name tag ∷ token.Punctuator punctuator.OpenBrace ∷ rest) = None
 read_spec (token.Keyword keyword.Struct ∷ token.Name tag ∷ rest) = Some (Plain (word.Struct tag), rest)
-read_spec (token.Keyword keyword.Enum ∷ token.Name tag ∷ token.Mark mark.OpenBrace ∷ rest) = None
+read_spec (token.Keyword keyword.Enum ∷ token.Name tag ∷ token.Punctuator punctuator.OpenBrace ∷ rest) = None
 read_spec (token.Keyword keyword.Enum ∷ token.Name tag ∷ rest) = Some (Plain (word.Enum tag), rest)
 read_spec (token.Name name ∷ rest) = Some (Plain (word.Typedef name), rest)
 read_spec other = None
 
 read_struct : (tag : List ℕ) (x : Kinds) → HasNoOpenBrace x → read_spec (token.Keyword keyword.Struct ∷ token.Name tag ∷ x) ≡ Some (Plain (word.Struct tag), x)
-read_struct tag (token.Mark mark.OpenBrace ∷ x) quiet = absurd quiet
+read_struct tag (token.Punctuator punctuator.OpenBrace ∷ x) quiet = absurd quiet
 read_struct tag _ quiet = refl
 
 read_enum : (tag : List ℕ) (x : Kinds) → HasNoOpenBrace x → read_spec (token.Keyword keyword.Enum ∷ token.Name tag ∷ x) ≡ Some (Plain (word.Enum tag), x)
-read_enum tag (token.Mark mark.OpenBrace ∷ x) quiet = absurd quiet
+read_enum tag (token.Punctuator punctuator.OpenBrace ∷ x) quiet = absurd quiet
 read_enum tag _ quiet = refl
 
 read_plain : (w : TypeWord) (x : Kinds) → IsQuiet (Plain w) x → read_spec (spec_text (Plain w) x) ≡ Some (Plain w, x)
@@ -180,7 +180,7 @@ pub exact_bodies : (names : Names) (done : Specs) → AreExact names done → Ha
 exact_bodies names NoSpec a = tt
 exact_bodies names (MoreSpecs d ds) a = (a.0, exact_bodies names ds a.2)
 
--- no opening brace stands behind the last one, if that is a tag
+-- no opening brace stands after the last one, if that is a tag
 abbrev pub EndsQuiet : Specs → Kinds → Type 0
 EndsQuiet NoSpec after = Unit {0}
 EndsQuiet (MoreSpecs s NoSpec) after = IsQuiet s after
@@ -218,24 +218,24 @@ spec_no_brace (Plain (word.Enum tag)) x = tt
 spec_no_brace (StructBody tag members) x = tt
 spec_no_brace (EnumBody tag constants comma) x = tt
 
-quiet_inner : (s : Spec) (ds : Specs) (behind : Kinds) → EndsQuiet (MoreSpecs s ds) behind → IsQuiet s (specs_text ds behind)
-quiet_inner s NoSpec behind q = q
-quiet_inner s (MoreSpecs d ds) behind q = quiet_plain s (spec_text d (specs_text ds behind)) (spec_no_brace d (specs_text ds behind))
+quiet_inner : (s : Spec) (ds : Specs) (following : Kinds) → EndsQuiet (MoreSpecs s ds) following → IsQuiet s (specs_text ds following)
+quiet_inner s NoSpec following q = q
+quiet_inner s (MoreSpecs d ds) following q = quiet_plain s (spec_text d (specs_text ds following)) (spec_no_brace d (specs_text ds following))
 
-quiet_rest : (s : Spec) (ds : Specs) (behind : Kinds) → EndsQuiet (MoreSpecs s ds) behind → EndsQuiet ds behind
-quiet_rest s NoSpec behind q = tt
-quiet_rest s (MoreSpecs d ds) behind q = q
+quiet_rest : (s : Spec) (ds : Specs) (following : Kinds) → EndsQuiet (MoreSpecs s ds) following → EndsQuiet ds following
+quiet_rest s NoSpec following q = tt
+quiet_rest s (MoreSpecs d ds) following q = q
 
 follows_no_brace : (after : Kinds) → Follows ends_specs after → HasNoOpenBrace after
 follows_no_brace [] f = tt
-follows_no_brace (token.Mark mark.OpenBrace ∷ x) f = false≢true f
+follows_no_brace (token.Punctuator punctuator.OpenBrace ∷ x) f = false≢true f
 follows_no_brace _ f = tt
 
 pub specs_no_brace : (ts : Specs) (after : Kinds) → Follows ends_specs after → HasNoOpenBrace (specs_text ts after)
 specs_no_brace NoSpec after f = follows_no_brace after f
 specs_no_brace (MoreSpecs t ts) after f = spec_no_brace t (specs_text ts after)
 
--- only a typedef name is both one of these and what may stand behind them
+-- only a typedef name is both one of these and what may stand after them
 spec_ends : (s : Spec) → ends_specs (first_of s) ≡ true → (n : List ℕ) × (spec_words s ≡ word.Typedef n ∷ [])
 spec_ends (Plain (word.Typedef n)) e = (n, refl)
 spec_ends Static e = absurd (false≢true e)
@@ -253,28 +253,28 @@ spec_ends (StructBody tag members) e = absurd (false≢true e)
 spec_ends (EnumBody tag constants comma) e = absurd (false≢true e)
 
 -- what stands before declarators and begins as these goes on with more of them
-pub specs_go_on : (names : Names) (before : List TypeWord) (done other : Specs) (after behind : Kinds) → MayGoOn names (before ++ words_of done) → is_type names (before ++ words_of other) ≡ true → HaveBodies names other → AreExact names done → Follows ends_specs after → EndsQuiet done behind → specs_text other after ≡ specs_text done behind → (more : Specs) × (other ≡ joined_specs done more) × (specs_text more after ≡ behind)
-specs_go_on names before NoSpec other after behind go type has exact f quiet same = (other, refl, same)
-specs_go_on names before (MoreSpecs s ds) NoSpec after behind go type has exact f quiet same =
-    let b = spec_starts s (specs_text ds behind) in
+pub specs_go_on : (names : Names) (before : List TypeWord) (done other : Specs) (after following : Kinds) → MayGoOn names (before ++ words_of done) → is_type names (before ++ words_of other) ≡ true → HaveBodies names other → AreExact names done → Follows ends_specs after → EndsQuiet done following → specs_text other after ≡ specs_text done following → (more : Specs) × (other ≡ joined_specs done more) × (specs_text more after ≡ following)
+specs_go_on names before NoSpec other after following go type has exact f quiet same = (other, refl, same)
+specs_go_on names before (MoreSpecs s ds) NoSpec after following go type has exact f quiet same =
+    let b = spec_starts s (specs_text ds following) in
     let n = spec_ends s (subst (Follows ends_specs) (same ∙ b.1) f) in
     let t : is_type names before ≡ true = ap (is_type names) (sym (append-nil before)) ∙ type in
     let w : before ++ words_of (MoreSpecs s ds) ≡ before ++ word.Typedef n.0 ∷ words_of ds = ap (λ (x : List TypeWord). before ++ x) (words_more s ds ∙ ap (λ (x : List TypeWord). x ++ words_of ds) n.1) in
     absurd (type_and_name names before n.0 (words_of ds ++ go.0) t (ap (is_type names) (sym (append_assoc before (word.Typedef n.0 ∷ words_of ds) go.0) ∙ ap (λ (x : List TypeWord). x ++ go.0) (sym w)) ∙ go.1))
-specs_go_on names before (MoreSpecs s ds) (MoreSpecs t ts) after behind go type has exact f quiet same =
-    let k = exact.1 t (specs_text ts after) (specs_text ds behind) has.0 (quiet_plain t (specs_text ts after) (specs_no_brace ts after f)) (quiet_inner s ds behind quiet) same in
+specs_go_on names before (MoreSpecs s ds) (MoreSpecs t ts) after following go type has exact f quiet same =
+    let k = exact.1 t (specs_text ts after) (specs_text ds following) has.0 (quiet_plain t (specs_text ts after) (specs_no_brace ts after f)) (quiet_inner s ds following quiet) same in
     let go' : MayGoOn names ((before ++ spec_words s) ++ words_of ds) = (go.0, ap (λ (x : List TypeWord). is_type names (x ++ go.0)) (append_assoc before (spec_words s) (words_of ds) ∙ ap (λ (x : List TypeWord). before ++ x) (sym (words_more s ds))) ∙ go.1) in
     let type' : is_type names ((before ++ spec_words s) ++ words_of ts) ≡ true = ap (is_type names) (append_assoc before (spec_words s) (words_of ts) ∙ ap (λ (x : Spec). before ++ (spec_words x ++ words_of ts)) (sym k.0) ∙ ap (λ (x : List TypeWord). before ++ x) (sym (words_more t ts))) ∙ type in
-    let r = specs_go_on names (before ++ spec_words s) ds ts after behind go' type' has.1 exact.2 f (quiet_rest s ds behind quiet) k.1 in
+    let r = specs_go_on names (before ++ spec_words s) ds ts after following go' type' has.1 exact.2 f (quiet_rest s ds following quiet) k.1 in
     (r.0, ap (λ (x : Spec). MoreSpecs x ts) k.0 ∙ ap (MoreSpecs s) r.1, r.2)
 
 -- none that begins with the token goes on with these
 abbrev pub IsStuckAfter : Names → List TypeWord → TokenKind → Type 0
 IsStuckAfter names ws next = (one : Spec) (more : List TypeWord) → first_of one ≡ next → is_type names (ws ++ (spec_words one ++ more)) ≡ false
 
-pub no_more : (names : Names) (done : Specs) (next : TokenKind) (more : Specs) (after behind : Kinds) → IsStuckAfter names (words_of done) next → is_type names (words_of (joined_specs done more)) ≡ true → Near next behind → specs_text more after ≡ behind → (more ≡ NoSpec) × (after ≡ behind)
-no_more names done next NoSpec after behind stuck type near same = (refl, same)
-no_more names done next (MoreSpecs s more) after behind stuck type near same =
+pub no_more : (names : Names) (done : Specs) (next : TokenKind) (more : Specs) (after following : Kinds) → IsStuckAfter names (words_of done) next → is_type names (words_of (joined_specs done more)) ≡ true → Near next following → specs_text more after ≡ following → (more ≡ NoSpec) × (after ≡ following)
+no_more names done next NoSpec after following stuck type near same = (refl, same)
+no_more names done next (MoreSpecs s more) after following stuck type near same =
     let b = spec_starts s (specs_text more after) in
     absurd (elim near [
       | inl none ↦ let z = sym b.1 ∙ same ∙ none in cc
@@ -284,25 +284,25 @@ no_more names done next (MoreSpecs s more) after behind stuck type near same =
           both_ways (is_type names (words_of (joined_specs done (MoreSpecs s more)))) (ap (is_type names) (joined_words done (MoreSpecs s more) ∙ ap (λ (x : List TypeWord). words_of done ++ x) (words_more s more)) ∙ stuck s (words_of more) k) type
     ])
 
-pub specs_only : (names : Names) (done : Specs) (next : TokenKind) → MayGoOn names (words_of done) → AreExact names done → IsStuckAfter names (words_of done) next → ((behind : Kinds) → Near next behind → EndsQuiet done behind) → (other : Specs) (after behind : Kinds) → AreSpecs names other → Follows ends_specs after → Near next behind → specs_text other after ≡ specs_text done behind → (other ≡ done) × (after ≡ behind)
-specs_only names done next go exact stuck quiet other after behind is f near same =
-    let r = specs_go_on names [] done other after behind go is.0 is.1 exact f (quiet behind near) same in
-    let e = no_more names done next r.0 after behind stuck (ap (λ (x : Specs). is_type names (words_of x)) (sym r.1) ∙ is.0) near r.2 in
+pub specs_only : (names : Names) (done : Specs) (next : TokenKind) → MayGoOn names (words_of done) → AreExact names done → IsStuckAfter names (words_of done) next → ((following : Kinds) → Near next following → EndsQuiet done following) → (other : Specs) (after following : Kinds) → AreSpecs names other → Follows ends_specs after → Near next following → specs_text other after ≡ specs_text done following → (other ≡ done) × (after ≡ following)
+specs_only names done next go exact stuck quiet other after following is f near same =
+    let r = specs_go_on names [] done other after following go is.0 is.1 exact f (quiet following near) same in
+    let e = no_more names done next r.0 after following stuck (ap (λ (x : Specs). is_type names (words_of x)) (sym r.1) ∙ is.0) near r.2 in
     (r.1 ∙ ap (joined_specs done) e.0 ∙ specs_joined_none done, e.1)
 
 -- what stands before declarators outside blocks was taken, as many words as there are
-pub specs_took : (names : Names) (room : ℕ) (done : Specs) (next : TokenKind) → specs_height done ≤ room → is_type names (words_of done) ≡ true → AreExact names done → IsStuckAfter names (words_of done) next → ((behind : Kinds) → Near next behind → EndsQuiet done behind) → Took (FileSpecs names) room done next false
-specs_took names room done next low type exact stuck quiet = record {
+pub specs_took : (names : Names) (limit : ℕ) (done : Specs) (next : TokenKind) → specs_height done ≤ limit → is_type names (words_of done) ≡ true → AreExact names done → IsStuckAfter names (words_of done) next → ((following : Kinds) → Near next following → EndsQuiet done following) → Took (FileSpecs names) limit done next false
+specs_took names limit done next low type exact stuck quiet = record {
   is_phrase = (type, exact_bodies names done exact);
   low = low;
-  only = λ other after behind is shut near same. inl (specs_only names done next ([], ap (is_type names) (append-nil (words_of done)) ∙ type) exact stuck quiet other after behind is shut near same);
-  further = λ told. absurd (false≢true told);
-  joined = λ told more shut. false≢true told;
+  only = λ other after following is shut near same. inl (specs_only names done next ([], ap (is_type names) (append-nil (words_of done)) ∙ type) exact stuck quiet other after following is shut near same);
+  further = λ reported. absurd (false≢true reported);
+  joined = λ reported more shut. false≢true reported;
 }
 
 -- words that name no type yet, and none that goes on with them
-pub specs_refused : (names : Names) (room : ℕ) (done : Specs) (next : TokenKind) → specs_height done ≤ room → 1 ≤ room → is_type names (words_of done) ≡ false → named_by (words_of done) ≡ [] → AreExact names done → IsStuckAfter names (words_of done) next → ((behind : Kinds) → Near next behind → EndsQuiet done behind) → Refused (FileSpecs names) room (specs_text done []) next false
-specs_refused names room done next low some none unnamed exact stuck quiet =
+pub specs_refused : (names : Names) (limit : ℕ) (done : Specs) (next : TokenKind) → specs_height done ≤ limit → 1 ≤ limit → is_type names (words_of done) ≡ false → named_by (words_of done) ≡ [] → AreExact names done → IsStuckAfter names (words_of done) next → ((following : Kinds) → Near next following → EndsQuiet done following) → Refused (FileSpecs names) limit (specs_text done []) next false
+specs_refused names limit done next low some none unnamed exact stuck quiet =
     let void : Specs = MoreSpecs (Plain word.Void) NoSpec in
     let type : is_type names (words_of done ++ word.Void ∷ []) ≡ true = ap (names_type names) (named_more (words_of done) (word.Void ∷ []) ∙ ap (λ (x : List TypeWord). x ++ word.Void ∷ []) unnamed) in
     let tall = joined_tall done void in
@@ -314,10 +314,10 @@ specs_refused names room done next low some none unnamed exact stuck quiet =
         low = omega (arith, tall, low, some);
         spelled = joined_text done void [] ∙ sym (specs_append done [] (token.Keyword keyword.Void ∷ []));
       });
-      never = λ other after behind is shut near same.
-          let e = specs_only names done next (word.Void ∷ [], type) exact stuck quiet other after behind is shut near (same ∙ specs_append done [] behind) in
+      never = λ other after following is shut near same.
+          let e = specs_only names done next (word.Void ∷ [], type) exact stuck quiet other after following is shut near (same ∙ specs_append done [] following) in
           absurd (both_ways (is_type names (words_of done)) none (ap (λ (x : Specs). is_type names (words_of x)) (sym e.0) ∙ is.0));
-      further = λ told. absurd (false≢true told);
+      further = λ reported. absurd (false≢true reported);
     }
 
 tag_names : (names : Names) (s : Spec) (is_struct : Bool) → first_of s ≡ tag_word is_struct → names_type names (named_by (spec_words s)) ≡ true
@@ -346,7 +346,7 @@ tag_names names (Plain (word.Integer Signed)) false e = absurd cc
 tag_names names (Plain (word.Integer Unsigned)) true e = absurd cc
 tag_names names (Plain (word.Integer Unsigned)) false e = absurd cc
 
--- `struct` or `enum` behind words that name nothing names a type
+-- `struct` or `enum` after words that name nothing names a type
 pub tag_spec_type : (names : Names) (ws : List TypeWord) (s : Spec) (is_struct : Bool) → named_by ws ≡ [] → first_of s ≡ tag_word is_struct → is_type names (ws ++ spec_words s) ≡ true
 tag_spec_type names ws s is_struct none first =
     ap (names_type names) (named_more ws (spec_words s) ∙ ap (λ (x : List TypeWord). x ++ named_by (spec_words s)) none) ∙ tag_names names s is_struct first
@@ -372,21 +372,21 @@ with_text done s front more same =
 pub spec_first : (s : Spec) (x : Kinds) (f : TokenKind) (more : Kinds) → spec_text s x ≡ f ∷ more → first_of s ≡ f
 spec_first s x f more same = let b = spec_starts s x in let z : first_of s ∷ b.0 ≡ f ∷ more = sym b.1 ∙ same in cc
 
-element_never : (names : Names) (room : ℕ) (done : Specs) (is_struct : Bool) (fs : Kinds) (next : TokenKind) (deep : Bool) → Refused (SpecElements names) room (tag_word is_struct ∷ fs) next deep → (more : Specs) (after behind : Kinds) → HaveBodies names more → Follows ends_specs after → Near next behind → specs_text more after ≡ tag_word is_struct ∷ (fs ++ behind) → IsOver (FileSpecs names) room deep (joined_specs done more) behind
-element_never names room done is_struct fs next deep r NoSpec after behind has f near same =
+element_never : (names : Names) (limit : ℕ) (done : Specs) (is_struct : Bool) (fs : Kinds) (next : TokenKind) (deep : Bool) → Refused (SpecElements names) limit (tag_word is_struct ∷ fs) next deep → (more : Specs) (after following : Kinds) → HaveBodies names more → Follows ends_specs after → Near next following → specs_text more after ≡ tag_word is_struct ∷ (fs ++ following) → IsOver (FileSpecs names) limit deep (joined_specs done more) following
+element_never names limit done is_struct fs next deep r NoSpec after following has f near same =
     absurd (false≢true (sym (tag_ends is_struct) ∙ subst (Follows ends_specs) same f))
-element_never names room done is_struct fs next deep r (MoreSpecs s more) after behind has f near same =
-    let v = r.never s (specs_text more after) behind has.0 (quiet_plain s (specs_text more after) (specs_no_brace more after f)) near same in
+element_never names limit done is_struct fs next deep r (MoreSpecs s more) after following has f near same =
+    let v = r.never s (specs_text more after) following has.0 (quiet_plain s (specs_text more after) (specs_no_brace more after f)) near same in
     let tall = joined_tall done (MoreSpecs s more) in
-    record { told = v.told; high = let h = v.high in omega (arith, tall, h); onward = v.onward }
+    record { reported = v.reported; high = let h = v.high in omega (arith, tall, h); onward = v.onward }
 
 pub tag_quiet : (done : Specs) (x : Kinds) (is_struct : Bool) → EndsQuiet done (tag_word is_struct ∷ x)
 tag_quiet done x true = quiet_end done (tag_word true ∷ x) tt
 tag_quiet done x false = quiet_end done (tag_word false ∷ x) tt
 
--- a type with `struct` or `enum` was refused behind words that name nothing
-pub element_refused : (names : Names) (room : ℕ) (done : Specs) → specs_height done ≤ room → named_by (words_of done) ≡ [] → AreExact names done → (is_struct : Bool) (fs : Kinds) (next : TokenKind) (deep : Bool) → Refused (SpecElements names) room (tag_word is_struct ∷ fs) next deep → Refused (FileSpecs names) room (specs_text done [] ++ (tag_word is_struct ∷ fs)) next deep
-element_refused names room done low none exact is_struct fs next deep r = record {
+-- a type with `struct` or `enum` was refused after words that name nothing
+pub element_refused : (names : Names) (limit : ℕ) (done : Specs) → specs_height done ≤ limit → named_by (words_of done) ≡ [] → AreExact names done → (is_struct : Bool) (fs : Kinds) (next : TokenKind) (deep : Bool) → Refused (SpecElements names) limit (tag_word is_struct ∷ fs) next deep → Refused (FileSpecs names) limit (specs_text done [] ++ (tag_word is_struct ∷ fs)) next deep
+element_refused names limit done low none exact is_struct fs next deep r = record {
   begun = elim r.begun [
     | inl empty ↦ absurd cc
     | inr b ↦
@@ -400,14 +400,14 @@ element_refused names room done low none exact is_struct fs next deep r = record
           spelled = with_text done b.phrase (tag_word is_struct ∷ fs) b.more b.spelled;
         })
   ];
-  never = λ other after behind is shut near same.
+  never = λ other after following is shut near same.
       let go : MayGoOn names (words_of done) = (spec_words (StructBody None NoMember), tag_spec_type names (words_of done) (StructBody None NoMember) true none refl) in
-      let r' = specs_go_on names [] done other after (tag_word is_struct ∷ (fs ++ behind)) go is.0 is.1 exact shut (tag_quiet done (fs ++ behind) is_struct) (same ∙ append_assoc (specs_text done []) (tag_word is_struct ∷ fs) behind ∙ specs_append done [] (tag_word is_struct ∷ (fs ++ behind))) in
+      let r' = specs_go_on names [] done other after (tag_word is_struct ∷ (fs ++ following)) go is.0 is.1 exact shut (tag_quiet done (fs ++ following) is_struct) (same ∙ append_assoc (specs_text done []) (tag_word is_struct ∷ fs) following ∙ specs_append done [] (tag_word is_struct ∷ (fs ++ following))) in
       let has = rest_bodies names done r'.0 (subst (HaveBodies names) r'.1 is.1) in
-      let v = element_never names room done is_struct fs next deep r r'.0 after behind has shut near r'.2 in
-      record { told = v.told; high = subst (λ (x : Specs). room < specs_height x) (sym r'.1) v.high; onward = v.onward };
-  further = λ told.
-      let b = r.further told in
+      let v = element_never names limit done is_struct fs next deep r r'.0 after following has shut near r'.2 in
+      record { reported = v.reported; high = subst (λ (x : Specs). limit < specs_height x) (sym r'.1) v.high; onward = v.onward };
+  further = λ reported.
+      let b = r.further reported in
       let first = spec_first b.phrase [] (tag_word is_struct) ((fs ++ next ∷ []) ++ b.more) b.spelled in
       record {
         phrase = with_spec done b.phrase;

@@ -6,8 +6,8 @@ use Rattle.cs_ast.specs.declared.token.TokenKind.{TokenKind}
 use Rattle.cs_ast.specs.declared.token.TokenKind.TheVariants as token
 use Rattle.cs_ast.specs.declared.token.Keyword.{Keyword}
 use Rattle.cs_ast.specs.declared.token.Keyword.TheVariants as keyword
-use Rattle.cs_ast.specs.declared.token.Mark.{Mark}
-use Rattle.cs_ast.specs.declared.token.Mark.TheVariants as mark
+use Rattle.cs_ast.specs.declared.token.Punctuator.{Punctuator}
+use Rattle.cs_ast.specs.declared.token.Punctuator.TheVariants as punctuator
 use Rattle.cs_ast.specs.declared.raw.operator.Step.TheVariants.{Up, Down}
 use Rattle.cs_ast.specs.declared.raw.operator.PrefixOp.{PrefixOp}
 use Rattle.cs_ast.specs.declared.raw.operator.PrefixOp.TheVariants as prefix
@@ -16,10 +16,10 @@ use Rattle.cs_ast.specs.RawStatements.{NoFirst, Sentence, Block, Nothing, Runs, 
 use Rattle.cs_ast.specs.RawFileHeight.{sentence_height}
 use Rattle.cs_grammar.specs.TypeWords.{Names, is_among}
 use Rattle.cs_grammar.specs.Text.{Kinds, text}
-use Rattle.cs_grammar.specs.Marks.{prefix_mark}
+use Rattle.cs_grammar.specs.Punctuators.{prefix_punctuator}
 use Rattle.cs_grammar.specs.Phrases.{IsPhrase}
 use Rattle.cs_grammar.specs.FirstTokens.{begins_expression, opens_expression, is_sizeof}
-use Rattle.cs_grammar.specs.FileFirstTokens.{begins_sentence, mark_begins_sentence, keyword_begins_sentence}
+use Rattle.cs_grammar.specs.FileFirstTokens.{begins_sentence, punctuator_begins_sentence, keyword_begins_sentence}
 use Rattle.cs_grammar.specs.FileText.{some_text, sentence_text, items_text}
 use Rattle.cs_grammar.specs.FilePhrases.{IsSentence}
 use Rattle.cs_grammar.specs.FileClasses.{Sentences}
@@ -34,20 +34,20 @@ use Rattle.cs_grammar.proofs.Statements.{semicolon, colon, word, runs_first, nam
 use Rattle.cs_grammar.proofs.StatementParts.{nought, expression_height, sentence_some, runs_single}
 
 -- an expression that begins with this token
-prefix_example : (names : Names) (op : PrefixOp) → Begins (Expressions names 0) (token.Mark (prefix_mark op) ∷ [])
+prefix_example : (names : Names) (op : PrefixOp) → Begins (Expressions names 0) (token.Punctuator (prefix_punctuator op) ∷ [])
 prefix_example names op = record { phrase = Prefix op nought; more = text nought []; is_phrase = (omega arith, (omega arith, tt)); spelled = refl }
 
-mark_example : (names : Names) (m : Mark) → opens_expression m ≡ true → Begins (Expressions names 0) (token.Mark m ∷ [])
-mark_example names mark.OpenParenthesis e = record { phrase = Enclosed nought; more = text nought (token.Mark mark.CloseParenthesis ∷ []); is_phrase = (omega arith, tt); spelled = refl }
-mark_example names mark.Increment e = record { phrase = StepBefore Up nought; more = text nought []; is_phrase = (omega arith, (omega arith, tt)); spelled = refl }
-mark_example names mark.Decrement e = record { phrase = StepBefore Down nought; more = text nought []; is_phrase = (omega arith, (omega arith, tt)); spelled = refl }
-mark_example names mark.Ampersand e = prefix_example names prefix.Address
-mark_example names mark.Star e = prefix_example names prefix.Through
-mark_example names mark.Plus e = prefix_example names prefix.Plus
-mark_example names mark.Minus e = prefix_example names prefix.Minus
-mark_example names mark.Tilde e = prefix_example names prefix.Complement
-mark_example names mark.Exclamation e = prefix_example names prefix.Not
-mark_example names _ e = absurd cc
+punctuator_example : (names : Names) (m : Punctuator) → opens_expression m ≡ true → Begins (Expressions names 0) (token.Punctuator m ∷ [])
+punctuator_example names punctuator.OpenParenthesis e = record { phrase = Enclosed nought; more = text nought (token.Punctuator punctuator.CloseParenthesis ∷ []); is_phrase = (omega arith, tt); spelled = refl }
+punctuator_example names punctuator.Increment e = record { phrase = StepBefore Up nought; more = text nought []; is_phrase = (omega arith, (omega arith, tt)); spelled = refl }
+punctuator_example names punctuator.Decrement e = record { phrase = StepBefore Down nought; more = text nought []; is_phrase = (omega arith, (omega arith, tt)); spelled = refl }
+punctuator_example names punctuator.Ampersand e = prefix_example names prefix.Address
+punctuator_example names punctuator.Star e = prefix_example names prefix.Through
+punctuator_example names punctuator.Plus e = prefix_example names prefix.Plus
+punctuator_example names punctuator.Minus e = prefix_example names prefix.Minus
+punctuator_example names punctuator.Tilde e = prefix_example names prefix.Complement
+punctuator_example names punctuator.Exclamation e = prefix_example names prefix.Not
+punctuator_example names _ e = absurd cc
 
 keyword_example : (names : Names) (k : Keyword) → is_sizeof k ≡ true → Begins (Expressions names 0) (token.Keyword k ∷ [])
 keyword_example names keyword.Sizeof e = record { phrase = SizeOf nought; more = text nought []; is_phrase = (omega arith, (omega arith, tt)); spelled = refl }
@@ -58,9 +58,9 @@ expression_example names (token.Name n) e = record { phrase = Named n; more = []
 expression_example names (token.Number n) e = record { phrase = Numeral n; more = []; is_phrase = (omega arith, tt); spelled = refl }
 expression_example names (token.Character v) e = record { phrase = Character v; more = []; is_phrase = (omega arith, tt); spelled = refl }
 expression_example names (token.Text b) e = record { phrase = Literal b; more = []; is_phrase = (omega arith, tt); spelled = refl }
-expression_example names (token.Mark m) e = mark_example names m e
+expression_example names (token.Punctuator m) e = punctuator_example names m e
 expression_example names (token.Keyword k) e = keyword_example names k e
-expression_example names (token.LeftOut w) e = absurd cc
+expression_example names (token.Unsupported w) e = absurd cc
 expression_example names token.Attribute e = absurd cc
 
 -- an expression statement that begins with this token
@@ -72,19 +72,19 @@ run_example names t e =
 made_example : (names : Names) (t : TokenKind) (s : Sentence) (more : Kinds) → IsSentence names s → sentence_text s [] ≡ t ∷ more → Begins (Sentences names) (t ∷ [])
 made_example names t s more is same = record { phrase = s; more = more; is_phrase = is; spelled = same }
 
-mark_sentence : (names : Names) (m : Mark) → mark_begins_sentence m ≡ true → Begins (Sentences names) (token.Mark m ∷ [])
-mark_sentence names mark.OpenBrace e = made_example names (token.Mark mark.OpenBrace) (Block NoItem) (token.Mark mark.CloseBrace ∷ []) tt refl
-mark_sentence names mark.Semicolon e = made_example names semicolon Nothing [] tt refl
-mark_sentence names mark.OpenParenthesis e = run_example names (token.Mark mark.OpenParenthesis) refl
-mark_sentence names mark.Increment e = run_example names (token.Mark mark.Increment) refl
-mark_sentence names mark.Decrement e = run_example names (token.Mark mark.Decrement) refl
-mark_sentence names mark.Ampersand e = run_example names (token.Mark mark.Ampersand) refl
-mark_sentence names mark.Star e = run_example names (token.Mark mark.Star) refl
-mark_sentence names mark.Plus e = run_example names (token.Mark mark.Plus) refl
-mark_sentence names mark.Minus e = run_example names (token.Mark mark.Minus) refl
-mark_sentence names mark.Tilde e = run_example names (token.Mark mark.Tilde) refl
-mark_sentence names mark.Exclamation e = run_example names (token.Mark mark.Exclamation) refl
-mark_sentence names _ e = absurd cc
+punctuator_sentence : (names : Names) (m : Punctuator) → punctuator_begins_sentence m ≡ true → Begins (Sentences names) (token.Punctuator m ∷ [])
+punctuator_sentence names punctuator.OpenBrace e = made_example names (token.Punctuator punctuator.OpenBrace) (Block NoItem) (token.Punctuator punctuator.CloseBrace ∷ []) tt refl
+punctuator_sentence names punctuator.Semicolon e = made_example names semicolon Nothing [] tt refl
+punctuator_sentence names punctuator.OpenParenthesis e = run_example names (token.Punctuator punctuator.OpenParenthesis) refl
+punctuator_sentence names punctuator.Increment e = run_example names (token.Punctuator punctuator.Increment) refl
+punctuator_sentence names punctuator.Decrement e = run_example names (token.Punctuator punctuator.Decrement) refl
+punctuator_sentence names punctuator.Ampersand e = run_example names (token.Punctuator punctuator.Ampersand) refl
+punctuator_sentence names punctuator.Star e = run_example names (token.Punctuator punctuator.Star) refl
+punctuator_sentence names punctuator.Plus e = run_example names (token.Punctuator punctuator.Plus) refl
+punctuator_sentence names punctuator.Minus e = run_example names (token.Punctuator punctuator.Minus) refl
+punctuator_sentence names punctuator.Tilde e = run_example names (token.Punctuator punctuator.Tilde) refl
+punctuator_sentence names punctuator.Exclamation e = run_example names (token.Punctuator punctuator.Exclamation) refl
+punctuator_sentence names _ e = absurd cc
 
 keyword_sentence : (names : Names) (k : Keyword) → keyword_begins_sentence k ≡ true → Begins (Sentences names) (token.Keyword k ∷ [])
 keyword_sentence names keyword.Break e = record { phrase = Break; more = semicolon ∷ []; is_phrase = tt; spelled = refl }
@@ -93,15 +93,15 @@ keyword_sentence names keyword.Goto e = record { phrase = Goto []; more = token.
 keyword_sentence names keyword.Return e = record { phrase = Return None; more = semicolon ∷ []; is_phrase = tt; spelled = refl }
 keyword_sentence names keyword.Sizeof e = run_example names (word keyword.Sizeof) refl
 keyword_sentence names keyword.If e =
-    record { phrase = If nought Nothing; more = token.Mark mark.OpenParenthesis ∷ text nought (token.Mark mark.CloseParenthesis ∷ semicolon ∷ []); is_phrase = ((omega arith, tt), tt); spelled = refl }
+    record { phrase = If nought Nothing; more = token.Punctuator punctuator.OpenParenthesis ∷ text nought (token.Punctuator punctuator.CloseParenthesis ∷ semicolon ∷ []); is_phrase = ((omega arith, tt), tt); spelled = refl }
 keyword_sentence names keyword.While e =
-    record { phrase = While nought Nothing; more = token.Mark mark.OpenParenthesis ∷ text nought (token.Mark mark.CloseParenthesis ∷ semicolon ∷ []); is_phrase = ((omega arith, tt), tt); spelled = refl }
+    record { phrase = While nought Nothing; more = token.Punctuator punctuator.OpenParenthesis ∷ text nought (token.Punctuator punctuator.CloseParenthesis ∷ semicolon ∷ []); is_phrase = ((omega arith, tt), tt); spelled = refl }
 keyword_sentence names keyword.Do e =
-    record { phrase = Do Nothing nought; more = semicolon ∷ word keyword.While ∷ token.Mark mark.OpenParenthesis ∷ text nought (token.Mark mark.CloseParenthesis ∷ semicolon ∷ []); is_phrase = (tt, (omega arith, tt)); spelled = refl }
+    record { phrase = Do Nothing nought; more = semicolon ∷ word keyword.While ∷ token.Punctuator punctuator.OpenParenthesis ∷ text nought (token.Punctuator punctuator.CloseParenthesis ∷ semicolon ∷ []); is_phrase = (tt, (omega arith, tt)); spelled = refl }
 keyword_sentence names keyword.For e =
-    record { phrase = For NoFirst None None Nothing; more = token.Mark mark.OpenParenthesis ∷ semicolon ∷ semicolon ∷ token.Mark mark.CloseParenthesis ∷ semicolon ∷ []; is_phrase = (tt, tt, tt, tt); spelled = refl }
+    record { phrase = For NoFirst None None Nothing; more = token.Punctuator punctuator.OpenParenthesis ∷ semicolon ∷ semicolon ∷ token.Punctuator punctuator.CloseParenthesis ∷ semicolon ∷ []; is_phrase = (tt, tt, tt, tt); spelled = refl }
 keyword_sentence names keyword.Switch e =
-    record { phrase = Switch nought NoSwitchItem; more = token.Mark mark.OpenParenthesis ∷ text nought (token.Mark mark.CloseParenthesis ∷ token.Mark mark.OpenBrace ∷ token.Mark mark.CloseBrace ∷ []); is_phrase = ((omega arith, tt), tt); spelled = refl }
+    record { phrase = Switch nought NoSwitchItem; more = token.Punctuator punctuator.OpenParenthesis ∷ text nought (token.Punctuator punctuator.CloseParenthesis ∷ token.Punctuator punctuator.OpenBrace ∷ token.Punctuator punctuator.CloseBrace ∷ []); is_phrase = ((omega arith, tt), tt); spelled = refl }
 keyword_sentence names _ e = absurd cc
 
 -- a statement that begins with this token
@@ -110,9 +110,9 @@ sentence_example names (token.Name n) e = record { phrase = Label n Nothing; mor
 sentence_example names (token.Number n) e = run_example names (token.Number n) refl
 sentence_example names (token.Character v) e = run_example names (token.Character v) refl
 sentence_example names (token.Text b) e = run_example names (token.Text b) refl
-sentence_example names (token.Mark m) e = mark_sentence names m e
+sentence_example names (token.Punctuator m) e = punctuator_sentence names m e
 sentence_example names (token.Keyword k) e = keyword_sentence names k e
-sentence_example names (token.LeftOut w) e = absurd cc
+sentence_example names (token.Unsupported w) e = absurd cc
 sentence_example names token.Attribute e = absurd cc
 
 -- a statement has some token
@@ -120,20 +120,20 @@ pub sentence_has : (names : Names) (s : Sentence) (after : Kinds) → IsSentence
 sentence_has names s after is same = some_first begins_sentence (sentence_text s after) (sentence_begins names s after is) same
 
 -- no statement begins with the token
-pub sentence_not : (names : Names) (room : ℕ) (next : TokenKind) → begins_sentence next ≡ false → Refused (Sentences names) room [] next false
-sentence_not names room next e =
-    none_refused (Sentences names) room next (sentence_has names)
+pub sentence_not : (names : Names) (limit : ℕ) (next : TokenKind) → begins_sentence next ≡ false → Refused (Sentences names) limit [] next false
+sentence_not names limit next e =
+    none_refused (Sentences names) limit next (sentence_has names)
     (λ s after more is same. false≢true (sym e ∙ first_passes begins_sentence (sentence_text s after) next more (sentence_begins names s after is) same))
 
 -- there is no room for a statement
-pub sentence_none : (names : Names) (room : ℕ) (next : TokenKind) → room < 1 → begins_sentence next ≡ true → Refused (Sentences names) room [] next true
-sentence_none names room next full e =
-    full_refused (Sentences names) room next (sentence_has names) (λ s after more is same. let h = sentence_some s in omega (arith, h, full)) (sentence_example names next e)
+pub sentence_none : (names : Names) (limit : ℕ) (next : TokenKind) → limit < 1 → begins_sentence next ≡ true → Refused (Sentences names) limit [] next true
+sentence_none names limit next full e =
+    full_refused (Sentences names) limit next (sentence_has names) (λ s after more is same. let h = sentence_some s in omega (arith, h, full)) (sentence_example names next e)
 
 -- the token begins statements with no expression and no statement inside
 abbrev pub begins_low : TokenKind → Bool
-begins_low (token.Mark mark.OpenBrace) = true
-begins_low (token.Mark mark.Semicolon) = true
+begins_low (token.Punctuator punctuator.OpenBrace) = true
+begins_low (token.Punctuator punctuator.Semicolon) = true
 begins_low (token.Keyword keyword.Goto) = true
 begins_low (token.Keyword keyword.Continue) = true
 begins_low (token.Keyword keyword.Break) = true
@@ -152,7 +152,7 @@ two_high names (Do b e) after t more same l = let h = expression_height e in ome
 two_high names (For f e k b) after t more same l = let h = sentence_some b in omega (arith, h)
 two_high names (Switch e i) after t more same l = let h = expression_height e in omega (arith, h)
 two_high names (Label n b) after t more same l = let h = sentence_some b in omega (arith, h)
-two_high names (Block i) after t more same l = absurd (not_low (token.Mark mark.OpenBrace) t (items_text i (token.Mark mark.CloseBrace ∷ after)) more same l refl)
+two_high names (Block i) after t more same l = absurd (not_low (token.Punctuator punctuator.OpenBrace) t (items_text i (token.Punctuator punctuator.CloseBrace ∷ after)) more same l refl)
 two_high names Nothing after t more same l = absurd (not_low semicolon t after more same l refl)
 two_high names (Goto n) after t more same l = absurd (not_low (word keyword.Goto) t (token.Name n ∷ semicolon ∷ after) more same l refl)
 two_high names Continue after t more same l = absurd (not_low (word keyword.Continue) t (semicolon ∷ after) more same l refl)
@@ -160,14 +160,14 @@ two_high names Break after t more same l = absurd (not_low (word keyword.Break) 
 two_high names (Return v) after t more same l = absurd (not_low (word keyword.Return) t (some_text v (semicolon ∷ after)) more same l refl)
 
 -- there is room for a statement without parts alone, and the token begins none
-pub sentence_low : (names : Names) (room : ℕ) (next : TokenKind) → room < 2 → begins_sentence next ≡ true → begins_low next ≡ false → Refused (Sentences names) room [] next true
-sentence_low names room next full e l =
-    full_refused (Sentences names) room next (sentence_has names) (λ s after more is same. let h = two_high names s after next more same l in omega (arith, h, full)) (sentence_example names next e)
+pub sentence_low : (names : Names) (limit : ℕ) (next : TokenKind) → limit < 2 → begins_sentence next ≡ true → begins_low next ≡ false → Refused (Sentences names) limit [] next true
+sentence_low names limit next full e l =
+    full_refused (Sentences names) limit next (sentence_has names) (λ s after more is same. let h = two_high names s after next more same l in omega (arith, h, full)) (sentence_example names next e)
 
-other_mark : (m : Mark) → opens_expression m ≡ true → begins_other_sentence (token.Mark m) ≡ false
-other_mark mark.OpenBrace e = absurd cc
-other_mark mark.Semicolon e = absurd cc
-other_mark _ e = refl
+other_punctuator : (m : Punctuator) → opens_expression m ≡ true → begins_other_sentence (token.Punctuator m) ≡ false
+other_punctuator punctuator.OpenBrace e = absurd cc
+other_punctuator punctuator.Semicolon e = absurd cc
+other_punctuator _ e = refl
 
 other_word : (k : Keyword) → is_sizeof k ≡ true → begins_other_sentence (token.Keyword k) ≡ false
 other_word keyword.Sizeof e = refl
@@ -179,9 +179,9 @@ no_other names (token.Name n) e = refl
 no_other names (token.Number n) e = refl
 no_other names (token.Character v) e = refl
 no_other names (token.Text b) e = refl
-no_other names (token.Mark m) e = other_mark m e
+no_other names (token.Punctuator m) e = other_punctuator m e
 no_other names (token.Keyword k) e = other_word k e
-no_other names (token.LeftOut w) e = absurd cc
+no_other names (token.Unsupported w) e = absurd cc
 no_other names token.Attribute e = absurd cc
 
 -- the next token begins no other statement and is no name
@@ -189,8 +189,8 @@ pub record IsPlainNext (next : TokenKind) : Type 0 where
   pub plain : begins_other_sentence next ≡ false
   pub no_name : (n : List ℕ) → next ≡ token.Name n → ⊥
 
-run_none : (next : TokenKind) (behind : Kinds) → IsPlainNext next → Near next behind → IsRun behind
-run_none next behind p near = record {
+run_none : (next : TokenKind) (following : Kinds) → IsPlainNext next → Near next following → IsRun following
+run_none next following p near = record {
   plain = λ first more same.
       elim near [
         | inl none ↦ let z = sym same ∙ none in absurd cc
@@ -206,23 +206,23 @@ run_none next behind p near = record {
       ];
 }
 
-second_colon : (names : Names) (room : ℕ) (n : List ℕ) (g : TokenKind) (gs : Kinds) → BeginsLow (Expressions names 0) room (token.Name n ∷ g ∷ gs) → g ≡ colon → ⊥
-second_colon names room n g gs b e =
+second_colon : (names : Names) (limit : ℕ) (n : List ℕ) (g : TokenKind) (gs : Kinds) → BeginsLow (Expressions names 0) limit (token.Name n ∷ g ∷ gs) → g ≡ colon → ⊥
+second_colon names limit n g gs b e =
     let s : text b.phrase [] ≡ token.Name n ∷ colon ∷ (gs ++ b.more) = b.spelled ∙ ap (λ (x : TokenKind). token.Name n ∷ x ∷ (gs ++ b.more)) e in
     let f = name_colon b.phrase [] n (gs ++ b.more) s in
     let z = f.1 in
     cc
 
-run_label : (names : Names) (room : ℕ) (f : TokenKind) (fs behind : Kinds) (next : TokenKind) (n : List ℕ) (more : Kinds) → BeginsLow (Expressions names 0) room (f ∷ fs) → (fs ≡ [] → next ≡ colon → ⊥) → Near next behind → f ∷ (fs ++ behind) ≡ token.Name n ∷ colon ∷ more → ⊥
-run_label names room f [] behind next n more b other near same = near_other colon next behind more (other refl) near cc
-run_label names room f (g ∷ gs) behind next n more b other near same =
+run_label : (names : Names) (limit : ℕ) (f : TokenKind) (fs following : Kinds) (next : TokenKind) (n : List ℕ) (more : Kinds) → BeginsLow (Expressions names 0) limit (f ∷ fs) → (fs ≡ [] → next ≡ colon → ⊥) → Near next following → f ∷ (fs ++ following) ≡ token.Name n ∷ colon ∷ more → ⊥
+run_label names limit f [] following next n more b other near same = near_other colon next following more (other refl) near cc
+run_label names limit f (g ∷ gs) following next n more b other near same =
     let k : f ≡ token.Name n = cc in
-    second_colon names room n g gs (subst (λ (x : TokenKind). BeginsLow (Expressions names 0) room (x ∷ g ∷ gs)) k b) cc
+    second_colon names limit n g gs (subst (λ (x : TokenKind). BeginsLow (Expressions names 0) limit (x ∷ g ∷ gs)) k b) cc
 
 -- tokens of an expression that was refused begin no other statement and no label
-run_fits : (names : Names) (room : ℕ) (front : Kinds) (next : TokenKind) (deep : Bool) → (front ≡ [] → IsPlainNext next) → ((n : List ℕ) → front ≡ token.Name n ∷ [] → next ≡ colon → ⊥) → Refused (Expressions names 0) room front next deep → (behind : Kinds) → Near next behind → IsRun (front ++ behind)
-run_fits names room [] next deep p other r behind near = run_none next behind (p refl) near
-run_fits names room (f ∷ fs) next deep p other r behind near =
+run_fits : (names : Names) (limit : ℕ) (front : Kinds) (next : TokenKind) (deep : Bool) → (front ≡ [] → IsPlainNext next) → ((n : List ℕ) → front ≡ token.Name n ∷ [] → next ≡ colon → ⊥) → Refused (Expressions names 0) limit front next deep → (following : Kinds) → Near next following → IsRun (front ++ following)
+run_fits names limit [] next deep p other r following near = run_none next following (p refl) near
+run_fits names limit (f ∷ fs) next deep p other r following near =
     elim r.begun [
       | inl none ↦ absurd cc
       | inr b ↦ record {
@@ -231,47 +231,47 @@ run_fits names room (f ∷ fs) next deep p other r behind near =
             no_other names first (ap (begins_expression names) (sym k) ∙ runs_first names b.phrase [] f (fs ++ b.more) b.is_phrase b.spelled);
         unlabelled = λ n more same.
             let k : f ≡ token.Name n = cc in
-            run_label names room f fs behind next n more b (λ none. other n (ap (λ (x : Kinds). f ∷ x) none ∙ ap (λ (x : TokenKind). x ∷ []) k)) near same;
+            run_label names limit f fs following next n more b (λ none. other n (ap (λ (x : Kinds). f ∷ x) none ∙ ap (λ (x : TokenKind). x ∷ []) k)) near same;
       }
     ]
 
 -- the expression of a statement was refused
-pub runs_refused : (names : Names) (room inner : ℕ) → room ≡ 1 + inner → 1 ≤ inner → (front : Kinds) (next : TokenKind) (deep : Bool) → (front ≡ [] → IsPlainNext next) → ((n : List ℕ) → front ≡ token.Name n ∷ [] → next ≡ colon → ⊥) → Refused (Expressions names 0) inner front next deep → Refused (Sentences names) room front next deep
-runs_refused names room inner less some front next deep p other r =
-    single_refused (runs_single names) room inner (less, some) front next deep (run_fits names inner front next deep p other r)
+pub runs_refused : (names : Names) (limit inner : ℕ) → limit ≡ 1 + inner → 1 ≤ inner → (front : Kinds) (next : TokenKind) (deep : Bool) → (front ≡ [] → IsPlainNext next) → ((n : List ℕ) → front ≡ token.Name n ∷ [] → next ≡ colon → ⊥) → Refused (Expressions names 0) inner front next deep → Refused (Sentences names) limit front next deep
+runs_refused names limit inner less some front next deep p other r =
+    single_refused (runs_single names) limit inner (less, some) front next deep (run_fits names inner front next deep p other r)
     (closed_refused (Expressions names 0) semicolon inner (text_law names 0) (λ part more. omega arith) front next deep r)
 
-text_run : (names : Names) (e : Written) (x behind : Kinds) → IsPhrase names 0 e → ((n : List ℕ) (more : Kinds) → e ≡ Named n → x ≡ colon ∷ more → ⊥) → IsRun (text e x)
-text_run names e x behind is other = record {
+text_run : (names : Names) (e : Written) (x following : Kinds) → IsPhrase names 0 e → ((n : List ℕ) (more : Kinds) → e ≡ Named n → x ≡ colon ∷ more → ⊥) → IsRun (text e x)
+text_run names e x following is other = record {
   plain = λ first more same. no_other names first (runs_first names e x first more is same);
   unlabelled = λ n more same. let f = name_colon e x n more same in other n more f.0 f.1;
 }
 
--- the expression was taken, and no semicolon stands behind it
-pub runs_wrong : (names : Names) (room inner : ℕ) → room ≡ 1 + inner → 1 ≤ inner → (e : Written) (next : TokenKind) (deep : Bool) → Took (Expressions names 0) inner e next deep → (next ≡ semicolon → ⊥) → ((n : List ℕ) → e ≡ Named n → next ≡ colon → ⊥) → Refused (Sentences names) room (text e []) next deep
-runs_wrong names room inner less some e next deep t other label =
-    single_refused (runs_single names) room inner (less, some) (text e []) next deep
-    (λ behind near. subst IsRun (sym (text_append e [] behind)) (text_run names e behind behind t.is_phrase (λ n more same c. near_other colon next behind more (label n same) near (sym c))))
+-- the expression was taken, and no semicolon stands after it
+pub runs_wrong : (names : Names) (limit inner : ℕ) → limit ≡ 1 + inner → 1 ≤ inner → (e : Written) (next : TokenKind) (deep : Bool) → Took (Expressions names 0) inner e next deep → (next ≡ semicolon → ⊥) → ((n : List ℕ) → e ≡ Named n → next ≡ colon → ⊥) → Refused (Sentences names) limit (text e []) next deep
+runs_wrong names limit inner less some e next deep t other label =
+    single_refused (runs_single names) limit inner (less, some) (text e []) next deep
+    (λ following near. subst IsRun (sym (text_append e [] following)) (text_run names e following following t.is_phrase (λ n more same c. near_other colon next following more (label n same) near (sym c))))
     (closed_wrong (Expressions names 0) semicolon inner (text_law names 0) (λ part more. omega arith) e next deep t other)
 
 -- an expression statement was taken
-pub runs_took : (names : Names) (room inner : ℕ) → room ≡ 1 + inner → 1 ≤ inner → (e : Written) (deep : Bool) (next : TokenKind) → Took (Expressions names 0) inner e semicolon deep → Took (Sentences names) room (Runs e) next false
-runs_took names room inner less some e deep next t =
-    single_took (runs_single names) room inner (less, some) e next false
-    (λ behind near. text_run names e (semicolon ∷ behind) behind t.is_phrase (λ n more same c. cc))
+pub runs_took : (names : Names) (limit inner : ℕ) → limit ≡ 1 + inner → 1 ≤ inner → (e : Written) (deep : Bool) (next : TokenKind) → Took (Expressions names 0) inner e semicolon deep → Took (Sentences names) limit (Runs e) next false
+runs_took names limit inner less some e deep next t =
+    single_took (runs_single names) limit inner (less, some) e next false
+    (λ following near. text_run names e (semicolon ∷ following) following t.is_phrase (λ n more same c. cc))
     (exact_took (ClosedBy (Expressions names 0) semicolon) inner e (closed_exact (Expressions names 0) semicolon inner (λ part more. omega arith) e deep t) next)
 
-lone_never : (names : Names) (n : List ℕ) (next : TokenKind) → is_among names n ≡ true → (next ≡ colon → ⊥) → (other : Sentence) (after behind : Kinds) → IsSentence names other → Near next behind → sentence_text other after ≡ token.Name n ∷ behind → ⊥
-lone_never names n next among no_colon (Runs e) after behind is near same =
-    let f = runs_first names e (semicolon ∷ after) (token.Name n) behind is same in
+lone_never : (names : Names) (n : List ℕ) (next : TokenKind) → is_among names n ≡ true → (next ≡ colon → ⊥) → (other : Sentence) (after following : Kinds) → IsSentence names other → Near next following → sentence_text other after ≡ token.Name n ∷ following → ⊥
+lone_never names n next among no_colon (Runs e) after following is near same =
+    let f = runs_first names e (semicolon ∷ after) (token.Name n) following is same in
     both_ways (is_among names n) (not-true (is_among names n) f) among
-lone_never names n next among no_colon (Label m b) after behind is near same = near_other colon next behind (sentence_text b after) no_colon near cc
-lone_never names n next among no_colon _ after behind is near same = cc
+lone_never names n next among no_colon (Label m b) after following is near same = near_other colon next following (sentence_text b after) no_colon near cc
+lone_never names n next among no_colon _ after following is near same = cc
 
 -- a typedef name begins a statement as a label alone
-pub lone_refused : (names : Names) (room : ℕ) (n : List ℕ) (next : TokenKind) → 2 ≤ room → is_among names n ≡ true → (next ≡ colon → ⊥) → Refused (Sentences names) room (token.Name n ∷ []) next false
-lone_refused names room n next some among no_colon = record {
+pub lone_refused : (names : Names) (limit : ℕ) (n : List ℕ) (next : TokenKind) → 2 ≤ limit → is_among names n ≡ true → (next ≡ colon → ⊥) → Refused (Sentences names) limit (token.Name n ∷ []) next false
+lone_refused names limit n next some among no_colon = record {
   begun = inr (record { phrase = Label n Nothing; more = colon ∷ semicolon ∷ []; is_phrase = tt; low = omega (arith, some); spelled = refl });
-  never = λ other after behind is shut near same. absurd (lone_never names n next among no_colon other after behind is near same);
-  further = λ told. absurd (false≢true told);
+  never = λ other after following is shut near same. absurd (lone_never names n next among no_colon other after following is near same);
+  further = λ reported. absurd (false≢true reported);
 }

@@ -1,10 +1,10 @@
--- The parts of statements: what may be cut off behind them, the lowest of them, and the forms as pairs. For the contracts of every
+-- The parts of statements: what may be cut off after them, the lowest of them, and the forms as pairs. For the contracts of every
 -- parser of statements.
 use Rattle.std.proofs.Common.{ℕ, ◌≤◌, true, false, List, [], ◌∷◌, Option, Some, None, ap, arith}
 use Rattle.cs_ast.specs.declared.token.TokenKind.TheVariants as token
 use Rattle.cs_ast.specs.declared.token.Keyword.TheVariants as keyword
 use Rattle.cs_ast.specs.declared.token.Length.TheVariants.{Plain as plain_length}
-use Rattle.cs_ast.specs.RawTree.{Written, Named, Numeral, Character, Literal, Enclosed, Index, Call, Member, Arrow, StepBehind, StepBefore, Prefix, SizeOf, SizeOfType, Cast, Infix, Choice, Assign, Comma}
+use Rattle.cs_ast.specs.RawTree.{Written, Named, Numeral, Character, Literal, Enclosed, Index, Call, Member, Arrow, StepAfter, StepBefore, Prefix, SizeOf, SizeOfType, Cast, Infix, Choice, Assign, Comma}
 use Rattle.cs_ast.specs.RawHeight.{height}
 use Rattle.cs_ast.specs.RawStatements.{NoFirst, Sentence, Block, Nothing, Runs, If, IfElse, While, Do, For, Switch, Goto, Continue, Break, Return, Label, NoItem, NoSwitchItem}
 use Rattle.cs_ast.specs.RawFileHeight.{sentence_height}
@@ -36,7 +36,7 @@ expression_height (Index a n) = omega arith
 expression_height (Call f es) = omega arith
 expression_height (Member o n) = omega arith
 expression_height (Arrow o n) = omega arith
-expression_height (StepBehind s o) = omega arith
+expression_height (StepAfter s o) = omega arith
 expression_height (StepBefore s o) = omega arith
 expression_height (Prefix op o) = omega arith
 expression_height (SizeOf o) = omega arith

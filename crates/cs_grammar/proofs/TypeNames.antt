@@ -23,7 +23,7 @@ use Rattle.cs_grammar.proofs.FileBeginnings.{specs_of, plain_text, block_words, 
 use Rattle.cs_grammar.proofs.BlockItems.{plain_height}
 use Rattle.cs_grammar.proofs.Tails.{near_other}
 
--- the first word of some tokens, and what stands behind it
+-- the first word of some tokens, and what stands after it
 abbrev read_word : Kinds → Option (TypeWord × Kinds)
 read_word (token.Keyword keyword.Const ∷ rest) = Some (word.Const, rest)
 read_word (token.Keyword keyword.Void ∷ rest) = Some (word.Void, rest)
@@ -107,7 +107,7 @@ pub type_and_name : (names : Names) (ws : List TypeWord) (n : List ℕ) (more : 
 type_and_name names ws n more type both =
     both_ways (is_type names (ws ++ word.Typedef n ∷ more)) (ap (names_type names) (named_more ws (word.Typedef n ∷ more)) ∙ named_and_name names (named_by ws) n (named_by more) type) both
 
--- only a name is both a word and what may stand behind a type
+-- only a name is both a word and what may stand after a type
 word_ends : (w : TypeWord) → ends_specs (first_token w) ≡ true → (n : List ℕ) × (w ≡ word.Typedef n)
 word_ends (word.Typedef n) e = (n, refl)
 word_ends word.Const e = absurd (false≢true e)
@@ -129,27 +129,27 @@ follows_first : (after : Kinds) (t : TokenKind) (more : Kinds) → Follows ends_
 follows_first after t more f same = subst (Follows ends_specs) same f
 
 -- words of a type that begin as others go on with more
-words_go_on : (names : Names) (before ws other : List TypeWord) (after behind : Kinds) → MayGoOn names (before ++ ws) → is_type names (before ++ other) ≡ true → Follows ends_specs after → words_text other after ≡ words_text ws behind → (more : List TypeWord) × (other ≡ ws ++ more) × (words_text more after ≡ behind)
-words_go_on names before [] other after behind go type f same = (other, refl, same)
-words_go_on names before (w ∷ ws) [] after behind go type f same =
-    let s = starts_word w (words_text ws behind) in
+words_go_on : (names : Names) (before ws other : List TypeWord) (after following : Kinds) → MayGoOn names (before ++ ws) → is_type names (before ++ other) ≡ true → Follows ends_specs after → words_text other after ≡ words_text ws following → (more : List TypeWord) × (other ≡ ws ++ more) × (words_text more after ≡ following)
+words_go_on names before [] other after following go type f same = (other, refl, same)
+words_go_on names before (w ∷ ws) [] after following go type f same =
+    let s = starts_word w (words_text ws following) in
     let n = word_ends w (follows_first after (first_token w) s.0 f (same ∙ s.1)) in
     let t : is_type names before ≡ true = ap (is_type names) (sym (append-nil before)) ∙ type in
     absurd (type_and_name names before n.0 (ws ++ go.0) t (ap (is_type names) (ap (λ (x : TypeWord). before ++ x ∷ (ws ++ go.0)) (sym n.1) ∙ sym (append_assoc before (w ∷ ws) go.0)) ∙ go.1))
-words_go_on names before (w ∷ ws) (v ∷ vs) after behind go type f same =
-    let k = same_word v w (words_text vs after) (words_text ws behind) same in
+words_go_on names before (w ∷ ws) (v ∷ vs) after following go type f same =
+    let k = same_word v w (words_text vs after) (words_text ws following) same in
     let go' : MayGoOn names ((before ++ w ∷ []) ++ ws) = (go.0, ap (λ (x : List TypeWord). is_type names (x ++ go.0)) (append_assoc before (w ∷ []) ws) ∙ go.1) in
     let type' : is_type names ((before ++ w ∷ []) ++ vs) ≡ true = ap (is_type names) (append_assoc before (w ∷ []) vs ∙ ap (λ (x : TypeWord). before ++ x ∷ vs) (sym k.0)) ∙ type in
-    let r = words_go_on names (before ++ w ∷ []) ws vs after behind go' type' f k.1 in
+    let r = words_go_on names (before ++ w ∷ []) ws vs after following go' type' f k.1 in
     (r.0, ap (λ (x : TypeWord). x ∷ vs) k.0 ∙ ap (λ (x : List TypeWord). w ∷ x) r.1, r.2)
 
 -- no word that begins with the token goes on with these
 abbrev pub IsStuckAt : Names → List TypeWord → TokenKind → Type 0
 IsStuckAt names ws next = (one : TypeWord) (more : List TypeWord) → first_token one ≡ next → is_type names (ws ++ one ∷ more) ≡ false
 
-stuck_near : (names : Names) (ws : List TypeWord) (next : TokenKind) (more : List TypeWord) (after behind : Kinds) → IsStuckAt names ws next → is_type names (ws ++ more) ≡ true → Near next behind → words_text more after ≡ behind → (more ≡ []) × (after ≡ behind)
-stuck_near names ws next [] after behind stuck type near same = (refl, same)
-stuck_near names ws next (w ∷ more) after behind stuck type near same =
+stuck_near : (names : Names) (ws : List TypeWord) (next : TokenKind) (more : List TypeWord) (after following : Kinds) → IsStuckAt names ws next → is_type names (ws ++ more) ≡ true → Near next following → words_text more after ≡ following → (more ≡ []) × (after ≡ following)
+stuck_near names ws next [] after following stuck type near same = (refl, same)
+stuck_near names ws next (w ∷ more) after following stuck type near same =
     let s = starts_word w (words_text more after) in
     absurd (elim near [
       | inl none ↦ let z = sym s.1 ∙ same ∙ none in cc
@@ -159,13 +159,13 @@ stuck_near names ws next (w ∷ more) after behind stuck type near same =
           both_ways (is_type names (ws ++ w ∷ more)) (stuck w more k) type
     ])
 
-block_only : (names : Names) (ws : List TypeWord) (next : TokenKind) → is_type names ws ≡ true → IsStuckAt names ws next → (other : Specs) (after behind : Kinds) → AreBlockSpecs names other → Follows ends_specs after → Near next behind → specs_text other after ≡ specs_text (specs_of ws) behind → (other ≡ specs_of ws) × (after ≡ behind)
-block_only names ws next type stuck other after behind is f near same =
+block_only : (names : Names) (ws : List TypeWord) (next : TokenKind) → is_type names ws ≡ true → IsStuckAt names ws next → (other : Specs) (after following : Kinds) → AreBlockSpecs names other → Follows ends_specs after → Near next following → specs_text other after ≡ specs_text (specs_of ws) following → (other ≡ specs_of ws) × (after ≡ following)
+block_only names ws next type stuck other after following is f near same =
     let o = block_words names other is in
-    let s : words_text o.words after ≡ words_text ws behind = sym (plain_text o.words after) ∙ ap (λ (x : Specs). specs_text x after) (sym o.are) ∙ same ∙ plain_text ws behind in
+    let s : words_text o.words after ≡ words_text ws following = sym (plain_text o.words after) ∙ ap (λ (x : Specs). specs_text x after) (sym o.are) ∙ same ∙ plain_text ws following in
     let go : MayGoOn names ws = ([], ap (is_type names) (append-nil ws) ∙ type) in
-    let r = words_go_on names [] ws o.words after behind go o.type f s in
-    let e = stuck_near names ws next r.0 after behind stuck (ap (is_type names) (sym r.1) ∙ o.type) near r.2 in
+    let r = words_go_on names [] ws o.words after following go o.type f s in
+    let e = stuck_near names ws next r.0 after following stuck (ap (is_type names) (sym r.1) ∙ o.type) near r.2 in
     (o.are ∙ ap specs_of (r.1 ∙ ap (λ (x : List TypeWord). ws ++ x) e.0 ∙ append-nil ws), e.1)
 
 words_height : (ws : List TypeWord) → specs_height (specs_of ws) ≤ 1
@@ -173,13 +173,13 @@ words_height [] = omega arith
 words_height (w ∷ ws) = let h = plain_height w ws in omega (arith, h)
 
 -- the words of a type were taken inside a block, as many as there are
-pub block_specs_took : (names : Names) (room : ℕ) (ws : List TypeWord) (next : TokenKind) → 1 ≤ room → is_type names ws ≡ true → IsStuckAt names ws next → Took (BlockSpecs names) room (specs_of ws) next false
-block_specs_took names room ws next some type stuck = record {
+pub block_specs_took : (names : Names) (limit : ℕ) (ws : List TypeWord) (next : TokenKind) → 1 ≤ limit → is_type names ws ≡ true → IsStuckAt names ws next → Took (BlockSpecs names) limit (specs_of ws) next false
+block_specs_took names limit ws next some type stuck = record {
   is_phrase = plain_are names ws type;
   low = let h = words_height ws in omega (arith, h, some);
-  only = λ other after behind is shut near same. inl (block_only names ws next type stuck other after behind is shut near same);
-  further = λ told. absurd (false≢true told);
-  joined = λ told more shut. false≢true told;
+  only = λ other after following is shut near same. inl (block_only names ws next type stuck other after following is shut near same);
+  further = λ reported. absurd (false≢true reported);
+  joined = λ reported more shut. false≢true reported;
 }
 
 pub words_split : (ws more : List TypeWord) (x : Kinds) → words_text (ws ++ more) x ≡ words_text ws (words_text more x)
@@ -207,17 +207,17 @@ tag_type names ws is_struct tag none =
     ap (names_type names) (named_more ws (tagged is_struct tag ∷ []) ∙ ap (λ (x : List TypeWord). x ++ named_by (tagged is_struct tag ∷ [])) none) ∙ tagged_names names is_struct tag
 
 -- words so far, and tokens with which no word begins
-pub block_words_never : (names : Names) (ws : List TypeWord) (next : TokenKind) → is_type names ws ≡ false → MayGoOn names ws → IsStuckAt names ws next → (other : Specs) (after behind : Kinds) → AreBlockSpecs names other → Follows ends_specs after → Near next behind → specs_text other after ≡ words_text ws [] ++ behind → ⊥
-block_words_never names ws next none go stuck other after behind is f near same =
+pub block_words_never : (names : Names) (ws : List TypeWord) (next : TokenKind) → is_type names ws ≡ false → MayGoOn names ws → IsStuckAt names ws next → (other : Specs) (after following : Kinds) → AreBlockSpecs names other → Follows ends_specs after → Near next following → specs_text other after ≡ words_text ws [] ++ following → ⊥
+block_words_never names ws next none go stuck other after following is f near same =
     let o = block_words names other is in
-    let s : words_text o.words after ≡ words_text ws behind = sym (plain_text o.words after) ∙ ap (λ (x : Specs). specs_text x after) (sym o.are) ∙ same ∙ words_append ws [] behind in
-    let r = words_go_on names [] ws o.words after behind go o.type f s in
-    let e = stuck_near names ws next r.0 after behind stuck (ap (is_type names) (sym r.1) ∙ o.type) near r.2 in
+    let s : words_text o.words after ≡ words_text ws following = sym (plain_text o.words after) ∙ ap (λ (x : Specs). specs_text x after) (sym o.are) ∙ same ∙ words_append ws [] following in
+    let r = words_go_on names [] ws o.words after following go o.type f s in
+    let e = stuck_near names ws next r.0 after following stuck (ap (is_type names) (sym r.1) ∙ o.type) near r.2 in
     both_ways (is_type names ws) none (ap (is_type names) (sym (r.1 ∙ ap (λ (x : List TypeWord). ws ++ x) e.0 ∙ append-nil ws)) ∙ o.type)
 
 -- words that name no type yet, and no word that goes on with them
-pub block_specs_refused : (names : Names) (room : ℕ) (ws : List TypeWord) (next : TokenKind) → 1 ≤ room → is_type names ws ≡ false → MayGoOn names ws → IsStuckAt names ws next → Refused (BlockSpecs names) room (words_text ws []) next false
-block_specs_refused names room ws next some none go stuck = record {
+pub block_specs_refused : (names : Names) (limit : ℕ) (ws : List TypeWord) (next : TokenKind) → 1 ≤ limit → is_type names ws ≡ false → MayGoOn names ws → IsStuckAt names ws next → Refused (BlockSpecs names) limit (words_text ws []) next false
+block_specs_refused names limit ws next some none go stuck = record {
   begun = inr (record {
     phrase = specs_of (ws ++ go.0);
     more = words_text go.0 [];
@@ -225,40 +225,40 @@ block_specs_refused names room ws next some none go stuck = record {
     low = let h = words_height (ws ++ go.0) in omega (arith, h, some);
     spelled = plain_text (ws ++ go.0) [] ∙ words_split ws go.0 [] ∙ sym (words_append ws [] (words_text go.0 []));
   });
-  never = λ other after behind is shut near same. absurd (block_words_never names ws next none go stuck other after behind is shut near same);
-  further = λ told. absurd (false≢true told);
+  never = λ other after following is shut near same. absurd (block_words_never names ws next none go stuck other after following is shut near same);
+  further = λ reported. absurd (false≢true reported);
 }
 
--- the token behind `struct` or `enum` is no tag
-tag_near : (is_struct : Bool) (next : TokenKind) (ws more : List TypeWord) (after behind : Kinds) → ((n : List ℕ) → next ≡ token.Name n → ⊥) → Follows ends_specs after → Near next behind → words_text more after ≡ tag_word is_struct ∷ behind → ⊥
-tag_near true next ws [] after behind no_name f near same = false≢true (follows_first after (tag_word true) behind f same)
-tag_near false next ws [] after behind no_name f near same = false≢true (follows_first after (tag_word false) behind f same)
-tag_near true next ws (word.Struct t ∷ more) after behind no_name f near same = near_other (token.Name t) next behind (words_text more after) (no_name t) near cc
-tag_near false next ws (word.Enum t ∷ more) after behind no_name f near same = near_other (token.Name t) next behind (words_text more after) (no_name t) near cc
-tag_near true next ws (word.Const ∷ more) after behind no_name f near same = cc
-tag_near true next ws (word.Void ∷ more) after behind no_name f near same = cc
-tag_near true next ws (word.Typedef n ∷ more) after behind no_name f near same = cc
-tag_near true next ws (word.Enum n ∷ more) after behind no_name f near same = cc
-tag_near true next ws (word.Integer Char ∷ more) after behind no_name f near same = cc
-tag_near true next ws (word.Integer Short ∷ more) after behind no_name f near same = cc
-tag_near true next ws (word.Integer Int ∷ more) after behind no_name f near same = cc
-tag_near true next ws (word.Integer Long ∷ more) after behind no_name f near same = cc
-tag_near true next ws (word.Integer Signed ∷ more) after behind no_name f near same = cc
-tag_near true next ws (word.Integer Unsigned ∷ more) after behind no_name f near same = cc
-tag_near false next ws (word.Const ∷ more) after behind no_name f near same = cc
-tag_near false next ws (word.Void ∷ more) after behind no_name f near same = cc
-tag_near false next ws (word.Typedef n ∷ more) after behind no_name f near same = cc
-tag_near false next ws (word.Struct n ∷ more) after behind no_name f near same = cc
-tag_near false next ws (word.Integer Char ∷ more) after behind no_name f near same = cc
-tag_near false next ws (word.Integer Short ∷ more) after behind no_name f near same = cc
-tag_near false next ws (word.Integer Int ∷ more) after behind no_name f near same = cc
-tag_near false next ws (word.Integer Long ∷ more) after behind no_name f near same = cc
-tag_near false next ws (word.Integer Signed ∷ more) after behind no_name f near same = cc
-tag_near false next ws (word.Integer Unsigned ∷ more) after behind no_name f near same = cc
+-- the token after `struct` or `enum` is no tag
+tag_near : (is_struct : Bool) (next : TokenKind) (ws more : List TypeWord) (after following : Kinds) → ((n : List ℕ) → next ≡ token.Name n → ⊥) → Follows ends_specs after → Near next following → words_text more after ≡ tag_word is_struct ∷ following → ⊥
+tag_near true next ws [] after following no_name f near same = false≢true (follows_first after (tag_word true) following f same)
+tag_near false next ws [] after following no_name f near same = false≢true (follows_first after (tag_word false) following f same)
+tag_near true next ws (word.Struct t ∷ more) after following no_name f near same = near_other (token.Name t) next following (words_text more after) (no_name t) near cc
+tag_near false next ws (word.Enum t ∷ more) after following no_name f near same = near_other (token.Name t) next following (words_text more after) (no_name t) near cc
+tag_near true next ws (word.Const ∷ more) after following no_name f near same = cc
+tag_near true next ws (word.Void ∷ more) after following no_name f near same = cc
+tag_near true next ws (word.Typedef n ∷ more) after following no_name f near same = cc
+tag_near true next ws (word.Enum n ∷ more) after following no_name f near same = cc
+tag_near true next ws (word.Integer Char ∷ more) after following no_name f near same = cc
+tag_near true next ws (word.Integer Short ∷ more) after following no_name f near same = cc
+tag_near true next ws (word.Integer Int ∷ more) after following no_name f near same = cc
+tag_near true next ws (word.Integer Long ∷ more) after following no_name f near same = cc
+tag_near true next ws (word.Integer Signed ∷ more) after following no_name f near same = cc
+tag_near true next ws (word.Integer Unsigned ∷ more) after following no_name f near same = cc
+tag_near false next ws (word.Const ∷ more) after following no_name f near same = cc
+tag_near false next ws (word.Void ∷ more) after following no_name f near same = cc
+tag_near false next ws (word.Typedef n ∷ more) after following no_name f near same = cc
+tag_near false next ws (word.Struct n ∷ more) after following no_name f near same = cc
+tag_near false next ws (word.Integer Char ∷ more) after following no_name f near same = cc
+tag_near false next ws (word.Integer Short ∷ more) after following no_name f near same = cc
+tag_near false next ws (word.Integer Int ∷ more) after following no_name f near same = cc
+tag_near false next ws (word.Integer Long ∷ more) after following no_name f near same = cc
+tag_near false next ws (word.Integer Signed ∷ more) after following no_name f near same = cc
+tag_near false next ws (word.Integer Unsigned ∷ more) after following no_name f near same = cc
 
--- `struct` or `enum` behind words that name nothing, and no tag behind it, inside a block
-pub block_tag_refused : (names : Names) (room : ℕ) (ws : List TypeWord) (is_struct : Bool) (next : TokenKind) → 1 ≤ room → named_by ws ≡ [] → ((n : List ℕ) → next ≡ token.Name n → ⊥) → Refused (BlockSpecs names) room (words_text ws (tag_word is_struct ∷ [])) next false
-block_tag_refused names room ws is_struct next some none no_name =
+-- `struct` or `enum` after words that name nothing, and no tag after it, inside a block
+pub block_tag_refused : (names : Names) (limit : ℕ) (ws : List TypeWord) (is_struct : Bool) (next : TokenKind) → 1 ≤ limit → named_by ws ≡ [] → ((n : List ℕ) → next ≡ token.Name n → ⊥) → Refused (BlockSpecs names) limit (words_text ws (tag_word is_struct ∷ [])) next false
+block_tag_refused names limit ws is_struct next some none no_name =
     let go : MayGoOn names ws = (tagged is_struct [] ∷ [], tag_type names ws is_struct [] none) in
     record {
       begun = inr (record {
@@ -268,10 +268,10 @@ block_tag_refused names room ws is_struct next some none no_name =
         low = let h = words_height (ws ++ tagged is_struct [] ∷ []) in omega (arith, h, some);
         spelled = plain_text (ws ++ tagged is_struct [] ∷ []) [] ∙ words_split ws (tagged is_struct [] ∷ []) [] ∙ ap (words_text ws) (tagged_text is_struct [] []) ∙ sym (words_append ws (tag_word is_struct ∷ []) (token.Name [] ∷ []));
       });
-      never = λ other after behind is shut near same.
+      never = λ other after following is shut near same.
           let o = block_words names other is in
-          let s : words_text o.words after ≡ words_text ws (tag_word is_struct ∷ behind) = sym (plain_text o.words after) ∙ ap (λ (x : Specs). specs_text x after) (sym o.are) ∙ same ∙ words_append ws (tag_word is_struct ∷ []) behind in
-          let r = words_go_on names [] ws o.words after (tag_word is_struct ∷ behind) go o.type shut s in
-          absurd (tag_near is_struct next ws r.0 after behind no_name shut near r.2);
-      further = λ told. absurd (false≢true told);
+          let s : words_text o.words after ≡ words_text ws (tag_word is_struct ∷ following) = sym (plain_text o.words after) ∙ ap (λ (x : Specs). specs_text x after) (sym o.are) ∙ same ∙ words_append ws (tag_word is_struct ∷ []) following in
+          let r = words_go_on names [] ws o.words after (tag_word is_struct ∷ following) go o.type shut s in
+          absurd (tag_near is_struct next ws r.0 after following no_name shut near r.2);
+      further = λ reported. absurd (false≢true reported);
     }

@@ -4,12 +4,12 @@ use Rattle.cs_ast.specs.declared.token.TokenKind.{TokenKind}
 use Rattle.cs_ast.specs.RawTree.{Written}
 use Rattle.cs_ast.specs.RawFileHeight.{height_of_some, highest_by}
 use Rattle.cs_grammar.specs.TypeWords.{Names}
-use Rattle.cs_grammar.specs.FileText.{some_text, comma_text, with_commas, each_behind_comma}
+use Rattle.cs_grammar.specs.FileText.{some_text, comma_text, with_commas, each_after_comma}
 use Rattle.cs_grammar.specs.FilePhrases.{AreAll, IsSomeList}
 use Rattle.cs_grammar.specs.Phrases.{IsPhrase}
 use Rattle.cs_grammar.specs.Parsing.{Class}
 
--- a phrase of C, and one of D behind it
+-- a phrase of C, and one of D after it
 abbrev pub Sequence : Class → Class → Class
 Sequence C D = record {
   Tree = C.Tree × D.Tree;
@@ -19,9 +19,9 @@ Sequence C D = record {
   Shut = λ pair after. D.Shut pair.1 after;
 }
 
--- a token, and a phrase of D behind it
-abbrev pub Behind : TokenKind → Class → Class
-Behind t D = record { Tree = D.Tree; spell = λ tree after. t ∷ D.spell tree after; tall = D.tall; Is = D.Is; Shut = D.Shut }
+-- a token, and a phrase of D after it
+abbrev pub Following : TokenKind → Class → Class
+Following t D = record { Tree = D.Tree; spell = λ tree after. t ∷ D.spell tree after; tall = D.tall; Is = D.Is; Shut = D.Shut }
 
 -- an expression of the level, or none where that is allowed, and a token that closes it
 abbrev pub ClosedSome : Names → ℕ → Type 0 → TokenKind → Class
@@ -43,17 +43,17 @@ Separated D close = record {
   Shut = λ list after. Unit {0};
 }
 
--- phrases of D, each behind a comma, and a token that closes them
+-- phrases of D, each after a comma, and a token that closes them
 abbrev pub Further : Class → TokenKind → Class
 Further D close = record {
   Tree = List D.Tree;
-  spell = λ list after. each_behind_comma D.spell list (close ∷ after);
+  spell = λ list after. each_after_comma D.spell list (close ∷ after);
   tall = highest_by D.tall;
   Is = AreAll D.Is;
   Shut = λ list after. Unit {0};
 }
 
--- phrases of D, one at least, with commas between them and perhaps one behind them, and a token that closes them
+-- phrases of D, one at least, with commas between them and perhaps one after them, and a token that closes them
 abbrev pub Trailing : Class → TokenKind → Class
 Trailing D close = record {
   Tree = List D.Tree × Bool;
@@ -63,11 +63,11 @@ Trailing D close = record {
   Shut = λ row after. Unit {0};
 }
 
--- phrases of D, each behind a comma, perhaps one comma more, and a token that closes them
+-- phrases of D, each after a comma, perhaps one comma more, and a token that closes them
 abbrev pub FurtherTrailing : Class → TokenKind → Class
 FurtherTrailing D close = record {
   Tree = List D.Tree × Bool;
-  spell = λ row after. each_behind_comma D.spell row.0 (comma_text row.1 (close ∷ after));
+  spell = λ row after. each_after_comma D.spell row.0 (comma_text row.1 (close ∷ after));
   tall = λ row. highest_by D.tall row.0;
   Is = λ row. AreAll D.Is row.0;
   Shut = λ row after. Unit {0};

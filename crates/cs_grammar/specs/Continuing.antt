@@ -2,54 +2,54 @@
 use Rattle.std.specs.Prelude.{ℕ, [], ◌∷◌}
 use Rattle.cs_ast.specs.declared.token.TokenKind.{TokenKind}
 use Rattle.cs_ast.specs.declared.token.TokenKind.TheVariants as token
-use Rattle.cs_ast.specs.declared.token.Mark.{Mark}
-use Rattle.cs_ast.specs.declared.token.Mark.TheVariants as mark
+use Rattle.cs_ast.specs.declared.token.Punctuator.{Punctuator}
+use Rattle.cs_ast.specs.declared.token.Punctuator.TheVariants as punctuator
 use Rattle.cs_grammar.specs.Text.{Kinds}
 
--- one more than the level of the expressions that go on with this mark behind an operand, 0 where none does
-abbrev pub mark_join : Mark → ℕ
-mark_join mark.Comma = 1
-mark_join mark.Equal = 2
-mark_join mark.StarEqual = 2
-mark_join mark.SlashEqual = 2
-mark_join mark.PercentEqual = 2
-mark_join mark.PlusEqual = 2
-mark_join mark.MinusEqual = 2
-mark_join mark.ShiftLeftEqual = 2
-mark_join mark.ShiftRightEqual = 2
-mark_join mark.AmpersandEqual = 2
-mark_join mark.CaretEqual = 2
-mark_join mark.BarEqual = 2
-mark_join mark.Question = 3
-mark_join mark.BarBar = 4
-mark_join mark.AndAnd = 5
-mark_join mark.Bar = 6
-mark_join mark.Caret = 7
-mark_join mark.Ampersand = 8
-mark_join mark.EqualEqual = 9
-mark_join mark.Differs = 9
-mark_join mark.Less = 10
-mark_join mark.AtMost = 10
-mark_join mark.More = 10
-mark_join mark.AtLeast = 10
-mark_join mark.ShiftLeft = 11
-mark_join mark.ShiftRight = 11
-mark_join mark.Plus = 12
-mark_join mark.Minus = 12
-mark_join mark.Star = 13
-mark_join mark.Slash = 13
-mark_join mark.Percent = 13
-mark_join mark.OpenBracket = 16
-mark_join mark.OpenParenthesis = 16
-mark_join mark.Dot = 16
-mark_join mark.Arrow = 16
-mark_join mark.Increment = 16
-mark_join mark.Decrement = 16
-mark_join other = 0
+-- one more than the level of the expressions that go on with this punctuator after an operand, 0 where none does
+abbrev pub punctuator_join : Punctuator → ℕ
+punctuator_join punctuator.Comma = 1
+punctuator_join punctuator.Equal = 2
+punctuator_join punctuator.StarEqual = 2
+punctuator_join punctuator.SlashEqual = 2
+punctuator_join punctuator.PercentEqual = 2
+punctuator_join punctuator.PlusEqual = 2
+punctuator_join punctuator.MinusEqual = 2
+punctuator_join punctuator.ShiftLeftEqual = 2
+punctuator_join punctuator.ShiftRightEqual = 2
+punctuator_join punctuator.AmpersandEqual = 2
+punctuator_join punctuator.CaretEqual = 2
+punctuator_join punctuator.BarEqual = 2
+punctuator_join punctuator.Question = 3
+punctuator_join punctuator.BarBar = 4
+punctuator_join punctuator.AndAnd = 5
+punctuator_join punctuator.Bar = 6
+punctuator_join punctuator.Caret = 7
+punctuator_join punctuator.Ampersand = 8
+punctuator_join punctuator.EqualEqual = 9
+punctuator_join punctuator.Differs = 9
+punctuator_join punctuator.Less = 10
+punctuator_join punctuator.AtMost = 10
+punctuator_join punctuator.More = 10
+punctuator_join punctuator.AtLeast = 10
+punctuator_join punctuator.ShiftLeft = 11
+punctuator_join punctuator.ShiftRight = 11
+punctuator_join punctuator.Plus = 12
+punctuator_join punctuator.Minus = 12
+punctuator_join punctuator.Star = 13
+punctuator_join punctuator.Slash = 13
+punctuator_join punctuator.Percent = 13
+punctuator_join punctuator.OpenBracket = 16
+punctuator_join punctuator.OpenParenthesis = 16
+punctuator_join punctuator.Dot = 16
+punctuator_join punctuator.Arrow = 16
+punctuator_join punctuator.Increment = 16
+punctuator_join punctuator.Decrement = 16
+punctuator_join other = 0
 
 -- the same of a token
 abbrev pub join : TokenKind → ℕ
-join (token.Mark mark) = mark_join mark
+join (token.Punctuator punctuator) = punctuator_join punctuator
 join other = 0
 
 -- the same of the first of these tokens, 0 where there is none

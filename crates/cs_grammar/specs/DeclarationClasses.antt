@@ -2,7 +2,7 @@
 use Rattle.std.specs.Prelude.{◌≡◌, ◌≢◌, IsTrue, ℕ, ◌+◌, max, Bool, true, false, List, [], ◌∷◌, Option, MatchOption}
 use Rattle.cs_ast.specs.declared.token.TokenKind.{TokenKind}
 use Rattle.cs_ast.specs.declared.token.TokenKind.TheVariants as token
-use Rattle.cs_ast.specs.declared.token.Mark.TheVariants as mark
+use Rattle.cs_ast.specs.declared.token.Punctuator.TheVariants as punctuator
 use Rattle.cs_ast.specs.declared.raw.written_type.TypeWord.TheVariants.{Struct, Enum}
 use Rattle.cs_ast.specs.declared.raw.written_type.PointerWord.{PointerWord}
 use Rattle.cs_ast.specs.RawTree.{Written}
@@ -16,7 +16,7 @@ use Rattle.cs_grammar.specs.Phrases.{IsPhrase}
 use Rattle.cs_grammar.specs.FileText.{name_text, with_commas, brackets_text, declarator_text, constant_text, spec_text, specs_text, members_text, initial_text, declared_text, parameter_text, parameters_text, head_text, external_text}
 use Rattle.cs_grammar.specs.FilePhrases.{AreAll, IsSomeList, HasBody, IsMember, IsFree, IsBound, lone_void, IsDeclaratorOf, IsConstant, AreMembers, AreSpecs, AreBlockSpecs, IsInitial, IsDeclared, IsParameter, AreParameters, IsHead, IsExternal}
 use Rattle.cs_grammar.specs.Parsing.{Class}
-use Rattle.cs_grammar.specs.Composed.{Behind, ClosedSome}
+use Rattle.cs_grammar.specs.Composed.{Following, ClosedSome}
 
 -- there is no token, or the first passes a test
 abbrev pub Follows : (TokenKind → Bool) → Kinds → Type 0
@@ -25,14 +25,14 @@ Follows test (t ∷ tokens) = test t ≡ true
 
 -- no opening bracket stands first
 abbrev pub HasNoBracket : Kinds → Type 0
-HasNoBracket (token.Mark mark.OpenBracket ∷ others) = ⊥
+HasNoBracket (token.Punctuator punctuator.OpenBracket ∷ others) = ⊥
 HasNoBracket tokens = Unit {0}
 
 -- a bound between brackets, which may lack if that is allowed
 abbrev pub Bounds : Names → Type 0 → Class
-Bounds names MayLack = Behind (token.Mark mark.OpenBracket) (ClosedSome names CHOICE MayLack (token.Mark mark.CloseBracket))
+Bounds names MayLack = Following (token.Punctuator punctuator.OpenBracket) (ClosedSome names CHOICE MayLack (token.Punctuator punctuator.CloseBracket))
 
--- bounds between brackets, one behind another: no other one stands behind them
+-- bounds between brackets, one after another: no other one stands after them
 abbrev pub Brackets : Names → Type 0 → Class
 Brackets names MayLack = record {
   Tree = List (Option Written);
@@ -42,7 +42,7 @@ Brackets names MayLack = record {
   Shut = λ tree after. HasNoBracket after;
 }
 
--- declarators with such names, whose bounds may lack if that is allowed: no other bound stands behind one
+-- declarators with such names, whose bounds may lack if that is allowed: no other bound stands after one
 abbrev pub Declarators : (List ℕ → Type 0) → Names → Type 0 → Class
 Declarators IsName names MayLack = record {
   Tree = Declarator;
@@ -62,8 +62,8 @@ MemberDeclarators names = Declarators (λ name. Unit {0}) names ⊥
 
 -- a comma or a semicolon
 abbrev pub ends_declared : TokenKind → Bool
-ends_declared (token.Mark mark.Comma) = true
-ends_declared (token.Mark mark.Semicolon) = true
+ends_declared (token.Punctuator punctuator.Comma) = true
+ends_declared (token.Punctuator punctuator.Semicolon) = true
 ends_declared other = false
 
 -- declared objects
@@ -72,9 +72,9 @@ Objects names = record { Tree = Declared; spell = declared_text; tall = declared
 
 -- a comma, a semicolon or a closing brace
 abbrev pub ends_value : TokenKind → Bool
-ends_value (token.Mark mark.Comma) = true
-ends_value (token.Mark mark.Semicolon) = true
-ends_value (token.Mark mark.CloseBrace) = true
+ends_value (token.Punctuator punctuator.Comma) = true
+ends_value (token.Punctuator punctuator.Semicolon) = true
+ends_value (token.Punctuator punctuator.CloseBrace) = true
 ends_value other = false
 
 -- what objects hold at first
@@ -85,11 +85,11 @@ Values names = record { Tree = Initial; spell = initial_text; tall = initial_hei
 abbrev pub Constants : Names → Class
 Constants names = record { Tree = Constant; spell = constant_text; tall = constant_height; Is = IsConstant names; Shut = λ tree after. Follows ends_value after }
 
--- a name or a mark other than an opening brace
+-- a name or a punctuator other than an opening brace
 abbrev pub ends_specs : TokenKind → Bool
 ends_specs (token.Name name) = true
-ends_specs (token.Mark mark.OpenBrace) = false
-ends_specs (token.Mark mark) = true
+ends_specs (token.Punctuator punctuator.OpenBrace) = false
+ends_specs (token.Punctuator punctuator) = true
 ends_specs other = false
 
 -- what stands before declarators outside blocks
@@ -102,10 +102,10 @@ BlockSpecs names = record { Tree = Specs; spell = specs_text; tall = specs_heigh
 
 -- no opening brace stands first
 abbrev pub HasNoOpenBrace : Kinds → Type 0
-HasNoOpenBrace (token.Mark mark.OpenBrace ∷ others) = ⊥
+HasNoOpenBrace (token.Punctuator punctuator.OpenBrace ∷ others) = ⊥
 HasNoOpenBrace tokens = Unit {0}
 
--- no opening brace stands behind a tag
+-- no opening brace stands after a tag
 abbrev pub IsQuiet : Spec → Kinds → Type 0
 IsQuiet (Plain (Struct tag)) after = HasNoOpenBrace after
 IsQuiet (Plain (Enum tag)) after = HasNoOpenBrace after
@@ -119,7 +119,7 @@ SpecElements names = record { Tree = Spec; spell = spec_text; tall = spec_height
 abbrev pub MemberGroups : Names → Class
 MemberGroups names = record {
   Tree = Specs × List Declarator;
-  spell = λ group after. specs_text group.0 (with_commas declarator_text group.1 (token.Mark mark.Semicolon ∷ after));
+  spell = λ group after. specs_text group.0 (with_commas declarator_text group.1 (token.Punctuator punctuator.Semicolon ∷ after));
   tall = λ group. 1 + max (specs_height group.0) (highest_by declarator_height group.1);
   Is = λ group. AreSpecs names group.0 × (IsSomeList group.1 × AreAll (IsMember names) group.1);
   Shut = λ group after. Unit {0};
@@ -127,8 +127,8 @@ MemberGroups names = record {
 
 -- a comma or a closing parenthesis
 abbrev pub ends_parameter : TokenKind → Bool
-ends_parameter (token.Mark mark.Comma) = true
-ends_parameter (token.Mark mark.CloseParenthesis) = true
+ends_parameter (token.Punctuator punctuator.Comma) = true
+ends_parameter (token.Punctuator punctuator.CloseParenthesis) = true
 ends_parameter other = false
 
 -- parameters
@@ -152,7 +152,7 @@ ParameterTails names = record {
 abbrev pub ParameterRows : Names → Class
 ParameterRows names = record {
   Tree = List Parameter;
-  spell = λ tree after. with_commas parameter_text tree (token.Mark mark.CloseParenthesis ∷ after);
+  spell = λ tree after. with_commas parameter_text tree (token.Punctuator punctuator.CloseParenthesis ∷ after);
   tall = highest_by parameter_height;
   Is = λ tree. IsSomeList tree × ((tree ≢ lone_void ∷ []) × AreAll (IsParameter names) tree);
   Shut = λ tree after. Unit {0};
@@ -162,7 +162,7 @@ ParameterRows names = record {
 abbrev pub ParameterLists : Names → Class
 ParameterLists names = record {
   Tree = Parameters;
-  spell = λ tree after. parameters_text tree (token.Mark mark.CloseParenthesis ∷ after);
+  spell = λ tree after. parameters_text tree (token.Punctuator punctuator.CloseParenthesis ∷ after);
   tall = parameters_height;
   Is = AreParameters names;
   Shut = λ tree after. Unit {0};
@@ -172,11 +172,11 @@ ParameterLists names = record {
 abbrev pub Heads : Names → Class
 Heads names = record { Tree = Head; spell = head_text; tall = head_height; Is = IsHead names; Shut = λ tree after. Unit {0} }
 
--- the members of a struct, with the brace behind them
+-- the members of a struct, with the brace after them
 abbrev pub MemberRows : Names → Class
 MemberRows names = record {
   Tree = Members;
-  spell = λ tree after. members_text tree (token.Mark mark.CloseBrace ∷ after);
+  spell = λ tree after. members_text tree (token.Punctuator punctuator.CloseBrace ∷ after);
   tall = members_height;
   Is = AreMembers names;
   Shut = λ tree after. Unit {0};

@@ -2,7 +2,7 @@
 use Rattle.std.specs.Prelude.{◌≡◌, ℕ, ◌+◌, max, Bool, true, false, ◌∷◌, Option, Some, None, IsFalse}
 use Rattle.cs_ast.specs.declared.token.TokenKind.TheVariants as token
 use Rattle.cs_ast.specs.declared.token.Keyword.TheVariants as keyword
-use Rattle.cs_ast.specs.declared.token.Mark.TheVariants as mark
+use Rattle.cs_ast.specs.declared.token.Punctuator.TheVariants as punctuator
 use Rattle.cs_ast.specs.RawTree.{Written}
 use Rattle.cs_ast.specs.RawHeight.{height}
 use Rattle.cs_ast.specs.RawStatements.{First, Sentence, Item, Declares, Does, Items, SwitchItem, Inside, SwitchItems}
@@ -28,7 +28,7 @@ abbrev pub HasNoElse : Kinds → Type 0
 HasNoElse (token.Keyword keyword.Else ∷ others) = ⊥
 HasNoElse tokens = Unit {0}
 
--- statements: no `else` stands behind one to which it would belong
+-- statements: no `else` stands after one to which it would belong
 abbrev pub Sentences : Names → Class
 Sentences names = record {
   Tree = Sentence;
@@ -38,7 +38,7 @@ Sentences names = record {
   Shut = λ tree after. is_open tree ≡ true → HasNoElse after;
 }
 
--- the statement of an `if`, with the one behind its `else`, if there is one
+-- the statement of an `if`, with the one after its `else`, if there is one
 abbrev pub Branch : Type 0
 Branch = Sentence × Option Sentence
 
@@ -67,7 +67,7 @@ Branches names = record {
   Shut = λ branch after. IsBranchShut branch.1 after;
 }
 
--- an `else` behind what stands in a block would belong to an `if` in it
+-- an `else` after what stands in a block would belong to an `if` in it
 abbrev pub is_item_open : Item → Bool
 is_item_open (Declares specs objects) = false
 is_item_open (Does statement) = is_open statement
@@ -86,7 +86,7 @@ BlockItems names = record {
 abbrev pub BlockRows : Names → Class
 BlockRows names = record {
   Tree = Items;
-  spell = λ tree after. items_text tree (token.Mark mark.CloseBrace ∷ after);
+  spell = λ tree after. items_text tree (token.Punctuator punctuator.CloseBrace ∷ after);
   tall = items_height;
   Is = AreItems names;
   Shut = λ tree after. Unit {0};
@@ -110,7 +110,7 @@ SwitchParts names = record {
 abbrev pub SwitchRows : Names → Class
 SwitchRows names = record {
   Tree = SwitchItems;
-  spell = λ tree after. switch_text tree (token.Mark mark.CloseBrace ∷ after);
+  spell = λ tree after. switch_text tree (token.Punctuator punctuator.CloseBrace ∷ after);
   tall = switch_height;
   Is = AreSwitchItems names;
   Shut = λ tree after. Unit {0};
@@ -120,7 +120,7 @@ SwitchRows names = record {
 abbrev pub SwitchBodies : Names → Class
 SwitchBodies names = record {
   Tree = SwitchItems;
-  spell = λ tree after. token.Mark mark.OpenBrace ∷ switch_text tree (token.Mark mark.CloseBrace ∷ after);
+  spell = λ tree after. token.Punctuator punctuator.OpenBrace ∷ switch_text tree (token.Punctuator punctuator.CloseBrace ∷ after);
   tall = λ tree. 1 + switch_height tree;
   Is = AreSwitchItems names;
   Shut = λ tree after. Unit {0};

@@ -4,8 +4,8 @@ use Rattle.cs_ast.specs.declared.token.TokenKind.{TokenKind}
 use Rattle.cs_ast.specs.declared.token.TokenKind.TheVariants as token
 use Rattle.cs_ast.specs.declared.token.Keyword.{Keyword}
 use Rattle.cs_ast.specs.declared.token.Keyword.TheVariants as keyword
-use Rattle.cs_ast.specs.declared.token.Mark.{Mark}
-use Rattle.cs_ast.specs.declared.token.Mark.TheVariants as mark
+use Rattle.cs_ast.specs.declared.token.Punctuator.{Punctuator}
+use Rattle.cs_ast.specs.declared.token.Punctuator.TheVariants as punctuator
 use Rattle.cs_grammar.specs.TypeWords.{Names}
 use Rattle.cs_grammar.specs.FirstTokens.{opens_expression, begins_type}
 
@@ -23,11 +23,11 @@ keyword_begins_sentence keyword.Switch = true
 keyword_begins_sentence keyword.While = true
 keyword_begins_sentence other = false
 
--- the mark begins a statement
-abbrev pub mark_begins_sentence : Mark → Bool
-mark_begins_sentence mark.OpenBrace = true
-mark_begins_sentence mark.Semicolon = true
-mark_begins_sentence other = opens_expression other
+-- the punctuator begins a statement
+abbrev pub punctuator_begins_sentence : Punctuator → Bool
+punctuator_begins_sentence punctuator.OpenBrace = true
+punctuator_begins_sentence punctuator.Semicolon = true
+punctuator_begins_sentence other = opens_expression other
 
 -- the token begins a statement: a name does, as a label or in an expression
 abbrev pub begins_sentence : TokenKind → Bool
@@ -35,7 +35,7 @@ begins_sentence (token.Name name) = true
 begins_sentence (token.Number constant) = true
 begins_sentence (token.Character value) = true
 begins_sentence (token.Text bytes) = true
-begins_sentence (token.Mark mark) = mark_begins_sentence mark
+begins_sentence (token.Punctuator punctuator) = punctuator_begins_sentence punctuator
 begins_sentence (token.Keyword keyword) = keyword_begins_sentence keyword
 begins_sentence other = false
 

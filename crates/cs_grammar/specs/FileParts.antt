@@ -1,7 +1,7 @@
 -- The classes of phrases that files are made of.
 use Rattle.std.specs.Prelude.{◌≡◌, ℕ, ◌+◌, max, List, [], ◌∷◌, Option, Some, None}
 use Rattle.cs_ast.specs.declared.token.TokenKind.TheVariants as token
-use Rattle.cs_ast.specs.declared.token.Mark.TheVariants as mark
+use Rattle.cs_ast.specs.declared.token.Punctuator.TheVariants as punctuator
 use Rattle.cs_ast.specs.RawDeclarations.{Specs, Declared, Head}
 use Rattle.cs_ast.specs.RawStatements.{Items, External, TypeAlone, Objects, Function, Definition}
 use Rattle.cs_ast.specs.RawFileHeight.{highest_by, declared_height, head_height, items_height, external_height}
@@ -11,7 +11,7 @@ use Rattle.cs_grammar.specs.FileText.{with_commas, declared_text, head_text, ite
 use Rattle.cs_grammar.specs.FilePhrases.{AreAll, IsSomeList, IsDeclared, IsHead, AreNamed, AreItems, IsFile}
 use Rattle.cs_grammar.specs.Parsing.{Class}
 
--- what stands behind the type of a part of a file that is no typedef: a semicolon alone, objects, a function without a body or with
+-- what stands after the type of a part of a file that is no typedef: a semicolon alone, objects, a function without a body or with
 -- one
 pub data ExternalRest : Type 0 where
   no_name : ExternalRest
@@ -20,10 +20,10 @@ pub data ExternalRest : Type 0 where
   definition : (head : Head) (body : Items) → ExternalRest
 
 abbrev pub rest_text : ExternalRest → Kinds → Kinds
-rest_text no_name rest = token.Mark mark.Semicolon ∷ rest
-rest_text (objects list) rest = with_commas declared_text list (token.Mark mark.Semicolon ∷ rest)
-rest_text (function head) rest = head_text head (token.Mark mark.Semicolon ∷ rest)
-rest_text (definition head body) rest = head_text head (token.Mark mark.OpenBrace ∷ items_text body (token.Mark mark.CloseBrace ∷ rest))
+rest_text no_name rest = token.Punctuator punctuator.Semicolon ∷ rest
+rest_text (objects list) rest = with_commas declared_text list (token.Punctuator punctuator.Semicolon ∷ rest)
+rest_text (function head) rest = head_text head (token.Punctuator punctuator.Semicolon ∷ rest)
+rest_text (definition head body) rest = head_text head (token.Punctuator punctuator.OpenBrace ∷ items_text body (token.Punctuator punctuator.CloseBrace ∷ rest))
 
 abbrev pub rest_height : ExternalRest → ℕ
 rest_height no_name = 0
@@ -40,17 +40,17 @@ IsRest names (definition head body) = IsHead names head × AreNamed head.paramet
 abbrev pub ExternalRests : Names → Class
 ExternalRests names = record { Tree = ExternalRest; spell = rest_text; tall = rest_height; Is = IsRest names; Shut = λ tree after. Unit {0} }
 
--- a part of a file of a type and what stands behind it
+-- a part of a file of a type and what stands after it
 abbrev pub external_from : Specs → ExternalRest → External
 external_from specs no_name = TypeAlone specs
 external_from specs (objects list) = Objects specs list
 external_from specs (function head) = Function specs head
 external_from specs (definition head body) = Definition specs head body
 
--- what stands behind a head: a semicolon, or a block, if each parameter has a name
+-- what stands after a head: a semicolon, or a block, if each parameter has a name
 abbrev pub end_text : Option Items → Kinds → Kinds
-end_text None rest = token.Mark mark.Semicolon ∷ rest
-end_text (Some body) rest = token.Mark mark.OpenBrace ∷ items_text body (token.Mark mark.CloseBrace ∷ rest)
+end_text None rest = token.Punctuator punctuator.Semicolon ∷ rest
+end_text (Some body) rest = token.Punctuator punctuator.OpenBrace ∷ items_text body (token.Punctuator punctuator.CloseBrace ∷ rest)
 
 abbrev pub end_height : Option Items → ℕ
 end_height None = 0
@@ -63,6 +63,6 @@ IsEnd names head (Some body) = AreNamed head.parameters × AreItems names body
 abbrev pub FunctionEnds : Names → Head → Class
 FunctionEnds names head = record { Tree = Option Items; spell = end_text; tall = end_height; Is = IsEnd names head; Shut = λ tree after. Unit {0} }
 
--- the parts of a file behind others, where these are the typedef names so far: nothing stands behind them
+-- the parts of a file after others, where these are the typedef names so far: nothing stands after them
 abbrev pub FilesFrom : Names → Class
 FilesFrom names = record { Tree = List External; spell = externals_text; tall = highest_by external_height; Is = IsFile names; Shut = λ tree after. after ≡ [] }

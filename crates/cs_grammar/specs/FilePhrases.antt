@@ -143,7 +143,7 @@ AreNamed NoParameter = Unit {0}
 AreNamed VoidAlone = Unit {0}
 AreNamed (ParameterList list) = AreAll (λ (p : Parameter). IsSome p.name) list
 
--- an `else` behind the statement would belong to an `if` in it
+-- an `else` after the statement would belong to an `if` in it
 abbrev pub is_open : Sentence → Bool
 is_open (If test body) = true
 is_open (IfElse test body other) = is_open other
@@ -204,7 +204,7 @@ IsExternal names (Objects specs objects) = AreSpecs names specs × AreDeclared n
 IsExternal names (Function specs head) = AreSpecs names specs × IsHead names head
 IsExternal names (Definition specs head body) = AreSpecs names specs × IsHead names head × AreNamed head.parameters × AreItems names body
 
--- the names with this one, which stands behind the others if it is new
+-- the names with this one, which stands after the others if it is new
 abbrev pub with_name : Names → List ℕ → Names
 with_name names name = if is_among names name then names else names ++ name ∷ []
 
@@ -213,19 +213,19 @@ abbrev pub with_names : Names → List Declarator → Names
 with_names names [] = names
 with_names names (d ∷ declarators) = with_names (with_name names d.name) declarators
 
--- the typedef names behind a part of a file: those before it and, behind its end, those that it declares
-abbrev pub names_behind : Names → External → Names
-names_behind names (Typedef specs declarators) = with_names names declarators
-names_behind names other = names
+-- the typedef names after a part of a file: those before it and, after its end, those that it declares
+abbrev pub names_after : Names → External → Names
+names_after names (Typedef specs declarators) = with_names names declarators
+names_after names other = names
 
 -- a file, where these are the typedef names before it
 abbrev pub IsFile : Names → List External → Type 0
 IsFile names [] = Unit {0}
-IsFile names (external ∷ externals) = IsExternal names external × IsFile (names_behind names external) externals
+IsFile names (external ∷ externals) = IsExternal names external × IsFile (names_after names external) externals
 
 -- each part of a file is no higher than the room
 abbrev pub AreLow : ℕ → List External → Type 0
-AreLow room externals = AreAll (λ external. external_height external ≤ room) externals
+AreLow limit externals = AreAll (λ external. external_height external ≤ limit) externals
 
 -- a file whose tokens these begin
 pub record BeginsFile (front : Kinds) : Type 0 where
@@ -235,9 +235,9 @@ pub record BeginsFile (front : Kinds) : Type 0 where
   pub spelled : file_text file ≡ front ++ more
 
 -- a file with parts no higher than the room, whose tokens these begin
-pub record BeginsLowFile (room : ℕ) (front : Kinds) : Type 0 where
+pub record BeginsLowFile (limit : ℕ) (front : Kinds) : Type 0 where
   pub file : List External
   pub more : Kinds
   pub is_file : IsFile [] file
-  pub low : AreLow room file
+  pub low : AreLow limit file
   pub spelled : file_text file ≡ front ++ more

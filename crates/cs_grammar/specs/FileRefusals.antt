@@ -1,32 +1,32 @@
--- Why the next token is refused behind the tokens of a file that were taken so far.
+-- Why the next token is refused after the tokens of a file that were taken so far.
 use Rattle.std.specs.Prelude.{◌≡◌, ℕ, suc, ◌⊎◌, List, [], ◌∷◌, ◌++◌, length, Option, Some, None, slice_get}
 use Rattle.cs_ast.specs.declared.token.TokenKind.{TokenKind}
 use Rattle.cs_ast.specs.declared.token.TokenKind.TheVariants as token
 use Rattle.cs_ast.specs.declared.token.Keyword.TheVariants as keyword
-use Rattle.cs_ast.specs.declared.token.Mark.TheVariants as mark
+use Rattle.cs_ast.specs.declared.token.Punctuator.TheVariants as punctuator
 use Rattle.cs_ast.specs.RawDeclarations.{Specs, Head}
 use Rattle.cs_ast.specs.RawStatements.{Items, External, Definition}
 use Rattle.cs_grammar.specs.declared.refusal.Reason.{Reason}
-use Rattle.cs_grammar.specs.declared.refusal.Reason.TheVariants.{Syntax, LeftOut, TooDeep}
+use Rattle.cs_grammar.specs.declared.refusal.Reason.TheVariants.{Syntax, Unsupported, TooDeep}
 use Rattle.cs_grammar.specs.Text.{Kinds}
-use Rattle.cs_grammar.specs.FileText.{mark_text, specs_text, head_text, items_text, externals_text, file_text}
+use Rattle.cs_grammar.specs.FileText.{punctuator_text, specs_text, head_text, items_text, externals_text, file_text}
 use Rattle.cs_grammar.specs.FilePhrases.{IsFile, BeginsFile}
 use Rattle.cs_grammar.specs.Refusals.{EndsWithTag}
-use Rattle.cs_grammar.specs.Roles.{Role, closes_type, in_expression, declared_name, behind_member, opens_list, file_roles}
+use Rattle.cs_grammar.specs.Roles.{Role, closes_type, in_expression, declared_name, after_member, opens_list, file_roles}
 
--- some file, of any height, begins with these tokens, and behind as many of its tokens as told stands one of this role
-pub record HasRole (front : Kinds) (behind : ℕ) (role : Role) : Type 0 where
+-- some file, of any height, begins with these tokens, and after as many of its tokens as told stands one of this role
+pub record HasRole (front : Kinds) (following : ℕ) (role : Role) : Type 0 where
   pub file : List External
   pub more : Kinds
   pub is_file : IsFile [] file
   pub spelled : file_text file ≡ front ++ more
-  pub there : slice_get (file_roles file) behind ≡ Some role
+  pub there : slice_get (file_roles file) following ≡ Some role
 
--- some file that begins with these tokens has a token of this role behind them
+-- some file that begins with these tokens has a token of this role after them
 abbrev pub MayHave : Kinds → Role → Type 0
 MayHave front role = HasRole front (length front) role
 
--- the place behind the tokens is inside a block: the brace that opens a function's body stands among them, and the one that closes
+-- the place after the tokens is inside a block: the brace that opens a function's body stands among them, and the one that closes
 -- it doesn't
 pub record IsInBlock (front : Kinds) : Type 0 where
   pub before : List External
@@ -37,33 +37,33 @@ pub record IsInBlock (front : Kinds) : Type 0 where
   pub more : Kinds
   pub is_file : IsFile [] (before ++ Definition specs head body ∷ [])
   pub within : items_text body [] ≡ inside ++ more
-  pub spelled : front ≡ externals_text before (specs_text specs (head_text head (mark_text mark.OpenBrace inside)))
+  pub spelled : front ≡ externals_text before (specs_text specs (head_text head (punctuator_text punctuator.OpenBrace inside)))
 
--- the place behind the tokens is inside a block or inside an expression
+-- the place after the tokens is inside a block or inside an expression
 abbrev pub IsInside : Kinds → Type 0
 IsInside front = IsInBlock front ⊎ MayHave front in_expression ⊎ MayHave front closes_type
 
 -- the last of the tokens closes the type of a cast or of `sizeof`
-pub record IsBehindType (front : Kinds) : Type 0 where
+pub record IsAfterType (front : Kinds) : Type 0 where
   pub last : ℕ
   pub number : length front ≡ suc last
   pub closes : HasRole front last closes_type
 
--- the token is a word or mark of C that is left out behind these tokens: a left-out word or the mark of three dots anywhere; inside
--- a block or an expression `static`, `typedef`, and a brace behind `struct` or `enum` or its tag; a brace behind a type between
--- parentheses; a parenthesis where a declarator's name may stand; a colon behind a member's declarator; a dot or a bracket where an
+-- the token is a word or punctuator of C that is left out after these tokens: a left-out word or the punctuator of three dots anywhere; inside
+-- a block or an expression `static`, `typedef`, and a brace after `struct` or `enum` or its tag; a brace after a type between
+-- parentheses; a parenthesis where a declarator's name may stand; a colon after a member's declarator; a dot or a bracket where an
 -- initial value may begin, and so a list of them may
-abbrev pub IsLeftOutOfFile : Kinds → TokenKind → Type 0
-IsLeftOutOfFile front (token.LeftOut word) = Unit {0}
-IsLeftOutOfFile front (token.Mark mark.Ellipsis) = Unit {0}
-IsLeftOutOfFile front (token.Keyword keyword.Static) = IsInside front
-IsLeftOutOfFile front (token.Keyword keyword.Typedef) = IsInside front
-IsLeftOutOfFile front (token.Mark mark.OpenBrace) = (EndsWithTag front × IsInside front) ⊎ IsBehindType front
-IsLeftOutOfFile front (token.Mark mark.OpenParenthesis) = MayHave front declared_name
-IsLeftOutOfFile front (token.Mark mark.Colon) = MayHave front behind_member
-IsLeftOutOfFile front (token.Mark mark.Dot) = MayHave front opens_list
-IsLeftOutOfFile front (token.Mark mark.OpenBracket) = MayHave front opens_list
-IsLeftOutOfFile front next = ⊥
+abbrev pub IsUnsupportedOfFile : Kinds → TokenKind → Type 0
+IsUnsupportedOfFile front (token.Unsupported word) = Unit {0}
+IsUnsupportedOfFile front (token.Punctuator punctuator.Ellipsis) = Unit {0}
+IsUnsupportedOfFile front (token.Keyword keyword.Static) = IsInside front
+IsUnsupportedOfFile front (token.Keyword keyword.Typedef) = IsInside front
+IsUnsupportedOfFile front (token.Punctuator punctuator.OpenBrace) = (EndsWithTag front × IsInside front) ⊎ IsAfterType front
+IsUnsupportedOfFile front (token.Punctuator punctuator.OpenParenthesis) = MayHave front declared_name
+IsUnsupportedOfFile front (token.Punctuator punctuator.Colon) = MayHave front after_member
+IsUnsupportedOfFile front (token.Punctuator punctuator.Dot) = MayHave front opens_list
+IsUnsupportedOfFile front (token.Punctuator punctuator.OpenBracket) = MayHave front opens_list
+IsUnsupportedOfFile front next = ⊥
 
 -- some file, of any height, begins with the tokens and the next one; where none is next, the tokens are a file's
 abbrev pub GoesOn : Kinds → Option TokenKind → Type 0
@@ -71,13 +71,13 @@ GoesOn front (Some next) = BeginsFile (front ++ next ∷ [])
 GoesOn front None = (file : List External) × IsFile [] file × (file_text file ≡ front)
 
 -- the same of left-out tokens: the end of input is none
-abbrev pub IsLeftOutNext : Kinds → Option TokenKind → Type 0
-IsLeftOutNext front (Some next) = IsLeftOutOfFile front next
-IsLeftOutNext front None = ⊥
+abbrev pub IsUnsupportedNext : Kinds → Option TokenKind → Type 0
+IsUnsupportedNext front (Some next) = IsUnsupportedOfFile front next
+IsUnsupportedNext front None = ⊥
 
--- why the next token, or the end of input where none is next, is refused behind these tokens, where no file that is low enough goes
+-- why the next token, or the end of input where none is next, is refused after these tokens, where no file that is low enough goes
 -- on with it: too deep where a higher one does; left out where none does and the token is left out there
 abbrev pub IsFileReason : Kinds → Option TokenKind → Reason → Type 0
 IsFileReason front next TooDeep = GoesOn front next
-IsFileReason front next LeftOut = (GoesOn front next → ⊥) × IsLeftOutNext front next
-IsFileReason front next Syntax = (GoesOn front next → ⊥) × (IsLeftOutNext front next → ⊥)
+IsFileReason front next Unsupported = (GoesOn front next → ⊥) × IsUnsupportedNext front next
+IsFileReason front next Syntax = (GoesOn front next → ⊥) × (IsUnsupportedNext front next → ⊥)

@@ -4,13 +4,13 @@ use Rattle.cs_ast.specs.declared.token.TokenKind.{TokenKind}
 use Rattle.cs_ast.specs.declared.token.TokenKind.TheVariants as token
 use Rattle.cs_ast.specs.declared.token.Keyword.{Keyword}
 use Rattle.cs_ast.specs.declared.token.Keyword.TheVariants as keyword
-use Rattle.cs_ast.specs.declared.token.Mark.{Mark}
-use Rattle.cs_ast.specs.declared.token.Mark.TheVariants as mark
+use Rattle.cs_ast.specs.declared.token.Punctuator.{Punctuator}
+use Rattle.cs_ast.specs.declared.token.Punctuator.TheVariants as punctuator
 use Rattle.cs_grammar.specs.TypeWords.{Names, is_among}
 
--- the mark begins a primary expression
-abbrev pub opens_primary : Mark → Bool
-opens_primary mark.OpenParenthesis = true
+-- the punctuator begins a primary expression
+abbrev pub opens_primary : Punctuator → Bool
+opens_primary punctuator.OpenParenthesis = true
 opens_primary other = false
 
 -- the token begins a primary expression
@@ -19,20 +19,20 @@ begins_primary names (token.Name name) = not (is_among names name)
 begins_primary names (token.Number constant) = true
 begins_primary names (token.Character value) = true
 begins_primary names (token.Text bytes) = true
-begins_primary names (token.Mark mark) = opens_primary mark
+begins_primary names (token.Punctuator punctuator) = opens_primary punctuator
 begins_primary names other = false
 
--- the mark begins an expression
-abbrev pub opens_expression : Mark → Bool
-opens_expression mark.OpenParenthesis = true
-opens_expression mark.Increment = true
-opens_expression mark.Decrement = true
-opens_expression mark.Ampersand = true
-opens_expression mark.Star = true
-opens_expression mark.Plus = true
-opens_expression mark.Minus = true
-opens_expression mark.Tilde = true
-opens_expression mark.Exclamation = true
+-- the punctuator begins an expression
+abbrev pub opens_expression : Punctuator → Bool
+opens_expression punctuator.OpenParenthesis = true
+opens_expression punctuator.Increment = true
+opens_expression punctuator.Decrement = true
+opens_expression punctuator.Ampersand = true
+opens_expression punctuator.Star = true
+opens_expression punctuator.Plus = true
+opens_expression punctuator.Minus = true
+opens_expression punctuator.Tilde = true
+opens_expression punctuator.Exclamation = true
 opens_expression other = false
 
 -- the keyword begins an expression
@@ -46,7 +46,7 @@ begins_expression names (token.Name name) = not (is_among names name)
 begins_expression names (token.Number constant) = true
 begins_expression names (token.Character value) = true
 begins_expression names (token.Text bytes) = true
-begins_expression names (token.Mark mark) = opens_expression mark
+begins_expression names (token.Punctuator punctuator) = opens_expression punctuator
 begins_expression names (token.Keyword keyword) = is_sizeof keyword
 begins_expression names other = false
 

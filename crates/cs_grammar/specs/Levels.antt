@@ -3,7 +3,7 @@
 use Rattle.std.specs.Prelude.{ℕ}
 use Rattle.cs_ast.specs.declared.raw.operator.InfixOp.{InfixOp}
 use Rattle.cs_ast.specs.declared.raw.operator.InfixOp.TheVariants as between
-use Rattle.cs_ast.specs.RawTree.{Written, Named, Numeral, Character, Literal, Enclosed, Index, Call, Member, Arrow, StepBehind, StepBefore, Prefix, SizeOf, SizeOfType, Cast, Infix, Choice, Assign, Comma}
+use Rattle.cs_ast.specs.RawTree.{Written, Named, Numeral, Character, Literal, Enclosed, Index, Call, Member, Arrow, StepAfter, StepBefore, Prefix, SizeOf, SizeOfType, Cast, Infix, Choice, Assign, Comma}
 
 -- expressions with commas
 abbrev pub COMMA : ℕ
@@ -28,7 +28,7 @@ CAST = 13
 abbrev pub UNARY : ℕ
 UNARY = 14
 
--- operators behind one operand
+-- operators after one operand
 abbrev pub POSTFIX : ℕ
 POSTFIX = 15
 
@@ -67,7 +67,7 @@ level_of (Index array number) = POSTFIX
 level_of (Call function arguments) = POSTFIX
 level_of (Member object name) = POSTFIX
 level_of (Arrow pointer name) = POSTFIX
-level_of (StepBehind step object) = POSTFIX
+level_of (StepAfter step object) = POSTFIX
 level_of (StepBefore step object) = UNARY
 level_of (Prefix operator operand) = UNARY
 level_of (SizeOf operand) = UNARY

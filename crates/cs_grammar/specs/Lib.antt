@@ -1,7 +1,7 @@
 pub mod TypeWords
 pub mod TypesSoFar
 pub mod Levels
-pub mod Marks
+pub mod Punctuators
 pub mod Text
 pub mod Phrases
 pub mod Refusals

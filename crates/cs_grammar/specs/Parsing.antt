@@ -9,7 +9,7 @@ use Rattle.cs_grammar.specs.Phrases.{IsPhrase}
 use Rattle.cs_grammar.specs.Continuing.{join_of}
 
 -- a class of phrases: their trees, the tokens of a tree before others, its height, which trees are phrases, and which tokens
--- may stand behind a phrase
+-- may stand after a phrase
 pub record Class : Type 1 where
   pub Tree : Type 0
   pub spell : Tree → Kinds → Kinds
@@ -17,19 +17,19 @@ pub record Class : Type 1 where
   pub Is : Tree → Type 0
   pub Shut : Tree → Kinds → Type 0
 
--- the expressions of a level: none that goes on with it stands behind
+-- the expressions of a level: none that goes on with it stands after
 abbrev pub Expressions : Names → ℕ → Class
-Expressions names level = record { Tree = Written; spell = text; tall = height; Is = IsPhrase names level; Shut = λ tree behind. join_of behind ≤ level }
+Expressions names level = record { Tree = Written; spell = text; tall = height; Is = IsPhrase names level; Shut = λ tree following. join_of following ≤ level }
 
 -- the tokens are at an end, or go on with this one
 abbrev pub Near : TokenKind → Kinds → Type 0
-Near next behind = (behind ≡ []) ⊎ ((more : Kinds) × (behind ≡ next ∷ more))
+Near next following = (following ≡ []) ⊎ ((more : Kinds) × (following ≡ next ∷ more))
 
 -- the phrase is higher than the room, there is a token for it, and it was told that one is
-pub record IsOver (C : Class) (room : ℕ) (deep : Bool) (phrase : C.Tree) (behind : Kinds) : Type 0 where
-  pub told : deep ≡ true
-  pub high : room < C.tall phrase
-  pub onward : behind ≡ [] → ⊥
+pub record IsOver (C : Class) (limit : ℕ) (deep : Bool) (phrase : C.Tree) (following : Kinds) : Type 0 where
+  pub reported : deep ≡ true
+  pub high : limit < C.tall phrase
+  pub onward : following ≡ [] → ⊥
 
 -- some phrase, of any height, begins so
 pub record Begins (C : Class) (front : Kinds) : Type 0 where
@@ -39,31 +39,31 @@ pub record Begins (C : Class) (front : Kinds) : Type 0 where
   pub spelled : C.spell phrase [] ≡ front ++ more
 
 -- some phrase that is low enough begins so
-pub record BeginsLow (C : Class) (room : ℕ) (front : Kinds) : Type 0 where
+pub record BeginsLow (C : Class) (limit : ℕ) (front : Kinds) : Type 0 where
   pub phrase : C.Tree
   pub more : Kinds
   pub is_phrase : C.Is phrase
-  pub low : C.tall phrase ≤ room
+  pub low : C.tall phrase ≤ limit
   pub spelled : C.spell phrase [] ≡ front ++ more
 
 -- a phrase was taken before this token: it is the only one that begins so, but for those that are too high, which go on with
 -- the token exactly where that is told
-pub record Took (C : Class) (room : ℕ) (phrase : C.Tree) (next : TokenKind) (deep : Bool) : Type 0 where
+pub record Took (C : Class) (limit : ℕ) (phrase : C.Tree) (next : TokenKind) (deep : Bool) : Type 0 where
   pub is_phrase : C.Is phrase
-  pub low : C.tall phrase ≤ room
-  pub only : (other : C.Tree) (after behind : Kinds) → C.Is other → C.Shut other after → Near next behind → C.spell other after ≡ C.spell phrase behind → ((other ≡ phrase) × (after ≡ behind)) ⊎ IsOver C room deep other behind
+  pub low : C.tall phrase ≤ limit
+  pub only : (other : C.Tree) (after following : Kinds) → C.Is other → C.Shut other after → Near next following → C.spell other after ≡ C.spell phrase following → ((other ≡ phrase) × (after ≡ following)) ⊎ IsOver C limit deep other following
   pub further : deep ≡ true → Begins C (C.spell phrase (next ∷ []))
   pub joined : deep ≡ true → (more : Kinds) → C.Shut phrase (next ∷ more) → ⊥
 
--- a token was refused behind these: a phrase that is low enough begins with them, and none with the token too; a higher one does
+-- a token was refused after these: a phrase that is low enough begins with them, and none with the token too; a higher one does
 -- exactly where that is told
-pub record Refused (C : Class) (room : ℕ) (front : Kinds) (next : TokenKind) (deep : Bool) : Type 0 where
-  pub begun : (front ≡ []) ⊎ BeginsLow C room front
-  pub never : (other : C.Tree) (after behind : Kinds) → C.Is other → C.Shut other after → Near next behind → C.spell other after ≡ front ++ behind → IsOver C room deep other behind
+pub record Refused (C : Class) (limit : ℕ) (front : Kinds) (next : TokenKind) (deep : Bool) : Type 0 where
+  pub begun : (front ≡ []) ⊎ BeginsLow C limit front
+  pub never : (other : C.Tree) (after following : Kinds) → C.Is other → C.Shut other after → Near next following → C.spell other after ≡ front ++ following → IsOver C limit deep other following
   pub further : deep ≡ true → Begins C (front ++ next ∷ [])
 
--- a phrase that is low enough, and the only one that begins so, whatever stands behind it
-pub record Exactly (C : Class) (room : ℕ) (phrase : C.Tree) : Type 0 where
+-- a phrase that is low enough, and the only one that begins so, whatever stands after it
+pub record Exactly (C : Class) (limit : ℕ) (phrase : C.Tree) : Type 0 where
   pub is_phrase : C.Is phrase
-  pub low : C.tall phrase ≤ room
-  pub exact : (other : C.Tree) (after behind : Kinds) → C.Is other → C.spell other after ≡ C.spell phrase behind → (other ≡ phrase) × (after ≡ behind)
+  pub low : C.tall phrase ≤ limit
+  pub exact : (other : C.Tree) (after following : Kinds) → C.Is other → C.spell other after ≡ C.spell phrase following → (other ≡ phrase) × (after ≡ following)

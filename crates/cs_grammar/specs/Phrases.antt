@@ -1,6 +1,6 @@
 -- Which written expressions are phrases of the grammar (C11 6.5), where these names are typedef names, and which tokens begin one.
 use Rattle.std.specs.Prelude.{◌≡◌, ℕ, suc, ◌≤◌, IsTrue, IsFalse, [], ◌++◌}
-use Rattle.cs_ast.specs.RawTree.{Written, WrittenList, Named, Numeral, Character, Literal, Enclosed, Index, Call, Member, Arrow, StepBehind, StepBefore, Prefix, SizeOf, SizeOfType, Cast, Infix, Choice, Assign, Comma, End, More}
+use Rattle.cs_ast.specs.RawTree.{Written, WrittenList, Named, Numeral, Character, Literal, Enclosed, Index, Call, Member, Arrow, StepAfter, StepBefore, Prefix, SizeOf, SizeOfType, Cast, Infix, Choice, Assign, Comma, End, More}
 use Rattle.cs_ast.specs.RawHeight.{height}
 use Rattle.cs_grammar.specs.TypeWords.{Names, is_among, is_type, is_pointer}
 use Rattle.cs_grammar.specs.Levels.{level_of, infix_level, ASSIGN, CHOICE, INFIX, CAST, UNARY, POSTFIX}
@@ -22,7 +22,7 @@ abbrev mutual
   IsWell names (Call function arguments) = Binds POSTFIX function × IsWell names function × ArePhrases names ASSIGN arguments
   IsWell names (Member object name) = Binds POSTFIX object × IsWell names object
   IsWell names (Arrow pointer name) = Binds POSTFIX pointer × IsWell names pointer
-  IsWell names (StepBehind step object) = Binds POSTFIX object × IsWell names object
+  IsWell names (StepAfter step object) = Binds POSTFIX object × IsWell names object
   IsWell names (StepBefore step object) = Binds UNARY object × IsWell names object
   IsWell names (Prefix operator operand) = Binds CAST operand × IsWell names operand
   IsWell names (SizeOf operand) = Binds UNARY operand × IsWell names operand
@@ -52,16 +52,16 @@ pub record BeginsPhrase (names : Names) (level : ℕ) (front : Kinds) : Type 0 w
   pub spelled : text phrase [] ≡ front ++ more
 
 -- a phrase of the level that is no higher than the room, and tokens that begin its text
-pub record BeginsLowPhrase (names : Names) (level room : ℕ) (front : Kinds) : Type 0 where
+pub record BeginsLowPhrase (names : Names) (level limit : ℕ) (front : Kinds) : Type 0 where
   pub phrase : Written
   pub more : Kinds
   pub is_phrase : IsPhrase names level phrase
-  pub low : height phrase ≤ room
+  pub low : height phrase ≤ limit
   pub spelled : text phrase [] ≡ front ++ more
 
 -- the tokens are those of a phrase of the level that is no higher than the room
-pub record IsLowPhrase (names : Names) (level room : ℕ) (front : Kinds) : Type 0 where
+pub record IsLowPhrase (names : Names) (level limit : ℕ) (front : Kinds) : Type 0 where
   pub phrase : Written
   pub is_phrase : IsPhrase names level phrase
-  pub low : height phrase ≤ room
+  pub low : height phrase ≤ limit
   pub spelled : text phrase [] ≡ front

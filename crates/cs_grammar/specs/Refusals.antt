@@ -1,14 +1,14 @@
--- Why the next token is refused behind the tokens of an expression that were taken so far.
+-- Why the next token is refused after the tokens of an expression that were taken so far.
 use Rattle.std.specs.Prelude.{◌≡◌, ℕ, ◌⊎◌, IsTrue, List, [], ◌∷◌, ◌++◌, Option, Some, None}
 use Rattle.cs_ast.specs.declared.token.TokenKind.{TokenKind}
 use Rattle.cs_ast.specs.declared.token.TokenKind.TheVariants as token
 use Rattle.cs_ast.specs.declared.token.Keyword.TheVariants as keyword
-use Rattle.cs_ast.specs.declared.token.Mark.TheVariants as mark
+use Rattle.cs_ast.specs.declared.token.Punctuator.TheVariants as punctuator
 use Rattle.cs_ast.specs.declared.raw.written_type.TypeWord.{TypeWord}
 use Rattle.cs_ast.specs.declared.raw.written_type.PointerWord.{PointerWord}
 use Rattle.cs_ast.specs.RawTree.{WrittenList}
 use Rattle.cs_grammar.specs.declared.refusal.Reason.{Reason}
-use Rattle.cs_grammar.specs.declared.refusal.Reason.TheVariants.{Syntax, LeftOut, TooDeep}
+use Rattle.cs_grammar.specs.declared.refusal.Reason.TheVariants.{Syntax, Unsupported, TooDeep}
 use Rattle.cs_grammar.specs.TypeWords.{Names, is_type, is_pointer}
 use Rattle.cs_grammar.specs.Levels.{CHOICE}
 use Rattle.cs_grammar.specs.Text.{Kinds, type_text}
@@ -16,10 +16,10 @@ use Rattle.cs_grammar.specs.Phrases.{BeginsPhrase, ArePhrases}
 
 -- the tokens end with `struct` or `enum`, with or without a tag
 pub data EndsWithTag : Kinds → Type 0 where
-  struct_behind : (before : Kinds) → EndsWithTag (before ++ token.Keyword keyword.Struct ∷ [])
-  enum_behind : (before : Kinds) → EndsWithTag (before ++ token.Keyword keyword.Enum ∷ [])
-  struct_tag_behind : (before : Kinds) (tag : List ℕ) → EndsWithTag (before ++ token.Keyword keyword.Struct ∷ token.Name tag ∷ [])
-  enum_tag_behind : (before : Kinds) (tag : List ℕ) → EndsWithTag (before ++ token.Keyword keyword.Enum ∷ token.Name tag ∷ [])
+  struct_after : (before : Kinds) → EndsWithTag (before ++ token.Keyword keyword.Struct ∷ [])
+  enum_after : (before : Kinds) → EndsWithTag (before ++ token.Keyword keyword.Enum ∷ [])
+  struct_tag_after : (before : Kinds) (tag : List ℕ) → EndsWithTag (before ++ token.Keyword keyword.Struct ∷ token.Name tag ∷ [])
+  enum_tag_after : (before : Kinds) (tag : List ℕ) → EndsWithTag (before ++ token.Keyword keyword.Enum ∷ token.Name tag ∷ [])
 
 -- the tokens end with a type between parentheses
 pub record EndsWithType (names : Names) (front : Kinds) : Type 0 where
@@ -30,24 +30,24 @@ pub record EndsWithType (names : Names) (front : Kinds) : Type 0 where
   pub type : IsTrue (is_type names words)
   pub pointer : IsTrue (is_pointer pointers)
   pub phrases : ArePhrases names CHOICE bounds
-  pub spelled : front ≡ before ++ token.Mark mark.OpenParenthesis ∷ type_text words pointers bounds (token.Mark mark.CloseParenthesis ∷ [])
+  pub spelled : front ≡ before ++ token.Punctuator punctuator.OpenParenthesis ∷ type_text words pointers bounds (token.Punctuator punctuator.CloseParenthesis ∷ [])
 
--- the token is a word or mark of C that is left out behind these tokens of an expression: a left-out word, the mark of three
--- dots, `static` or `typedef` anywhere; a brace behind `struct` or `enum`, behind its tag, or behind a type between parentheses
-abbrev pub IsLeftOut : Names → Kinds → TokenKind → Type 0
-IsLeftOut names front (token.LeftOut word) = Unit {0}
-IsLeftOut names front (token.Mark mark.Ellipsis) = Unit {0}
-IsLeftOut names front (token.Keyword keyword.Static) = Unit {0}
-IsLeftOut names front (token.Keyword keyword.Typedef) = Unit {0}
-IsLeftOut names front (token.Mark mark.OpenBrace) = EndsWithTag front ⊎ EndsWithType names front
-IsLeftOut names front next = ⊥
+-- the token is a word or punctuator of C that is left out after these tokens of an expression: a left-out word, the punctuator of three
+-- dots, `static` or `typedef` anywhere; a brace after `struct` or `enum`, after its tag, or after a type between parentheses
+abbrev pub IsUnsupported : Names → Kinds → TokenKind → Type 0
+IsUnsupported names front (token.Unsupported word) = Unit {0}
+IsUnsupported names front (token.Punctuator punctuator.Ellipsis) = Unit {0}
+IsUnsupported names front (token.Keyword keyword.Static) = Unit {0}
+IsUnsupported names front (token.Keyword keyword.Typedef) = Unit {0}
+IsUnsupported names front (token.Punctuator punctuator.OpenBrace) = EndsWithTag front ⊎ EndsWithType names front
+IsUnsupported names front next = ⊥
 
--- why the next token is refused behind these tokens, where an expression of the level doesn't go on with it or is too high: too
+-- why the next token is refused after these tokens, where an expression of the level doesn't go on with it or is too high: too
 -- deep where some phrase of the level, of any height, begins so; the end of input is no left-out word
 abbrev pub IsReason : Names → ℕ → Kinds → Option TokenKind → Reason → Type 0
 IsReason names level front (Some next) TooDeep = BeginsPhrase names level (front ++ next ∷ [])
-IsReason names level front (Some next) LeftOut = (BeginsPhrase names level (front ++ next ∷ []) → ⊥) × IsLeftOut names front next
-IsReason names level front (Some next) Syntax = (BeginsPhrase names level (front ++ next ∷ []) → ⊥) × (IsLeftOut names front next → ⊥)
+IsReason names level front (Some next) Unsupported = (BeginsPhrase names level (front ++ next ∷ []) → ⊥) × IsUnsupported names front next
+IsReason names level front (Some next) Syntax = (BeginsPhrase names level (front ++ next ∷ []) → ⊥) × (IsUnsupported names front next → ⊥)
 IsReason names level front None Syntax = Unit {0}
-IsReason names level front None LeftOut = ⊥
+IsReason names level front None Unsupported = ⊥
 IsReason names level front None TooDeep = ⊥

@@ -1,21 +1,21 @@
--- What each token of a file is there, as far as it matters for words and marks that are left out. The lists run beside those of
+-- What each token of a file is there, as far as it matters for words and punctuators that are left out. The lists run beside those of
 -- the tokens.
 use Rattle.std.specs.Prelude.{ℕ, Bool, List, [], ◌∷◌, Option, Some, None, if◌then◌else◌}
 use Rattle.cs_ast.specs.declared.raw.written_type.TypeWord.{TypeWord}
 use Rattle.cs_ast.specs.declared.raw.written_type.PointerWord.{PointerWord}
-use Rattle.cs_ast.specs.RawTree.{Written, WrittenList, Named, Numeral, Character, Literal, Enclosed, Index, Call, Member, Arrow, StepBehind, StepBefore, Prefix, SizeOf, SizeOfType, Cast, Infix, Choice, Assign, Comma, End, More}
+use Rattle.cs_ast.specs.RawTree.{Written, WrittenList, Named, Numeral, Character, Literal, Enclosed, Index, Call, Member, Arrow, StepAfter, StepBefore, Prefix, SizeOf, SizeOfType, Cast, Infix, Choice, Assign, Comma, End, More}
 use Rattle.cs_ast.specs.RawDeclarations.{Declarator, Constant, Spec, Static, Plain, StructBody, EnumBody, Specs, NoSpec, MoreSpecs, Members, NoMember, MoreMembers, Initial, Single, Listed, Initials, NoItem as NoInitial, MoreItems as MoreInitials, Declared, Parameter, Parameters, NoParameter, VoidAlone, ParameterList, Head}
 use Rattle.cs_ast.specs.RawStatements.{First, NoFirst, FirstRuns, FirstDeclares, Sentence, Block, Nothing, Runs, If, IfElse, While, Do, For, Switch, Goto, Continue, Break, Return, Label, Item, Declares, Does, Items, NoItem, MoreItems, SwitchItem, Case, Default, Inside, SwitchItems, NoSwitchItem, MoreSwitchItems, External, TypeAlone, Typedef, Objects, Function, Definition}
 use Rattle.cs_grammar.specs.Text.{Kinds, words_text, pointers_text, type_word_text}
 use Rattle.cs_grammar.specs.FileText.{name_text}
 
--- what a token is: the parenthesis behind the type of a cast or of `sizeof`; another token of an expression; the name of a
--- declarator; the comma or semicolon behind a member's declarator; the brace that begins a list of initial values; anything else
+-- what a token is: the parenthesis after the type of a cast or of `sizeof`; another token of an expression; the name of a
+-- declarator; the comma or semicolon after a member's declarator; the brace that begins a list of initial values; anything else
 pub data Role : Type 0 where
   closes_type : Role
   in_expression : Role
   declared_name : Role
-  behind_member : Role
+  after_member : Role
   opens_list : Role
   another : Role
 
@@ -42,7 +42,7 @@ abbrev mutual
   roles (Call function arguments) rest = roles function (in_expression ∷ roles_listed arguments (in_expression ∷ rest))
   roles (Member object name) rest = roles object (in_expression ∷ in_expression ∷ rest)
   roles (Arrow pointer name) rest = roles pointer (in_expression ∷ in_expression ∷ rest)
-  roles (StepBehind step object) rest = roles object (in_expression ∷ rest)
+  roles (StepAfter step object) rest = roles object (in_expression ∷ rest)
   roles (StepBefore step object) rest = in_expression ∷ roles object rest
   roles (Prefix operator operand) rest = in_expression ∷ roles operand rest
   roles (SizeOf operand) rest = in_expression ∷ roles operand rest
@@ -57,11 +57,11 @@ abbrev mutual
 
   pub roles_listed : WrittenList → Roles → Roles
   roles_listed End rest = rest
-  roles_listed (More first others) rest = roles first (roles_behind_commas others rest)
+  roles_listed (More first others) rest = roles first (roles_after_commas others rest)
 
-  pub roles_behind_commas : WrittenList → Roles → Roles
-  roles_behind_commas End rest = rest
-  roles_behind_commas (More first others) rest = in_expression ∷ roles first (roles_behind_commas others rest)
+  pub roles_after_commas : WrittenList → Roles → Roles
+  roles_after_commas End rest = rest
+  roles_after_commas (More first others) rest = in_expression ∷ roles first (roles_after_commas others rest)
 
   pub roles_of_bounds : WrittenList → Roles → Roles
   roles_of_bounds End rest = rest
@@ -74,15 +74,15 @@ some_roles (Some e) rest = roles e rest
 abbrev pub comma_roles : Bool → Roles → Roles
 comma_roles comma rest = if comma then another ∷ rest else rest
 
--- each of a list behind a comma, which has this role
-abbrev pub each_behind : {A : Type 0} → Role → (A → Roles → Roles) → List A → Roles → Roles
-each_behind comma of [] rest = rest
-each_behind comma of (a ∷ all) rest = comma ∷ of a (each_behind comma of all rest)
+-- each of a list after a comma, which has this role
+abbrev pub each_after : {A : Type 0} → Role → (A → Roles → Roles) → List A → Roles → Roles
+each_after comma of [] rest = rest
+each_after comma of (a ∷ all) rest = comma ∷ of a (each_after comma of all rest)
 
 -- a list with commas of this role between its parts
 abbrev pub between : {A : Type 0} → Role → (A → Roles → Roles) → List A → Roles → Roles
 between comma of [] rest = rest
-between comma of (a ∷ all) rest = of a (each_behind comma of all rest)
+between comma of (a ∷ all) rest = of a (each_after comma of all rest)
 
 abbrev pub brackets_roles : List (Option Written) → Roles → Roles
 brackets_roles [] rest = rest
@@ -114,7 +114,7 @@ abbrev mutual
   pub members_roles : Members → Roles → Roles
   members_roles NoMember rest = rest
   members_roles (MoreMembers specs declarators others) rest =
-      specs_roles specs (between behind_member declarator_roles declarators (behind_member ∷ members_roles others rest))
+      specs_roles specs (between after_member declarator_roles declarators (after_member ∷ members_roles others rest))
 
 abbrev mutual
   pub initial_roles : Initial → Roles → Roles

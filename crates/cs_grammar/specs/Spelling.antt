@@ -1,14 +1,14 @@
--- How the words and marks of C that are left out are spelled.
+-- How the words and punctuators of C that are left out are spelled.
 use Rattle.std.specs.Prelude.{ℕ, List, [], codes}
 use Rattle.cs_ast.specs.declared.token.TokenKind.{TokenKind}
 use Rattle.cs_ast.specs.declared.token.TokenKind.TheVariants as token
 use Rattle.cs_ast.specs.declared.token.Keyword.TheVariants as keyword
-use Rattle.cs_ast.specs.declared.token.Mark.TheVariants as mark
-use Rattle.cs_ast.specs.declared.token.LeftOut.{LeftOut}
-use Rattle.cs_ast.specs.declared.token.LeftOut.TheVariants as left
+use Rattle.cs_ast.specs.declared.token.Punctuator.TheVariants as punctuator
+use Rattle.cs_ast.specs.declared.token.Unsupported.{Unsupported}
+use Rattle.cs_ast.specs.declared.token.Unsupported.TheVariants as left
 
 -- the bytes of a word that is left out
-abbrev pub word_spelling : LeftOut → List ℕ
+abbrev pub word_spelling : Unsupported → List ℕ
 word_spelling left.Float = codes "float"
 word_spelling left.Double = codes "double"
 word_spelling left.Union = codes "union"
@@ -25,20 +25,20 @@ word_spelling left.ThreadLocal = codes "_Thread_local"
 word_spelling left.Int128 = codes "__int128"
 word_spelling left.Asm = codes "asm"
 word_spelling left.AsmBetween = codes "__asm__"
-word_spelling left.AsmBehind = codes "__asm"
+word_spelling left.AsmAfter = codes "__asm"
 word_spelling left.Typeof = codes "typeof"
 word_spelling left.TypeofBetween = codes "__typeof__"
 word_spelling left.Auto = codes "auto"
 
 -- the bytes of a token that is left out somewhere, none of any other
-abbrev pub left_out_spelling : TokenKind → List ℕ
-left_out_spelling (token.LeftOut word) = word_spelling word
-left_out_spelling (token.Mark mark.Ellipsis) = codes "..."
-left_out_spelling (token.Mark mark.OpenBrace) = codes "{"
-left_out_spelling (token.Mark mark.OpenParenthesis) = codes "("
-left_out_spelling (token.Mark mark.OpenBracket) = codes "["
-left_out_spelling (token.Mark mark.Dot) = codes "."
-left_out_spelling (token.Mark mark.Colon) = codes ":"
-left_out_spelling (token.Keyword keyword.Static) = codes "static"
-left_out_spelling (token.Keyword keyword.Typedef) = codes "typedef"
-left_out_spelling other = []
+abbrev pub unsupported_spelling : TokenKind → List ℕ
+unsupported_spelling (token.Unsupported word) = word_spelling word
+unsupported_spelling (token.Punctuator punctuator.Ellipsis) = codes "..."
+unsupported_spelling (token.Punctuator punctuator.OpenBrace) = codes "{"
+unsupported_spelling (token.Punctuator punctuator.OpenParenthesis) = codes "("
+unsupported_spelling (token.Punctuator punctuator.OpenBracket) = codes "["
+unsupported_spelling (token.Punctuator punctuator.Dot) = codes "."
+unsupported_spelling (token.Punctuator punctuator.Colon) = codes ":"
+unsupported_spelling (token.Keyword keyword.Static) = codes "static"
+unsupported_spelling (token.Keyword keyword.Typedef) = codes "typedef"
+unsupported_spelling other = []

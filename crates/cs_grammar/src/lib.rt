@@ -1,14 +1,14 @@
 //! The grammar: what is a phrase, which tokens begin one, and why a token is refused.
 #![tactic(auto)]
 
-mod marks;
+mod punctuators;
 mod refusal;
 mod spelling;
 mod type_words;
 mod typedef_names;
 
-pub use marks::{assign_operator, infix_level, infix_operator, prefix_operator, step};
+pub use punctuators::{assign_operator, infix_level, infix_operator, prefix_operator, step};
 pub use refusal::{Reason, SyntaxRefusal};
-pub use spelling::left_out_text;
+pub use spelling::unsupported_text;
 pub use type_words::{IntegerWords, TypeSoFar, integer_word};
 pub use typedef_names::TypedefNames;

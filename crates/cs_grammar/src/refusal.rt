@@ -8,8 +8,8 @@ use cs_names::Name;
 pub enum Reason {
     /// No phrase of any height goes on with it.
     Syntax,
-    /// The same, and it is a word or mark of C that is left out there.
-    LeftOut,
+    /// The same, and it is a word or punctuator of C that is left out there.
+    Unsupported,
     /// A higher phrase goes on with it.
     TooDeep,
 }
@@ -19,8 +19,8 @@ pub enum Reason {
 pub enum SyntaxRefusal {
     /// No file goes on with the token.
     Syntax(Place),
-    /// The same, and the token is this word or mark, which is left out there.
-    LeftOut(Place, Name),
+    /// The same, and the token is this word or punctuator, which is left out there.
+    Unsupported(Place, Name),
     /// A file that is too high goes on with the token.
     TooDeep(Place),
     /// Want of memory.

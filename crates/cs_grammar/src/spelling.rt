@@ -1,50 +1,50 @@
-//! How the words and marks of C that are left out are spelled.
+//! How the words and punctuators of C that are left out are spelled.
 ghost use Rattle.std.specs.Prelude.{◌≡◌};
-ghost use Rattle.cs_grammar.specs.Spelling.{left_out_spelling, word_spelling};
+ghost use Rattle.cs_grammar.specs.Spelling.{unsupported_spelling, word_spelling};
 
-use cs_ast::{Keyword, LeftOut, Mark, TokenKind};
+use cs_ast::{Keyword, Punctuator, TokenKind, Unsupported};
 
 /// The spelling of a token that is left out somewhere, and of no other.
-pub fn left_out_text(kind: &TokenKind) -> &'static [u8]
-    ensures { result.now ≡ left_out_spelling kind.now }
+pub fn unsupported_text(kind: &TokenKind) -> &'static [u8]
+    ensures { result.now ≡ unsupported_spelling kind.now }
 {
     match kind {
-        TokenKind::LeftOut(word) => word_text(*word),
-        TokenKind::Mark(Mark::Ellipsis) => b"...",
-        TokenKind::Mark(Mark::OpenBrace) => b"{",
-        TokenKind::Mark(Mark::OpenParenthesis) => b"(",
-        TokenKind::Mark(Mark::OpenBracket) => b"[",
-        TokenKind::Mark(Mark::Dot) => b".",
-        TokenKind::Mark(Mark::Colon) => b":",
+        TokenKind::Unsupported(word) => word_text(*word),
+        TokenKind::Punctuator(Punctuator::Ellipsis) => b"...",
+        TokenKind::Punctuator(Punctuator::OpenBrace) => b"{",
+        TokenKind::Punctuator(Punctuator::OpenParenthesis) => b"(",
+        TokenKind::Punctuator(Punctuator::OpenBracket) => b"[",
+        TokenKind::Punctuator(Punctuator::Dot) => b".",
+        TokenKind::Punctuator(Punctuator::Colon) => b":",
         TokenKind::Keyword(Keyword::Static) => b"static",
         TokenKind::Keyword(Keyword::Typedef) => b"typedef",
         _ => b"",
     }
 }
 
-fn word_text(word: LeftOut) -> &'static [u8]
+fn word_text(word: Unsupported) -> &'static [u8]
     ensures { result.now ≡ word_spelling word }
 {
     match word {
-        LeftOut::Float => b"float",
-        LeftOut::Double => b"double",
-        LeftOut::Union => b"union",
-        LeftOut::Bool => b"_Bool",
-        LeftOut::Complex => b"_Complex",
-        LeftOut::Imaginary => b"_Imaginary",
-        LeftOut::Atomic => b"_Atomic",
-        LeftOut::Alignas => b"_Alignas",
-        LeftOut::Alignof => b"_Alignof",
-        LeftOut::Generic => b"_Generic",
-        LeftOut::Noreturn => b"_Noreturn",
-        LeftOut::StaticAssert => b"_Static_assert",
-        LeftOut::ThreadLocal => b"_Thread_local",
-        LeftOut::Int128 => b"__int128",
-        LeftOut::Asm => b"asm",
-        LeftOut::AsmBetween => b"__asm__",
-        LeftOut::AsmBehind => b"__asm",
-        LeftOut::Typeof => b"typeof",
-        LeftOut::TypeofBetween => b"__typeof__",
-        LeftOut::Auto => b"auto",
+        Unsupported::Float => b"float",
+        Unsupported::Double => b"double",
+        Unsupported::Union => b"union",
+        Unsupported::Bool => b"_Bool",
+        Unsupported::Complex => b"_Complex",
+        Unsupported::Imaginary => b"_Imaginary",
+        Unsupported::Atomic => b"_Atomic",
+        Unsupported::Alignas => b"_Alignas",
+        Unsupported::Alignof => b"_Alignof",
+        Unsupported::Generic => b"_Generic",
+        Unsupported::Noreturn => b"_Noreturn",
+        Unsupported::StaticAssert => b"_Static_assert",
+        Unsupported::ThreadLocal => b"_Thread_local",
+        Unsupported::Int128 => b"__int128",
+        Unsupported::Asm => b"asm",
+        Unsupported::AsmBetween => b"__asm__",
+        Unsupported::AsmAfter => b"__asm",
+        Unsupported::Typeof => b"typeof",
+        Unsupported::TypeofBetween => b"__typeof__",
+        Unsupported::Auto => b"auto",
     }
 }

@@ -38,7 +38,7 @@ impl TypedefNames {
         self.names.contains(name)
     }
 
-    /// Makes the name one of these, behind the others if it is new.
+    /// Makes the name one of these, after the others if it is new.
     pub fn add(&mut self, name: Name) -> Result<(), AllocError>
         ensures added { OnOk result (self.new ≡ (if is_among self.old name then self.old else self.old ++ name ∷ [])) }
         ensures kept { OnErr result (self.new ≡ self.old) }

@@ -33,11 +33,11 @@ one_cell text m n b d one other =
 pub begins_with_first : (text : List ℕ) (c : ℕ) (cs : List ℕ) → AreCellsOf text (c ∷ cs) → BeginsWithCell text c (cells_text cs)
 begins_with_first text c cs cells = record { fits = All-head (λ o. o < 2 ^ 64) c cs cells.fit; whole = sym cells.is; at = cells_at cs }
 
--- where no number stands behind the `@`, there is no cell
-pub no_cell : (text cell digits behind : List ℕ) → text ≡ 64 ∷ cell → SplitsBefore 64 cell digits behind → ((n : ℕ) → IsDecimalOf digits n → ⊥) → (offset : ℕ) (others : List ℕ) → BeginsWithCell text offset others → ⊥
-no_cell text cell digits behind is cut none offset others begins =
+-- where no number stands after the `@`, there is no cell
+pub no_cell : (text cell digits following : List ℕ) → text ≡ 64 ∷ cell → SplitsBefore 64 cell digits following → ((n : ℕ) → IsDecimalOf digits n → ⊥) → (offset : ℕ) (others : List ℕ) → BeginsWithCell text offset others → ⊥
+no_cell text cell digits following is cut none offset others begins =
     let whole : cell ≡ decimal offset ++ others = ap (drop 1) (sym is ∙ begins.whole) in
-    let same = same_cut 64 cell digits (decimal offset) behind others cut (record { whole = whole; none = decimal_without_at offset begins.fits; at = begins.at }) in
+    let same = same_cut 64 cell digits (decimal offset) following others cut (record { whole = whole; none = decimal_without_at offset begins.fits; at = begins.at }) in
     none offset (record { fits = begins.fits; is = sym same.0 })
 
 -- ---- cell after cell
@@ -47,20 +47,20 @@ pub record AreReadTo (text cells rest : List ℕ) : Type 0 where
   pub fit : All (λ offset. offset < 2 ^ 64) cells
   pub only : (others : List ℕ) → AreCellsOf text others → (more : List ℕ) × AreCellsOf rest more
 
-behind_cell : (rest : List ℕ) (offset : ℕ) (behind : List ℕ) → BeginsWithCell rest offset behind → (more : List ℕ) → AreCellsOf rest more → (others : List ℕ) × AreCellsOf behind others
-behind_cell rest offset behind begins [] cells = absurd (no_tail 64 (decimal offset ++ behind) (sym begins.whole ∙ sym cells.is))
-behind_cell rest offset behind begins (c ∷ cs) cells =
-    let same = one_cell rest c offset (cells_text cs) behind (begins_with_first rest c cs cells) begins in
+after_cell : (rest : List ℕ) (offset : ℕ) (following : List ℕ) → BeginsWithCell rest offset following → (more : List ℕ) → AreCellsOf rest more → (others : List ℕ) × AreCellsOf following others
+after_cell rest offset following begins [] cells = absurd (no_tail 64 (decimal offset ++ following) (sym begins.whole ∙ sym cells.is))
+after_cell rest offset following begins (c ∷ cs) cells =
+    let same = one_cell rest c offset (cells_text cs) following (begins_with_first rest c cs cells) begins in
     (cs, record { fit = All-tail (λ o. o < 2 ^ 64) c cs cells.fit; is = same.1 })
 
-pub one_more : (text cells rest : List ℕ) (offset : ℕ) (behind : List ℕ) → AreReadTo text cells rest → BeginsWithCell rest offset behind → AreReadTo text (cells ++ offset ∷ []) behind
-one_more text cells rest offset behind read begins = record {
-  whole = read.whole ∙ ap (λ t. cells_text cells ++ t) begins.whole ∙ sym (append_assoc (cells_text cells) (64 ∷ decimal offset) behind) ∙ sym (ap (λ t. t ++ behind) (cells_text-push cells offset));
+pub one_more : (text cells rest : List ℕ) (offset : ℕ) (following : List ℕ) → AreReadTo text cells rest → BeginsWithCell rest offset following → AreReadTo text (cells ++ offset ∷ []) following
+one_more text cells rest offset following read begins = record {
+  whole = read.whole ∙ ap (λ t. cells_text cells ++ t) begins.whole ∙ sym (append_assoc (cells_text cells) (64 ∷ decimal offset) following) ∙ sym (ap (λ t. t ++ following) (cells_text-push cells offset));
   fit = All-push (λ o. o < 2 ^ 64) cells offset read.fit begins.fits;
-  only = λ others are. let more = read.only others are in behind_cell rest offset behind begins more.0 more.1;
+  only = λ others are. let more = read.only others are in after_cell rest offset following begins more.0 more.1;
 }
 
-pub not_read : (text cells rest : List ℕ) → AreReadTo text cells rest → 0 < length rest → ((offset : ℕ) (behind : List ℕ) → BeginsWithCell rest offset behind → ⊥) → (others : List ℕ) → AreCellsOf text others → ⊥
+pub not_read : (text cells rest : List ℕ) → AreReadTo text cells rest → 0 < length rest → ((offset : ℕ) (following : List ℕ) → BeginsWithCell rest offset following → ⊥) → (others : List ℕ) → AreCellsOf text others → ⊥
 not_read text cells rest read some none others are = let more = read.only others are in at more.0 more.1
   where
     at : (more : List ℕ) → AreCellsOf rest more → ⊥

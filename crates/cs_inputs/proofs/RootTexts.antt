@@ -29,14 +29,14 @@ no_tail b bs e = absurd (omega (arith, ap length e))
 
 -- ---- roots by their texts' first bytes
 -- what begins with a `$` is a global
-pub behind_dollar : (rest : List ℕ) (root : Root) → IsRootOf (codes "$" ++ rest) root → (root ≡ Global rest) × (is_name rest ≡ true)
-behind_dollar rest (Param name) r = absurd (unnamed _ _ r.has_text r.is refl)
-behind_dollar rest (Global name) r = let same : name ≡ rest = ap (drop 1) r.is in (ap Global same, subst (λ n. is_name n ≡ true) same r.has_text)
-behind_dollar rest (Call k) r = absurd (apart _ _ r.is refl)
-behind_dollar rest (Wrote k a) r = absurd (apart _ _ r.is refl)
-behind_dollar rest (Malloc k) r = absurd (apart _ _ r.is refl)
+pub after_dollar : (rest : List ℕ) (root : Root) → IsRootOf (codes "$" ++ rest) root → (root ≡ Global rest) × (is_name rest ≡ true)
+after_dollar rest (Param name) r = absurd (unnamed _ _ r.has_text r.is refl)
+after_dollar rest (Global name) r = let same : name ≡ rest = ap (drop 1) r.is in (ap Global same, subst (λ n. is_name n ≡ true) same r.has_text)
+after_dollar rest (Call k) r = absurd (apart _ _ r.is refl)
+after_dollar rest (Wrote k a) r = absurd (apart _ _ r.is refl)
+after_dollar rest (Malloc k) r = absurd (apart _ _ r.is refl)
 
--- a call's number, alone or with an argument's behind a `.`
+-- a call's number, alone or with an argument's after a `.`
 pub record IsCallWith (numbers : List ℕ) (root : Root) (call : ℕ) : Type 0 where
   pub is : root ≡ Call call
   pub counts : IsCount call
@@ -49,49 +49,49 @@ pub record IsWroteWith (numbers : List ℕ) (root : Root) (call argument : ℕ) 
   pub text : decimal call ++ (46 ∷ decimal argument) ≡ numbers
 
 -- what begins with `call#` is the result of a call, or what it wrote
-pub behind_call : (rest : List ℕ) (root : Root) → IsRootOf (codes "call#" ++ rest) root → ((k : ℕ) × IsCallWith rest root k) ⊎ ((k : ℕ) × (a : ℕ) × IsWroteWith rest root k a)
-behind_call rest (Param name) r = absurd (unnamed _ _ r.has_text r.is refl)
-behind_call rest (Global name) r = absurd (apart _ _ r.is refl)
-behind_call rest (Call k) r = inl (k, record { is = refl; counts = r.has_text; text = ap (drop 5) r.is })
-behind_call rest (Wrote k a) r =
+pub following_call : (rest : List ℕ) (root : Root) → IsRootOf (codes "call#" ++ rest) root → ((k : ℕ) × IsCallWith rest root k) ⊎ ((k : ℕ) × (a : ℕ) × IsWroteWith rest root k a)
+following_call rest (Param name) r = absurd (unnamed _ _ r.has_text r.is refl)
+following_call rest (Global name) r = absurd (apart _ _ r.is refl)
+following_call rest (Call k) r = inl (k, record { is = refl; counts = r.has_text; text = ap (drop 5) r.is })
+following_call rest (Wrote k a) r =
     let same : (decimal k ++ 46 ∷ []) ++ decimal a ≡ rest = ap (drop 5) r.is in
     inr (k, a, record { is = refl; counts = r.has_text.0; few = r.has_text.1; text = sym (append_assoc (decimal k) (46 ∷ []) (decimal a)) ∙ same })
-behind_call rest (Malloc k) r = absurd (apart _ _ r.is refl)
+following_call rest (Malloc k) r = absurd (apart _ _ r.is refl)
 
 -- what begins with `malloc#` is an allocation
-pub behind_malloc : (rest : List ℕ) (root : Root) → IsRootOf (codes "malloc#" ++ rest) root → (k : ℕ) × (root ≡ Malloc k) × IsCount k × (decimal k ≡ rest)
-behind_malloc rest (Param name) r = absurd (unnamed _ _ r.has_text r.is refl)
-behind_malloc rest (Global name) r = absurd (apart _ _ r.is refl)
-behind_malloc rest (Call k) r = absurd (apart _ _ r.is refl)
-behind_malloc rest (Wrote k a) r = absurd (apart _ _ r.is refl)
-behind_malloc rest (Malloc k) r = (k, refl, r.has_text, ap (drop 7) r.is)
+pub after_malloc : (rest : List ℕ) (root : Root) → IsRootOf (codes "malloc#" ++ rest) root → (k : ℕ) × (root ≡ Malloc k) × IsCount k × (decimal k ≡ rest)
+after_malloc rest (Param name) r = absurd (unnamed _ _ r.has_text r.is refl)
+after_malloc rest (Global name) r = absurd (apart _ _ r.is refl)
+after_malloc rest (Call k) r = absurd (apart _ _ r.is refl)
+after_malloc rest (Wrote k a) r = absurd (apart _ _ r.is refl)
+after_malloc rest (Malloc k) r = (k, refl, r.has_text, ap (drop 7) r.is)
 
 -- ---- a call's numbers are cut at the `.`
 digits_without_dot : (n : ℕ) → n < 2 ^ 64 → list_all (λ b. not (b == 46)) (decimal n) ≡ true
 digits_without_dot n fits = all_without is_digit 46 refl (decimal n) (digits_decimal own n fits)
 
 -- the number before the `.` is the call's
-cut_at_call : (numbers first behind : List ℕ) (k : ℕ) → k < 2 ^ 64 → (rest : List ℕ) → IsEmptyOrAt 46 rest → decimal k ++ rest ≡ numbers → SplitsBefore 46 numbers first behind → (IsDecimalOf first k) × (behind ≡ rest)
-cut_at_call numbers first behind k fits rest at is cut =
-    let same = same_cut 46 numbers first (decimal k) behind rest cut (record { whole = sym is; none = digits_without_dot k fits; at = at }) in
+cut_at_call : (numbers first following : List ℕ) (k : ℕ) → k < 2 ^ 64 → (rest : List ℕ) → IsEmptyOrAt 46 rest → decimal k ++ rest ≡ numbers → SplitsBefore 46 numbers first following → (IsDecimalOf first k) × (following ≡ rest)
+cut_at_call numbers first following k fits rest at is cut =
+    let same = same_cut 46 numbers first (decimal k) following rest cut (record { whole = sym is; none = digits_without_dot k fits; at = at }) in
     (record { fits = fits; is = sym same.0 }, same.1)
 
 -- without a call's number there is no root
-pub no_call : (numbers first behind : List ℕ) → SplitsBefore 46 numbers first behind → ((k : ℕ) → IsDecimalOf first k × IsCount k → ⊥) → (root : Root) → IsRootOf (codes "call#" ++ numbers) root → ⊥
-no_call numbers first behind cut none root r = either (behind_call numbers root r)
+pub no_call : (numbers first following : List ℕ) → SplitsBefore 46 numbers first following → ((k : ℕ) → IsDecimalOf first k × IsCount k → ⊥) → (root : Root) → IsRootOf (codes "call#" ++ numbers) root → ⊥
+no_call numbers first following cut none root r = either (following_call numbers root r)
   where
     either : ((k : ℕ) × IsCallWith numbers root k) ⊎ ((k : ℕ) × (a : ℕ) × IsWroteWith numbers root k a) → ⊥
-    either (inl (k, call)) = none k ((cut_at_call numbers first behind k call.counts.fits [] tt (append-nil (decimal k) ∙ call.text) cut).0, call.counts)
-    either (inr (k, a, wrote)) = none k ((cut_at_call numbers first behind k wrote.counts.fits (46 ∷ decimal a) refl wrote.text cut).0, wrote.counts)
+    either (inl (k, call)) = none k ((cut_at_call numbers first following k call.counts.fits [] tt (append-nil (decimal k) ∙ call.text) cut).0, call.counts)
+    either (inr (k, a, wrote)) = none k ((cut_at_call numbers first following k wrote.counts.fits (46 ∷ decimal a) refl wrote.text cut).0, wrote.counts)
 
--- without an argument's number behind the `.` there is no root
-pub no_argument : (numbers first behind argument : List ℕ) (mark : ℕ) → SplitsBefore 46 numbers first behind → behind ≡ mark ∷ argument → ((a : ℕ) → IsDecimalOf argument a × (a ≤ 400000) → ⊥) → (root : Root) → IsRootOf (codes "call#" ++ numbers) root → ⊥
-no_argument numbers first behind argument mark cut is none root r = either (behind_call numbers root r)
+-- without an argument's number after the `.` there is no root
+pub no_argument : (numbers first following argument : List ℕ) (mark : ℕ) → SplitsBefore 46 numbers first following → following ≡ mark ∷ argument → ((a : ℕ) → IsDecimalOf argument a × (a ≤ 400000) → ⊥) → (root : Root) → IsRootOf (codes "call#" ++ numbers) root → ⊥
+no_argument numbers first following argument mark cut is none root r = either (following_call numbers root r)
   where
     either : ((k : ℕ) × IsCallWith numbers root k) ⊎ ((k : ℕ) × (a : ℕ) × IsWroteWith numbers root k a) → ⊥
-    either (inl (k, call)) = no_tail mark argument (sym is ∙ (cut_at_call numbers first behind k call.counts.fits [] tt (append-nil (decimal k) ∙ call.text) cut).1)
+    either (inl (k, call)) = no_tail mark argument (sym is ∙ (cut_at_call numbers first following k call.counts.fits [] tt (append-nil (decimal k) ∙ call.text) cut).1)
     either (inr (k, a, wrote)) =
-        let rest : behind ≡ 46 ∷ decimal a = (cut_at_call numbers first behind k wrote.counts.fits (46 ∷ decimal a) refl wrote.text cut).1 in
+        let rest : following ≡ 46 ∷ decimal a = (cut_at_call numbers first following k wrote.counts.fits (46 ∷ decimal a) refl wrote.text cut).1 in
         let text : decimal a ≡ argument = ap (drop 1) (sym rest ∙ is) in
         let few = wrote.few in
         none a (record { fits = omega arith; is = text }, few)
@@ -112,7 +112,7 @@ named_root text named (Wrote k a) r = absurd (unnamed _ _ named (sym r.is) refl)
 named_root text named (Malloc k) r = absurd (unnamed _ _ named (sym r.is) refl)
 
 call_root : (k : ℕ) → IsCount k → (root : Root) → IsRootOf (codes "call#" ++ decimal k) root → root ≡ Call k
-call_root k counts root r = either (behind_call (decimal k) root r)
+call_root k counts root r = either (following_call (decimal k) root r)
   where
     cut : SplitsBefore 46 (decimal k) (decimal k) []
     cut = record { whole = sym (append-nil (decimal k)); none = digits_without_dot k counts.fits; at = tt }
@@ -122,7 +122,7 @@ call_root k counts root r = either (behind_call (decimal k) root r)
     either (inr (m, a, wrote)) = absurd (no_tail 46 (decimal a) (sym (cut_at_call (decimal k) (decimal k) [] m wrote.counts.fits (46 ∷ decimal a) refl wrote.text cut).1))
 
 wrote_root : (k a : ℕ) → IsCount k → a ≤ 400000 → (text : List ℕ) → text ≡ decimal k ++ (46 ∷ decimal a) → (root : Root) → IsRootOf (codes "call#" ++ text) root → root ≡ Wrote k a
-wrote_root k a counts few text is root r = either (behind_call text root r)
+wrote_root k a counts few text is root r = either (following_call text root r)
   where
     cut : SplitsBefore 46 text (decimal k) (46 ∷ decimal a)
     cut = record { whole = is; none = digits_without_dot k counts.fits; at = refl }
@@ -139,13 +139,13 @@ wrote_root k a counts few text is root r = either (behind_call text root r)
 
 malloc_root : (k : ℕ) → IsCount k → (root : Root) → IsRootOf (codes "malloc#" ++ decimal k) root → root ≡ Malloc k
 malloc_root k counts root r =
-    let other = behind_malloc (decimal k) root r in
+    let other = after_malloc (decimal k) root r in
     other.1 ∙ ap Malloc (decimal_injective other.0 k other.2.fits counts.fits other.3)
 
 -- two roots with one text are the same
 pub same_root : (text : List ℕ) (one other : Root) → IsRootOf text one → IsRootOf text other → one ≡ other
 same_root text (Param name) other r s = sym (named_root text (subst (λ n. is_name n ≡ true) r.is r.has_text) other s ∙ ap Param (sym r.is))
-same_root text (Global name) other r s = sym (behind_dollar name other (record { has_text = s.has_text; is = s.is ∙ sym r.is })).0
+same_root text (Global name) other r s = sym (after_dollar name other (record { has_text = s.has_text; is = s.is ∙ sym r.is })).0
 same_root text (Call k) other r s = sym (call_root k r.has_text other (record { has_text = s.has_text; is = s.is ∙ sym r.is }))
 same_root text (Wrote k a) other r s =
     sym (wrote_root k a r.has_text.0 r.has_text.1 ((decimal k ++ 46 ∷ []) ++ decimal a) (append_assoc (decimal k) (46 ∷ []) (decimal a)) other (record { has_text = s.has_text; is = s.is ∙ sym r.is }))

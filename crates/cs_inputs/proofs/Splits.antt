@@ -42,11 +42,11 @@ at_rest mark xs (r ∷ rs) i e h =
     let cut : drop i xs ≡ get_or xs i 0 ∷ drop (i + 1) xs = drop_more xs i 0 low in
     cc
 
-pub splits_at_first : (mark : ℕ) (xs before behind : List ℕ) → before ≡ take (position_or_len (λ b. b == mark) xs) xs → behind ≡ drop (position_or_len (λ b. b == mark) xs) xs → xs ≡ before ++ behind → SplitsBefore mark xs before behind
-splits_at_first mark xs before behind front back whole = record {
+pub splits_at_first : (mark : ℕ) (xs before following : List ℕ) → before ≡ take (position_or_len (λ b. b == mark) xs) xs → following ≡ drop (position_or_len (λ b. b == mark) xs) xs → xs ≡ before ++ following → SplitsBefore mark xs before following
+splits_at_first mark xs before following front back whole = record {
   whole = whole;
   none = ap (list_all (λ b. not (b == mark))) front ∙ none_before mark xs;
-  at = at_rest mark xs behind (position_or_len (λ b. b == mark) xs) back (passes_at_first (λ b. b == mark) xs 0);
+  at = at_rest mark xs following (position_or_len (λ b. b == mark) xs) back (passes_at_first (λ b. b == mark) xs 0);
 }
 
 -- ---- there is one cut

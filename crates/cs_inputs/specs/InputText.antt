@@ -36,15 +36,15 @@ pub record IsTextOf (text : List ℕ) (path : Path) : Type 0 where
   pub has_text : HasText path
   pub is : path_text path ≡ text
 
--- the first `=` of a text has these bytes before it and those behind it
-pub record IsCutAtFirst (text before behind : List ℕ) : Type 0 where
-  pub whole : text ≡ before ++ codes "=" ++ behind
+-- the first `=` of a text has these bytes before it and those after it
+pub record IsCutAtFirst (text before following : List ℕ) : Type 0 where
+  pub whole : text ≡ before ++ codes "=" ++ following
   pub first : IsTrue (list_all (λ b. not (b == 61)) before)
 
--- the path's text stands before the first `=`, and these bytes behind it
-pub record NamesPath (text : List ℕ) (path : Path) (behind : List ℕ) : Type 0 where
+-- the path's text stands before the first `=`, and these bytes after it
+pub record NamesPath (text : List ℕ) (path : Path) (following : List ℕ) : Type 0 where
   pub before : List ℕ
-  pub cut : IsCutAtFirst text before behind
+  pub cut : IsCutAtFirst text before following
   pub names : IsTextOf before path
 
 -- the text is the path's, an `=` and the number's
@@ -56,9 +56,9 @@ pub record SpellsInput (text : List ℕ) (path : Path) (number : ℤ) : Type 0 w
   pub within : IsInputNumber number
 
 -- why a text is refused: no path's text stands before the first `=`, or there is no `=`; the path is one, but what stands
--- behind the `=` is no number; the number is outside. No text is refused for want of memory.
+-- after the `=` is no number; the number is outside. No text is refused for want of memory.
 abbrev pub IsRefusedFor : PathRefusal → List ℕ → Type 0
-IsRefusedFor BadPath text = (path : Path) (behind : List ℕ) → NamesPath text path behind → ⊥
-IsRefusedFor BadNumber text = (path : Path) × (behind : List ℕ) × NamesPath text path behind × ((number : ℤ) → SpellsNumber behind number → ⊥)
-IsRefusedFor TooWide text = (path : Path) × (behind : List ℕ) × (number : ℤ) × NamesPath text path behind × SpellsNumber behind number × (IsInputNumber number → ⊥)
+IsRefusedFor BadPath text = (path : Path) (following : List ℕ) → NamesPath text path following → ⊥
+IsRefusedFor BadNumber text = (path : Path) × (following : List ℕ) × NamesPath text path following × ((number : ℤ) → SpellsNumber following number → ⊥)
+IsRefusedFor TooWide text = (path : Path) × (following : List ℕ) × (number : ℤ) × NamesPath text path following × SpellsNumber following number × (IsInputNumber number → ⊥)
 IsRefusedFor Memory text = ⊥

@@ -8,7 +8,7 @@ use Rattle.std.specs.declared.cmp.Ordering.TheVariants.{Less, Equal, Greater}
 use Rattle.cs_inputs.specs.declared.path.Path.{Path}
 use Rattle.cs_inputs.specs.PathOrder.{path_order}
 
--- each path stands before those behind it in path order
+-- each path stands before those after it in path order
 abbrev pub IsInOrder : List (Path × ℤ) → Type 0
 IsInOrder entries = IsStrictlySortedBy path_order (keys_of entries)
 

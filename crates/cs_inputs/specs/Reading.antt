@@ -15,10 +15,10 @@ IsEmptyOrAt mark [] = Unit {0}
 IsEmptyOrAt mark (b ∷ bs) = b ≡ mark
 
 -- a text in two, before its first mark; the second part is empty where there is none
-pub record SplitsBefore (mark : ℕ) (text before behind : List ℕ) : Type 0 where
-  pub whole : text ≡ before ++ behind
+pub record SplitsBefore (mark : ℕ) (text before following : List ℕ) : Type 0 where
+  pub whole : text ≡ before ++ following
   pub none : IsTrue (list_all (λ b. not (b == mark)) before)
-  pub at : IsEmptyOrAt mark behind
+  pub at : IsEmptyOrAt mark following
 
 -- a thing of the kind is found, or there is none
 abbrev pub Finds : {X : Type 0} → (X → Type 0) → Option X → Type 0
@@ -53,10 +53,10 @@ pub record AreCellsOf (text : List ℕ) (cells : List ℕ) : Type 0 where
   pub is : cells_text cells ≡ text
 
 -- a text begins with a cell
-pub record BeginsWithCell (text : List ℕ) (offset : ℕ) (behind : List ℕ) : Type 0 where
+pub record BeginsWithCell (text : List ℕ) (offset : ℕ) (following : List ℕ) : Type 0 where
   pub fits : offset < 2 ^ 64
-  pub whole : text ≡ codes "@" ++ decimal offset ++ behind
-  pub at : IsEmptyOrAt 64 behind
+  pub whole : text ≡ codes "@" ++ decimal offset ++ following
+  pub at : IsEmptyOrAt 64 following
 
 -- what a text says of a number, or why it says none
 abbrev pub IsNumberRead : List ℕ → Result ℤ PathRefusal → Type 0

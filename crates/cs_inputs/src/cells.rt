@@ -38,7 +38,7 @@ impl Cells {
         }
     }
 
-    /// Adds an offset behind the others.
+    /// Adds an offset after the others.
     pub fn push(&mut self, offset: u64) -> Result<(), AllocError>
         ensures ok { OnOk result (self.new ≡ self.old ++ offset ∷ []) }
         ensures err { OnErr result (self.new ≡ self.old) }

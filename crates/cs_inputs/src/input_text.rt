@@ -16,10 +16,10 @@ use crate::split::split_before;
 use std::alloc::Global;
 
 /// The path and the number of a text `PATH=NUMBER`, as `p@8=-1`. A number is one to 39 digits, which may begin with
-/// zeros, behind a `-` or not.
+/// zeros, after a `-` or not.
 ///
 /// It is `BadPath` where no path's text stands before the first `=` or there is no `=`, else `BadNumber` where no number
-/// stands behind it, else `TooWide` where the number is outside -2^63 to 2^64-1.
+/// stands after it, else `TooWide` where the number is outside -2^63 to 2^64-1.
 pub fn parse(alloc: Global, text: &[u8]) -> Result<(Path, i128), PathRefusal>
     ensures ok { IfOk result (λ input. SpellsInput text.now input.0 input.1) }
     ensures accepts { (path : Path) (number : ℤ) → SpellsInput text.now path number → (result ≡ Ok (path, number)) ⊎ (result ≡ Err PathRefusal.Memory) }
@@ -27,8 +27,8 @@ pub fn parse(alloc: Global, text: &[u8]) -> Result<(Path, i128), PathRefusal>
     ensures refuses { (refusal : PathRefusal) → IsRefusedFor refusal text.now → (result ≡ Err refusal) ⊎ (result ≡ Err PathRefusal.Memory) }
     ensures round_trip { (path : Path) (number : ℤ) → HasText path → IsInputNumber number → text.now ≡ path_text path ++ codes "=" ++ signed_decimal number → (result ≡ Ok (path, number)) ⊎ (result ≡ Err PathRefusal.Memory) }
 {
-    let (before, behind) = split_before(text, b'=');
-    let Some((_, number)) = behind.split_first() else {
+    let (before, following) = split_before(text, b'=');
+    let Some((_, number)) = following.split_first() else {
         return Err(PathRefusal::BadPath);
     };
     let path = path_of(alloc, before)?;
@@ -68,20 +68,20 @@ fn cells_of(alloc: Global, text: &[u8]) -> Result<Cells, PathRefusal>
     let mut cells = Cells::new(alloc);
     let mut rest = text;
     while !rest.is_empty() {
-        let Some((offset, behind)) = first_cell(rest) else {
+        let Some((offset, following)) = first_cell(rest) else {
             return Err(PathRefusal::BadPath);
         };
         cells.push(offset)?;
-        rest = behind;
+        rest = following;
     }
     Ok(cells)
 }
 
-// The offset of the cell that a text begins with, and what stands behind it.
+// The offset of the cell that a text begins with, and what stands after it.
 fn first_cell(text: &[u8]) -> Option<(u64, &[u8])>
-    ensures { MatchOption result ((offset : ℕ) (behind : List ℕ) → BeginsWithCell text.now offset behind → ⊥) (λ cell. BeginsWithCell text.now cell.0 cell.1.now) }
+    ensures { MatchOption result ((offset : ℕ) (following : List ℕ) → BeginsWithCell text.now offset following → ⊥) (λ cell. BeginsWithCell text.now cell.0 cell.1.now) }
 {
     let cell = text.strip_prefix(b"@")?;
-    let (digits, behind) = split_before(cell, b'@');
-    Some((number_with_text(digits)?, behind))
+    let (digits, following) = split_before(cell, b'@');
+    Some((number_with_text(digits)?, following))
 }

@@ -10,7 +10,7 @@ const MOST_DIGITS: usize = 39;
 /// How far a number may be below zero.
 const MOST_BELOW_ZERO: u64 = 1 << 63;
 
-/// The number that a text spells: one to 39 digits, which may begin with zeros, behind a `-` or not.
+/// The number that a text spells: one to 39 digits, which may begin with zeros, after a `-` or not.
 ///
 /// It is `BadNumber` where the text spells none, and `TooWide` where the number is outside -2^63 to 2^64-1.
 pub fn number_of(text: &[u8]) -> Result<i128, PathRefusal>

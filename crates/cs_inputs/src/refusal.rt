@@ -11,7 +11,7 @@ pub enum PathRefusal {
     /// No path's text stands before the first `=`, or there is no `=`.
     #[error("not a path")]
     BadPath,
-    /// What stands behind the first `=` is no number.
+    /// What stands after the first `=` is no number.
     #[error("not a number")]
     BadNumber,
     /// The number is outside -2^63 to 2^64-1.

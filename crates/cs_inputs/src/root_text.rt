@@ -41,19 +41,19 @@ fn name_of(alloc: Global, text: &[u8]) -> Result<Name, PathRefusal>
     Ok(Name::from_slice(alloc, text)?)
 }
 
-// The result of a call, or what a call wrote, from the text behind `call#`.
+// The result of a call, or what a call wrote, from the text after `call#`.
 fn call_of(numbers: &[u8]) -> Option<Root>
     ensures { Finds (IsRootOf (codes "call#" ++ numbers.now)) result }
 {
-    let (call, behind) = split_before(numbers, b'.');
+    let (call, following) = split_before(numbers, b'.');
     let call = count_of(call)?;
-    match behind.split_first() {
+    match following.split_first() {
         None => Some(Root::Call(call)),
         Some((_, argument)) => Some(Root::Wrote(call, argument_of(argument)?)),
     }
 }
 
-// An allocation from the text behind `malloc#`.
+// An allocation from the text after `malloc#`.
 fn malloc_of(number: &[u8]) -> Option<Root>
     ensures { Finds (IsRootOf (codes "malloc#" ++ number.now)) result }
 {

@@ -39,7 +39,7 @@ fn print_root(alloc: Global, root: &Root) -> Result<Vec<u8>, AllocError>
     }
 }
 
-// A word with a number behind it.
+// A word with a number after it.
 fn numbered(alloc: Global, word: &[u8], number: u64) -> Result<Vec<u8>, AllocError>
     ensures { IfOk result (λ text. text.items ≡ word.now ++ decimal number) }
 {

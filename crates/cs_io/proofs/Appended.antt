@@ -4,7 +4,7 @@ use Rattle.std.proofs.Math.Seq.{take-add}
 use Rattle.std.specs.Prelude.{Option, Some, None}
 use Rattle.std.specs.Io.KnownBytes.{Appends}
 
--- the next k bytes behind the first n make the first n + k
+-- the next k bytes after the first n make the first n + k
 pub Appends-take_add : (before between now : Option (List ℕ)) (text : List ℕ) (n k : ℕ) → Appends before between (take n text) → Appends between now (take k (drop n text)) → Appends before now (take (n + k) text)
 Appends-take_add None between now text n k front piece = tt
 Appends-take_add (Some xs) None now text n k front piece = absurd front

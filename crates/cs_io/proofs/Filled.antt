@@ -1,4 +1,4 @@
--- Serves the contract of `MemSource::read`: what lies behind the places that were filled stays as it was.
+-- Serves the contract of `MemSource::read`: what lies after the places that were filled stays as it was.
 use Rattle.std.proofs.Common.{◌≡◌, ℕ, ◌≤◌, List, ◌++◌, length, take, drop, sym, ap, ◌∙◌}
 use Rattle.std.proofs.lemmas.List.{drop-append-le, take-append-drop}
 

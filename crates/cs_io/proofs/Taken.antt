@@ -2,7 +2,7 @@
 use Rattle.std.proofs.Common.{List, ℕ, ◌++◌, refl, append_assoc}
 use Rattle.std.specs.Prelude.{Option, Some, None}
 use Rattle.std.specs.Io.KnownBytes.{Consumes}
-use Rattle.cs_io.specs.Told.{LosesFront}
+use Rattle.cs_io.specs.Reported.{LosesFront}
 
 -- bytes that lose their front, and then more of it, lose their front
 pub LosesFront-from_both : (before between now : Option (List ℕ)) (front : List ℕ) → Consumes before between front → LosesFront between now → LosesFront before now

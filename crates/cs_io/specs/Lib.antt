@@ -1,5 +1,5 @@
 pub mod Count
-pub mod Told
+pub mod Reported
 pub mod FaultPlan
 pub mod MemSource
 pub mod SureSink

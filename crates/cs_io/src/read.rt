@@ -2,7 +2,7 @@
 ghost use Rattle.std.specs.Prelude.{◌≡◌, ◌+◌, ◌<◌, ◌≤◌, ◌++◌, length, take, vec_len, IfOk, OnOk, OnErr, IfSome};
 ghost use Rattle.std.specs.Io.KnownBytes.{Consumes, IsAtEnd};
 ghost use Rattle.cs_io.specs.Count.{Rose};
-ghost use Rattle.cs_io.specs.Told.{LosesFront};
+ghost use Rattle.cs_io.specs.Reported.{LosesFront};
 ghost use Rattle.cs_io.specs.declared.read.ReadRefusal.TheVariants.{ReadFault, Memory};
 
 use crate::traits::{Failed, Source};

@@ -2,7 +2,7 @@
 ghost use Rattle.std.specs.Prelude.{◌≤◌, ◌⊎◌, OnOk, OnErr};
 ghost use Rattle.std.specs.Io.KnownBytes.{Appends};
 ghost use Rattle.cs_io.specs.Count.{Rose};
-ghost use Rattle.cs_io.specs.Told.{AppendsPart};
+ghost use Rattle.cs_io.specs.Reported.{AppendsPart};
 
 use crate::traits::{Failed, Sink};
 use std::error::Error;

@@ -26,12 +26,12 @@ use Rattle.cs_lexer.specs.Classes.{is_space, is_letter, is_digit, is_name_byte, 
 use Rattle.cs_lexer.specs.Comments.{is_inside, CommentGives}
 use Rattle.cs_lexer.specs.Digits.{run, value_of, is_digit_of}
 use Rattle.cs_lexer.specs.Directives.{directive_at, marker, with_line, with_name, bounded, line_number, number_part, file_name, next_line, whole_length, skip_blanks}
-use Rattle.cs_lexer.specs.Marks.{MarkGives}
+use Rattle.cs_lexer.specs.Punctuators.{PunctuatorGives}
 use Rattle.cs_lexer.specs.Numbers.{number_at, base_of, is_hexadecimal, prefix_length, suffix_of, constant, is_too_wide, goes_on, is_decimal}
 use Rattle.cs_lexer.specs.Quoted.{character_in, character_of, character_with, signed, closing, TextIn, TextBodyGives}
 use Rattle.cs_lexer.specs.Words.{WordGives}
 use Rattle.cs_lexer.specs.Pieces.{Begins, BeginsAs, other_class}
-use Rattle.cs_lexer.proofs.LongestMark.{mark_has_one}
+use Rattle.cs_lexer.proofs.LongestPunctuator.{punctuator_has_one}
 
 -- a line that is there is at most 2,147,483,647
 abbrev pub LineFits : Option ℕ → Type 0
@@ -99,15 +99,15 @@ word_advances word (Token size kind) some h = omega arith
 word_advances word (Refused fault size) some h = absurd h
 word_advances word (Marker size next name) some h = absurd h
 
-mark_token : (bytes : List ℕ) (size : ℕ) (kind : TokenKind) → MarkGives bytes (Token size kind) → 0 < size
-mark_token bytes size (kinds.Mark mark) h = omega (arith, h.0, mark_has_one mark)
-mark_token bytes size _ h = absurd h
+punctuator_token : (bytes : List ℕ) (size : ℕ) (kind : TokenKind) → PunctuatorGives bytes (Token size kind) → 0 < size
+punctuator_token bytes size (kinds.Punctuator punctuator) h = omega (arith, h.0, punctuator_has_one punctuator)
+punctuator_token bytes size _ h = absurd h
 
-mark_advances : (bytes : List ℕ) (found : Found) → MarkGives bytes found → Advances found
-mark_advances bytes (Token size kind) h = mark_token bytes size kind h
-mark_advances bytes (Refused fault size) h = tt
-mark_advances bytes (Gap size) h = absurd h
-mark_advances bytes (Marker size next name) h = absurd h
+punctuator_advances : (bytes : List ℕ) (found : Found) → PunctuatorGives bytes found → Advances found
+punctuator_advances bytes (Token size kind) h = punctuator_token bytes size kind h
+punctuator_advances bytes (Refused fault size) h = tt
+punctuator_advances bytes (Gap size) h = absurd h
+punctuator_advances bytes (Marker size next name) h = absurd h
 
 text_token : (body : List ℕ) (size : ℕ) (kind : TokenKind) → TextBodyGives body (Token size kind) → 0 < size
 text_token body size (kinds.Text values) h = omega (arith, h.0)
@@ -173,7 +173,7 @@ other_advances : (b : ℕ) (bytes : List ℕ) (found : Found) → BeginsAs (othe
 other_advances b bytes found =
     choose (is_digit b) classes.Number _ (b ∷ bytes) found (λ digit is. subst Advances (sym is) (number_advances b bytes digit)) (λ _.
     choose (b == 39) classes.Character _ (b ∷ bytes) found (λ _ is. subst Advances (sym is) (character_advances bytes (closing 39 false bytes))) (λ _.
-    choose (b == 34) classes.Text classes.Mark (b ∷ bytes) found (λ _ h. quoted_advances bytes (closing 34 false bytes) found h) (λ _ h. mark_advances (b ∷ bytes) found h)))
+    choose (b == 34) classes.Text classes.Punctuator (b ∷ bytes) found (λ _ h. quoted_advances bytes (closing 34 false bytes) found h) (λ _ h. punctuator_advances (b ∷ bytes) found h)))
 
 -- a piece at the front of some bytes has a byte or more
 pub advances : (is_line_start : Bool) (bytes : List ℕ) (found : Found) → 0 < length bytes → Begins is_line_start bytes found → Advances found

@@ -10,13 +10,13 @@ use Rattle.cs_lexer.specs.declared.found.Fault.{Fault}
 use Rattle.cs_lexer.specs.declared.cut.End.{End}
 use Rattle.cs_lexer.specs.declared.cut.End.TheVariants.{Refused}
 use Rattle.cs_lexer.specs.Files.{file_number, with_file}
-use Rattle.cs_lexer.specs.Spots.{line_of, column_on, step, spot_behind}
-use Rattle.cs_lexer.specs.Cuttings.{Reaches, begins, gap, marker, token, file_behind, files_behind, marked_spot, IsRefusedAt, EndsAs}
+use Rattle.cs_lexer.specs.Spots.{line_of, column_on, step, spot_after}
+use Rattle.cs_lexer.specs.Cuttings.{Reaches, begins, gap, marker, token, file_after, files_after, marked_spot, IsRefusedAt, EndsAs}
 
 step_file : (spot : Spot) (b : ℕ) → (step spot b).place.file ≡ spot.place.file
 step_file spot b = elim (b == 10) as (λ t. (cond t (line_of spot.place.file (spot.place.line + 1)) (column_on spot b)).place.file ≡ spot.place.file) [ true ↦ refl | false ↦ refl ]
 
-same_file : (spot : Spot) (bytes : List ℕ) → (spot_behind spot bytes).place.file ≡ spot.place.file
+same_file : (spot : Spot) (bytes : List ℕ) → (spot_after spot bytes).place.file ≡ spot.place.file
 same_file spot [] = refl
 same_file spot (b ∷ bytes) = same_file (step spot b) bytes ∙ step_file spot b
 
@@ -35,7 +35,7 @@ no_fewer files name = elim (nat_lt (file_number files name) (length files)) as (
   | false ↦ omega (arith, length-append files (name ∷ []))
 ]
 
-marked_file : (files : List (List ℕ)) (spot : Spot) (next : Option ℕ) (name : Option (List ℕ)) (bytes : List ℕ) → spot.place.file < length files → (marked_spot spot (file_behind files spot name) next bytes).place.file < length (files_behind files name)
+marked_file : (files : List (List ℕ)) (spot : Spot) (next : Option ℕ) (name : Option (List ℕ)) (bytes : List ℕ) → spot.place.file < length files → (marked_spot spot (file_after files spot name) next bytes).place.file < length (files_after files name)
 marked_file files spot None None bytes h = omega (arith, same_file spot bytes)
 marked_file files spot None (Some name) bytes h = omega (arith, same_file spot bytes, no_fewer files name)
 marked_file files spot (Some line) None bytes h = h

@@ -6,7 +6,7 @@ use Rattle.std.proofs.lemmas.Bool.{and_parts, cases_lt}
 use Rattle.std.proofs.lemmas.Bool.Decides.{nat_tests}
 use Rattle.cs_ast.specs.declared.token.Token.{Token}
 use Rattle.cs_lexer.proofs.Turned.{turned_round, front_turned}
-use Rattle.cs_lexer.specs.Attributes.{is_attribute, opens, closes, depth_behind, length_to_close, surplus_before, surplus_of, begins_group, group_length, has_group, without_attributes, IsClosings}
+use Rattle.cs_lexer.specs.Attributes.{is_attribute, opens, closes, depth_after, length_to_close, surplus_before, surplus_of, begins_group, group_length, has_group, without_attributes, IsClosings}
 
 is_some_suc : (o : Option ℕ) → is_some (option_map suc o) ≡ is_some o
 is_some_suc None = refl
@@ -23,7 +23,7 @@ pub closed_by_surplus : (tokens : List Token) (depth : ℕ) → is_some (length_
 closed_by_surplus tokens zero = grind (arith, nat_tests)
 closed_by_surplus [] (suc depth) = grind (arith, nat_tests)
 closed_by_surplus (token ∷ tokens) (suc depth) =
-    is_some_suc (length_to_close tokens (depth_behind token (suc depth))) ∙ closed_by_surplus tokens (depth_behind token (suc depth)) ∙ one_step (opens token.kind) (closes token.kind) depth (surplus_of tokens)
+    is_some_suc (length_to_close tokens (depth_after token (suc depth))) ∙ closed_by_surplus tokens (depth_after token (suc depth)) ∙ one_step (opens token.kind) (closes token.kind) depth (surplus_of tokens)
 
 -- the surplus and the answers, for the first of the reversed tokens
 pub record Counted (reversed : List Token) (index surplus : ℕ) (made : List Bool) : Type 0 where
@@ -72,7 +72,7 @@ closings_front front others closings h = record {
   each = λ count below. h.each count (omega (arith, below, length-append front others)) ∙ ap (λ ts. is_some (length_to_close (reverse ts) 1)) (take-append-le count front others below);
 }
 
--- an open parenthesis that closes behind a token closes behind the next ones
+-- an open parenthesis that closes after a token closes after the next ones
 pub record ClosesIn (o : Option ℕ) (skipped : ℕ) : Type 0 where
   pub fewer : ℕ
   pub is : o ≡ Some fewer
@@ -88,10 +88,10 @@ one_deeper false true depth = omega arith
 one_deeper false false depth = omega arith
 
 -- a token of an attribute is left out
-pub sift_skipped : (tokens old left : List Token) (closings : List Bool) (depth later : ℕ) (kept : List Token) (token : Token) → Sifted tokens old closings (suc depth) kept → old ≡ left ++ token ∷ [] → later ≡ depth_behind token (suc depth) → Sifted tokens left closings later kept
+pub sift_skipped : (tokens old left : List Token) (closings : List Bool) (depth later : ℕ) (kept : List Token) (token : Token) → Sifted tokens old closings (suc depth) kept → old ≡ left ++ token ∷ [] → later ≡ depth_after token (suc depth) → Sifted tokens left closings later kept
 sift_skipped tokens old left closings depth later kept token so_far is step =
     let turned = turned_round old left token is in
-    let fewer = one_fewer (length_to_close (reverse left) (depth_behind token (suc depth))) so_far.skipped (rw turned at so_far.to_close) in
+    let fewer = one_fewer (length_to_close (reverse left) (depth_after token (suc depth))) so_far.skipped (rw turned at so_far.to_close) in
     record {
       closed = closings_front left (token ∷ []) closings (subst (λ ts. IsClosings ts closings) is so_far.closed);
       skipped = fewer.fewer;
@@ -143,7 +143,7 @@ front_of left group = front_turned left group.inside group.opening group.is
 front_is : (left : List Token) → take (length left - 1) left ++ drop (length left - 1) left ≡ left
 front_is left = take-append-drop (length left - 1) left
 
--- an attribute's word and the parenthesis behind it are left out
+-- an attribute's word and the parenthesis after it are left out
 pub sift_group : (tokens old left inner : List Token) (closings : List Bool) (kept : List Token) (token : Token) → Sifted tokens old closings 0 kept → old ≡ left ++ token ∷ [] → has_group token (reverse left) ≡ true → inner ≡ take (length left - 1) left → Sifted tokens inner closings 1 kept
 sift_group tokens old left inner closings kept token so_far is begins cut =
     let group = group_of_list left (reverse left) refl (and_parts (is_attribute token.kind) (begins_group (reverse left)) begins).1 in
@@ -160,7 +160,7 @@ sift_group tokens old left inner closings kept token so_far is begins cut =
     }
 
 -- the same by tests on the depth
-pub in_group : (tokens old left : List Token) (closings : List Bool) (depth later : ℕ) (kept : List Token) (token : Token) → 0 < depth → Sifted tokens old closings depth kept → old ≡ left ++ token ∷ [] → later ≡ depth_behind token depth → Sifted tokens left closings later kept
+pub in_group : (tokens old left : List Token) (closings : List Bool) (depth later : ℕ) (kept : List Token) (token : Token) → 0 < depth → Sifted tokens old closings depth kept → old ≡ left ++ token ∷ [] → later ≡ depth_after token depth → Sifted tokens left closings later kept
 in_group tokens old left closings zero later kept token inside so_far is step = absurd (omega arith)
 in_group tokens old left closings (suc depth) later kept token inside so_far is step = sift_skipped tokens old left closings depth later kept token so_far is step
 

@@ -30,11 +30,11 @@ use Rattle.cs_lexer.specs.Digits.{radix, run, value_of}
 use Rattle.cs_lexer.specs.Directives.{line_number, number_part, file_name, with_line, marker as marker_of, whole_length, line_of, skip_blanks, directive_at}
 use Rattle.cs_lexer.specs.Escapes.{item_at}
 use Rattle.cs_lexer.specs.Lexing.{tokens_of}
-use Rattle.cs_lexer.specs.Marks.{IsMarkToken, MarkGives}
+use Rattle.cs_lexer.specs.Punctuators.{IsPunctuatorToken, PunctuatorGives}
 use Rattle.cs_lexer.specs.Numbers.{base_of, prefix_length, suffix_of, goes_on, is_decimal, is_too_wide, constant, number_at}
 use Rattle.cs_lexer.specs.Pieces.{class_of, BeginsAs}
 use Rattle.cs_lexer.specs.Quoted.{closing, signed, character_with, character_of, character_in, IsTextToken, TextBodyGives, TextIn}
-use Rattle.cs_lexer.specs.Texts.{text_of_kind, behind_text, joined_to, joined}
+use Rattle.cs_lexer.specs.Texts.{text_of_kind, after_text, joined_to, joined}
 use Rattle.cs_lexer.specs.Words.{WordIs, WordGives}
 use Rattle.cs_ast.specs.HeldTokens.{IsHeldToken, IsHeld}
 use Rattle.cs_lexer.specs.Held.{LexedTokensAreHeld}
@@ -86,16 +86,16 @@ word-held word (found.Gap size) h = tt
 word-held word (found.Marker size next name) h = tt
 word-held word (found.Refused fault size) h = tt
 
-mark_is-held : (bytes : List ℕ) (size : ℕ) (kind : TokenKind) → IsMarkToken bytes size kind → IsHeldToken kind
-mark_is-held bytes size (token.Number constant) h = absurd h
-mark_is-held bytes size (token.Character value) h = absurd h
-mark_is-held bytes size other h = tt
+punctuator_is-held : (bytes : List ℕ) (size : ℕ) (kind : TokenKind) → IsPunctuatorToken bytes size kind → IsHeldToken kind
+punctuator_is-held bytes size (token.Number constant) h = absurd h
+punctuator_is-held bytes size (token.Character value) h = absurd h
+punctuator_is-held bytes size other h = tt
 
-mark-held : (bytes : List ℕ) (piece : Found) → MarkGives bytes piece → PieceIsHeld piece
-mark-held bytes (found.Token size kind) h = mark_is-held bytes size kind h
-mark-held bytes (found.Gap size) h = tt
-mark-held bytes (found.Marker size next name) h = tt
-mark-held bytes (found.Refused fault size) h = tt
+punctuator-held : (bytes : List ℕ) (piece : Found) → PunctuatorGives bytes piece → PieceIsHeld piece
+punctuator-held bytes (found.Token size kind) h = punctuator_is-held bytes size kind h
+punctuator-held bytes (found.Gap size) h = tt
+punctuator-held bytes (found.Marker size next name) h = tt
+punctuator-held bytes (found.Refused fault size) h = tt
 
 text_is-held : (body : List ℕ) (size : ℕ) (kind : TokenKind) → IsTextToken body size kind → IsHeldToken kind
 text_is-held body size (token.Number constant) h = absurd h
@@ -180,7 +180,7 @@ piece-held class.Word bytes piece h = word-held _ piece h
 piece-held class.Number bytes piece h = subst PieceIsHeld (sym h) (number-held bytes)
 piece-held class.Character bytes piece h = subst PieceIsHeld (sym h) (character-held (drop 1 bytes) (closing 39 false (drop 1 bytes)))
 piece-held class.Text bytes piece h = text-held (drop 1 bytes) (closing 34 false (drop 1 bytes)) piece h
-piece-held class.Mark bytes piece h = mark-held bytes piece h
+piece-held class.Punctuator bytes piece h = punctuator-held bytes piece h
 
 -- ---- tokens
 
@@ -197,12 +197,12 @@ kept-held (suc skipped) (t ∷ ts) h = kept-held skipped ts h.1
 kept-held zero (t ∷ ts) h = by_test (has_group t ts) (kept-held (group_length ts) ts h.1) (kept-held 0 ts h.1)
   where
     by_test : (b : Bool) → AllByRecursion IsHeld (without_attributes (group_length ts) ts) → AllByRecursion IsHeld (without_attributes 0 ts) → AllByRecursion IsHeld (cond b (without_attributes (group_length ts) ts) (t ∷ without_attributes 0 ts))
-    by_test true behind next = behind
-    by_test false behind next = (h.0, next)
+    by_test true following next = following
+    by_test false following next = (h.0, next)
 
-behind-held : (list : List Token) → AllByRecursion IsHeld list → AllByRecursion IsHeld (behind_text list)
-behind-held [] h = tt
-behind-held (t ∷ ts) h = by_test (is_some (text_of_kind t.kind))
+following-held : (list : List Token) → AllByRecursion IsHeld list → AllByRecursion IsHeld (after_text list)
+following-held [] h = tt
+following-held (t ∷ ts) h = by_test (is_some (text_of_kind t.kind))
   where
     by_test : (b : Bool) → AllByRecursion IsHeld (cond b ts (t ∷ ts))
     by_test true = h.1
@@ -210,7 +210,7 @@ behind-held (t ∷ ts) h = by_test (is_some (text_of_kind t.kind))
 
 joined_to-held : (bytes : Option (List ℕ)) (t : Token) (list : List Token) → IsHeld t → AllByRecursion IsHeld list → AllByRecursion IsHeld (joined_to bytes t list)
 joined_to-held None t list h k = (h, k)
-joined_to-held (Some bytes) t list h k = (tt, behind-held list k)
+joined_to-held (Some bytes) t list h k = (tt, following-held list k)
 
 joined-held : (list : List Token) → AllByRecursion IsHeld list → AllByRecursion IsHeld (joined list)
 joined-held [] h = tt

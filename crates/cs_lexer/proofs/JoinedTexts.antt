@@ -4,7 +4,7 @@ use Rattle.cs_ast.specs.declared.place.Place.{Place}
 use Rattle.cs_ast.specs.declared.token.Token.{Token}
 use Rattle.cs_ast.specs.declared.token.TokenKind.{TokenKind}
 use Rattle.cs_ast.specs.declared.token.TokenKind.TheVariants.{Text}
-use Rattle.cs_lexer.specs.Texts.{text_of_kind, first_text, behind_text, text_before, joined_to, joined, IsWholeText, IsWholeKind}
+use Rattle.cs_lexer.specs.Texts.{text_of_kind, first_text, after_text, text_before, joined_to, joined, IsWholeText, IsWholeKind}
 use Rattle.std.specs.Prelude.{is_some, unwrap_or}
 use Rattle.std.proofs.lemmas.List.{append-nil}
 use Rattle.cs_lexer.proofs.Turned.{front_turned}
@@ -19,7 +19,7 @@ pub record Gathered (first : List ℕ) (before : List Token) (bytes : List ℕ) 
 
 step_on : (bytes more : List ℕ) (place : Place) (token : Token) (tokens : List Token) → text_of_kind token.kind ≡ Some more → text_before bytes place (joined_to (text_of_kind token.kind) token tokens) ≡ text_before (bytes ++ more) place tokens
 step_on bytes more place token tokens is =
-    ap (λ o. text_before bytes place (joined_to o token tokens)) is ∙ ap (λ bs. text_at bs place ∷ behind_text tokens) (sym (append_assoc bytes more (unwrap_or (first_text tokens) [])))
+    ap (λ o. text_before bytes place (joined_to o token tokens)) is ∙ ap (λ bs. text_at bs place ∷ after_text tokens) (sym (append_assoc bytes more (unwrap_or (first_text tokens) [])))
 
 next_text : (bytes more : List ℕ) (place : Place) (left list : List Token) → reverse left ≡ list → first_text list ≡ Some more → text_before bytes place (joined (reverse left)) ≡ text_before (bytes ++ more) place (joined (reverse (take (length left - 1) left)))
 next_text bytes more place left [] is text = absurd cc

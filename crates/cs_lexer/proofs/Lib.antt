@@ -1,6 +1,6 @@
 pub mod Runs
 pub mod DigitRuns
-pub mod LongestMark
+pub mod LongestPunctuator
 pub mod Literals
 pub mod Stepping
 pub mod FilePlaces

@@ -9,8 +9,8 @@ use Rattle.cs_lexer.specs.declared.found.Fault.{Fault}
 use Rattle.cs_lexer.specs.declared.found.Found.{Found}
 use Rattle.cs_lexer.specs.declared.found.Found.TheVariants.{Gap, Marker, Token, Refused}
 use Rattle.cs_lexer.specs.Pieces.{Begins}
-use Rattle.cs_lexer.specs.Spots.{start, spot_behind}
-use Rattle.cs_lexer.specs.Cuttings.{Reaches, begins, gap, marker, token, token_at, begun, file_behind, files_behind, marked_spot, IsWhole, IsRefusedAt, EndsAs}
+use Rattle.cs_lexer.specs.Spots.{start, spot_after}
+use Rattle.cs_lexer.specs.Cuttings.{Reaches, begins, gap, marker, token, token_at, begun, file_after, files_after, marked_spot, IsWhole, IsRefusedAt, EndsAs}
 use Rattle.cs_lexer.proofs.OnePiece.{begins_once}
 use Rattle.cs_lexer.proofs.Onward.{Onward, stays, IsDetermined, IsStuck, one_further, one_end}
 
@@ -21,29 +21,29 @@ pub record Cut : Type 0 where
   pub spot : Spot
   pub rest : List ℕ
 
--- how far it is cut behind the piece that was found; nothing is cut behind a fault
-abbrev behind : Cut → Found → Option Cut
-behind c (Gap size) = Some (record { files = c.files; list = c.list; spot = spot_behind c.spot (take size c.rest); rest = drop size c.rest })
-behind c (Marker size next name) = Some (record {
-  files = files_behind c.files name;
+-- how far it is cut after the piece that was found; nothing is cut after a fault
+abbrev following : Cut → Found → Option Cut
+following c (Gap size) = Some (record { files = c.files; list = c.list; spot = spot_after c.spot (take size c.rest); rest = drop size c.rest })
+following c (Marker size next name) = Some (record {
+  files = files_after c.files name;
   list = c.list;
-  spot = marked_spot c.spot (file_behind c.files c.spot name) next (take size c.rest);
+  spot = marked_spot c.spot (file_after c.files c.spot name) next (take size c.rest);
   rest = drop size c.rest;
 })
-behind c (Token size kind) = Some (record { files = c.files; list = c.list ++ token_at kind c.spot.place ∷ []; spot = spot_behind c.spot (take size c.rest); rest = drop size c.rest })
-behind c (Refused fault size) = None
+following c (Token size kind) = Some (record { files = c.files; list = c.list ++ token_at kind c.spot.place ∷ []; spot = spot_after c.spot (take size c.rest); rest = drop size c.rest })
+following c (Refused fault size) = None
 
 -- one piece more is cut
 record CutsPiece (c d : Cut) : Type 0 where
   found : Found
   some : 0 < length c.rest
   is : Begins c.spot.is_line_start c.rest found
-  leads : behind c found ≡ Some d
+  leads : following c found ≡ Some d
 
 piece_once : IsDetermined CutsPiece
 piece_once c d e h i =
     let same = begins_once c.spot.is_line_start c.rest h.found i.found h.is i.is in
-    let one : Some d ≡ Some e = sym h.leads ∙ ap (behind c) same ∙ i.leads in
+    let one : Some d ≡ Some e = sym h.leads ∙ ap (following c) same ∙ i.leads in
     cc
 
 abbrev cut_of : List (List ℕ) → List tokens.Token → Spot → List ℕ → Cut
@@ -55,11 +55,11 @@ uncut text = cut_of (codes "<input>" ∷ []) [] start text
 reaches_onward : (text : List ℕ) (files : List (List ℕ)) (list : List tokens.Token) (spot : Spot) (rest : List ℕ) → Reaches text files list spot rest → Onward CutsPiece (uncut text) (cut_of files list spot rest)
 reaches_onward text _ _ _ _ begins = stays refl
 reaches_onward text _ _ _ _ (gap {files} {list} {spot} {rest} size reaches some is) =
-    one_further CutsPiece (uncut text) (cut_of files list spot rest) (cut_of files list (spot_behind spot (take size rest)) (drop size rest)) (reaches_onward text files list spot rest reaches) (record { found = Gap size; some = some; is = is; leads = refl })
+    one_further CutsPiece (uncut text) (cut_of files list spot rest) (cut_of files list (spot_after spot (take size rest)) (drop size rest)) (reaches_onward text files list spot rest reaches) (record { found = Gap size; some = some; is = is; leads = refl })
 reaches_onward text _ _ _ _ (marker {files} {list} {spot} {rest} size next name reaches some is) =
-    one_further CutsPiece (uncut text) (cut_of files list spot rest) (cut_of (files_behind files name) list (marked_spot spot (file_behind files spot name) next (take size rest)) (drop size rest)) (reaches_onward text files list spot rest reaches) (record { found = Marker size next name; some = some; is = is; leads = refl })
+    one_further CutsPiece (uncut text) (cut_of files list spot rest) (cut_of (files_after files name) list (marked_spot spot (file_after files spot name) next (take size rest)) (drop size rest)) (reaches_onward text files list spot rest reaches) (record { found = Marker size next name; some = some; is = is; leads = refl })
 reaches_onward text _ _ _ _ (token {files} {list} {spot} {rest} size kind reaches some is) =
-    one_further CutsPiece (uncut text) (cut_of files list spot rest) (cut_of files (list ++ token_at kind spot.place ∷ []) (spot_behind spot (take size rest)) (drop size rest)) (reaches_onward text files list spot rest reaches) (record { found = Token size kind; some = some; is = is; leads = refl })
+    one_further CutsPiece (uncut text) (cut_of files list spot rest) (cut_of files (list ++ token_at kind spot.place ∷ []) (spot_after spot (take size rest)) (drop size rest)) (reaches_onward text files list spot rest reaches) (record { found = Token size kind; some = some; is = is; leads = refl })
 
 at_end : (files : List (List ℕ)) (list : List tokens.Token) (spot : Spot) → IsStuck CutsPiece (cut_of files list spot [])
 at_end files list spot d step = absurd (omega (arith, step.some))
@@ -67,7 +67,7 @@ at_end files list spot d step = absurd (omega (arith, step.some))
 at_fault : (files : List (List ℕ)) (list : List tokens.Token) (spot : Spot) (rest : List ℕ) (fault : Fault) (size : ℕ) → Begins spot.is_line_start rest (Refused fault size) → IsStuck CutsPiece (cut_of files list spot rest)
 at_fault files list spot rest fault size is d step =
     let same = begins_once spot.is_line_start rest step.found (Refused fault size) step.is is in
-    let none : None ≡ Some d = sym (ap (behind (cut_of files list spot rest)) same) ∙ step.leads in
+    let none : None ≡ Some d = sym (ap (following (cut_of files list spot rest)) same) ∙ step.leads in
     absurd cc
 
 -- what is said of the end of a cutting
@@ -100,7 +100,7 @@ refused_once text files others list more place other f g h i =
     record {
       same_files = ap (λ (c : Cut). c.files) same;
       same_list = h.tokens_are ∙ ap (λ b. b ++ begun h.rest h.size h.spot.place) before ∙ ap (λ r. i.before ++ begun r h.size h.spot.place) rest ∙ ap (λ n. i.before ++ begun i.rest n h.spot.place) size ∙ ap (λ (s : Spot). i.before ++ begun i.rest i.size s.place) spot ∙ sym i.tokens_are;
-      same_place = h.place_is ∙ ap (λ (s : Spot). (spot_behind s (take h.size h.rest)).place) spot ∙ ap (λ n. (spot_behind i.spot (take n h.rest)).place) size ∙ ap (λ r. (spot_behind i.spot (take i.size r)).place) rest ∙ sym i.place_is;
+      same_place = h.place_is ∙ ap (λ (s : Spot). (spot_after s (take h.size h.rest)).place) spot ∙ ap (λ n. (spot_after i.spot (take n h.rest)).place) size ∙ ap (λ r. (spot_after i.spot (take i.size r)).place) rest ∙ sym i.place_is;
       same_end = ap ends.Refused fault;
     }
 

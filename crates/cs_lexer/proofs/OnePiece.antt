@@ -16,7 +16,7 @@ use Rattle.std.specs.List.{take_while}
 use Rattle.std.specs.Prelude.{false}
 use Rattle.cs_lexer.specs.Quoted.{closing, Reads, begins, item, BadItem, IsTextToken, TextBodyGives, TextIn}
 use Rattle.cs_lexer.specs.Pieces.{class_of, BeginsAs, Begins}
-use Rattle.cs_lexer.proofs.OneWord.{word_once, mark_once}
+use Rattle.cs_lexer.proofs.OneWord.{word_once, punctuator_once}
 use Rattle.cs_lexer.proofs.Onward.{Onward, stays, IsDetermined, IsStuck, one_further, one_end}
 
 same_end : (bytes : List ℕ) (m n : ℕ) → IsFirstEnd bytes m → IsFirstEnd bytes n → m ≡ n
@@ -117,7 +117,7 @@ class_once class.Word bytes f g h i = word_once (take_while is_name_byte bytes) 
 class_once class.Number bytes f g h i = h ∙ sym i
 class_once class.Character bytes f g h i = h ∙ sym i
 class_once class.Text bytes f g h i = text_once (drop 1 bytes) (closing 34 false (drop 1 bytes)) f g h i
-class_once class.Mark bytes f g h i = mark_once bytes f g h i
+class_once class.Punctuator bytes f g h i = punctuator_once bytes f g h i
 
 -- bytes begin with one piece, or with one fault
 pub begins_once : (is_line_start : Bool) (bytes : List ℕ) (f g : Found) → Begins is_line_start bytes f → Begins is_line_start bytes g → f ≡ g

@@ -29,11 +29,11 @@ use Rattle.cs_lexer.specs.Escapes.{simple, byte_of, coded, begins_hexadecimal, n
 use Rattle.cs_lexer.specs.Classes.{is_octal_digit}
 use Rattle.cs_ast.specs.TokenSizes.{token_size}
 use Rattle.cs_lexer.specs.Extent.{token_extent, LexedTokensAreShort}
-use Rattle.cs_lexer.specs.Marks.{IsMarkToken, MarkGives}
+use Rattle.cs_lexer.specs.Punctuators.{IsPunctuatorToken, PunctuatorGives}
 use Rattle.cs_lexer.specs.Numbers.{base_of, prefix_length, suffix_of, goes_on, is_decimal, is_too_wide, constant, number_at}
 use Rattle.cs_lexer.specs.Pieces.{class_of, BeginsAs}
 use Rattle.cs_lexer.specs.Quoted.{closing, signed, character_with, character_of, character_in, Reads, begins as reads_none, item, IsTextToken, TextBodyGives, TextIn}
-use Rattle.cs_lexer.specs.Texts.{first_text, text_of_kind, behind_text, joined_to, joined}
+use Rattle.cs_lexer.specs.Texts.{first_text, text_of_kind, after_text, joined_to, joined}
 use Rattle.cs_lexer.specs.Words.{WordIs, WordGives}
 use Rattle.cs_lexer.proofs.Advancing.{advances}
 
@@ -86,15 +86,15 @@ word-fits left word (found.Gap size) h = tt
 word-fits left word (found.Marker size next name) h = tt
 word-fits left word (found.Refused fault size) h = tt
 
-mark_is-fits : (left : ℕ) (bytes : List ℕ) (size : ℕ) (kind : TokenKind) → IsMarkToken bytes size kind → KindFits left size kind
-mark_is-fits left bytes size (token.Text values) h = absurd h
-mark_is-fits left bytes size other h = tt
+punctuator_is-fits : (left : ℕ) (bytes : List ℕ) (size : ℕ) (kind : TokenKind) → IsPunctuatorToken bytes size kind → KindFits left size kind
+punctuator_is-fits left bytes size (token.Text values) h = absurd h
+punctuator_is-fits left bytes size other h = tt
 
-mark-fits : (left : ℕ) (bytes : List ℕ) (piece : Found) → MarkGives bytes piece → PieceFits left piece
-mark-fits left bytes (found.Token size kind) h = mark_is-fits left bytes size kind h
-mark-fits left bytes (found.Gap size) h = tt
-mark-fits left bytes (found.Marker size next name) h = tt
-mark-fits left bytes (found.Refused fault size) h = tt
+punctuator-fits : (left : ℕ) (bytes : List ℕ) (piece : Found) → PunctuatorGives bytes piece → PieceFits left piece
+punctuator-fits left bytes (found.Token size kind) h = punctuator_is-fits left bytes size kind h
+punctuator-fits left bytes (found.Gap size) h = tt
+punctuator-fits left bytes (found.Marker size next name) h = tt
+punctuator-fits left bytes (found.Refused fault size) h = tt
 
 constant-fits : (left : ℕ) (base : Base) (value : Option ℕ) (suffix : Suffix) (size : ℕ) (bytes : List ℕ) → PieceFits left (constant base value suffix size bytes)
 constant-fits left base None suffix size bytes = tt
@@ -191,14 +191,14 @@ piece-fits class.Character bytes piece some h =
     subst (PieceFits (length bytes)) (sym h) (character-fits (length bytes) (drop 1 bytes) (closing 39 false (drop 1 bytes)))
 piece-fits class.Text bytes piece some h =
     text-fits (length bytes) (drop 1 bytes) (closing 34 false (drop 1 bytes)) piece (omega (arith, length-drop 1 bytes)) h
-piece-fits class.Mark bytes piece some h = mark-fits (length bytes) bytes piece h
+piece-fits class.Punctuator bytes piece some h = punctuator-fits (length bytes) bytes piece h
 
 -- ---- tokens
 
 abbrev extent : List Token → ℕ
 extent list = sum_by token_extent list
 
--- a token and what is left behind it are no more than what was left before it
+-- a token and what is left after it are no more than what was left before it
 one_less : (bytes : List ℕ) (size : ℕ) (kind : TokenKind) → 0 < length bytes → 0 < size → KindFits (length bytes) size kind → token_size kind + length (drop size bytes) ≤ length bytes
 one_less bytes size (token.Text values) some more h = omega (arith, h.0, h.1, length-drop size bytes)
 one_less bytes size other some more h = omega (arith, length-drop size bytes)
@@ -219,11 +219,11 @@ kept-short (suc skipped) (t ∷ ts) = omega (arith, kept-short skipped ts, sum_b
 kept-short zero (t ∷ ts) = by_test (has_group t ts) (kept-short (group_length ts) ts) (kept-short 0 ts)
   where
     by_test : (b : Bool) → extent (without_attributes (group_length ts) ts) ≤ extent ts → extent (without_attributes 0 ts) ≤ extent ts → extent (cond b (without_attributes (group_length ts) ts) (t ∷ without_attributes 0 ts)) ≤ extent (t ∷ ts)
-    by_test true behind next = omega (arith, behind, sum_by-cons token_extent t ts)
-    by_test false behind next = omega (arith, next, sum_by-cons token_extent t ts, sum_by-cons token_extent t (without_attributes 0 ts))
+    by_test true following next = omega (arith, following, sum_by-cons token_extent t ts)
+    by_test false following next = omega (arith, next, sum_by-cons token_extent t ts, sum_by-cons token_extent t (without_attributes 0 ts))
 
--- the bytes of a text at the front, and what stands behind it, are no more than all
-front-short : (list : List Token) → length (unwrap_or (first_text list) []) + extent (behind_text list) ≤ extent list
+-- the bytes of a text at the front, and what stands after it, are no more than all
+front-short : (list : List Token) → length (unwrap_or (first_text list) []) + extent (after_text list) ≤ extent list
 front-short [] = omega arith
 front-short (t ∷ ts) = by_kind t.kind t.place
   where
@@ -235,7 +235,7 @@ joined_to-short : (kind : TokenKind) (place : Place) (list : List Token) → ext
 joined_to-short (token.Text bytes) place list =
     let more = unwrap_or (first_text list) [] in
     let made = token_at (token.Text (bytes ++ more)) place in
-    omega (arith, sum_by-cons token_extent made (behind_text list), length-append bytes more, front-short list)
+    omega (arith, sum_by-cons token_extent made (after_text list), length-append bytes more, front-short list)
 joined_to-short other place list = omega (arith, sum_by-cons token_extent (token_at other place) list)
 
 joined-short : (list : List Token) → extent (joined list) ≤ extent list

@@ -1,9 +1,9 @@
--- How far a spot is moved over bytes: for `spot_behind`.
+-- How far a spot is moved over bytes: for `spot_after`.
 use Rattle.std.proofs.Common.{◌≡◌, ℕ, List, drop}
 use Rattle.cs_lexer.specs.declared.spot.Spot.{Spot}
-use Rattle.cs_lexer.specs.Spots.{spot_behind, IsWithin}
+use Rattle.cs_lexer.specs.Spots.{spot_after, IsWithin}
 
 -- the first bytes, as many as this, lead to this spot
 pub record Stepped (spot : Spot) (bytes : List ℕ) (index : ℕ) (at : Spot) : Type 0 where
-  pub same : spot_behind spot bytes ≡ spot_behind at (drop index bytes)
+  pub same : spot_after spot bytes ≡ spot_after at (drop index bytes)
   pub within : IsWithin spot index at

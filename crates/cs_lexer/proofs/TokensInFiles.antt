@@ -7,8 +7,8 @@ use Rattle.cs_ast.specs.declared.token.Token.{Token}
 use Rattle.cs_lexer.specs.declared.found.Found.TheVariants as found
 use Rattle.cs_lexer.specs.declared.spot.Spot.{Spot}
 use Rattle.cs_lexer.specs.Attributes.{has_group, group_length, without_attributes}
-use Rattle.cs_lexer.specs.Cuttings.{Reaches, begins, gap, marker, token, token_at, files_behind}
-use Rattle.cs_lexer.specs.Texts.{text_of_kind, behind_text, joined_to, joined}
+use Rattle.cs_lexer.specs.Cuttings.{Reaches, begins, gap, marker, token, token_at, files_after}
+use Rattle.cs_lexer.specs.Texts.{text_of_kind, after_text, joined_to, joined}
 use Rattle.cs_lexer.specs.Lexing.{tokens_of}
 use Rattle.cs_lexer.specs.Extent.{LexedTokensHaveFiles, LexedFilesAreFew}
 use Rattle.cs_lexer.proofs.Advancing.{LineFits, advances}
@@ -30,10 +30,10 @@ pieces-in : (text : List ℕ) (files : List (List ℕ)) (list : List Token) (spo
 pieces-in text files list spot rest begins = All-nil (IsIn (length files))
 pieces-in text files list spot rest (gap {files = fs} {spot = at} {rest = left} size before some piece) = pieces-in text fs list at left before
 pieces-in text files list spot rest (marker {files = fs} {spot = at} {rest = left} size next name before some piece) =
-    All-from_recursion (IsIn (length (files_behind fs name))) list
-    (still-in (length fs) (length (files_behind fs name)) list (files_kept fs name) (recursion_from_All (IsIn (length fs)) list (pieces-in text fs list at left before)))
+    All-from_recursion (IsIn (length (files_after fs name))) list
+    (still-in (length fs) (length (files_after fs name)) list (files_kept fs name) (recursion_from_All (IsIn (length fs)) list (pieces-in text fs list at left before)))
   where
-    files_kept : (fs : List (List ℕ)) (name : Option (List ℕ)) → length fs ≤ length (files_behind fs name)
+    files_kept : (fs : List (List ℕ)) (name : Option (List ℕ)) → length fs ≤ length (files_after fs name)
     files_kept fs None = omega arith
     files_kept fs (Some name) = no_fewer fs name
 pieces-in text files list spot rest (token {files = fs} {list = earlier} {spot = at} {rest = left} size kind before some piece) =
@@ -58,12 +58,12 @@ kept-in count (suc skipped) (t ∷ ts) h = kept-in count skipped ts h.1
 kept-in count zero (t ∷ ts) h = by_test (has_group t ts) (kept-in count (group_length ts) ts h.1) (kept-in count 0 ts h.1)
   where
     by_test : (b : Bool) → AllByRecursion (IsIn count) (without_attributes (group_length ts) ts) → AllByRecursion (IsIn count) (without_attributes 0 ts) → AllByRecursion (IsIn count) (cond b (without_attributes (group_length ts) ts) (t ∷ without_attributes 0 ts))
-    by_test true behind next = behind
-    by_test false behind next = (h.0, next)
+    by_test true following next = following
+    by_test false following next = (h.0, next)
 
-behind-in : (count : ℕ) (list : List Token) → AllByRecursion (IsIn count) list → AllByRecursion (IsIn count) (behind_text list)
-behind-in count [] h = tt
-behind-in count (t ∷ ts) h = by_test (is_some (text_of_kind t.kind))
+following-in : (count : ℕ) (list : List Token) → AllByRecursion (IsIn count) list → AllByRecursion (IsIn count) (after_text list)
+following-in count [] h = tt
+following-in count (t ∷ ts) h = by_test (is_some (text_of_kind t.kind))
   where
     by_test : (b : Bool) → AllByRecursion (IsIn count) (cond b ts (t ∷ ts))
     by_test true = h.1
@@ -71,7 +71,7 @@ behind-in count (t ∷ ts) h = by_test (is_some (text_of_kind t.kind))
 
 joined_to-in : (count : ℕ) (bytes : Option (List ℕ)) (t : Token) (list : List Token) → IsIn count t → AllByRecursion (IsIn count) list → AllByRecursion (IsIn count) (joined_to bytes t list)
 joined_to-in count None t list h k = (h, k)
-joined_to-in count (Some bytes) t list h k = (h, behind-in count list k)
+joined_to-in count (Some bytes) t list h k = (h, following-in count list k)
 
 joined-in : (count : ℕ) (list : List Token) → AllByRecursion (IsIn count) list → AllByRecursion (IsIn count) (joined list)
 joined-in count [] h = tt

@@ -1,8 +1,8 @@
--- Tokens without the attributes among them: the word of an attribute and the parenthesis behind it.
+-- Tokens without the attributes among them: the word of an attribute and the parenthesis after it.
 use Rattle.std.specs.Prelude.{◌≡◌, ℕ, zero, suc, pred, ◌≤◌, Bool, true, false, ◌&&◌, List, [], ◌∷◌, length, reverse, take, Option, Some, None, is_some, option_map, unwrap_or, slice_index_or, if◌then◌else◌}
 use Rattle.cs_ast.specs.declared.token.Token.{Token}
-use Rattle.cs_ast.specs.declared.token.Mark.{Mark}
-use Rattle.cs_ast.specs.declared.token.Mark.TheVariants as marks
+use Rattle.cs_ast.specs.declared.token.Punctuator.{Punctuator}
+use Rattle.cs_ast.specs.declared.token.Punctuator.TheVariants as punctuators
 use Rattle.cs_ast.specs.declared.token.TokenKind.{TokenKind}
 use Rattle.cs_ast.specs.declared.token.TokenKind.TheVariants as kinds
 
@@ -10,31 +10,31 @@ abbrev pub is_attribute : TokenKind → Bool
 is_attribute kinds.Attribute = true
 is_attribute _ = false
 
-abbrev pub is_opening : Mark → Bool
-is_opening marks.OpenParenthesis = true
+abbrev pub is_opening : Punctuator → Bool
+is_opening punctuators.OpenParenthesis = true
 is_opening _ = false
 
-abbrev pub is_closing : Mark → Bool
-is_closing marks.CloseParenthesis = true
+abbrev pub is_closing : Punctuator → Bool
+is_closing punctuators.CloseParenthesis = true
 is_closing _ = false
 
 abbrev pub opens : TokenKind → Bool
-opens (kinds.Mark mark) = is_opening mark
+opens (kinds.Punctuator punctuator) = is_opening punctuator
 opens _ = false
 
 abbrev pub closes : TokenKind → Bool
-closes (kinds.Mark mark) = is_closing mark
+closes (kinds.Punctuator punctuator) = is_closing punctuator
 closes _ = false
 
--- how many parentheses are open behind a token, of so many before it
-abbrev pub depth_behind : Token → ℕ → ℕ
-depth_behind token depth = if opens token.kind then suc depth else (if closes token.kind then pred depth else depth)
+-- how many parentheses are open after a token, of so many before it
+abbrev pub depth_after : Token → ℕ → ℕ
+depth_after token depth = if opens token.kind then suc depth else (if closes token.kind then pred depth else depth)
 
 -- how many tokens it takes to close so many open parentheses, if they are closed at all
 abbrev pub length_to_close : List Token → ℕ → Option ℕ
 length_to_close tokens zero = Some 0
 length_to_close [] (suc depth) = None
-length_to_close (token ∷ tokens) (suc depth) = option_map suc (length_to_close tokens (depth_behind token (suc depth)))
+length_to_close (token ∷ tokens) (suc depth) = option_map suc (length_to_close tokens (depth_after token (suc depth)))
 
 -- whether a parenthesis opens with the first token and is closed
 abbrev pub begins_group : List Token → Bool
@@ -46,18 +46,18 @@ abbrev pub group_length : List Token → ℕ
 group_length [] = 0
 group_length (token ∷ tokens) = suc (unwrap_or (length_to_close tokens 1) 0)
 
--- whether a token is an attribute's word with a closed parenthesis directly behind it
+-- whether a token is an attribute's word with a closed parenthesis directly after it
 abbrev pub has_group : Token → List Token → Bool
 has_group token tokens = is_attribute token.kind && begins_group tokens
 
--- the tokens behind the first ones, without the attributes among them
+-- the tokens after the first ones, without the attributes among them
 abbrev pub without_attributes : ℕ → List Token → List Token
 without_attributes skipped [] = []
 without_attributes (suc skipped) (token ∷ tokens) = without_attributes skipped tokens
 without_attributes zero (token ∷ tokens) =
     if has_group token tokens then without_attributes (group_length tokens) tokens else token ∷ without_attributes 0 tokens
 
--- how many parentheses a token and those behind it close that open before them
+-- how many parentheses a token and those after it close that open before them
 abbrev pub surplus_before : Token → ℕ → ℕ
 surplus_before token surplus = if opens token.kind then pred surplus else (if closes token.kind then suc surplus else surplus)
 

@@ -8,7 +8,7 @@ use Rattle.cs_lexer.specs.declared.found.Found.TheVariants.{Gap, Refused}
 abbrev pub is_inside : ℕ → Bool
 is_inside b = not (b == 10)
 
--- a `*` and a `/` behind it stand here
+-- a `*` and a `/` after it stand here
 pub record IsEnd (bytes : List ℕ) (k : ℕ) : Type 0 where
   pub within : k + 1 < length bytes
   pub star : slice_index bytes k ≡ 42
@@ -19,7 +19,7 @@ pub record IsFirstEnd (bytes : List ℕ) (count : ℕ) : Type 0 where
   pub here : IsEnd bytes count
   pub first : (k : ℕ) → k < count → IsEnd bytes k → ⊥
 
--- a comment goes on to the first `*/` behind its `/*`, and is refused at its first byte where there is none
+-- a comment goes on to the first `*/` after its `/*`, and is refused at its first byte where there is none
 abbrev pub CommentGives : List ℕ → Found → Type 0
 CommentGives inside (Gap size) = (count : ℕ) × (size ≡ count + 4) × IsFirstEnd inside count
 CommentGives inside (Refused fault size) = (fault ≡ Unclosed) × (size ≡ 0) × ((k : ℕ) → IsEnd inside k → ⊥)

@@ -13,35 +13,35 @@ use Rattle.cs_lexer.specs.declared.cut.Cutting.{Cutting}
 use Rattle.cs_lexer.specs.Classes.{begins_with}
 use Rattle.cs_lexer.specs.Files.{file_number, with_file}
 use Rattle.cs_lexer.specs.Pieces.{Begins}
-use Rattle.cs_lexer.specs.Spots.{start, line_of, spot_behind}
+use Rattle.cs_lexer.specs.Spots.{start, line_of, spot_after}
 
 -- a token at a place
 abbrev pub token_at : TokenKind → Place → tokens.Token
 token_at kind place = record { kind = kind; place = place }
 
--- the files behind a linemarker
-abbrev pub files_behind : List (List ℕ) → Option (List ℕ) → List (List ℕ)
-files_behind files None = files
-files_behind files (Some name) = with_file files name
+-- the files after a linemarker
+abbrev pub files_after : List (List ℕ) → Option (List ℕ) → List (List ℕ)
+files_after files None = files
+files_after files (Some name) = with_file files name
 
--- the file behind a linemarker: the one that it names, or the same
-abbrev pub file_behind : List (List ℕ) → Spot → Option (List ℕ) → ℕ
-file_behind files spot None = spot.place.file
-file_behind files spot (Some name) = file_number files name
+-- the file after a linemarker: the one that it names, or the same
+abbrev pub file_after : List (List ℕ) → Spot → Option (List ℕ) → ℕ
+file_after files spot None = spot.place.file
+file_after files spot (Some name) = file_number files name
 
--- where the byte behind a linemarker stands: at the beginning of the line that it gives in its file
+-- where the byte after a linemarker stands: at the beginning of the line that it gives in its file
 abbrev pub marked_spot : Spot → ℕ → Option ℕ → List ℕ → Spot
-marked_spot spot file None bytes = spot_behind spot bytes
+marked_spot spot file None bytes = spot_after spot bytes
 marked_spot spot file (Some line) bytes = line_of file line
 
 -- the text is cut into pieces as far as this rest, which stands at the spot; the pieces name these files and have these tokens
 pub data Reaches (text : List ℕ) : List (List ℕ) → List tokens.Token → Spot → List ℕ → Type 0 where
   begins : Reaches text (codes "<input>" ∷ []) [] start text
-  gap : {files : List (List ℕ)} {list : List tokens.Token} {spot : Spot} {rest : List ℕ} (size : ℕ) → Reaches text files list spot rest → 0 < length rest → Begins spot.is_line_start rest (found.Gap size) → Reaches text files list (spot_behind spot (take size rest)) (drop size rest)
-  marker : {files : List (List ℕ)} {list : List tokens.Token} {spot : Spot} {rest : List ℕ} (size : ℕ) (next : Option ℕ) (name : Option (List ℕ)) → Reaches text files list spot rest → 0 < length rest → Begins spot.is_line_start rest (found.Marker size next name) → Reaches text (files_behind files name) list (marked_spot spot (file_behind files spot name) next (take size rest)) (drop size rest)
-  token : {files : List (List ℕ)} {list : List tokens.Token} {spot : Spot} {rest : List ℕ} (size : ℕ) (kind : TokenKind) → Reaches text files list spot rest → 0 < length rest → Begins spot.is_line_start rest (found.Token size kind) → Reaches text files (list ++ token_at kind spot.place ∷ []) (spot_behind spot (take size rest)) (drop size rest)
+  gap : {files : List (List ℕ)} {list : List tokens.Token} {spot : Spot} {rest : List ℕ} (size : ℕ) → Reaches text files list spot rest → 0 < length rest → Begins spot.is_line_start rest (found.Gap size) → Reaches text files list (spot_after spot (take size rest)) (drop size rest)
+  marker : {files : List (List ℕ)} {list : List tokens.Token} {spot : Spot} {rest : List ℕ} (size : ℕ) (next : Option ℕ) (name : Option (List ℕ)) → Reaches text files list spot rest → 0 < length rest → Begins spot.is_line_start rest (found.Marker size next name) → Reaches text (files_after files name) list (marked_spot spot (file_after files spot name) next (take size rest)) (drop size rest)
+  token : {files : List (List ℕ)} {list : List tokens.Token} {spot : Spot} {rest : List ℕ} (size : ℕ) (kind : TokenKind) → Reaches text files list spot rest → 0 < length rest → Begins spot.is_line_start rest (found.Token size kind) → Reaches text files (list ++ token_at kind spot.place ∷ []) (spot_after spot (take size rest)) (drop size rest)
 
--- a refusal behind the first byte of a piece stands in a token that has begun; of that token it matters only whether it is a text
+-- a refusal after the first byte of a piece stands in a token that has begun; of that token it matters only whether it is a text
 abbrev pub begun_kind : List ℕ → TokenKind
 begun_kind rest = if begins_with 34 rest then Text [] else Character (pos 0)
 
@@ -65,7 +65,7 @@ pub record IsRefusedAt (text : List ℕ) (files : List (List ℕ)) (list : List 
   pub some : 0 < length rest
   pub begins : Begins spot.is_line_start rest (found.Refused fault size)
   pub tokens_are : list ≡ before ++ begun rest size spot.place
-  pub place_is : place ≡ (spot_behind spot (take size rest)).place
+  pub place_is : place ≡ (spot_after spot (take size rest)).place
 
 abbrev pub EndsAs : List ℕ → List (List ℕ) → List tokens.Token → Place → End → Type 0
 EndsAs text files list place Whole = IsWhole text files list place

@@ -16,7 +16,7 @@ use Rattle.cs_lexer.specs.Quoted.{closing}
 abbrev pub blank_count : List ℕ → ℕ
 blank_count bytes = length (take_while is_blank bytes)
 
--- the bytes behind the blanks at the front
+-- the bytes after the blanks at the front
 abbrev pub skip_blanks : List ℕ → List ℕ
 skip_blanks bytes = drop (blank_count bytes) bytes
 
@@ -37,7 +37,7 @@ bounded (Some value) = if nat_le value 2147483647 then Some value else None
 abbrev pub line_number : List ℕ → Option ℕ
 line_number bytes = if length (run Decimal bytes) == 0 then None else bounded (value_of Decimal (run Decimal bytes))
 
--- a backslash and the byte behind it stand for that byte; the one before the first may be such a backslash
+-- a backslash and the byte after it stand for that byte; the one before the first may be such a backslash
 abbrev pub unescaped : Bool → List ℕ → List ℕ
 unescaped escaped [] = []
 unescaped escaped (b ∷ bytes) = if (b == 92) && not escaped then unescaped true bytes else b ∷ unescaped false bytes
@@ -54,11 +54,11 @@ name_in bytes (Some count) = name_of (take count bytes)
 abbrev pub quoted_name : List ℕ → FileName
 quoted_name bytes = if begins_with 34 bytes then name_in (drop 1 bytes) (closing 34 false (drop 1 bytes)) else Bad
 
--- behind the number stand blanks alone, or blanks, a name and flags
+-- after the number stand blanks alone, or blanks, a name and flags
 abbrev pub file_name : List ℕ → FileName
 file_name bytes = if list_all is_blank bytes then Absent else (if begins_blank bytes then quoted_name (skip_blanks bytes) else Bad)
 
--- the line behind a marker is there where the marker's own line ends
+-- the line after a marker is there where the marker's own line ends
 abbrev pub next_line : ℕ → Bool → Option ℕ
 next_line line is_ended = if is_ended then Some line else None
 
@@ -71,7 +71,7 @@ abbrev pub with_line : Option ℕ → FileName → ℕ → Bool → Found
 with_line None file size is_ended = Refused BadLine 0
 with_line (Some line) file size is_ended = with_name file (next_line line is_ended) size
 
--- the linemarker with these bytes behind its `#` and blanks
+-- the linemarker with these bytes after its `#` and blanks
 abbrev pub marker : List ℕ → ℕ → Bool → Found
 marker body size is_ended = with_line (line_number (number_part body)) (file_name (drop (length (run Decimal (number_part body))) (number_part body))) size is_ended
 

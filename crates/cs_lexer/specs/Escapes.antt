@@ -34,7 +34,7 @@ numeric b bytes =
     if is_octal_digit b then coded Octal (take 3 (b ∷ bytes)) 1
     else (if (b == 120) && begins_hexadecimal bytes then coded Hexadecimal bytes 2 else Refused BadByte)
 
--- the escape with this byte behind its backslash
+-- the escape with this byte after its backslash
 abbrev pub simple_or : Option ℕ → Item → Item
 simple_or (Some byte) other = Byte byte 2
 simple_or None other = other

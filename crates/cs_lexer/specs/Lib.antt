@@ -2,7 +2,7 @@ pub mod Classes
 pub mod Spellings
 pub mod Digits
 pub mod Numbers
-pub mod Marks
+pub mod Punctuators
 pub mod Words
 pub mod Escapes
 pub mod Quoted

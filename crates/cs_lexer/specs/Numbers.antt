@@ -55,7 +55,7 @@ longs_first length unsigned = record { unsigned = unsigned; length = length; byt
 abbrev pub suffix_of : List ℕ → Suffix
 suffix_of bytes = if begins_unsigned bytes then unsigned_first (longs (drop 1 bytes)) else longs_first (longs bytes) (begins_unsigned (drop (width (longs bytes)) bytes))
 
--- what may not stand directly behind a number: a letter, a digit, `_` or `.`
+-- what may not stand directly after a number: a letter, a digit, `_` or `.`
 abbrev pub goes_on : List ℕ → Bool
 goes_on [] = false
 goes_on (b ∷ bytes) = is_name_byte b || (b == 46)

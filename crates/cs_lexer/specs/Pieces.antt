@@ -2,24 +2,24 @@
 use Rattle.std.specs.Prelude.{◌≡◌, ℕ, Bool, ◌&&◌, ◌==◌, List, [], ◌∷◌, length, drop, if◌then◌else◌}
 use Rattle.std.specs.List.{take_while}
 use Rattle.cs_lexer.specs.declared.piece.Class.{Class}
-use Rattle.cs_lexer.specs.declared.piece.Class.TheVariants.{Directive, Space, BlockComment, LineComment, Word, Number, Character, Text, Mark}
+use Rattle.cs_lexer.specs.declared.piece.Class.TheVariants.{Directive, Space, BlockComment, LineComment, Word, Number, Character, Text, Punctuator}
 use Rattle.cs_lexer.specs.declared.found.Found.{Found}
 use Rattle.cs_lexer.specs.declared.found.Found.TheVariants.{Gap}
 use Rattle.cs_lexer.specs.Classes.{is_space, is_letter, is_digit, is_name_byte, begins_with}
 use Rattle.cs_lexer.specs.Comments.{is_inside, CommentGives}
 use Rattle.cs_lexer.specs.Directives.{directive_at}
-use Rattle.cs_lexer.specs.Marks.{MarkGives}
+use Rattle.cs_lexer.specs.Punctuators.{PunctuatorGives}
 use Rattle.cs_lexer.specs.Numbers.{number_at}
 use Rattle.cs_lexer.specs.Quoted.{character_at, TextGives}
 use Rattle.cs_lexer.specs.Words.{WordGives}
 
--- digits and quotes, and else a mark
+-- digits and quotes, and else a punctuator
 abbrev pub other_class : ℕ → Class
-other_class b = if is_digit b then Number else (if b == 39 then Character else (if b == 34 then Text else Mark))
+other_class b = if is_digit b then Number else (if b == 39 then Character else (if b == 34 then Text else Punctuator))
 
 -- the class of the piece that bytes begin with, on whose line blanks alone may stand before it
 abbrev pub class_of : Bool → List ℕ → Class
-class_of is_line_start [] = Mark
+class_of is_line_start [] = Punctuator
 class_of is_line_start (b ∷ bytes) =
     if is_line_start && (b == 35) then Directive
     else (if is_space b then Space
@@ -37,7 +37,7 @@ BeginsAs Word bytes found = WordGives (take_while is_name_byte bytes) found
 BeginsAs Number bytes found = found ≡ number_at bytes
 BeginsAs Character bytes found = found ≡ character_at bytes
 BeginsAs Text bytes found = TextGives bytes found
-BeginsAs Mark bytes found = MarkGives bytes found
+BeginsAs Punctuator bytes found = PunctuatorGives bytes found
 
 -- the piece that bytes begin with
 abbrev pub Begins : Bool → List ℕ → Found → Type 0

@@ -10,21 +10,21 @@ line_of file line = record { place = record { file = file; line = line; column =
 abbrev pub start : Spot
 start = line_of 0 1
 
--- one column on in the line, which is still at its start behind spaces and tabs
+-- one column on in the line, which is still at its start after spaces and tabs
 abbrev pub column_on : Spot → ℕ → Spot
 column_on spot b = record {
   place = record { file = spot.place.file; line = spot.place.line; column = spot.place.column + 1 };
   is_line_start = spot.is_line_start && ((b == 32) || (b == 9));
 }
 
--- where the byte behind this one stands
+-- where the byte after this one stands
 abbrev pub step : Spot → ℕ → Spot
 step spot b = if b == 10 then line_of spot.place.file (spot.place.line + 1) else column_on spot b
 
--- where the byte behind these ones stands
-abbrev pub spot_behind : Spot → List ℕ → Spot
-spot_behind spot [] = spot
-spot_behind spot (b ∷ bytes) = spot_behind (step spot b) bytes
+-- where the byte after these ones stands
+abbrev pub spot_after : Spot → List ℕ → Spot
+spot_after spot [] = spot
+spot_after spot (b ∷ bytes) = spot_after (step spot b) bytes
 
 -- so many bytes lead at most so many lines and columns on
 pub record IsWithin (spot : Spot) (count : ℕ) (later : Spot) : Type 0 where

@@ -15,24 +15,24 @@ abbrev pub first_text : List Token → Option (List ℕ)
 first_text [] = None
 first_text (token ∷ tokens) = text_of_kind token.kind
 
-abbrev pub behind_text : List Token → List Token
-behind_text [] = []
-behind_text (token ∷ tokens) = if is_some (text_of_kind token.kind) then tokens else token ∷ tokens
+abbrev pub after_text : List Token → List Token
+after_text [] = []
+after_text (token ∷ tokens) = if is_some (text_of_kind token.kind) then tokens else token ∷ tokens
 
 -- a text with the bytes of these, and of the text that the tokens begin with, if they do
 abbrev pub text_before : List ℕ → Place → List Token → List Token
-text_before bytes place tokens = (record { kind = Text (bytes ++ unwrap_or (first_text tokens) []); place = place }) ∷ behind_text tokens
+text_before bytes place tokens = (record { kind = Text (bytes ++ unwrap_or (first_text tokens) []); place = place }) ∷ after_text tokens
 
 abbrev pub joined_to : Option (List ℕ) → Token → List Token → List Token
 joined_to None token tokens = token ∷ tokens
 joined_to (Some bytes) token tokens = text_before bytes token.place tokens
 
--- each text that stands directly behind a text goes on with it
+-- each text that stands directly after a text goes on with it
 abbrev pub joined : List Token → List Token
 joined [] = []
 joined (token ∷ tokens) = joined_to (text_of_kind token.kind) token (joined tokens)
 
--- a text before tokens is one with those of them that go on with it, behind which the others stand
+-- a text before tokens is one with those of them that go on with it, after which the others stand
 abbrev pub IsWholeText : List ℕ → List Token → List ℕ → List Token → Type 0
 IsWholeText first tokens bytes others = (place : Place) → text_before first place (joined tokens) ≡ (record { kind = Text bytes; place = place }) ∷ joined others
 

@@ -3,12 +3,12 @@ use Rattle.std.specs.Prelude.{◌≡◌, ◌≢◌, ℕ, Bool, false, List, [], 
 use Rattle.std.specs.List.{list_any}
 use Rattle.std.specs.Cmp.Lexicographic.{pointwise}
 use Rattle.cs_ast.specs.declared.token.Keyword as keywords
-use Rattle.cs_ast.specs.declared.token.LeftOut as left_outs
+use Rattle.cs_ast.specs.declared.token.Unsupported as left_outs
 use Rattle.cs_ast.specs.declared.token.TokenKind.{TokenKind}
-use Rattle.cs_ast.specs.declared.token.TokenKind.TheVariants.{Keyword, LeftOut, Attribute, Name}
+use Rattle.cs_ast.specs.declared.token.TokenKind.TheVariants.{Keyword, Unsupported, Attribute, Name}
 use Rattle.cs_lexer.specs.declared.found.Found.{Found}
 use Rattle.cs_lexer.specs.declared.found.Found.TheVariants.{Gap, Token}
-use Rattle.cs_lexer.specs.Spellings.{keyword_text, left_out_text}
+use Rattle.cs_lexer.specs.Spellings.{keyword_text, unsupported_text}
 
 -- the words that are dropped wherever they stand
 unfoldable pub dropped_words : List (List ℕ)
@@ -30,14 +30,14 @@ is_attribute word = list_any (pointwise nat_eq word) attribute_words
 -- no keyword, no left-out word, not dropped, and no attribute
 pub record IsPlain (word : List ℕ) : Type 0 where
   pub no_keyword : (k : keywords.Keyword) → keyword_text k ≢ word
-  pub no_left_out : (l : left_outs.LeftOut) → left_out_text l ≢ word
+  pub no_unsupported : (l : left_outs.Unsupported) → unsupported_text l ≢ word
   pub kept : is_dropped word ≡ false
   pub no_attribute : is_attribute word ≡ false
 
 -- the token that a word is: a plain one is a name
 abbrev pub WordIs : List ℕ → TokenKind → Type 0
 WordIs word (Keyword k) = keyword_text k ≡ word
-WordIs word (LeftOut l) = left_out_text l ≡ word
+WordIs word (Unsupported l) = unsupported_text l ≡ word
 WordIs word Attribute = IsTrue (is_attribute word)
 WordIs word (Name name) = (name ≡ word) × IsPlain word
 WordIs word _ = ⊥

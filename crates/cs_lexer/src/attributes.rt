@@ -4,7 +4,7 @@ ghost use Rattle.cs_lexer.specs.Attributes as spec;
 ghost use Rattle.cs_lexer.specs.Attributes.{IsClosings};
 
 use crate::tail::drop_last;
-use cs_ast::{Mark, Token, TokenKind};
+use cs_ast::{Punctuator, Token, TokenKind};
 use std::alloc::{AllocError, Global};
 
 // Whether a token is a word that begins an attribute.
@@ -18,20 +18,26 @@ fn is_attribute(token: &Token) -> bool
 fn opens(token: &Token) -> bool
     ensures { result ≡ spec.opens token.now.kind }
 {
-    matches!(token.kind, TokenKind::Mark(Mark::OpenParenthesis))
+    matches!(
+        token.kind,
+        TokenKind::Punctuator(Punctuator::OpenParenthesis)
+    )
 }
 
 // Whether a token is `)`.
 fn closes(token: &Token) -> bool
     ensures { result ≡ spec.closes token.now.kind }
 {
-    matches!(token.kind, TokenKind::Mark(Mark::CloseParenthesis))
+    matches!(
+        token.kind,
+        TokenKind::Punctuator(Punctuator::CloseParenthesis)
+    )
 }
 
-// How many parentheses are open behind a token, of so many before it.
-fn depth_behind(token: &Token, depth: usize) -> usize
+// How many parentheses are open after a token, of so many before it.
+fn depth_after(token: &Token, depth: usize) -> usize
     requires { depth + 1 < 2 ^ 64 }
-    ensures { result ≡ spec.depth_behind token.now depth }
+    ensures { result ≡ spec.depth_after token.now depth }
 {
     if opens(token) {
         depth + 1
@@ -42,7 +48,7 @@ fn depth_behind(token: &Token, depth: usize) -> usize
     }
 }
 
-// How many parentheses tokens close that open before them, by the number that those behind the first do.
+// How many parentheses tokens close that open before them, by the number that those after the first do.
 fn surplus_before(token: &Token, surplus: usize) -> usize
     requires { surplus + 1 < 2 ^ 64 }
     ensures { result ≡ spec.surplus_before token.now surplus }
@@ -71,7 +77,7 @@ fn closings(alloc: Global, reversed: &[Token]) -> Result<Vec<bool>, AllocError>
     Ok(made)
 }
 
-// Whether an attribute with its parenthesis begins with a token and those behind it, which are given from the last one on.
+// Whether an attribute with its parenthesis begins with a token and those after it, which are given from the last one on.
 fn has_group(token: &Token, reversed: &[Token], closings: &[bool]) -> bool
     requires { IsClosings reversed.now closings.now }
     ensures { result ≡ spec.has_group token.now (reverse reversed.now) }
@@ -93,7 +99,7 @@ pub fn without_attributes(alloc: Global, tokens: Vec<Token>) -> Result<Vec<Token
     let mut depth = 0;
     while let Some(token) = left.pop() {
         if depth > 0 {
-            depth = depth_behind(&token, depth);
+            depth = depth_after(&token, depth);
             drop(token);
         } else if has_group(&token, left.as_slice(), closings.as_slice()) {
             drop(token);

@@ -4,7 +4,7 @@ ghost use Rattle.std.specs.List.{take_while};
 ghost use Rattle.cs_lexer.specs.Comments.{IsEnd, IsFirstEnd, CommentGives, is_inside};
 
 use crate::found::{Fault, Found};
-use crate::part::behind;
+use crate::part::following;
 
 /// How many bytes at the front are none of them a line feed.
 pub fn line_length(bytes: &[u8]) -> usize
@@ -31,7 +31,7 @@ pub fn comment(bytes: &[u8]) -> Found
     requires { length bytes.now < 2 ^ 32 }
     ensures { CommentGives (drop 2 bytes.now) result }
 {
-    match comment_end(behind(bytes, 2)) {
+    match comment_end(following(bytes, 2)) {
         Some(count) => Found::Gap(count + 4),
         None => Found::Refused(Fault::Unclosed, 0),
     }

@@ -2,13 +2,13 @@
 ghost use Rattle.std.specs.Prelude.{◌≡◌, ◌≤◌, ◌<◌, ◌+◌, ◌^◌, ◌++◌, length, take, IfOk, OnOk, OnErr};
 ghost use Rattle.cs_lexer.specs.Cuttings as spec;
 ghost use Rattle.cs_lexer.specs.Spots as spots;
-ghost use Rattle.cs_lexer.specs.Cuttings.{IsCutting, file_behind, files_behind};
+ghost use Rattle.cs_lexer.specs.Cuttings.{IsCutting, file_after, files_after};
 
 use crate::files::Files;
 use crate::found::{Fault, Found};
-use crate::part::{begins_with, behind, front};
+use crate::part::{begins_with, following, front};
 use crate::piece::piece;
-use crate::spot::{Spot, line_of, spot_behind, start};
+use crate::spot::{Spot, line_of, spot_after, start};
 use cs_ast::{Place, Token, TokenKind};
 use cs_names::{Bytes, Name};
 use std::alloc::{AllocError, Global};
@@ -29,11 +29,11 @@ pub struct Cutting {
     pub end: End,
 }
 
-// The file behind a linemarker.
+// The file after a linemarker.
 fn marked_file(files: &mut Files, spot: Spot, name: Option<Name>) -> Result<u32, AllocError>
     requires { length files.old < 2 ^ 32 }
-    ensures value { IfOk result (λ file. file ≡ file_behind files.old spot name) }
-    ensures added { OnOk result (files.new ≡ files_behind files.old name) }
+    ensures value { IfOk result (λ file. file ≡ file_after files.old spot name) }
+    ensures added { OnOk result (files.new ≡ files_after files.old name) }
     ensures err { OnErr result (files.new ≡ files.old) }
 {
     match name {
@@ -42,7 +42,7 @@ fn marked_file(files: &mut Files, spot: Spot, name: Option<Name>) -> Result<u32,
     }
 }
 
-// Where the byte behind a linemarker stands.
+// Where the byte after a linemarker stands.
 fn marked_spot(spot: Spot, file: u32, next: Option<u32>, bytes: &[u8]) -> Spot
     requires line { spot.place.line + length bytes.now < 2 ^ 32 }
     requires column { spot.place.column + length bytes.now < 2 ^ 32 }
@@ -50,11 +50,11 @@ fn marked_spot(spot: Spot, file: u32, next: Option<u32>, bytes: &[u8]) -> Spot
 {
     match next {
         Some(line) => line_of(file, line),
-        None => spot_behind(spot, bytes),
+        None => spot_after(spot, bytes),
     }
 }
 
-// The token that has begun where a fault stands behind its first byte.
+// The token that has begun where a fault stands after its first byte.
 fn begun_kind(alloc: Global, rest: &[u8]) -> TokenKind
     ensures { result ≡ spec.begun_kind rest.now }
 {
@@ -98,14 +98,14 @@ fn refused(
     ensures end { IfOk result (λ cutting. cutting.end ≡ End.Refused fault) }
     ensures files { IfOk result (λ cutting. cutting.files ≡ files) }
     ensures tokens { IfOk result (λ cutting. cutting.tokens.items ≡ before.items ++ spec.begun rest.now size spot.place) }
-    ensures place { IfOk result (λ cutting. cutting.place ≡ (spots.spot_behind spot (take size rest.now)).place) }
+    ensures place { IfOk result (λ cutting. cutting.place ≡ (spots.spot_after spot (take size rest.now)).place) }
 {
     let mut tokens = before;
     push_begun(alloc, &mut tokens, rest, size, spot.place)?;
     Ok(Cutting {
         tokens,
         files,
-        place: spot_behind(spot, front(rest, size)).place,
+        place: spot_after(spot, front(rest, size)).place,
         end: End::Refused(fault),
     })
 }
@@ -122,19 +122,19 @@ pub fn cut(alloc: Global, text: &[u8]) -> Result<Cutting, AllocError>
     while !rest.is_empty() {
         match piece(alloc, spot.is_line_start, rest)? {
             Found::Gap(size) => {
-                spot = spot_behind(spot, front(rest, size));
-                rest = behind(rest, size);
+                spot = spot_after(spot, front(rest, size));
+                rest = following(rest, size);
             }
             Found::Marker(size, next, name) => {
                 let file = marked_file(&mut files, spot, name)?;
                 spot = marked_spot(spot, file, next, front(rest, size));
-                rest = behind(rest, size);
+                rest = following(rest, size);
             }
             Found::Token(size, kind) => {
                 let place = spot.place;
                 tokens.push(Token { kind, place })?;
-                spot = spot_behind(spot, front(rest, size));
-                rest = behind(rest, size);
+                spot = spot_after(spot, front(rest, size));
+                rest = following(rest, size);
             }
             Found::Refused(fault, size) => {
                 return refused(alloc, tokens, files, spot, rest, fault, size);

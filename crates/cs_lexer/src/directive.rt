@@ -9,7 +9,7 @@ use crate::byte::is_blank;
 use crate::comment::line_length;
 use crate::digits::{Base, digit_count, leading_value};
 use crate::found::{Fault, Found};
-use crate::part::{begins_with, behind, front};
+use crate::part::{begins_with, following, front};
 use crate::quoted::closing;
 use cs_names::Name;
 use std::alloc::{AllocError, Global};
@@ -26,12 +26,12 @@ enum FileName {
     Bad,
 }
 
-// The bytes behind the blanks at the front.
+// The bytes after the blanks at the front.
 fn skip_blanks(bytes: &[u8]) -> &[u8]
     ensures { result.now ≡ spec.skip_blanks bytes.now }
 {
     let count = blank_count(bytes);
-    behind(bytes, count)
+    following(bytes, count)
 }
 
 // How many bytes at the front are blanks.
@@ -58,12 +58,12 @@ fn begins_blank(bytes: &[u8]) -> bool
     }
 }
 
-// The bytes from the number of a linemarker on: behind the word `line` and blanks, if they stand before it.
+// The bytes from the number of a linemarker on: after the word `line` and blanks, if they stand before it.
 fn number_part(bytes: &[u8]) -> &[u8]
     ensures { result.now ≡ spec.number_part bytes.now }
 {
-    if bytes.starts_with(b"line".as_slice()) && begins_blank(behind(bytes, 4)) {
-        skip_blanks(behind(bytes, 4))
+    if bytes.starts_with(b"line".as_slice()) && begins_blank(following(bytes, 4)) {
+        skip_blanks(following(bytes, 4))
     } else {
         bytes
     }
@@ -88,7 +88,7 @@ fn line_number(bytes: &[u8]) -> Option<u32>
     }
 }
 
-// Bytes in which a backslash and the byte behind it stand for that byte.
+// Bytes in which a backslash and the byte after it stand for that byte.
 fn unescaped(alloc: Global, bytes: &[u8]) -> Result<Vec<u8>, AllocError>
     ensures { IfOk result (λ made. made.items ≡ spec.unescaped false bytes.now) }
 {
@@ -134,14 +134,14 @@ fn quoted_name(alloc: Global, bytes: &[u8]) -> Result<FileName, AllocError>
     if !begins_with(bytes, b'"') {
         return Ok(FileName::Bad);
     }
-    let more = behind(bytes, 1);
+    let more = following(bytes, 1);
     match closing(b'"', more) {
         Some(count) => name_of(alloc, front(more, count)),
         None => Ok(FileName::Bad),
     }
 }
 
-// What stands behind the number of a linemarker: nothing, or blanks, a name and flags.
+// What stands after the number of a linemarker: nothing, or blanks, a name and flags.
 fn file_name(alloc: Global, bytes: &[u8]) -> Result<FileName, AllocError>
     ensures { IfOk result (λ name. name ≡ spec.file_name bytes.now) }
 {
@@ -154,14 +154,14 @@ fn file_name(alloc: Global, bytes: &[u8]) -> Result<FileName, AllocError>
     quoted_name(alloc, skip_blanks(bytes))
 }
 
-// The line behind a linemarker, which is there if the marker's own line ends.
+// The line after a linemarker, which is there if the marker's own line ends.
 fn next_line(line: u32, is_ended: bool) -> Option<u32>
     ensures { result ≡ spec.next_line line is_ended }
 {
     if is_ended { Some(line) } else { None }
 }
 
-// The linemarker with these bytes behind its `#` and blanks.
+// The linemarker with these bytes after its `#` and blanks.
 fn marker(alloc: Global, body: &[u8], size: usize, is_ended: bool) -> Result<Found, AllocError>
     ensures { IfOk result (λ found. found ≡ spec.marker body.now size is_ended) }
 {
@@ -170,7 +170,7 @@ fn marker(alloc: Global, body: &[u8], size: usize, is_ended: bool) -> Result<Fou
         return Ok(Found::Refused(Fault::BadLine, 0));
     };
     let next = next_line(line, is_ended);
-    let rest = behind(number, digit_count(Base::Decimal, number));
+    let rest = following(number, digit_count(Base::Decimal, number));
     match file_name(alloc, rest)? {
         FileName::Absent => Ok(Found::Marker(size, next, None)),
         FileName::Given(name) => Ok(Found::Marker(size, next, Some(name))),
@@ -194,7 +194,7 @@ pub fn directive(alloc: Global, bytes: &[u8]) -> Result<Found, AllocError>
     let length = line_length(bytes);
     let is_ended = length < bytes.len();
     let size = whole_length(length, is_ended);
-    let body = skip_blanks(behind(front(bytes, length), 1));
+    let body = skip_blanks(following(front(bytes, length), 1));
     if body.starts_with(b"pragma".as_slice()) {
         return Ok(Found::Gap(size));
     }

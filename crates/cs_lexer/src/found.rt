@@ -21,7 +21,7 @@ pub enum Fault {
 pub enum Found {
     /// White space, a comment, a pragma or a dropped word.
     Gap(usize),
-    /// A linemarker: the number of the line behind it, if there is one, and the name of the file, if it is given.
+    /// A linemarker: the number of the line after it, if there is one, and the name of the file, if it is given.
     Marker(usize, Option<u32>, Option<Name>),
     /// A token.
     Token(usize, TokenKind),

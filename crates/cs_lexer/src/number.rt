@@ -5,7 +5,7 @@ ghost use Rattle.cs_lexer.specs.Numbers as spec;
 use crate::byte::is_name_byte;
 use crate::digits::{Base, digit_count, is_digit_of, leading_value};
 use crate::found::{Fault, Found};
-use crate::part::{begins_with, behind};
+use crate::part::{begins_with, following};
 use cs_ast::{IntegerConstant, Length, TokenKind};
 
 // Whether bytes begin with `0x` or `0X` and a hexadecimal digit.
@@ -99,7 +99,7 @@ fn suffix_at(bytes: &[u8]) -> Suffix
     ensures { result ≡ spec.suffix_of bytes.now }
 {
     if begins_unsigned(bytes) {
-        let length = longs(behind(bytes, 1));
+        let length = longs(following(bytes, 1));
         return Suffix {
             unsigned: true,
             length,
@@ -108,7 +108,7 @@ fn suffix_at(bytes: &[u8]) -> Suffix
     }
     let length = longs(bytes);
     let count = width(length);
-    if begins_unsigned(behind(bytes, count)) {
+    if begins_unsigned(following(bytes, count)) {
         Suffix {
             unsigned: true,
             length,
@@ -160,7 +160,7 @@ fn constant(base: Base, value: Option<u64>, suffix: Suffix, size: usize, bytes: 
     if is_too_wide(base, suffix, value) {
         return Found::Refused(Fault::WideNumber, 0);
     }
-    if goes_on(behind(bytes, size)) {
+    if goes_on(following(bytes, size)) {
         return Found::Refused(Fault::BadByte, size);
     }
     let constant = IntegerConstant {
@@ -179,9 +179,9 @@ pub fn number(bytes: &[u8]) -> Found
 {
     let base = base_of(bytes);
     let prefix = prefix_length(base);
-    let digits = behind(bytes, prefix);
+    let digits = following(bytes, prefix);
     let count = digit_count(base, digits);
-    let suffix = suffix_at(behind(digits, count));
+    let suffix = suffix_at(following(digits, count));
     let size = prefix + count + suffix.bytes;
     constant(base, leading_value(base, digits), suffix, size, bytes)
 }

@@ -2,8 +2,8 @@
 ghost use Rattle.std.specs.Prelude.{◌≡◌, take, drop};
 ghost use Rattle.cs_lexer.specs.Classes as classes;
 
-/// The bytes behind the first ones, none where there are no more than those.
-pub fn behind(bytes: &[u8], count: usize) -> &[u8]
+/// The bytes after the first ones, none where there are no more than those.
+pub fn following(bytes: &[u8], count: usize) -> &[u8]
     ensures { result.now ≡ drop count bytes.now }
 {
     if count <= bytes.len() {

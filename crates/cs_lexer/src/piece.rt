@@ -9,9 +9,9 @@ use crate::byte::{is_digit, is_letter, is_name_byte, is_space};
 use crate::comment::{comment, line_length};
 use crate::directive::directive;
 use crate::found::Found;
-use crate::mark::mark;
 use crate::number::number;
 use crate::part::{begins_with, front};
+use crate::punctuator::punctuator;
 use crate::quoted::{character, text};
 use crate::word::word;
 use std::alloc::{AllocError, Global};
@@ -28,7 +28,7 @@ enum Class {
     Number,
     Character,
     Text,
-    Mark,
+    Punctuator,
 }
 
 // The class of the piece at the front of bytes, where only blanks may stand before it on its line.
@@ -36,7 +36,7 @@ fn class_of(is_line_start: bool, bytes: &[u8]) -> Class
     ensures { result ≡ spec.class_of is_line_start bytes.now }
 {
     let Some((first, rest)) = bytes.split_first() else {
-        return Class::Mark;
+        return Class::Punctuator;
     };
     if is_line_start && *first == b'#' {
         Class::Directive
@@ -64,7 +64,7 @@ fn other_class(first: u8) -> Class
     } else if first == b'"' {
         Class::Text
     } else {
-        Class::Mark
+        Class::Punctuator
     }
 }
 
@@ -103,6 +103,6 @@ pub fn piece(alloc: Global, is_line_start: bool, bytes: &[u8]) -> Result<Found, 
         Class::Number => Ok(number(bytes)),
         Class::Character => Ok(character(bytes)),
         Class::Text => text(alloc, bytes),
-        Class::Mark => Ok(mark(bytes)),
+        Class::Punctuator => Ok(punctuator(bytes)),
     }
 }

@@ -5,7 +5,7 @@ ghost use Rattle.cs_lexer.specs.Quoted.{TextGives, TextBodyGives};
 
 use crate::escape::{Item, first_item};
 use crate::found::{Fault, Found};
-use crate::part::{behind, front};
+use crate::part::{following, front};
 use cs_ast::TokenKind;
 use cs_names::Bytes;
 use std::alloc::{AllocError, Global};
@@ -63,7 +63,7 @@ pub fn character(bytes: &[u8]) -> Found
     requires { length bytes.now < 2 ^ 32 }
     ensures { result ≡ spec.character_at bytes.now }
 {
-    let more = behind(bytes, 1);
+    let more = following(bytes, 1);
     match closing(b'\'', more) {
         Some(count) => character_of(front(more, count)),
         None => Found::Refused(Fault::Unclosed, 0),
@@ -81,7 +81,7 @@ fn text_of(alloc: Global, body: &[u8]) -> Result<Found, AllocError>
         match first_item(rest) {
             Item::Byte(byte, size) => {
                 values.push(byte)?;
-                rest = behind(rest, size);
+                rest = following(rest, size);
             }
             Item::Refused(fault) => {
                 return Ok(Found::Refused(fault, body.len() + 1 - rest.len()));
@@ -96,7 +96,7 @@ pub fn text(alloc: Global, bytes: &[u8]) -> Result<Found, AllocError>
     requires { length bytes.now < 2 ^ 32 }
     ensures { IfOk result (λ found. TextGives bytes.now found) }
 {
-    let more = behind(bytes, 1);
+    let more = following(bytes, 1);
     match closing(b'"', more) {
         Some(count) => text_of(alloc, front(more, count)),
         None => Ok(Found::Refused(Fault::Unclosed, 0)),

@@ -14,7 +14,7 @@ use thiserror::Error;
 #[derive(PartialEq, Eq, Debug, Error, Drop)]
 pub enum LexRefusal {
     /// A byte that begins no token, an escape that isn't known, an empty character constant, or a byte that may not stand
-    /// behind a number or in a character constant.
+    /// after a number or in a character constant.
     #[error("a bad byte")]
     BadByte(Place, Name),
     /// A comment, a character constant or a string literal that doesn't end, or not on its line, by its first byte.
@@ -26,7 +26,7 @@ pub enum LexRefusal {
     /// A line that begins with `#` and is neither a linemarker nor a pragma.
     #[error("a bad line")]
     BadLine(Place, Name),
-    /// A token behind the 400,000th begins.
+    /// A token after the 400,000th begins.
     #[error("too many tokens")]
     TooManyTokens,
     /// Memory ran out.

@@ -1,8 +1,8 @@
-//! Keywords, left-out words and marks by their bytes.
+//! Keywords, left-out words and punctuators by their bytes.
 ghost use Rattle.std.specs.Prelude.{◌≡◌, ◌≢◌, MatchOption};
-ghost use Rattle.cs_lexer.specs.Spellings.{keyword_text, left_out_text, mark_text, NoLongLeftOut};
+ghost use Rattle.cs_lexer.specs.Spellings.{keyword_text, unsupported_text, punctuator_text, NoLongUnsupported};
 
-use cs_ast::{Keyword, LeftOut, Mark};
+use cs_ast::{Keyword, Punctuator, Unsupported};
 
 /// The keyword that is spelled so.
 pub fn keyword_spelled(text: &[u8]) -> Option<Keyword>
@@ -39,99 +39,99 @@ pub fn keyword_spelled(text: &[u8]) -> Option<Keyword>
 }
 
 // The left-out word of more than ten bytes that is spelled so.
-fn long_left_out_spelled(text: &[u8]) -> Option<LeftOut>
-    ensures { MatchOption result (NoLongLeftOut text.now) (λ found. left_out_text found ≡ text.now) }
+fn long_unsupported_spelled(text: &[u8]) -> Option<Unsupported>
+    ensures { MatchOption result (NoLongUnsupported text.now) (λ found. unsupported_text found ≡ text.now) }
 {
     if text == b"_Static_assert".as_slice() {
-        Some(LeftOut::StaticAssert)
+        Some(Unsupported::StaticAssert)
     } else if text == b"_Thread_local".as_slice() {
-        Some(LeftOut::ThreadLocal)
+        Some(Unsupported::ThreadLocal)
     } else {
         None
     }
 }
 
 /// The left-out word that is spelled so.
-pub fn left_out_spelled(text: &[u8]) -> Option<LeftOut>
-    ensures { MatchOption result ((other : LeftOut) → left_out_text other ≢ text.now) (λ found. left_out_text found ≡ text.now) }
+pub fn unsupported_spelled(text: &[u8]) -> Option<Unsupported>
+    ensures { MatchOption result ((other : Unsupported) → unsupported_text other ≢ text.now) (λ found. unsupported_text found ≡ text.now) }
 {
-    if let Some(found) = long_left_out_spelled(text) {
+    if let Some(found) = long_unsupported_spelled(text) {
         return Some(found);
     }
     match text {
-        b"float" => Some(LeftOut::Float),
-        b"double" => Some(LeftOut::Double),
-        b"union" => Some(LeftOut::Union),
-        b"_Bool" => Some(LeftOut::Bool),
-        b"_Complex" => Some(LeftOut::Complex),
-        b"_Imaginary" => Some(LeftOut::Imaginary),
-        b"_Atomic" => Some(LeftOut::Atomic),
-        b"_Alignas" => Some(LeftOut::Alignas),
-        b"_Alignof" => Some(LeftOut::Alignof),
-        b"_Generic" => Some(LeftOut::Generic),
-        b"_Noreturn" => Some(LeftOut::Noreturn),
-        b"__int128" => Some(LeftOut::Int128),
-        b"asm" => Some(LeftOut::Asm),
-        b"__asm__" => Some(LeftOut::AsmBetween),
-        b"__asm" => Some(LeftOut::AsmBehind),
-        b"typeof" => Some(LeftOut::Typeof),
-        b"__typeof__" => Some(LeftOut::TypeofBetween),
-        b"auto" => Some(LeftOut::Auto),
+        b"float" => Some(Unsupported::Float),
+        b"double" => Some(Unsupported::Double),
+        b"union" => Some(Unsupported::Union),
+        b"_Bool" => Some(Unsupported::Bool),
+        b"_Complex" => Some(Unsupported::Complex),
+        b"_Imaginary" => Some(Unsupported::Imaginary),
+        b"_Atomic" => Some(Unsupported::Atomic),
+        b"_Alignas" => Some(Unsupported::Alignas),
+        b"_Alignof" => Some(Unsupported::Alignof),
+        b"_Generic" => Some(Unsupported::Generic),
+        b"_Noreturn" => Some(Unsupported::Noreturn),
+        b"__int128" => Some(Unsupported::Int128),
+        b"asm" => Some(Unsupported::Asm),
+        b"__asm__" => Some(Unsupported::AsmBetween),
+        b"__asm" => Some(Unsupported::AsmAfter),
+        b"typeof" => Some(Unsupported::Typeof),
+        b"__typeof__" => Some(Unsupported::TypeofBetween),
+        b"auto" => Some(Unsupported::Auto),
         _ => None,
     }
 }
 
-/// The mark that is spelled so.
-pub fn mark_spelled(text: &[u8]) -> Option<Mark>
-    ensures { MatchOption result ((other : Mark) → mark_text other ≢ text.now) (λ found. mark_text found ≡ text.now) }
+/// The punctuator that is spelled so.
+pub fn punctuator_spelled(text: &[u8]) -> Option<Punctuator>
+    ensures { MatchOption result ((other : Punctuator) → punctuator_text other ≢ text.now) (λ found. punctuator_text found ≡ text.now) }
 {
     match text {
-        b"[" => Some(Mark::OpenBracket),
-        b"]" => Some(Mark::CloseBracket),
-        b"(" => Some(Mark::OpenParenthesis),
-        b")" => Some(Mark::CloseParenthesis),
-        b"{" => Some(Mark::OpenBrace),
-        b"}" => Some(Mark::CloseBrace),
-        b"." => Some(Mark::Dot),
-        b"->" => Some(Mark::Arrow),
-        b"++" => Some(Mark::Increment),
-        b"--" => Some(Mark::Decrement),
-        b"&" => Some(Mark::Ampersand),
-        b"*" => Some(Mark::Star),
-        b"+" => Some(Mark::Plus),
-        b"-" => Some(Mark::Minus),
-        b"~" => Some(Mark::Tilde),
-        b"!" => Some(Mark::Exclamation),
-        b"/" => Some(Mark::Slash),
-        b"%" => Some(Mark::Percent),
-        b"<<" => Some(Mark::ShiftLeft),
-        b">>" => Some(Mark::ShiftRight),
-        b"<" => Some(Mark::Less),
-        b">" => Some(Mark::More),
-        b"<=" => Some(Mark::AtMost),
-        b">=" => Some(Mark::AtLeast),
-        b"==" => Some(Mark::EqualEqual),
-        b"!=" => Some(Mark::Differs),
-        b"^" => Some(Mark::Caret),
-        b"|" => Some(Mark::Bar),
-        b"&&" => Some(Mark::AndAnd),
-        b"||" => Some(Mark::BarBar),
-        b"?" => Some(Mark::Question),
-        b":" => Some(Mark::Colon),
-        b";" => Some(Mark::Semicolon),
-        b"=" => Some(Mark::Equal),
-        b"*=" => Some(Mark::StarEqual),
-        b"/=" => Some(Mark::SlashEqual),
-        b"%=" => Some(Mark::PercentEqual),
-        b"+=" => Some(Mark::PlusEqual),
-        b"-=" => Some(Mark::MinusEqual),
-        b"<<=" => Some(Mark::ShiftLeftEqual),
-        b">>=" => Some(Mark::ShiftRightEqual),
-        b"&=" => Some(Mark::AmpersandEqual),
-        b"^=" => Some(Mark::CaretEqual),
-        b"|=" => Some(Mark::BarEqual),
-        b"," => Some(Mark::Comma),
-        b"..." => Some(Mark::Ellipsis),
+        b"[" => Some(Punctuator::OpenBracket),
+        b"]" => Some(Punctuator::CloseBracket),
+        b"(" => Some(Punctuator::OpenParenthesis),
+        b")" => Some(Punctuator::CloseParenthesis),
+        b"{" => Some(Punctuator::OpenBrace),
+        b"}" => Some(Punctuator::CloseBrace),
+        b"." => Some(Punctuator::Dot),
+        b"->" => Some(Punctuator::Arrow),
+        b"++" => Some(Punctuator::Increment),
+        b"--" => Some(Punctuator::Decrement),
+        b"&" => Some(Punctuator::Ampersand),
+        b"*" => Some(Punctuator::Star),
+        b"+" => Some(Punctuator::Plus),
+        b"-" => Some(Punctuator::Minus),
+        b"~" => Some(Punctuator::Tilde),
+        b"!" => Some(Punctuator::Exclamation),
+        b"/" => Some(Punctuator::Slash),
+        b"%" => Some(Punctuator::Percent),
+        b"<<" => Some(Punctuator::ShiftLeft),
+        b">>" => Some(Punctuator::ShiftRight),
+        b"<" => Some(Punctuator::Less),
+        b">" => Some(Punctuator::More),
+        b"<=" => Some(Punctuator::AtMost),
+        b">=" => Some(Punctuator::AtLeast),
+        b"==" => Some(Punctuator::EqualEqual),
+        b"!=" => Some(Punctuator::Differs),
+        b"^" => Some(Punctuator::Caret),
+        b"|" => Some(Punctuator::Bar),
+        b"&&" => Some(Punctuator::AndAnd),
+        b"||" => Some(Punctuator::BarBar),
+        b"?" => Some(Punctuator::Question),
+        b":" => Some(Punctuator::Colon),
+        b";" => Some(Punctuator::Semicolon),
+        b"=" => Some(Punctuator::Equal),
+        b"*=" => Some(Punctuator::StarEqual),
+        b"/=" => Some(Punctuator::SlashEqual),
+        b"%=" => Some(Punctuator::PercentEqual),
+        b"+=" => Some(Punctuator::PlusEqual),
+        b"-=" => Some(Punctuator::MinusEqual),
+        b"<<=" => Some(Punctuator::ShiftLeftEqual),
+        b">>=" => Some(Punctuator::ShiftRightEqual),
+        b"&=" => Some(Punctuator::AmpersandEqual),
+        b"^=" => Some(Punctuator::CaretEqual),
+        b"|=" => Some(Punctuator::BarEqual),
+        b"," => Some(Punctuator::Comma),
+        b"..." => Some(Punctuator::Ellipsis),
         _ => None,
     }
 }

@@ -34,7 +34,7 @@ pub fn line_of(file: u32, line: u32) -> Spot
     }
 }
 
-// Where the byte behind this one stands.
+// Where the byte after this one stands.
 fn step(spot: Spot, byte: u8) -> Spot
     requires line { spot.place.line + 1 < 2 ^ 32 }
     requires column { spot.place.column + 1 < 2 ^ 32 }
@@ -54,11 +54,11 @@ fn step(spot: Spot, byte: u8) -> Spot
     }
 }
 
-/// Where the byte behind these ones stands.
-pub fn spot_behind(spot: Spot, bytes: &[u8]) -> Spot
+/// Where the byte after these ones stands.
+pub fn spot_after(spot: Spot, bytes: &[u8]) -> Spot
     requires line { spot.place.line + length bytes.now < 2 ^ 32 }
     requires column { spot.place.column + length bytes.now < 2 ^ 32 }
-    ensures value { result ≡ spec.spot_behind spot bytes.now }
+    ensures value { result ≡ spec.spot_after spot bytes.now }
     ensures within { IsWithin spot (length bytes.now) result }
 {
     let mut at = spot;

@@ -8,7 +8,7 @@ use cs_ast::{Token, TokenKind};
 use cs_names::Bytes;
 use std::alloc::{AllocError, Global};
 
-// The bytes of a text and of those that stand directly behind it, which are dropped. The tokens behind it are given from
+// The bytes of a text and of those that stand directly after it, which are dropped. The tokens after it are given from
 // the last one on.
 fn whole_text(alloc: Global, first: Bytes, left: &mut Vec<Token>) -> Result<Bytes, AllocError>
     ensures whole { IfOk result (λ bytes. IsWholeText first (reverse left.old.items) bytes (reverse left.new.items)) }
@@ -22,7 +22,7 @@ fn whole_text(alloc: Global, first: Bytes, left: &mut Vec<Token>) -> Result<Byte
     Ok(Bytes::from_vec(bytes))
 }
 
-// What a token is, made one with the texts directly behind it if it is a text.
+// What a token is, made one with the texts directly after it if it is a text.
 fn whole_kind(
     alloc: Global,
     kind: TokenKind,
@@ -40,7 +40,7 @@ fn whole_kind(
     }
 }
 
-// A token, made one with the texts directly behind it if it is a text.
+// A token, made one with the texts directly after it if it is a text.
 fn whole_token(alloc: Global, token: Token, left: &mut Vec<Token>) -> Result<Token, AllocError>
     ensures whole { IfOk result (λ whole. spec.joined (token ∷ reverse left.old.items) ≡ whole ∷ spec.joined (reverse left.new.items)) }
     ensures fewer { length left.new.items ≤ length left.old.items }

@@ -7,7 +7,7 @@ ghost use Rattle.cs_lexer.specs.Words as spec;
 ghost use Rattle.cs_lexer.specs.Words.{WordGives};
 
 use crate::found::Found;
-use crate::spelling::{keyword_spelled, left_out_spelled};
+use crate::spelling::{keyword_spelled, unsupported_spelled};
 use cs_ast::TokenKind;
 use cs_names::Name;
 use std::alloc::{AllocError, Global};
@@ -59,8 +59,8 @@ pub fn word(alloc: Global, text: &[u8]) -> Result<Found, AllocError>
     if let Some(keyword) = keyword_spelled(text) {
         return Ok(Found::Token(text.len(), TokenKind::Keyword(keyword)));
     }
-    if let Some(left_out) = left_out_spelled(text) {
-        return Ok(Found::Token(text.len(), TokenKind::LeftOut(left_out)));
+    if let Some(unsupported) = unsupported_spelled(text) {
+        return Ok(Found::Token(text.len(), TokenKind::Unsupported(unsupported)));
     }
     if is_dropped(text) {
         return Ok(Found::Gap(text.len()));

@@ -2,7 +2,7 @@
 use Rattle.std.proofs.Common.{ℕ, List, [], ◌∷◌, ◌++◌, Option, refl}
 use Rattle.cs_ast.specs.declared.place.Place.{Place}
 use Rattle.cs_ast.specs.TypedTree.{Typed, Statement, Statements, IfElse, For}
-use Rattle.cs_runs.specs.declared.point.PointKind.TheVariants as point
+use Rattle.cs_events.specs.declared.point.PointKind.TheVariants as point
 use Rattle.cs_cfg.specs.ControlPoints.{Next, met, first_some, points, points_some, Targets, for_test, for_tested, for_points, in_loop, in_switch, starts, flows, flows_in}
 use Rattle.cs_cfg.specs.Fitting.{Brings}
 use Rattle.cs_cfg.specs.Graph.{Point, Flow, Reach, block_of}
@@ -17,14 +17,14 @@ module _ {flow : Flow} where
   brings_less = record { keeps = λ all includes fit. fit_others fit }
 
   -- an `if` with an `else`, which is put together before the other way
-  pub if_else_brings : (at : Place) (test : Typed) (body other : Statement) (to : Targets) (behind : Next) (one two end : ℕ) {old with_other with_both new : List Point} →
-      MeetsNext flow (block_of flow one) (starts to body behind) → MeetsNext flow (block_of flow two) (starts to other behind) → Brings flow (flows to other behind) (jump_to end ∷ old) with_other →
-      Brings flow (flows to body behind) (jump_to end ∷ with_other) with_both → Brings flow (points test (met point.Branch at)) (split at 0 one two ∷ with_both) new → Brings flow (flows to (IfElse at test body other) behind) old new
-  if_else_brings at test body other to behind one two end one_met two_met others inside tests = record {
+  pub if_else_brings : (at : Place) (test : Typed) (body other : Statement) (to : Targets) (following : Next) (one two end : ℕ) {old with_other with_both new : List Point} →
+      MeetsNext flow (block_of flow one) (starts to body following) → MeetsNext flow (block_of flow two) (starts to other following) → Brings flow (flows to other following) (jump_to end ∷ old) with_other →
+      Brings flow (flows to body following) (jump_to end ∷ with_other) with_both → Brings flow (points test (met point.Branch at)) (split at 0 one two ∷ with_both) new → Brings flow (flows to (IfElse at test body other) following) old new
+  if_else_brings at test body other to following one two end one_met two_met others inside tests = record {
     keeps = λ all includes fit.
         let in_test = points test (met point.Branch at) in
-        let in_body = flows to body behind in
-        let in_other = flows to other behind in
+        let in_body = flows to body following in
+        let in_other = flows to other following in
         let has = includes_others includes in
         let first_two = includes_first (in_test ++ in_body) in_other has in
         let way = others.keeps all (includes_second (in_test ++ in_body) in_other has) (fit_jump end fit) in
@@ -33,18 +33,18 @@ module _ {flow : Flow} where
   }
 
   -- a `for`, whose first part is put together between the loop and its head
-  pub for_brings : (at : Place) (beginning : Statements) (test last : Option Typed) (body : Statement) (to : Targets) (behind : Next) (head : ℕ) (p r : Point) {old with_loop with_first new : List Point} →
-      MeetsNext flow r (for_test at test (starts (in_loop to behind (first_some last (met point.Head at))) body (first_some last (met point.Head at)))) →
-      Brings flow ((for_tested at test (starts (in_loop to behind (first_some last (met point.Head at))) body (first_some last (met point.Head at))) behind ++ for_points at test)
-      ++ (flows (in_loop to behind (first_some last (met point.Head at))) body (first_some last (met point.Head at)) ++ points_some last (met point.Head at))) old (r ∷ with_loop) →
-      Brings flow (flows_in (in_switch to behind) beginning (met point.Head at)) (jump_to head ∷ with_loop) (p ∷ with_first) → Brings flow [] (does at 0 (Reach point.Head head) r ∷ with_first) new →
-      Brings flow (flows to (For at beginning test last body) behind) old (p ∷ new)
-  for_brings at beginning test last body to behind head p r inside_met loop begins heads = record {
+  pub for_brings : (at : Place) (beginning : Statements) (test last : Option Typed) (body : Statement) (to : Targets) (following : Next) (head : ℕ) (p r : Point) {old with_loop with_first new : List Point} →
+      MeetsNext flow r (for_test at test (starts (in_loop to following (first_some last (met point.Head at))) body (first_some last (met point.Head at)))) →
+      Brings flow ((for_tested at test (starts (in_loop to following (first_some last (met point.Head at))) body (first_some last (met point.Head at))) following ++ for_points at test)
+      ++ (flows (in_loop to following (first_some last (met point.Head at))) body (first_some last (met point.Head at)) ++ points_some last (met point.Head at))) old (r ∷ with_loop) →
+      Brings flow (flows_in (in_switch to following) beginning (met point.Head at)) (jump_to head ∷ with_loop) (p ∷ with_first) → Brings flow [] (does at 0 (Reach point.Head head) r ∷ with_first) new →
+      Brings flow (flows to (For at beginning test last body) following) old (p ∷ new)
+  for_brings at beginning test last body to following head p r inside_met loop begins heads = record {
     keeps = λ all includes fit.
         let to_last = first_some last (met point.Head at) in
-        let inner = in_loop to behind to_last in
-        let in_test = for_tested at test (starts inner body to_last) behind in
-        let in_beginning = flows_in (in_switch to behind) beginning (met point.Head at) in
+        let inner = in_loop to following to_last in
+        let in_test = for_tested at test (starts inner body to_last) following in
+        let in_beginning = flows_in (in_switch to following) beginning (met point.Head at) in
         let of_test = for_points at test in
         let in_last = points_some last (met point.Head at) in
         let in_body = flows inner body to_last in

@@ -5,7 +5,7 @@ use Rattle.std.specs.List.{All}
 use Rattle.std.proofs.lemmas.List.{reverse-append, length-reverse, map-append}
 use Rattle.std.proofs.lemmas.List.Elements.{All-append, All-cons, All-head, All-nil, All-weaker, All-contains_itself, Contains-append_left, Contains-append_right}
 use Rattle.cs_ast.specs.declared.place.Place.{Place}
-use Rattle.cs_runs.specs.declared.point.PointKind.{PointKind}
+use Rattle.cs_events.specs.declared.point.PointKind.{PointKind}
 use Rattle.cs_cfg.specs.Fitting.{Brings}
 use Rattle.cs_cfg.specs.Graph.{Point, no_point, Flow, Reach}
 use Rattle.cs_cfg.specs.Placing.{does}
@@ -14,17 +14,17 @@ use Rattle.cs_lower.specs.Building.{Built, blocks, Has, Grows}
 use Rattle.cs_lower.specs.Sealing.{Seals, SealsMark}
 
 module _ {X : Type 0} where
-  -- what is in a list stays where it is when more comes behind
+  -- what is in a list stays where it is when more comes after
   kept : (xs ys : List X) (n : ℕ) (x : X) → slice_get xs n ≡ Some x → slice_get (xs ++ ys) n ≡ Some x
   kept [] ys n x e = cc
   kept (y ∷ xs) ys zero x e = e
   kept (y ∷ xs) ys (suc n) x e = kept xs ys n x e
 
-  behind : (xs ys : List X) (n : ℕ) → slice_get (xs ++ ys) (length xs + n) ≡ slice_get ys n
-  behind [] ys n = ap (slice_get ys) (omega arith)
-  behind (x ∷ xs) ys n =
+  following : (xs ys : List X) (n : ℕ) → slice_get (xs ++ ys) (length xs + n) ≡ slice_get ys n
+  following [] ys n = ap (slice_get ys) (omega arith)
+  following (x ∷ xs) ys n =
       let e : suc (length xs) + n ≡ suc (length xs + n) = omega arith in
-      ap (slice_get ((x ∷ xs) ++ ys)) e ∙ behind xs ys n
+      ap (slice_get ((x ∷ xs) ++ ys)) e ∙ following xs ys n
 
   newest : (xs : List X) (x : X) → slice_get (xs ++ x ∷ []) (length xs) ≡ Some x
   newest [] x = refl
@@ -166,7 +166,7 @@ whole heads others entry marks all = record {
       ap (λ (q : Option Point). unwrap_or q no_point) (kept (reverse heads) others mark p (from_end heads n mark p got at));
   others = λ n p got.
       let at : marks + n ≡ length (reverse heads) + n = omega (arith, length-reverse heads) in
-      ap (λ (q : Option Point). unwrap_or q no_point) (ap (slice_get (reverse heads ++ others)) at ∙ (behind (reverse heads) others n ∙ got));
+      ap (λ (q : Option Point). unwrap_or q no_point) (ap (slice_get (reverse heads ++ others)) at ∙ (following (reverse heads) others n ∙ got));
 }
 
 -- the same of what is known to be more

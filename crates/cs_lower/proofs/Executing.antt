@@ -6,10 +6,10 @@ use Rattle.cs_ast.specs.declared.typed.statement.Stmt.{Stmt}
 use Rattle.cs_ast.specs.TypedView.{statement, statement_list}
 use Rattle.cs_ast.specs.TypedTree.{Typed, Initial, Statement, Block, Declare, Run, If, IfElse, Label, Statements, Empty, Then}
 use Rattle.cs_ast.specs.TypedProgram.{TypedProgram, Routine}
-use Rattle.cs_runs.specs.declared.point.PointKind.TheVariants as point
-use Rattle.cs_plain.specs.Machine.{body_of}
-use Rattle.cs_plain.specs.Marks.{marks, marks_in}
-use Rattle.cs_plain.specs.Jumps.{Landing, landing}
+use Rattle.cs_events.specs.declared.point.PointKind.TheVariants as point
+use Rattle.cs_meaning.specs.Machine.{body_of}
+use Rattle.cs_meaning.specs.Marks.{marks, marks_in}
+use Rattle.cs_meaning.specs.Jumps.{Landing, landing}
 use Rattle.cs_cfg.specs.ControlPoints.{met, starts_in}
 use Rattle.cs_cfg.specs.Graph as graph
 use Rattle.cs_cfg.specs.Graph.{Point, Flow, block_of}
@@ -28,9 +28,9 @@ use Rattle.cs_lower.specs.Statements.{labels_in, Executes, ExecutesAll, Executes
 use Rattle.cs_lower.proofs.Aiming.{aims_of}
 use Rattle.cs_lower.proofs.Bringing.{if_else_brings}
 use Rattle.cs_lower.proofs.Built.{nothing_more, more_and_more, brings_nothing}
-use Rattle.cs_lower.proofs.Evaluating.{jump_joins, same_behind, same_before}
+use Rattle.cs_lower.proofs.Evaluating.{jump_joins, same_after, same_before}
 
--- where a statement stands, its mark is so many before those behind it
+-- where a statement stands, its mark is so many before those after it
 pub mark_before : {old new : Built} {count : ℕ} → Grows count old new → (mark : ℕ) → mark + length new.heads ≡ new.marks → mark + count + length old.heads ≡ old.marks
 mark_before grows mark e =
     let counts = grows.counts in
@@ -61,15 +61,15 @@ module _ {program : TypedProgram} {routine : Routine} where
   declare h = record {
     grows = h.grows;
     does = λ flow has args mark e. h.does flow has args;
-    brings = λ flow has args mark e to aims behind m. h.brings flow has args to behind m;
+    brings = λ flow has args mark e to aims following m. h.brings flow has args to following m;
   }
 
   pub run : {at : Place} {e : Typed} {out again : ℕ} {old new : Built} {p s q : Point} → s ≡ does at 0 graph.Drop q → Evaluates program e 0 old new p s → Executes program routine (Run at e) out again old new p q
   run {at = place} {e = e} {p = p} {q = q} is h = record {
     grows = h.grows;
     does = λ flow has args mark at. subst (λ s. evaluates program flow e 0 p s) is (h.does flow has args);
-    brings = λ flow has args mark at to aims behind m.
-        brings_past place 0 graph.Drop q refl (same_behind is (h.brings flow has args behind (same_meets is (does_meets place 0 graph.Drop q refl m))));
+    brings = λ flow has args mark at to aims following m.
+        brings_past place 0 graph.Drop q refl (same_after is (h.brings flow has args following (same_meets is (does_meets place 0 graph.Drop q refl m))));
   }
 
   -- a statement at the beginning of a block
@@ -80,8 +80,8 @@ module _ {program : TypedProgram} {routine : Routine} where
         subst (λ r. executes_at program flow routine (labels_in routine flow) s mark (block_of flow out) (block_of flow again) r (jump_to end)) (sym (seals.is flow has))
         (subst (λ r. executes_at program flow routine (labels_in routine flow) s mark (block_of flow out) (block_of flow again) p r) is
         (h.does flow (seals.grows.keeps flow has) args mark (mark_stays seals.grows mark e)));
-    brings = λ flow has args mark e to aims behind m.
-        then_nothing (same_behind is (h.brings flow (seals.grows.keeps flow has) args mark (mark_stays seals.grows mark e) to aims behind (same_meets is (past_jump m)))) (seals.brings flow);
+    brings = λ flow has args mark e to aims following m.
+        then_nothing (same_after is (h.brings flow (seals.grows.keeps flow has) args mark (mark_stays seals.grows mark e) to aims following (same_meets is (past_jump m)))) (seals.brings flow);
   }
 
   -- an `if`, and one with an `else`
@@ -100,17 +100,17 @@ module _ {program : TypedProgram} {routine : Routine} where
       record {
         grows = more_and_more 0 (marks body) (marks body) ends.grows (more_and_more (marks body) 0 (marks body) way.grows tests.grows (omega arith)) (omega arith);
         does = placed;
-        brings = λ flow has args mark e to aims behind m.
+        brings = λ flow has args mark e to aims following m.
             let in_y = tests.grows.keeps flow has in
             let on = same_meets (ends.is flow (way.grows.keeps flow in_y)) m in
             if_brings program flow routine (labels_in routine flow) mark (block_of flow out) (block_of flow again) p q (aims_of aims) m (ends.brings flow) at test body end (placed flow has args mark e)
-            (way.brings flow in_y args.1 mark (mark_stays tests.grows mark e) to aims behind on) (tests.brings flow has args.0 (met point.Branch at) (split_meets at 0 one end));
+            (way.brings flow in_y args.1 mark (mark_stays tests.grows mark e) to aims following on) (tests.brings flow has args.0 (met point.Branch at) (split_meets at 0 one end));
       }
 
-  pub if_else : {at : Place} {test : Typed} {body behind : Statement} {out again end one other : ℕ} {old x y z new : Built} {p q : Point} → Seals old x end q → ExecutesIn program routine behind out again x y other end → ExecutesIn program routine body out again y z one end → Uses program test 0 z new p (split at 0 one other) → Executes program routine (IfElse at test body behind) out again old new p q
-  if_else {at = at} {test = test} {body = body} {behind = behind} {out = out} {again = again} {end = end} {one = one} {other = other} {p = p} {q = q} ends way_other way_one tests = record {
-    grows = more_and_more 0 (marks body + marks behind) (marks body + marks behind) ends.grows
-        (more_and_more (marks behind) (marks body) (marks body + marks behind) way_other.grows (more_and_more (marks body) 0 (marks body) way_one.grows tests.grows (omega arith)) (omega arith)) (omega arith);
+  pub if_else : {at : Place} {test : Typed} {body following : Statement} {out again end one other : ℕ} {old x y z new : Built} {p q : Point} → Seals old x end q → ExecutesIn program routine following out again x y other end → ExecutesIn program routine body out again y z one end → Uses program test 0 z new p (split at 0 one other) → Executes program routine (IfElse at test body following) out again old new p q
+  if_else {at = at} {test = test} {body = body} {following = following} {out = out} {again = again} {end = end} {one = one} {other = other} {p = p} {q = q} ends way_other way_one tests = record {
+    grows = more_and_more 0 (marks body + marks following) (marks body + marks following) ends.grows
+        (more_and_more (marks following) (marks body) (marks body + marks following) way_other.grows (more_and_more (marks body) 0 (marks body) way_one.grows tests.grows (omega arith)) (omega arith)) (omega arith);
     does = λ flow has args mark e.
         let in_z = tests.grows.keeps flow has in
         let in_y = way_one.grows.keeps flow in_z in
@@ -130,9 +130,9 @@ module _ {program : TypedProgram} {routine : Routine} where
         let o = block_of flow out in
         let a = block_of flow again in
         let one_met = starts_meet program flow routine (labels_in routine flow) body mark o a (block_of flow one) (jump_to end) (aims_of aims) (way_one.does flow in_z args.1 mark here) (past_jump on) in
-        let other_met = starts_meet program flow routine (labels_in routine flow) behind (mark + marks body) o a (block_of flow other) (jump_to end) (aims_of aims) (way_other.does flow in_y args.2 (mark + marks body) below) (past_jump on) in
+        let other_met = starts_meet program flow routine (labels_in routine flow) following (mark + marks body) o a (block_of flow other) (jump_to end) (aims_of aims) (way_other.does flow in_y args.2 (mark + marks body) below) (past_jump on) in
         nothing_then (ends.brings flow)
-        (if_else_brings at test body behind to next one other end one_met other_met (way_other.brings flow in_y args.2 (mark + marks body) below to aims next on)
+        (if_else_brings at test body following to next one other end one_met other_met (way_other.brings flow in_y args.2 (mark + marks body) below to aims next on)
         (way_one.brings flow in_z args.1 mark here to aims next on) (tests.brings flow has args.0 (met point.Branch at) (split_meets at 0 one other)));
   }
 
@@ -157,10 +157,10 @@ module _ {program : TypedProgram} {routine : Routine} where
               led flow (landing number (body_of routine) 0 []),
               inside.does flow (seals.grows.keeps flow has) args (mark + 1) here,
             );
-        brings = λ flow has args n e to aims behind m.
+        brings = λ flow has args n e to aims following m.
             let in_x = seals.grows.keeps flow has in
             let inside_met = starts_meet program flow routine (labels_in routine flow) body (mark + 1) (block_of flow out) (block_of flow again) r q (aims_of aims) (inside.does flow in_x args (mark + 1) here) m in
-            same_before jump (label_brings at number body mark mark to r q behind inside_met (inside.brings flow in_x args (mark + 1) here to aims behind m) (seals.brings flow mark last));
+            same_before jump (label_brings at number body mark mark to r q following inside_met (inside.brings flow in_x args (mark + 1) here to aims following m) (seals.brings flow mark last));
       }
     where
       led : (flow : Flow) (o : Option Landing) → is_led_to program flow routine (labels_in routine flow) o mark (block_of flow (unwrap_or (option_map (λ (l : Landing). l.mark) o) 0)) (block_of flow mark)
@@ -169,18 +169,18 @@ module _ {program : TypedProgram} {routine : Routine} where
 
   -- statements in a row, lowered from the end
   pub executes_none : (out again : ℕ) (built : Built) (p : Point) → ExecutesAll program routine Empty out again built built p p
-  executes_none out again built p = record { grows = nothing_more built; does = λ flow has args mark e. there; brings = λ flow has args mark e to aims behind m. brings_nothing }
+  executes_none out again built p = record { grows = nothing_more built; does = λ flow has args mark e. there; brings = λ flow has args mark e to aims following m. brings_nothing }
 
   pub executes_then : {first : Statement} {others : Statements} {out again : ℕ} {old mid new : Built} {p r q : Point} → ExecutesAll program routine others out again old mid r q → Executes program routine first out again mid new p r → ExecutesAll program routine (Then first others) out again old new p q
   executes_then {first = first} {others = others} {out = out} {again = again} {r = r} {q = q} last one = record {
     grows = more_and_more (marks_in others) (marks first) (marks first + marks_in others) last.grows one.grows (omega arith);
     does = λ flow has args mark e.
         (r, (r, one.does flow has args.0 mark e, there), last.does flow (one.grows.keeps flow has) args.1 (mark + marks first) (mark_before one.grows mark e));
-    brings = λ flow has args mark e to aims behind m.
+    brings = λ flow has args mark e to aims following m.
         let in_mid = one.grows.keeps flow has in
         let below = mark_before one.grows mark e in
         let on = all_start program flow routine (labels_in routine flow) others (mark + marks first) (block_of flow out) (block_of flow again) r q (aims_of aims) (last.does flow in_mid args.1 (mark + marks first) below) m in
-        brings_both (last.brings flow in_mid args.1 (mark + marks first) below to aims behind m) (one.brings flow has args.0 mark e to aims (starts_in to others behind) on);
+        brings_both (last.brings flow in_mid args.1 (mark + marks first) below to aims following m) (one.brings flow has args.0 mark e to aims (starts_in to others following) on);
   }
 
   -- one more of a row that is lowered from its end

@@ -3,8 +3,8 @@ use Rattle.std.proofs.Common.{◌≡◌, ℕ, suc, ◌+◌, ◌∷◌, ◌++◌,
 use Rattle.cs_ast.specs.declared.place.Place.{Place}
 use Rattle.cs_ast.specs.TypedTree.{Typed, Statement, For, Statements}
 use Rattle.cs_ast.specs.TypedProgram.{TypedProgram, Routine}
-use Rattle.cs_runs.specs.declared.point.PointKind.TheVariants as point
-use Rattle.cs_plain.specs.Marks.{marks, marks_in}
+use Rattle.cs_events.specs.declared.point.PointKind.TheVariants as point
+use Rattle.cs_meaning.specs.Marks.{marks, marks_in}
 use Rattle.cs_cfg.specs.ControlPoints.{Next, met, first_some, points_some, Targets, for_test, for_tested, for_points, in_loop, in_switch, starts, flows}
 use Rattle.cs_cfg.specs.Fitting.{Brings}
 use Rattle.cs_cfg.specs.Graph.{Point, Flow, Reach, block_of}
@@ -21,26 +21,26 @@ use Rattle.cs_lower.specs.Statements.{labels_in, Aims, Executes, ExecutesAll, Te
 use Rattle.cs_lower.proofs.Aiming.{aims_of, aims_in_loop, aims_in_switch}
 use Rattle.cs_lower.proofs.Bringing.{for_brings}
 use Rattle.cs_lower.proofs.Built.{more_and_more}
-use Rattle.cs_lower.proofs.Evaluating.{same_behind}
+use Rattle.cs_lower.proofs.Evaluating.{same_after}
 use Rattle.cs_lower.proofs.Executing.{mark_stays, all_on}
-use Rattle.cs_lower.proofs.TurningLoops.{behind_head}
+use Rattle.cs_lower.proofs.TurningLoops.{after_head}
 
--- what is met behind the body of a `for`, the targets inside of it, and what is met where it begins
+-- what is met after the body of a `for`, the targets inside of it, and what is met where it begins
 abbrev pub turning : Place → Option Typed → Next
 turning at last = first_some last (met point.Head at)
 
 abbrev pub in_for : Targets → Place → Option Typed → Next → Targets
-in_for to at last behind = in_loop to behind (turning at last)
+in_for to at last following = in_loop to following (turning at last)
 
 abbrev pub in_body : Targets → Place → Option Typed → Statement → Next → Next
-in_body to at last body behind = starts (in_for to at last behind) body (turning at last)
+in_body to at last body following = starts (in_for to at last following) body (turning at last)
 
 -- the head of a `for` is reached, and then comes a point
 abbrev pub IsHead : Flow → Place → ℕ → Point → Type 0
 IsHead flow at head r = block_of flow head ≡ does at 0 (Reach point.Head head) r
 
 module _ (program : TypedProgram) (routine : Routine) where
-  -- a `for` without its first part, which has so many marks: once its head is reached comes a point, and behind the loop stands the other
+  -- a `for` without its first part, which has so many marks: once its head is reached comes a point, and after the loop stands the other
   -- one, which is a block
   pub record TurnsFor (at : Place) (test last : Option Typed) (body : Statement) (before : ℕ) (old new : Built) (head end : ℕ) (r q : Point) : Type 0 where
     pub grows : Grows (marks body) old new
@@ -49,16 +49,16 @@ module _ (program : TypedProgram) (routine : Routine) where
     pub does : (flow : Flow) → Has flow new → OptionHasArguments test → OptionHasArguments last → StatementHasArguments body → IsHead flow at head r →
         (again : Point) × for_loop program flow at test last head (λ o a x y. executes_at program flow routine (labels_in routine flow) body (head + 1 + before) o a x y) (block_of flow head) again q
     pub meets : (flow : Flow) → Has flow new → OptionHasArguments test → OptionHasArguments last → StatementHasArguments body → IsHead flow at head r → (to : Targets) (out again : Point) → Aims program routine flow to out again →
-        (behind : Next) → MeetsNext flow q behind → MeetsNext flow r (for_test at test (in_body to at last body behind))
+        (following : Next) → MeetsNext flow q following → MeetsNext flow r (for_test at test (in_body to at last body following))
     pub brings : (flow : Flow) → Has flow new → OptionHasArguments test → OptionHasArguments last → StatementHasArguments body → IsHead flow at head r → (to : Targets) (out again : Point) → Aims program routine flow to out again →
-        (behind : Next) → MeetsNext flow q behind →
-        Brings flow ((for_tested at test (in_body to at last body behind) behind ++ for_points at test) ++ (flows (in_for to at last behind) body (turning at last) ++ points_some last (met point.Head at))) (q ∷ blocks old) (r ∷ blocks new)
+        (following : Next) → MeetsNext flow q following →
+        Brings flow ((for_tested at test (in_body to at last body following) following ++ for_points at test) ++ (flows (in_for to at last following) body (turning at last) ++ points_some last (met point.Head at))) (q ∷ blocks old) (r ∷ blocks new)
 
 module _ {program : TypedProgram} {routine : Routine} where
-  pub for_turned : {at : Place} {test last : Option Typed} {body : Statement} {before counted inside inner head end behind : ℕ} {old x y z new : Built} {v r q s : Point} → head + suc (inner + length old.heads) ≡ old.marks → inner ≡ counted + inside → counted ≡ before → inside ≡ marks body
-      → Seals old x end q → EndsFor program last x y behind head → s ≡ jump_to behind → Executes program routine body end behind y z v s → TestsFor program at test z new r v end
+  pub for_turned : {at : Place} {test last : Option Typed} {body : Statement} {before counted inside inner head end following : ℕ} {old x y z new : Built} {v r q s : Point} → head + suc (inner + length old.heads) ≡ old.marks → inner ≡ counted + inside → counted ≡ before → inside ≡ marks body
+      → Seals old x end q → EndsFor program last x y following head → s ≡ jump_to following → Executes program routine body end following y z v s → TestsFor program at test z new r v end
       → TurnsFor program routine at test last body before old new head end r q
-  for_turned {at = at} {test = test} {last = last} {body = body} {before = before} {counted = count} {inside = inside} {inner = inner} {head = head} {end = end} {behind = block} {old = old} {y = y} {z = z} {new = new} {v = v} {r = r} {q = q} {s = s} start inner_is count_is inside_is ends ended leads way tests =
+  for_turned {at = at} {test = test} {last = last} {body = body} {before = before} {counted = count} {inside = inside} {inner = inner} {head = head} {end = end} {following = block} {old = old} {y = y} {z = z} {new = new} {v = v} {r = r} {q = q} {s = s} start inner_is count_is inside_is ends ended leads way tests =
       let grown = more_and_more 0 (marks body) (marks body) ends.grows (more_and_more 0 (marks body) (marks body) ended.grows (more_and_more (marks body) 0 (marks body) way.grows tests.grows (omega arith)) (omega arith)) (omega arith) in
       let a = grown.counts in
       let b = grown.same in
@@ -72,13 +72,13 @@ module _ {program : TypedProgram} {routine : Routine} where
       let turns : (flow : Flow) → IsHead flow at head r → MeetsNext flow (block_of flow head) (met point.Head at) = λ flow head_is. same_meets head_is (point_meets at 0 (Reach point.Head head) r refl) in
       let again_met : (flow : Flow) → Has flow new → OptionHasArguments last → IsHead flow at head r → MeetsNext flow (block_of flow block) (turning at last) =
       λ flow has has_last head_is. last_meets program flow routine (labels_in routine flow) last (block_of flow block) (block_of flow head) (ended.does flow (in_y flow has) has_last) (turns flow head_is) in
-      let inner_aims : (flow : Flow) → Has flow new → OptionHasArguments last → IsHead flow at head r → (to : Targets) (out again : Point) → Aims program routine flow to out again → (behind : Next) → MeetsNext flow q behind →
-      Aims program routine flow (in_for to at last behind) (block_of flow end) (block_of flow block) =
-      λ flow has has_last head_is to out again aims behind m. aims_in_loop (block_of flow end) (block_of flow block) aims (same_meets (on flow has) m) (again_met flow has has_last head_is) in
-      let body_met : (flow : Flow) → Has flow new → OptionHasArguments last → StatementHasArguments body → IsHead flow at head r → (to : Targets) (out again : Point) → Aims program routine flow to out again → (behind : Next) → MeetsNext flow q behind →
-      MeetsNext flow v (in_body to at last body behind) =
-      λ flow has has_last has_body head_is to out again aims behind m.
-      starts_meet program flow routine (labels_in routine flow) body mark (block_of flow end) (block_of flow block) v s (aims_of (inner_aims flow has has_last head_is to out again aims behind m))
+      let inner_aims : (flow : Flow) → Has flow new → OptionHasArguments last → IsHead flow at head r → (to : Targets) (out again : Point) → Aims program routine flow to out again → (following : Next) → MeetsNext flow q following →
+      Aims program routine flow (in_for to at last following) (block_of flow end) (block_of flow block) =
+      λ flow has has_last head_is to out again aims following m. aims_in_loop (block_of flow end) (block_of flow block) aims (same_meets (on flow has) m) (again_met flow has has_last head_is) in
+      let body_met : (flow : Flow) → Has flow new → OptionHasArguments last → StatementHasArguments body → IsHead flow at head r → (to : Targets) (out again : Point) → Aims program routine flow to out again → (following : Next) → MeetsNext flow q following →
+      MeetsNext flow v (in_body to at last body following) =
+      λ flow has has_last has_body head_is to out again aims following m.
+      starts_meet program flow routine (labels_in routine flow) body mark (block_of flow end) (block_of flow block) v s (aims_of (inner_aims flow has has_last head_is to out again aims following m))
       (way.does flow (in_z flow has) has_body mark inner_mark) (same_meets leads (past_jump (again_met flow has has_last head_is))) in
       record {
         grows = grown;
@@ -88,14 +88,14 @@ module _ {program : TypedProgram} {routine : Routine} where
             let At : Point → Point → Type 0 = λ o b. executes_at program flow routine (labels_in routine flow) body mark o (block_of flow block) v b in
             let turned = subst (λ o. At o (jump_to block)) (on flow has) (subst (λ b. At (block_of flow end) b) leads (way.does flow (in_z flow has) has_body mark inner_mark)) in
             (block_of flow block, (r, v, head_is, tests.does flow q has has_test (on flow has), (jump_to block, turned, jumps there), ended.does flow (in_y flow has) has_last));
-        meets = λ flow has has_test has_last has_body head_is to out again aims behind m.
-            for_test_meets program flow routine (labels_in routine flow) at test r v q (tests.does flow q has has_test (on flow has)) (body_met flow has has_last has_body head_is to out again aims behind m);
-        brings = λ flow has has_test has_last has_body head_is to out again aims behind m.
+        meets = λ flow has has_test has_last has_body head_is to out again aims following m.
+            for_test_meets program flow routine (labels_in routine flow) at test r v q (tests.does flow q has has_test (on flow has)) (body_met flow has has_last has_body head_is to out again aims following m);
+        brings = λ flow has has_test has_last has_body head_is to out again aims following m.
             let last_brings = ended.brings flow (in_y flow has) has_last (met point.Head at) (turns flow head_is) in
-            let body_brings = way.brings flow (in_z flow has) has_body mark inner_mark (in_for to at last behind) (inner_aims flow has has_last head_is to out again aims behind m) (turning at last)
+            let body_brings = way.brings flow (in_z flow has) has_body mark inner_mark (in_for to at last following) (inner_aims flow has has_last head_is to out again aims following m) (turning at last)
             (same_meets leads (past_jump (again_met flow has has_last head_is))) in
-            let test_brings = tests.brings flow has has_test (in_body to at last body behind) behind (body_met flow has has_last has_body head_is to out again aims behind m) (same_meets (on flow has) m) in
-            brings_both (brings_both (nothing_then (ends.brings flow) (nothing_then (brings_jump head) last_brings)) (nothing_then (brings_jump block) (same_behind leads body_brings))) test_brings;
+            let test_brings = tests.brings flow has has_test (in_body to at last body following) following (body_met flow has has_last has_body head_is to out again aims following m) (same_meets (on flow has) m) in
+            brings_both (brings_both (nothing_then (ends.brings flow) (nothing_then (brings_jump head) last_brings)) (nothing_then (brings_jump block) (same_after leads body_brings))) test_brings;
       }
 
   -- a `for`
@@ -109,7 +109,7 @@ module _ {program : TypedProgram} {routine : Routine} where
       let a = before_it.grows.counts in
       let b = before_it.grows.same in
       let final : head + suc (length u.heads) ≡ u.marks = omega arith in
-      let here = behind_head u head final in
+      let here = after_head u head final in
       record {
         grows = more_and_more all 1 (1 + marks_in first + marks body) inside seals.grows (omega arith);
         does = λ flow has args mark e.
@@ -123,7 +123,7 @@ module _ {program : TypedProgram} {routine : Routine} where
             let loop = turns.does flow in_z args.1 args.2 args.3 (seals.is flow has head final) in
             subst (λ (m : ℕ). executes_at program flow routine (labels_in routine flow) (For at first test last body) m (block_of flow out) (block_of flow again) p q) same
             (block_of flow head, loop.0, all_on program routine flow first (head + 1) q (block_of flow again) p (jump_to head) (block_of flow head) begins (jumps there), loop.1);
-        brings = λ flow has args mark e to aims behind m.
+        brings = λ flow has args mark e to aims following m.
             let in_u = seals.grows.keeps flow has in
             let in_z = before_it.grows.keeps flow in_u in
             let head_is = seals.is flow has head final in
@@ -131,7 +131,7 @@ module _ {program : TypedProgram} {routine : Routine} where
             let g = block_of flow again in
             let head_met = same_meets head_is (point_meets at 0 (Reach point.Head head) r refl) in
             let first_aims = aims_in_switch (block_of flow end) aims (same_meets (turns.is flow in_z) m) in
-            let first_brings = before_it.brings flow in_u args.0 (head + 1) here (in_switch to behind) first_aims (met point.Head at) (same_meets starts (past_jump head_met)) in
-            for_brings at first test last body to behind head p r (turns.meets flow in_z args.1 args.2 args.3 head_is to o g aims behind m)
-            (turns.brings flow in_z args.1 args.2 args.3 head_is to o g aims behind m) (same_behind starts first_brings) (seals.brings flow head final);
+            let first_brings = before_it.brings flow in_u args.0 (head + 1) here (in_switch to following) first_aims (met point.Head at) (same_meets starts (past_jump head_met)) in
+            for_brings at first test last body to following head p r (turns.meets flow in_z args.1 args.2 args.3 head_is to o g aims following m)
+            (turns.brings flow in_z args.1 args.2 args.3 head_is to o g aims following m) (same_after starts first_brings) (seals.brings flow head final);
       }

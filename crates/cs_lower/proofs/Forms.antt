@@ -11,7 +11,7 @@ use Rattle.cs_ast.specs.declared.typed.operator.Direction.{Direction}
 use Rattle.cs_ast.specs.declared.typed.operator.Gives.{Gives}
 use Rattle.cs_ast.specs.TypedTree.{Typed, Of, Form, Convert, And, Or, Choice, Comma, Update, Move, Call, Allocate, TypedList}
 use Rattle.cs_ast.specs.TypedProgram.{TypedProgram}
-use Rattle.cs_plain.specs.Access.{access_of}
+use Rattle.cs_meaning.specs.Access.{access_of}
 use Rattle.cs_cfg.specs.ControlPoints.{Next, ControlPoint, first, points, points_of}
 use Rattle.cs_cfg.specs.Fitting.{Brings}
 use Rattle.cs_cfg.specs.Graph as graph
@@ -26,7 +26,7 @@ use Rattle.cs_lower.specs.Allocations.{HasArguments}
 use Rattle.cs_lower.specs.Building.{Built, blocks, Has, Grows}
 use Rattle.cs_lower.specs.Expressions.{Evaluates, Uses, UsesBoth, UsesAll, Ands, Ors, Chooses, Commas, does_if, acted, fetched}
 use Rattle.cs_lower.proofs.Built.{nothing_more, grows_on, brings_nothing}
-use Rattle.cs_lower.proofs.Evaluating.{same_behind}
+use Rattle.cs_lower.proofs.Evaluating.{same_after}
 
 -- what holds of a value that was made, if one was made
 pub if_made : {T E : Type 0} {P Q : T → Type 0} (result : Result T E) → ((made : T) → P made → Q made) → IfOk result P → IfOk result Q
@@ -47,46 +47,46 @@ module _ {program : TypedProgram} {at : Place} {ty : Shape} {number : ℕ} {old 
   -- what is built of an expression's parts, before what is done with them; the form may be seen as another that it is
   from_parts : {form it : Form} → form ≡ it → s ≡ acted program (Of at ty form) number q → Grows 0 old new
       → ((flow : Flow) → s ≡ acted program (Of at ty it) number q → Has flow new → HasArguments (Of at ty it) → evaluates_form program flow at ty it number p q)
-      → ((flow : Flow) → Has flow new → HasArguments (Of at ty it) → (behind : Next) → MeetsNext flow s behind → Brings flow (points_of at it behind) (s ∷ blocks old) (p ∷ blocks new))
+      → ((flow : Flow) → Has flow new → HasArguments (Of at ty it) → (following : Next) → MeetsNext flow s following → Brings flow (points_of at it following) (s ∷ blocks old) (p ∷ blocks new))
       → Evaluates program (Of at ty form) number old new p q
   from_parts {form = form} {it = it} is acts grows does brings =
       subst (λ f. s ≡ acted program (Of at ty f) number q → Evaluates program (Of at ty f) number old new p q) (sym is)
       (λ at_once. record {
         grows = grows;
         does = λ flow has args. does flow at_once has args;
-        brings = λ flow has args behind m.
+        brings = λ flow has args following m.
             let silent = acts_silently program at ty it in
             let work = work_of program ty it in
-            if_brings at number work q silent (same_behind at_once (brings flow has args behind (same_meets at_once (if_meets at number work q silent m))));
+            if_brings at number work q silent (same_after at_once (brings flow has args following (same_meets at_once (if_meets at number work q silent m))));
       }) acts
 
   -- an expression with one part, whose value is used
   pub part : {form it : Form} {a : Typed} → form ≡ it → ((flow : Flow) → used program flow a number p (acted program (Of at ty it) number q) → evaluates_form program flow at ty it number p q)
-      → (HasArguments (Of at ty it) → HasArguments a) → ((behind : Next) → points a behind ≡ points_of at it behind) → s ≡ acted program (Of at ty form) number q → Uses program a number old new p s
+      → (HasArguments (Of at ty it) → HasArguments a) → ((following : Next) → points a following ≡ points_of at it following) → s ≡ acted program (Of at ty form) number q → Uses program a number old new p s
       → Evaluates program (Of at ty form) number old new p q
   part {a = a} is does args points_are acts h = from_parts is acts h.grows
       (λ flow at_once has all. does flow (subst (λ r. used program flow a number p r) at_once (h.does flow has (args all))))
-      (λ flow has all behind m. subst (λ some. Brings flow some (s ∷ blocks old) (p ∷ blocks new)) (points_are behind) (h.brings flow has (args all) behind m))
+      (λ flow has all following m. subst (λ some. Brings flow some (s ∷ blocks old) (p ∷ blocks new)) (points_are following) (h.brings flow has (args all) following m))
 
   -- an expression with two parts, in the order in which they are evaluated
   pub pair : {form it : Form} {a b : Typed} → form ≡ it
       → ((flow : Flow) (r : Point) → used program flow a number p r → used program flow b (suc number) r (acted program (Of at ty it) number q) → evaluates_form program flow at ty it number p q)
-      → (HasArguments (Of at ty it) → HasArguments a × HasArguments b) → ((behind : Next) → points a (first b behind) ++ points b behind ≡ points_of at it behind) → s ≡ acted program (Of at ty form) number q
+      → (HasArguments (Of at ty it) → HasArguments a × HasArguments b) → ((following : Next) → points a (first b following) ++ points b following ≡ points_of at it following) → s ≡ acted program (Of at ty form) number q
       → UsesBoth program a b number old new p s → Evaluates program (Of at ty form) number old new p q
   pair {a = a} {b = b} is does args points_are acts h = from_parts is acts h.grows
       (λ flow at_once has all.
       let both = args all in
       let placed = h.does flow has both.0 both.1 in
       does flow placed.0 placed.1 (subst (λ r. used program flow b (suc number) placed.0 r) at_once placed.2))
-      (λ flow has all behind m.
+      (λ flow has all following m.
       let both = args all in
-      subst (λ some. Brings flow some (s ∷ blocks old) (p ∷ blocks new)) (points_are behind) (h.brings flow has both.0 both.1 behind m))
+      subst (λ some. Brings flow some (s ∷ blocks old) (p ∷ blocks new)) (points_are following) (h.brings flow has both.0 both.1 following m))
 
   -- a conversion to void doesn't use the value
   pub convert_away : {form : Form} {a : Typed} → form ≡ Convert a → ty ≡ void → s ≡ acted program (Of at ty form) number q → Evaluates program a number old new p s → Evaluates program (Of at ty form) number old new p q
   convert_away {a = a} is none acts h = from_parts is acts h.grows
       (λ flow at_once has all. away flow none (subst (λ r. evaluates program flow a number p r) at_once (h.does flow has all)))
-      (λ flow has all behind m. h.brings flow has all behind m)
+      (λ flow has all following m. h.brings flow has all following m)
     where
       away : (flow : Flow) → ty ≡ void → evaluates program flow a number p (acted program (Of at ty (Convert a)) number q) → evaluates_form program flow at ty (Convert a) number p q
       away flow is it = subst (λ t. evaluates program flow a number p (acted program (Of at t (Convert a)) number q) → evaluates_form program flow at t (Convert a) number p q) (sym is) (λ placed. placed) it
@@ -94,49 +94,49 @@ module _ {program : TypedProgram} {at : Place} {ty : Shape} {number : ℕ} {old 
   pub call : {form : Form} {row : TypedList} {function : ℕ} → form ≡ Call function row → s ≡ acted program (Of at ty form) number q → UsesAll program row number old new p s → Evaluates program (Of at ty form) number old new p q
   call {row = row} is acts parts = from_parts is acts parts.grows
       (λ flow at_once has args. subst (λ r. used_all program flow row number p r) at_once (parts.does flow has args))
-      (λ flow has args behind m. parts.brings flow has args behind m)
+      (λ flow has args following m. parts.brings flow has args following m)
 
   pub allocate : {form : Form} {row : TypedList} {allocator : Allocator} {element : Shape} → form ≡ Allocate allocator row element → s ≡ acted program (Of at ty form) number q → UsesAll program row number old new p s → Evaluates program (Of at ty form) number old new p q
   allocate {row = row} is acts parts = from_parts is acts parts.grows
       (λ flow at_once has args. (args.0, subst (λ r. used_all program flow row number p r) at_once (parts.does flow has args.1)))
-      (λ flow has args behind m. parts.brings flow has args.1 behind m)
+      (λ flow has args following m. parts.brings flow has args.1 following m)
 
   pub and : {form : Form} {a b : Typed} → form ≡ And a b → s ≡ acted program (Of at ty form) number q → Ands program at a b number old new p s → Evaluates program (Of at ty form) number old new p q
   and {a = a} {b = b} is acts parts = from_parts is acts parts.grows
       (λ flow at_once has args. subst (λ r. evaluates program flow (Of at ty (And a b)) number p r) at_once (parts.does flow has args.0 args.1 ty))
-      (λ flow has args behind m. parts.brings flow has args.0 args.1 behind m)
+      (λ flow has args following m. parts.brings flow has args.0 args.1 following m)
 
   pub or : {form : Form} {a b : Typed} → form ≡ Or a b → s ≡ acted program (Of at ty form) number q → Ors program at a b number old new p s → Evaluates program (Of at ty form) number old new p q
   or {a = a} {b = b} is acts parts = from_parts is acts parts.grows
       (λ flow at_once has args. subst (λ r. evaluates program flow (Of at ty (Or a b)) number p r) at_once (parts.does flow has args.0 args.1 ty))
-      (λ flow has args behind m. parts.brings flow has args.0 args.1 behind m)
+      (λ flow has args following m. parts.brings flow has args.0 args.1 following m)
 
   pub choice : {form : Form} {a b c : Typed} → form ≡ Choice a b c → s ≡ acted program (Of at ty form) number q → Chooses program at a b c number old new p s → Evaluates program (Of at ty form) number old new p q
   choice {a = a} {b = b} {c = c} is acts parts = from_parts is acts parts.grows
       (λ flow at_once has args. subst (λ r. evaluates program flow (Of at ty (Choice a b c)) number p r) at_once (parts.does flow has args.0 args.1 args.2 ty))
-      (λ flow has args behind m. parts.brings flow has args.0 args.1 args.2 behind m)
+      (λ flow has args following m. parts.brings flow has args.0 args.1 args.2 following m)
 
   pub comma : {form : Form} {a b : Typed} → form ≡ Comma a b → s ≡ acted program (Of at ty form) number q → Commas program at a b number old new p s → Evaluates program (Of at ty form) number old new p q
   comma {a = a} {b = b} is acts parts = from_parts is acts parts.grows
       (λ flow at_once has args. subst (λ r. evaluates program flow (Of at ty (Comma a b)) number p r) at_once (parts.does flow has args.0 args.1 ty))
-      (λ flow has args behind m. parts.brings flow has args.0 args.1 behind m)
+      (λ flow has args following m. parts.brings flow has args.0 args.1 following m)
 
 -- an expression without parts
 pub alone : {program : TypedProgram} {at : Place} {ty : Shape} {number : ℕ} {built : Built} {s q : Point} {form it : Form} → form ≡ it
-    → ((flow : Flow) → evaluates_form program flow at ty it number (acted program (Of at ty it) number q) q) → ((behind : Next) → points_of at it behind ≡ []) → s ≡ acted program (Of at ty form) number q
+    → ((flow : Flow) → evaluates_form program flow at ty it number (acted program (Of at ty it) number q) q) → ((following : Next) → points_of at it following ≡ []) → s ≡ acted program (Of at ty form) number q
     → Evaluates program (Of at ty form) number built built s q
 alone {program = program} {at = at} {ty = ty} {number = number} {built = built} {s = s} {q = q} {it = it} is does points_are acts = from_parts is acts (nothing_more built)
     (λ flow at_once has args. subst (λ r. evaluates_form program flow at ty it number r q) (sym at_once) (does flow))
-    (λ flow has args behind m. subst (λ some. Brings flow some (s ∷ blocks built) (s ∷ blocks built)) (sym (points_are behind)) brings_nothing)
+    (λ flow has args following m. subst (λ some. Brings flow some (s ∷ blocks built) (s ∷ blocks built)) (sym (points_are following)) brings_nothing)
 
 -- a conversion uses the value, but for one to void
 pub convert : {program : TypedProgram} {at : Place} {number : ℕ} {old new : Built} {p s q : Point} {form : Form} {a : Typed} (to : CType) → (to ≡ Void → ⊥) → form ≡ Convert a → s ≡ acted program (Of at (shape_of to) form) number q
     → Uses program a number old new p s → Evaluates program (Of at (shape_of to) form) number old new p q
 convert Void used is acts h = absurd (used refl)
-convert (Int ty) used is acts h = part is (λ flow it. it) (λ args. args) (λ behind. refl) acts h
-convert (Pointer' place target) used is acts h = part is (λ flow it. it) (λ args. args) (λ behind. refl) acts h
-convert (Array' place element count) used is acts h = part is (λ flow it. it) (λ args. args) (λ behind. refl) acts h
-convert (Struct number) used is acts h = part is (λ flow it. it) (λ args. args) (λ behind. refl) acts h
+convert (Int ty) used is acts h = part is (λ flow it. it) (λ args. args) (λ following. refl) acts h
+convert (Pointer' place target) used is acts h = part is (λ flow it. it) (λ args. args) (λ following. refl) acts h
+convert (Array' place element count) used is acts h = part is (λ flow it. it) (λ args. args) (λ following. refl) acts h
+convert (Struct number) used is acts h = part is (λ flow it. it) (λ args. args) (λ following. refl) acts h
 
 -- updates: the load stands between the two parts
 module _ {program : TypedProgram} {at : Place} {ty : Shape} {number next : ℕ} {old mid new : Built} {p t r s q : Point} where
@@ -150,10 +150,10 @@ module _ {program : TypedProgram} {at : Place} {ty : Shape} {number next : ℕ} 
         subst (λ u. used program flow a number p u) loads (one.does flow has args.0),
         subst (λ u. used program flow b (3 + number) r u) at_once (subst (λ (n : ℕ). used program flow b n r s) above (last.does flow (one.grows.keeps flow has) args.1)),
       ))
-      (λ flow has args behind m.
+      (λ flow has args following m.
       let in_mid = one.grows.keeps flow has in
       let loaded = does_meets at number load r refl (used_meets program flow b next r s (last.does flow in_mid args.1) m) in
-      brings_both (last.brings flow in_mid args.1 behind m) (brings_past at number load r refl (same_behind loads (one.brings flow has args.0 (first b behind) (same_meets loads loaded)))))
+      brings_both (last.brings flow in_mid args.1 following m) (brings_past at number load r refl (same_after loads (one.brings flow has args.0 (first b following) (same_meets loads loaded)))))
 
   pub move : {form : Form} {a b : Typed} {direction : Direction} {gives : Gives} → form ≡ Move a b direction gives → s ≡ acted program (Of at ty form) number q → next ≡ 2 + number → Uses program b next old mid r s → t ≡ fetched (Of at ty form) number r → Uses program a number mid new p t → Evaluates program (Of at ty form) number old new p q
   move {a = a} {b = b} is acts above last fetch one =
@@ -165,7 +165,7 @@ module _ {program : TypedProgram} {at : Place} {ty : Shape} {number next : ℕ} 
         subst (λ u. used program flow a number p u) loads (one.does flow has args.0),
         subst (λ u. used program flow b (2 + number) r u) at_once (subst (λ (n : ℕ). used program flow b n r s) above (last.does flow (one.grows.keeps flow has) args.1)),
       ))
-      (λ flow has args behind m.
+      (λ flow has args following m.
       let in_mid = one.grows.keeps flow has in
       let loaded = does_meets at number load r refl (used_meets program flow b next r s (last.does flow in_mid args.1) m) in
-      brings_both (last.brings flow in_mid args.1 behind m) (brings_past at number load r refl (same_behind loads (one.brings flow has args.0 (first b behind) (same_meets loads loaded)))))
+      brings_both (last.brings flow in_mid args.1 following m) (brings_past at number load r refl (same_after loads (one.brings flow has args.0 (first b following) (same_meets loads loaded)))))

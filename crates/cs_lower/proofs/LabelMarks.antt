@@ -1,13 +1,13 @@
--- The mark of a label doesn't depend on what is to be done behind the statement: for the contract of `add_labels`.
+-- The mark of a label doesn't depend on what is to be done after the statement: for the contract of `add_labels`.
 use Rattle.std.proofs.Common.{◌≡◌, ℕ, suc, ◌+◌, ◌≤◌, ◌==◌, Bool, true, false, List, [], ◌∷◌, length, drop, get_or, drop-cons, Option, Some, None, refl, sym, ap, ◌∙◌, arith}
 use Rattle.std.specs.Prelude.{Result, Ok, Err, OnOk, option_map, if◌then◌else◌}
 use Rattle.std.specs.Option.{option_or}
 use Rattle.cs_ast.specs.declared.typed.statement.Stmt.{Stmt}
 use Rattle.cs_ast.specs.TypedView.{statement, statement_list}
 use Rattle.cs_ast.specs.TypedTree.{Statement, Block, Declare, Run, If, IfElse, While, Do, For, Switch, Goto, Label, Break, Continue, Return, Statements, Empty, Then}
-use Rattle.cs_plain.specs.Machine.{Item}
-use Rattle.cs_plain.specs.Marks.{marks, marks_in}
-use Rattle.cs_plain.specs.Jumps.{Landing, first_of_two, landing, landing_in}
+use Rattle.cs_meaning.specs.Machine.{Item}
+use Rattle.cs_meaning.specs.Marks.{marks, marks_in}
+use Rattle.cs_meaning.specs.Jumps.{Landing, first_of_two, landing, landing_in}
 use Rattle.cs_lower.specs.Labels.{label_in, label_among}
 
 abbrev mark_of : Option Landing → Option ℕ
@@ -32,7 +32,7 @@ mutual
   same_mark wanted (Declare at declaration initial) mark one other = refl
   same_mark wanted (Run at e) mark one other = refl
   same_mark wanted (If at test body) mark one other = same_mark wanted body mark one other
-  same_mark wanted (IfElse at test body behind) mark one other = either _ _ _ _ (same_mark wanted body mark one other) (same_mark wanted behind (mark + marks body) one other)
+  same_mark wanted (IfElse at test body following) mark one other = either _ _ _ _ (same_mark wanted body mark one other) (same_mark wanted following (mark + marks body) one other)
   same_mark wanted (While at test body) mark one other = same_mark wanted body (mark + 1) _ _
   same_mark wanted (Do at body test) mark one other = same_mark wanted body (mark + 1) _ _
   same_mark wanted (For at first test last body) mark one other = same_mark wanted body (mark + 1 + marks_in first) _ _

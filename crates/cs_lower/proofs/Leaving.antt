@@ -4,8 +4,8 @@ use Rattle.std.specs.Prelude.{option_map, unwrap_or}
 use Rattle.cs_ast.specs.declared.place.Place.{Place}
 use Rattle.cs_ast.specs.TypedTree.{Typed, Goto, Break, Continue, Return}
 use Rattle.cs_ast.specs.TypedProgram.{TypedProgram, Routine}
-use Rattle.cs_plain.specs.Machine.{body_of}
-use Rattle.cs_plain.specs.Jumps.{Landing, landing}
+use Rattle.cs_meaning.specs.Machine.{body_of}
+use Rattle.cs_meaning.specs.Jumps.{Landing, landing}
 use Rattle.cs_cfg.specs.Fitting.{Brings}
 use Rattle.cs_cfg.specs.Graph.{Point, Flow, block_of}
 use Rattle.cs_cfg.specs.Placing.{Joins, there, jumps}
@@ -21,23 +21,23 @@ use Rattle.cs_lower.proofs.Evaluating.{same_before}
 jump_leads : {program : TypedProgram} (flow : Flow) (block : ℕ) (p : Point) → p ≡ jump_to block → Joins program flow p (block_of flow block)
 jump_leads {program = program} flow block p is = subst (λ r. Joins program flow r (block_of flow block)) (sym is) (jumps there)
 
--- what comes behind is kept, and brings in no control points
+-- what comes after is kept, and brings in no control points
 led_off : (flow : Flow) {block : ℕ} {old new : Built} {p q : Point} → LeadsOff old new block p q → Brings flow [] (q ∷ blocks old) (p ∷ blocks new)
 led_off flow {block = block} h = same_before h.is (then_nothing (h.keeps.brings flow) (brings_jump block))
 
 module _ {program : TypedProgram} {routine : Routine} where
   pub break : {at : Place} {out again : ℕ} {old new : Built} {p q : Point} → LeadsOff old new out p q → Executes program routine (Break at) out again old new p q
-  break {out = out} {p = p} h = record { grows = h.keeps.grows; does = λ flow has args mark e. (jump_leads flow out p h.is, h.keeps.kept program flow has); brings = λ flow has args mark e to aims behind m. led_off flow h }
+  break {out = out} {p = p} h = record { grows = h.keeps.grows; does = λ flow has args mark e. (jump_leads flow out p h.is, h.keeps.kept program flow has); brings = λ flow has args mark e to aims following m. led_off flow h }
 
   pub continue : {at : Place} {out again : ℕ} {old new : Built} {p q : Point} → LeadsOff old new again p q → Executes program routine (Continue at) out again old new p q
-  continue {again = again} {p = p} h = record { grows = h.keeps.grows; does = λ flow has args mark e. (jump_leads flow again p h.is, h.keeps.kept program flow has); brings = λ flow has args mark e to aims behind m. led_off flow h }
+  continue {again = again} {p = p} h = record { grows = h.keeps.grows; does = λ flow has args mark e. (jump_leads flow again p h.is, h.keeps.kept program flow has); brings = λ flow has args mark e to aims following m. led_off flow h }
 
   -- a `goto`
   pub goto_there : {at : Place} {label mark out again : ℕ} {old new : Built} {p q : Point} → marked_label routine label ≡ Some mark → LeadsOff old new mark p q → Executes program routine (Goto at label) out again old new p q
   goto_there {label = label} {mark = mark} {p = p} {q = q} found h = record {
     grows = h.keeps.grows;
     does = λ flow has args n e. goes flow (landing label (body_of routine) 0 []) found (h.keeps.kept program flow has);
-    brings = λ flow has args n e to aims behind m. led_off flow h;
+    brings = λ flow has args n e to aims following m. led_off flow h;
   }
     where
       goes : (flow : Flow) (o : Option Landing) → option_map (λ (l : Landing). l.mark) o ≡ Some mark → IsKept program flow q
@@ -51,7 +51,7 @@ module _ {program : TypedProgram} {routine : Routine} where
   goto_nowhere {label = label} {built = built} {p = p} none = record {
     grows = nothing_more built;
     does = λ flow has args n e. goes flow (landing label (body_of routine) 0 []) none;
-    brings = λ flow has args n e to aims behind m. brings_nothing;
+    brings = λ flow has args n e to aims following m. brings_nothing;
   }
     where
       goes : (flow : Flow) (o : Option Landing) → option_map (λ (l : Landing). l.mark) o ≡ None → goes_to program flow routine (labels_in routine flow) o (block_of flow (unwrap_or (option_map (λ (l : Landing). l.mark) o) 0)) p p
@@ -63,5 +63,5 @@ module _ {program : TypedProgram} {routine : Routine} where
   returns keeps h = record {
     grows = grows_on keeps.grows h.grows;
     does = λ flow has args mark e. (h.does flow has args, keeps.kept program flow (h.grows.keeps flow has));
-    brings = λ flow has args mark e to aims behind m. nothing_then (keeps.brings flow) (h.brings flow has args to behind);
+    brings = λ flow has args mark e to aims following m. nothing_then (keeps.brings flow) (h.brings flow has args to following);
   }

@@ -10,9 +10,9 @@ use Rattle.cs_ast.specs.declared.typed.statement.Stmt.{Stmt}
 use Rattle.cs_ast.specs.TypedView.{statement, statement_list}
 use Rattle.cs_ast.specs.TypedTree.{Typed, Statement, Switch, Statements, Empty, Then}
 use Rattle.cs_ast.specs.TypedProgram.{TypedProgram, Routine}
-use Rattle.cs_runs.specs.declared.point.PointKind.TheVariants as point
-use Rattle.cs_plain.specs.Marks.{marks, marks_in}
-use Rattle.cs_plain.specs.Statements.{default_item}
+use Rattle.cs_events.specs.declared.point.PointKind.TheVariants as point
+use Rattle.cs_meaning.specs.Marks.{marks, marks_in}
+use Rattle.cs_meaning.specs.Statements.{default_item}
 use Rattle.cs_cfg.specs.ControlPoints.{met, in_switch, starts_in}
 use Rattle.cs_cfg.specs.Graph.{Point, Flow, SwitchCase, block_of}
 use Rattle.cs_cfg.specs.Placing.{there, jumps}
@@ -56,7 +56,7 @@ module _ {program : TypedProgram} {routine : Routine} where
     grows = nothing_more built;
     counts = refl;
     does = λ flow has args mark e item. there;
-    brings = λ flow has args mark e to aims behind m. brings_nothing;
+    brings = λ flow has args mark e to aims following m. brings_nothing;
   }
 
   pub enters_then : {first : Statement} {others : Statements} {out again : ℕ} {old mid new : Built} {block next end : ℕ} {entries : List ℕ} → next ≡ block_at entries end 0
@@ -68,26 +68,26 @@ module _ {program : TypedProgram} {routine : Routine} where
         counts = omega arith;
         does = λ flow has args mark e.
             enters flow mark (one.does flow has args.0 mark e) (last.does flow (one.grows.keeps flow has) args.1 (mark + marks first) (mark_before one.grows mark e));
-        brings = λ flow has args mark e to aims behind m.
+        brings = λ flow has args mark e to aims following m.
             let in_mid = one.grows.keeps flow has in
             let below = mark_before one.grows mark e in
-            let behind_first = others_at flow mark (last.does flow in_mid args.1 (mark + marks first) below) in
-            let on = all_start program flow routine (labels_in routine flow) others (mark + marks first) (block_of flow out) (block_of flow again) (block_of flow next) (block_of flow end) (aims_of aims) behind_first m in
-            brings_both (last.brings flow in_mid args.1 (mark + marks first) below to aims behind m)
-            (nothing_then (brings_jump next) (one.brings flow has args.0 mark e to aims (starts_in to others behind) on));
+            let following_first = others_at flow mark (last.does flow in_mid args.1 (mark + marks first) below) in
+            let on = all_start program flow routine (labels_in routine flow) others (mark + marks first) (block_of flow out) (block_of flow again) (block_of flow next) (block_of flow end) (aims_of aims) following_first m in
+            brings_both (last.brings flow in_mid args.1 (mark + marks first) below to aims following m)
+            (nothing_then (brings_jump next) (one.brings flow has args.0 mark e to aims (starts_in to others following) on));
       }
     where
       others_at : (flow : Flow) (mark : ℕ) → ((item : ℕ) → from_at program flow routine (labels_in routine flow) item others (mark + marks first) (block_of flow out) (block_of flow again) (block_of flow (block_at entries end item)) (block_of flow end))
           → all_at program flow routine (labels_in routine flow) others (mark + marks first) (block_of flow out) (block_of flow again) (block_of flow next) (block_of flow end)
-      others_at flow mark behind =
+      others_at flow mark following =
           subst (λ (b : ℕ). all_at program flow routine (labels_in routine flow) others (mark + marks first) (block_of flow out) (block_of flow again) (block_of flow b) (block_of flow end)) (sym is)
-          (all_from program routine flow others (mark + marks first) (block_of flow out) (block_of flow again) (block_of flow (block_at entries end 0)) (block_of flow end) (behind 0))
+          (all_from program routine flow others (mark + marks first) (block_of flow out) (block_of flow again) (block_of flow (block_at entries end 0)) (block_of flow end) (following 0))
 
       enters : (flow : Flow) (mark : ℕ) → executes_at program flow routine (labels_in routine flow) first mark (block_of flow out) (block_of flow again) (block_of flow block) (jump_to next)
           → ((item : ℕ) → from_at program flow routine (labels_in routine flow) item others (mark + marks first) (block_of flow out) (block_of flow again) (block_of flow (block_at entries end item)) (block_of flow end))
           → (item : ℕ) → from_at program flow routine (labels_in routine flow) item (Then first others) mark (block_of flow out) (block_of flow again) (block_of flow (block_at (block ∷ entries) end item)) (block_of flow end)
-      enters flow mark here behind zero = (block_of flow next, (jump_to next, here, jumps there), others_at flow mark behind)
-      enters flow mark here behind (suc item) = behind item
+      enters flow mark here following zero = (block_of flow next, (jump_to next, here, jumps there), others_at flow mark following)
+      enters flow mark here following (suc item) = following item
 
   -- one more of a row that is lowered from its end
   pub enters_further : {out again : ℕ} {old mid new : Built} {block next end : ℕ} {blocks more : List ℕ} (row : List Stmt) (left : ℕ) (s : Stmt) → 1 ≤ left → left ≤ length row → s ≡ get_or row (left - 1) s → next ≡ block_at blocks end 0 → more ≡ block ∷ blocks
@@ -121,12 +121,12 @@ module _ {program : TypedProgram} {routine : Routine} where
       record {
         grows = more_and_more 0 (marks_in statements) (marks_in statements) ends.grows (more_and_more (marks_in statements) 0 (marks_in statements) enters.grows goes.grows (omega arith)) (omega arith);
         does = placed;
-        brings = λ flow has args mark e to aims behind m.
+        brings = λ flow has args mark e to aims following m.
             let in_y = goes.grows.keeps flow has in
             let on = same_meets (ends.is flow (enters.grows.keeps flow in_y)) m in
             let inner_aims = aims_in_switch (block_of flow end) aims on in
             switch_brings program flow routine (labels_in routine flow) mark (block_of flow out) (block_of flow again) p q (aims_of aims) m (ends.brings flow) at value cases statements end (placed flow has args mark e)
-            (nothing_then brings_less (enters.brings flow in_y args.1 mark (mark_stays goes.grows mark e) (in_switch to behind) inner_aims behind on))
+            (nothing_then brings_less (enters.brings flow in_y args.1 mark (mark_stays goes.grows mark e) (in_switch to following) inner_aims following on))
             (goes.brings flow has args.0 (met point.Switch at) (switch_meets at (cases_to entries end cases) (block_at entries end (default_item cases (length entries)))));
       }
 
@@ -142,18 +142,18 @@ cases_to-on blocks end cases i one within is =
     split None = refl
     split (Some value) = refl
 
--- nothing is left behind all of a list
+-- nothing is left after all of a list
 pub dropped : {X : Type 0} (xs : List X) (i : ℕ) → length xs ≤ i → drop i xs ≡ []
 dropped [] zero h = refl
 dropped [] (suc i) h = refl
 dropped (x ∷ xs) zero h = absurd (omega arith)
 dropped (x ∷ xs) (suc i) h = dropped xs i (omega arith)
 
-nothing_behind : {X : Type 0} (xs : List X) → xs ++ [] ≡ xs
-nothing_behind [] = refl
-nothing_behind (x ∷ xs) = ap (λ l. x ∷ l) (nothing_behind xs)
+nothing_after : {X : Type 0} (xs : List X) → xs ++ [] ≡ xs
+nothing_after [] = refl
+nothing_after (x ∷ xs) = ap (λ l. x ∷ l) (nothing_after xs)
 
--- where no case is the `default`, all statements are behind it
+-- where no case is the `default`, all statements are after it
 pub no_default : (blocks : List ℕ) (end : ℕ) (cases : List Case) (i : ℕ) → length cases ≤ i → default_item (drop i cases) (length blocks) ≡ default_item cases (length blocks) → end ≡ block_at blocks end (default_item cases (length blocks))
 no_default blocks end cases i past is =
     let past_all : length blocks ≤ length blocks = omega arith in
@@ -171,4 +171,4 @@ one_more_case blocks end cases i one block ways more within is at adds so_far =
 -- all cases
 pub all_cases : (blocks : List ℕ) (end : ℕ) (cases : List Case) (i : ℕ) (ways : List SwitchCase) → length cases ≤ i → ways ++ cases_to blocks end (drop i cases) ≡ cases_to blocks end cases → ways ≡ cases_to blocks end cases
 all_cases blocks end cases i ways past so_far =
-    sym (nothing_behind ways) ∙ (ap (λ l. ways ++ cases_to blocks end l) (sym (dropped cases i past)) ∙ so_far)
+    sym (nothing_after ways) ∙ (ap (λ l. ways ++ cases_to blocks end l) (sym (dropped cases i past)) ∙ so_far)

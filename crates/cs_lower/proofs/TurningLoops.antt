@@ -3,8 +3,8 @@ use Rattle.std.proofs.Common.{◌≡◌, ℕ, suc, ◌+◌, length, refl, sym, s
 use Rattle.cs_ast.specs.declared.place.Place.{Place}
 use Rattle.cs_ast.specs.TypedTree.{Typed, Statement, While, Do}
 use Rattle.cs_ast.specs.TypedProgram.{TypedProgram, Routine}
-use Rattle.cs_runs.specs.declared.point.PointKind.TheVariants as point
-use Rattle.cs_plain.specs.Marks.{marks}
+use Rattle.cs_events.specs.declared.point.PointKind.TheVariants as point
+use Rattle.cs_meaning.specs.Marks.{marks}
 use Rattle.cs_cfg.specs.ControlPoints.{met, first, in_loop}
 use Rattle.cs_cfg.specs.Graph as graph
 use Rattle.cs_cfg.specs.Graph.{Point, Flow, block_of}
@@ -21,7 +21,7 @@ use Rattle.cs_lower.specs.Expressions.{Uses}
 use Rattle.cs_lower.specs.Statements.{labels_in, Executes, ExecutesIn}
 use Rattle.cs_lower.proofs.Aiming.{aims_of, aims_in_loop}
 use Rattle.cs_lower.proofs.Built.{more_and_more}
-use Rattle.cs_lower.proofs.Evaluating.{jump_joins, same_behind, same_before}
+use Rattle.cs_lower.proofs.Evaluating.{jump_joins, same_after, same_before}
 use Rattle.cs_lower.proofs.Executing.{mark_stays}
 
 -- the head of a loop has the number that was told before its body
@@ -40,9 +40,9 @@ is_last head inside before counts =
     let c = inside.same in
     omega arith
 
--- the mark behind the head
-pub behind_head : (built : Built) (head : ℕ) → head + suc (length built.heads) ≡ built.marks → head + 1 + length built.heads ≡ built.marks
-behind_head built head e = omega arith
+-- the mark after the head
+pub after_head : (built : Built) (head : ℕ) → head + suc (length built.heads) ≡ built.marks → head + 1 + length built.heads ≡ built.marks
+after_head built head e = omega arith
 
 module _ (program : TypedProgram) (flow : Flow) where
   -- a block leads to what it is
@@ -57,7 +57,7 @@ module _ {program : TypedProgram} {routine : Routine} where
   while_made {at = at} {test = test} {body = body} {out = out} {again = again} {head = head} {end = end} {one = one} {z = z} {new = new} {p = p} {r = r} {q = q} before counts ends way tests seals jump =
       let inside = more_and_more 0 (marks body) (marks body) ends.grows (more_and_more (marks body) 0 (marks body) way.grows tests.grows (omega arith)) (omega arith) in
       let last = is_last head inside before counts in
-      let here = mark_stays tests.grows (head + 1) (behind_head z head last) in
+      let here = mark_stays tests.grows (head + 1) (after_head z head last) in
       let placed : (flow : Flow) → Has flow new → StatementHasArguments (While at test body) → executes_at program flow routine (labels_in routine flow) (While at test body) head (block_of flow out) (block_of flow again) p q =
       λ flow has args.
       let in_z = seals.grows.keeps flow has in
@@ -84,7 +84,7 @@ module _ {program : TypedProgram} {routine : Routine} where
         grows = more_and_more (marks body) 1 (1 + marks body) inside seals.grows (omega arith);
         does = λ flow has args mark e.
             subst (λ (m : ℕ). executes_at program flow routine (labels_in routine flow) (While at test body) m (block_of flow out) (block_of flow again) p q) (is_head inside seals.grows before counts e) (placed flow has args);
-        brings = λ flow has args mark e to aims behind m.
+        brings = λ flow has args mark e to aims following m.
             let in_z = seals.grows.keeps flow has in
             let in_y = tests.grows.keeps flow in_z in
             let in_x = way.grows.keeps flow in_y in
@@ -92,18 +92,18 @@ module _ {program : TypedProgram} {routine : Routine} where
             let inner_aims = aims_in_loop (block_of flow end) (block_of flow head) aims (same_meets (ends.is flow in_x) m) turns in
             same_before jump
             (while_brings program flow routine (labels_in routine flow) head (block_of flow out) (block_of flow again) p q (aims_of aims) m (ends.brings flow) at test body head (placed flow has args)
-            (way.brings flow in_y args.1 (head + 1) here (in_loop to behind (met point.Head at)) inner_aims (met point.Head at) turns)
+            (way.brings flow in_y args.1 (head + 1) here (in_loop to following (met point.Head at)) inner_aims (met point.Head at) turns)
             (tests.brings flow in_z args.0 (met point.Branch at) (split_meets at 0 one end)) (seals.brings flow head last));
       }
 
   -- a `do`
-  pub do_made : {at : Place} {test : Typed} {body : Statement} {out again inner head end behind : ℕ} {old x y z w new : Built} {p v r q s : Point} → head + suc (inner + length old.heads) ≡ old.marks → inner ≡ marks body
-      → Seals old x end q → Uses program test 0 x y r (split at 0 head end) → Seals y z behind r → s ≡ jump_to behind → Executes program routine body end behind z w v s → SealsMark w new point.Head at v → p ≡ jump_to head
+  pub do_made : {at : Place} {test : Typed} {body : Statement} {out again inner head end following : ℕ} {old x y z w new : Built} {p v r q s : Point} → head + suc (inner + length old.heads) ≡ old.marks → inner ≡ marks body
+      → Seals old x end q → Uses program test 0 x y r (split at 0 head end) → Seals y z following r → s ≡ jump_to following → Executes program routine body end following z w v s → SealsMark w new point.Head at v → p ≡ jump_to head
       → Executes program routine (Do at body test) out again old new p q
-  do_made {at = at} {test = test} {body = body} {out = out} {again = again} {head = head} {end = end} {behind = behind} {w = w} {new = new} {p = p} {v = v} {r = r} {q = q} {s = s} before counts ends tests tested leads way seals jump =
+  do_made {at = at} {test = test} {body = body} {out = out} {again = again} {head = head} {end = end} {following = following} {w = w} {new = new} {p = p} {v = v} {r = r} {q = q} {s = s} before counts ends tests tested leads way seals jump =
       let inside = more_and_more 0 (marks body) (marks body) ends.grows (more_and_more 0 (marks body) (marks body) tests.grows (more_and_more 0 (marks body) (marks body) tested.grows way.grows (omega arith)) (omega arith)) (omega arith) in
       let last = is_last head inside before counts in
-      let here = behind_head w head last in
+      let here = after_head w head last in
       let placed : (flow : Flow) → Has flow new → StatementHasArguments (Do at body test) → executes_at program flow routine (labels_in routine flow) (Do at body test) head (block_of flow out) (block_of flow again) p q =
       λ flow has args.
       let in_w = seals.grows.keeps flow has in
@@ -112,14 +112,14 @@ module _ {program : TypedProgram} {routine : Routine} where
       let in_x = tests.grows.keeps flow in_y in
       let executed = way.does flow in_w args.0 (head + 1) here in
       let At : Point → Point → Point → Type 0 = λ o a t. executes_at program flow routine (labels_in routine flow) body (head + 1) o a v t in
-      let turned = subst (λ o. At o r (jump_to behind)) (ends.is flow in_x) (subst (λ a. At (block_of flow end) a (jump_to behind)) (tested.is flow in_z) (subst (λ t. At (block_of flow end) (block_of flow behind) t) leads executed)) in (
+      let turned = subst (λ o. At o r (jump_to following)) (ends.is flow in_x) (subst (λ a. At (block_of flow end) a (jump_to following)) (tested.is flow in_z) (subst (λ t. At (block_of flow end) (block_of flow following) t) leads executed)) in (
         block_of flow head,
         r,
         subst (λ t. Joins program flow t (block_of flow head)) (sym jump) (jumps there),
         (
           v,
           seals.is flow has head last,
-          (jump_to behind, turned, jump_joins program flow behind r (tested.is flow in_z)),
+          (jump_to following, turned, jump_joins program flow following r (tested.is flow in_z)),
           (head, end, tests.does flow in_y args.1, (there, block_joins program flow end q (ends.is flow in_x))),
         ),
       ) in
@@ -134,9 +134,9 @@ module _ {program : TypedProgram} {routine : Routine} where
             let in_x = tests.grows.keeps flow in_y in
             let again_next = first test (met point.Branch at) in
             let again_met = same_meets (tested.is flow in_z) (used_meets program flow test 0 r (split at 0 head end) (tests.does flow in_y args.1) (split_meets at 0 head end)) in
-            let inner_aims = aims_in_loop (block_of flow end) (block_of flow behind) aims (same_meets (ends.is flow in_x) m) again_met in
+            let inner_aims = aims_in_loop (block_of flow end) (block_of flow following) aims (same_meets (ends.is flow in_x) m) again_met in
             same_before jump
-            (do_brings program flow routine (labels_in routine flow) head (block_of flow out) (block_of flow again) p q (aims_of aims) m (ends.brings flow) at body test head behind (placed flow has args)
+            (do_brings program flow routine (labels_in routine flow) head (block_of flow out) (block_of flow again) p q (aims_of aims) m (ends.brings flow) at body test head following (placed flow has args)
             (then_nothing (tests.brings flow in_y args.1 (met point.Branch at) (split_meets at 0 head end)) (tested.brings flow))
-            (same_behind leads (way.brings flow in_w args.0 (head + 1) here (in_loop to next again_next) inner_aims again_next (same_meets leads (past_jump again_met)))) (seals.brings flow head last));
+            (same_after leads (way.brings flow in_w args.0 (head + 1) here (in_loop to next again_next) inner_aims again_next (same_meets leads (past_jump again_met)))) (seals.brings flow head last));
       }

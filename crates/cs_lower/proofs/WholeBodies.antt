@@ -8,10 +8,10 @@ use Rattle.std.proofs.lemmas.Bool.{false≢true}
 use Rattle.std.proofs.lemmas.Bool.Decides.{nat_tests}
 use Rattle.cs_ast.specs.TypedTree.{Statement}
 use Rattle.cs_ast.specs.TypedProgram.{TypedProgram, Routine}
-use Rattle.cs_runs.specs.declared.point.PointKind.TheVariants as point
-use Rattle.cs_plain.specs.Machine.{no_routine, NOWHERE, routine_of}
-use Rattle.cs_plain.specs.Marks.{marks}
-use Rattle.cs_plain.specs.Calls.{falls_off}
+use Rattle.cs_events.specs.declared.point.PointKind.TheVariants as point
+use Rattle.cs_meaning.specs.Machine.{no_routine, NOWHERE, routine_of}
+use Rattle.cs_meaning.specs.Marks.{marks}
+use Rattle.cs_meaning.specs.Calls.{falls_off}
 use Rattle.cs_cfg.specs.ControlPoints.{flows, end_of, body_targets, control_points}
 use Rattle.cs_cfg.specs.Fitting.{BlockFits, AllFit, GraphFits, CodeFits, Brings}
 use Rattle.cs_cfg.specs.Graph as graph
@@ -34,14 +34,14 @@ use Rattle.cs_lower.specs.Statements.{labels_in, Aims, Executes}
 use Rattle.cs_lower.specs.Functions.{BeginsBody, IsGraphOf, HasGraph}
 use Rattle.cs_lower.proofs.Aiming.{aims_from}
 use Rattle.cs_lower.proofs.Built.{more_and_more}
-use Rattle.cs_lower.proofs.Evaluating.{same_behind}
+use Rattle.cs_lower.proofs.Evaluating.{same_after}
 
 module _ {program : TypedProgram} {routine : Routine} where
   -- a body between its beginning and its end
-  pub body_made : {body : Statement} {finish entry : ℕ} {nothing : Bool} {old x y new : Built} {f inside behind s : Point} → Seals old x finish f → f ≡ finishing → closed_with nothing ≡ falls_off routine.returns
-      → behind ≡ does routine.closes 0 (graph.Close nothing) leaving → Executes program routine body finish finish x y inside behind → s ≡ does routine.at 0 (graph.Meet point.Enter) inside → Seals y new entry s
+  pub body_made : {body : Statement} {finish entry : ℕ} {nothing : Bool} {old x y new : Built} {f inside following s : Point} → Seals old x finish f → f ≡ finishing → closed_with nothing ≡ falls_off routine.returns
+      → following ≡ does routine.closes 0 (graph.Close nothing) leaving → Executes program routine body finish finish x y inside following → s ≡ does routine.at 0 (graph.Meet point.Enter) inside → Seals y new entry s
       → BeginsBody program routine body old new entry
-  body_made {body = body} {finish = finish} {entry = entry} {nothing = nothing} {x = x} {y = y} {new = new} {inside = inside} {behind = behind} finishes finish_is gives closes executes enters begins =
+  body_made {body = body} {finish = finish} {entry = entry} {nothing = nothing} {x = x} {y = y} {new = new} {inside = inside} {following = following} finishes finish_is gives closes executes enters begins =
       let c = begins.grows.counts in
       let d = begins.grows.same in
       let in_y : (flow : Flow) → Has flow new → Has flow y = begins.grows.keeps in
@@ -49,15 +49,15 @@ module _ {program : TypedProgram} {routine : Routine} where
       let first : length new.heads ≡ new.marks → 0 + length y.heads ≡ y.marks = λ all. omega arith in
       let lowers : (flow : Flow) → Has flow new → StatementHasArguments body → length new.heads ≡ new.marks → flow.entry ≡ entry → flow.marks ≡ marks body → LowersBody program routine body flow =
       λ flow has args all starts counts.
-      let At : Point → Point → Type 0 = λ o a. executes_at program flow routine (labels_in routine flow) body 0 o a inside behind in
+      let At : Point → Point → Type 0 = λ o a. executes_at program flow routine (labels_in routine flow) body 0 o a inside following in
       record {
         labels = labels_in routine flow;
         inside = inside;
-        behind = behind;
+        following = following;
         nothing = nothing;
         begins = ap (block_of flow) starts ∙ (begins.is flow has ∙ enters);
         executes = subst (λ o. At o finishing) (finish_at flow has) (subst (λ a. At (block_of flow finish) a) (finish_at flow has) (executes.does flow (in_y flow has) args 0 (first all)));
-        ends = subst (λ p. Joins program flow behind p) closes there;
+        ends = subst (λ p. Joins program flow following p) closes there;
         gives = gives;
         counts = counts;
       } in
@@ -70,10 +70,10 @@ module _ {program : TypedProgram} {routine : Routine} where
             let At : Point → Point → Type 0 = λ o a. Aims program routine flow (body_targets routine) o a in
             let aims_here = subst (λ a. At (block_of flow finish) a) is (subst (λ o. At o finishing) is (aims_from (aims program flow routine body has_body low))) in
             let end_met = same_meets closes (point_meets routine.closes 0 (graph.Close nothing) leaving refl) in
-            let made = same_behind closes (executes.brings flow (in_y flow has) args 0 (first all) (body_targets routine) aims_here (end_of routine) end_met) in
+            let made = same_after closes (executes.brings flow (in_y flow has) args 0 (first all) (body_targets routine) aims_here (end_of routine) end_met) in
             let Made : Statement → Type 0 = λ b. Brings flow (flows (body_targets routine) b (end_of routine)) (does routine.closes 0 (graph.Close nothing) leaving ∷ blocks x) (inside ∷ blocks y) in
             let finished = (finishes.brings flow).keeps (control_points routine) includes_none (fit_more (subst (λ p. BlockFits flow (control_points routine) p) (sym finish_is) (block_end graph.Finish refl)) fit) in
-            graph_fits program flow routine body has_body low (blocks new) (subst (λ b. Made b) (sym (executed routine body has_body)) made) (same_behind enters (begins.brings flow)) finished;
+            graph_fits program flow routine body has_body low (blocks new) (subst (λ b. Made b) (sym (executed routine body has_body)) made) (same_after enters (begins.brings flow)) finished;
       }
 
   -- all of a body's graph

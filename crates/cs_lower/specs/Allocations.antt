@@ -3,9 +3,9 @@
 use Rattle.std.specs.Prelude.{◌≡◌, ℕ, List, [], ◌∷◌, Option, Some, None}
 use Rattle.cs_ast.specs.TypedTree.{Typed, Of, Form, Through, Index, Member, Arrow, Load, Address, Decay, Convert, Unary, Not, Binary, Compare, Sum, Difference, And, Or, Choice, Comma, Assign, Update, Move, Call, Allocate, Free, TypedList, NoMore, Further, Initial, Value, Parts, Bytes, Initials, NoPart, Part, Statement, Block, Declare, Run, If, IfElse, While, Do, For, Switch, Goto, Label, Break, Continue, Return, Statements, Empty, Then}
 use Rattle.cs_ast.specs.TypedProgram.{TypedProgram}
-use Rattle.cs_plain.specs.Initials.{Piece, Evaluated, Spelled}
-use Rattle.cs_plain.specs.Expressions.{count_all}
-use Rattle.cs_plain.specs.Machine.{routine_of}
+use Rattle.cs_meaning.specs.Initials.{Piece, Evaluated, Spelled}
+use Rattle.cs_meaning.specs.Expressions.{count_all}
+use Rattle.cs_meaning.specs.Machine.{routine_of}
 use Rattle.cs_cfg.specs.Working.{allocator_takes}
 
 abbrev mutual

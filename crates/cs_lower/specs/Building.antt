@@ -26,7 +26,7 @@ blocks built = built.heads ++ built.others
 abbrev pub built_of : GraphBuilder → Built
 built_of graph = record { marks = graph.marks; heads = map view.block graph.heads.items; others = map view.block graph.others.items }
 
--- a graph has what was built: a mark's block is the one with the mark's number, and the other blocks stand behind those of all marks
+-- a graph has what was built: a mark's block is the one with the mark's number, and the other blocks stand after those of all marks
 pub record Has (flow : Flow) (built : Built) : Type 0 where
   pub heads : (n mark : ℕ) (p : Point) → slice_get built.heads n ≡ Some p → mark + suc n ≡ built.marks → block_of flow mark ≡ p
   pub others : (n : ℕ) (p : Point) → slice_get built.others n ≡ Some p → block_of flow (built.marks + n) ≡ p

@@ -2,7 +2,7 @@
 use Rattle.std.specs.Prelude.{◌≡◌, ℕ, length, Option, Some}
 use Rattle.cs_ast.specs.TypedTree.{Statement}
 use Rattle.cs_ast.specs.TypedProgram.{TypedProgram, Routine}
-use Rattle.cs_plain.specs.Marks.{marks}
+use Rattle.cs_meaning.specs.Marks.{marks}
 use Rattle.cs_cfg.specs.ControlPoints.{control_points}
 use Rattle.cs_cfg.specs.Fitting.{AllFit}
 use Rattle.cs_cfg.specs.Graph.{Flow}

@@ -1,4 +1,4 @@
--- Code to which nothing leads, as behind a `return`, is in the graph too.
+-- Code to which nothing leads, as after a `return`, is in the graph too.
 use Rattle.std.specs.Prelude.{◌≡◌, ℕ, [], ◌∷◌}
 use Rattle.cs_ast.specs.TypedProgram.{TypedProgram}
 use Rattle.cs_cfg.specs.Fitting.{Brings}
@@ -12,7 +12,7 @@ pub record Keeps (old new : Built) (p : Point) : Type 0 where
   pub kept : (program : TypedProgram) (flow : Flow) → Has flow new → IsKept program flow p
   pub brings : (flow : Flow) → Brings flow [] (p ∷ blocks old) (blocks new)
 
--- a point jumps to a block; nothing leads to the other one, which stands behind it
+-- a point jumps to a block; nothing leads to the other one, which stands after it
 pub record LeadsOff (old new : Built) (block : ℕ) (p q : Point) : Type 0 where
   pub keeps : Keeps old new q
   pub is : p ≡ jump_to block

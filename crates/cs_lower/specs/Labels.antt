@@ -2,8 +2,8 @@
 use Rattle.std.specs.Prelude.{ℕ, [], Option, option_map}
 use Rattle.cs_ast.specs.TypedTree.{Statement, Statements}
 use Rattle.cs_ast.specs.TypedProgram.{Routine}
-use Rattle.cs_plain.specs.Machine.{body_of}
-use Rattle.cs_plain.specs.Jumps.{Landing, landing, landing_in}
+use Rattle.cs_meaning.specs.Machine.{body_of}
+use Rattle.cs_meaning.specs.Jumps.{Landing, landing, landing_in}
 
 -- the mark of the first label with a number in a statement, the first mark of which has this number, if the label is there
 abbrev pub label_in : ℕ → Statement → ℕ → Option ℕ

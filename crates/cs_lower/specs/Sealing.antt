@@ -1,7 +1,7 @@
 -- Blocks that are added to what was built.
 use Rattle.std.specs.Prelude.{◌≡◌, ℕ, suc, ◌+◌, [], ◌∷◌, length}
 use Rattle.cs_ast.specs.declared.place.Place.{Place}
-use Rattle.cs_runs.specs.declared.point.PointKind.{PointKind}
+use Rattle.cs_events.specs.declared.point.PointKind.{PointKind}
 use Rattle.cs_cfg.specs.Fitting.{Brings}
 use Rattle.cs_cfg.specs.Graph.{Point, Flow, Reach, block_of}
 use Rattle.cs_cfg.specs.Placing.{does}

@@ -1,14 +1,14 @@
--- What the lowering of statements ensures: in every graph that has what was built, the point executes the statement, and behind it
+-- What the lowering of statements ensures: in every graph that has what was built, the point executes the statement, and after it
 -- stands the other one; and of the blocks that were there before, the other point first, those that are there now were made, the point
 -- first, which brings in no control points but those of the statement.
 use Rattle.std.specs.Prelude.{◌≡◌, ℕ, ◌+◌, List, [], ◌∷◌, ◌++◌, length, Option, unwrap_or, slice_get}
 use Rattle.cs_ast.specs.declared.place.Place.{Place}
 use Rattle.cs_ast.specs.TypedTree.{Typed, Initial, Statement, Declare, Return, Statements, count_of}
 use Rattle.cs_ast.specs.TypedProgram.{TypedProgram, Routine}
-use Rattle.cs_plain.specs.Initials.{Piece}
-use Rattle.cs_plain.specs.Jumps.{landing}
-use Rattle.cs_plain.specs.Machine.{body_of}
-use Rattle.cs_plain.specs.Marks.{marks, marks_in}
+use Rattle.cs_meaning.specs.Initials.{Piece}
+use Rattle.cs_meaning.specs.Jumps.{landing}
+use Rattle.cs_meaning.specs.Machine.{body_of}
+use Rattle.cs_meaning.specs.Marks.{marks, marks_in}
 use Rattle.cs_cfg.specs.ControlPoints.{Next, points_some, Targets, for_tested, for_points, at_label, flows, flows_in}
 use Rattle.cs_cfg.specs.Fitting.{Brings}
 use Rattle.cs_cfg.specs.Graph.{Point, Flow, block_of}
@@ -23,7 +23,7 @@ use Rattle.cs_lower.specs.Building.{jump_to, Built, blocks, Has, Grows}
 abbrev pub labels_in : Routine → Flow → ℕ → Point
 labels_in routine flow label = block_of flow (unwrap_or (marked_label routine label) 0)
 
--- the block of the statement with a number, or the one behind all of them
+-- the block of the statement with a number, or the one after all of them
 abbrev pub block_at : List ℕ → ℕ → ℕ → ℕ
 block_at blocks end item = unwrap_or (slice_get blocks item) end
 
@@ -32,8 +32,8 @@ module _ (program : TypedProgram) (routine : Routine) where
   pub record Aims (flow : Flow) (to : Targets) (out again : Point) : Type 0 where
     pub out_meets : MeetsNext flow out to.out
     pub again_meets : MeetsNext flow again to.again
-    pub labels_meet : (label : ℕ) (p q : Point) (behind : Next) → goes_to program flow routine (labels_in routine flow) (landing label (body_of routine) 0 []) (labels_in routine flow label) p q →
-        MeetsNext flow q behind → MeetsNext flow p (at_label (to.labels label) behind)
+    pub labels_meet : (label : ℕ) (p q : Point) (following : Next) → goes_to program flow routine (labels_in routine flow) (landing label (body_of routine) 0 []) (labels_in routine flow label) p q →
+        MeetsNext flow q following → MeetsNext flow p (at_label (to.labels label) following)
 
   -- a point executes a statement; `break` and `continue` lead to two blocks
   pub record Executes (s : Statement) (out again : ℕ) (old new : Built) (p q : Point) : Type 0 where
@@ -41,7 +41,7 @@ module _ (program : TypedProgram) (routine : Routine) where
     pub does : (flow : Flow) → Has flow new → StatementHasArguments s → (mark : ℕ) → mark + length new.heads ≡ new.marks →
         executes_at program flow routine (labels_in routine flow) s mark (block_of flow out) (block_of flow again) p q
     pub brings : (flow : Flow) → Has flow new → StatementHasArguments s → (mark : ℕ) → mark + length new.heads ≡ new.marks → (to : Targets) → Aims flow to (block_of flow out) (block_of flow again) →
-        (behind : Next) → MeetsNext flow q behind → Brings flow (flows to s behind) (q ∷ blocks old) (p ∷ blocks new)
+        (following : Next) → MeetsNext flow q following → Brings flow (flows to s following) (q ∷ blocks old) (p ∷ blocks new)
 
   -- the same of statements one after another
   pub record ExecutesAll (statements : Statements) (out again : ℕ) (old new : Built) (p q : Point) : Type 0 where
@@ -49,54 +49,54 @@ module _ (program : TypedProgram) (routine : Routine) where
     pub does : (flow : Flow) → Has flow new → StatementsHaveArguments statements → (mark : ℕ) → mark + length new.heads ≡ new.marks →
         all_at program flow routine (labels_in routine flow) statements mark (block_of flow out) (block_of flow again) p q
     pub brings : (flow : Flow) → Has flow new → StatementsHaveArguments statements → (mark : ℕ) → mark + length new.heads ≡ new.marks → (to : Targets) → Aims flow to (block_of flow out) (block_of flow again) →
-        (behind : Next) → MeetsNext flow q behind → Brings flow (flows_in to statements behind) (q ∷ blocks old) (p ∷ blocks new)
+        (following : Next) → MeetsNext flow q following → Brings flow (flows_in to statements following) (q ∷ blocks old) (p ∷ blocks new)
 
-  -- the same of a statement with which a block begins, and behind which stands a jump
+  -- the same of a statement with which a block begins, and after which stands a jump
   pub record ExecutesIn (s : Statement) (out again : ℕ) (old new : Built) (block end : ℕ) : Type 0 where
     pub grows : Grows (marks s) old new
     pub does : (flow : Flow) → Has flow new → StatementHasArguments s → (mark : ℕ) → mark + length new.heads ≡ new.marks →
         executes_at program flow routine (labels_in routine flow) s mark (block_of flow out) (block_of flow again) (block_of flow block) (jump_to end)
     pub brings : (flow : Flow) → Has flow new → StatementHasArguments s → (mark : ℕ) → mark + length new.heads ≡ new.marks → (to : Targets) → Aims flow to (block_of flow out) (block_of flow again) →
-        (behind : Next) → MeetsNext flow (block_of flow end) behind → Brings flow (flows to s behind) (jump_to end ∷ blocks old) (blocks new)
+        (following : Next) → MeetsNext flow (block_of flow end) following → Brings flow (flows to s following) (jump_to end ∷ blocks old) (blocks new)
 
-  -- statements one after another, each with which a block begins, and behind them a block
+  -- statements one after another, each with which a block begins, and after them a block
   pub record EntersAll (statements : Statements) (out again : ℕ) (old new : Built) (entries : List ℕ) (end : ℕ) : Type 0 where
     pub grows : Grows (marks_in statements) old new
     pub counts : length entries ≡ count_of statements
     pub does : (flow : Flow) → Has flow new → StatementsHaveArguments statements → (mark : ℕ) → mark + length new.heads ≡ new.marks → (item : ℕ) →
         from_at program flow routine (labels_in routine flow) item statements mark (block_of flow out) (block_of flow again) (block_of flow (block_at entries end item)) (block_of flow end)
     pub brings : (flow : Flow) → Has flow new → StatementsHaveArguments statements → (mark : ℕ) → mark + length new.heads ≡ new.marks → (to : Targets) → Aims flow to (block_of flow out) (block_of flow again) →
-        (behind : Next) → MeetsNext flow (block_of flow end) behind → Brings flow (flows_in to statements behind) (blocks old) (blocks new)
+        (following : Next) → MeetsNext flow (block_of flow end) following → Brings flow (flows_in to statements following) (blocks old) (blocks new)
 
   -- pieces of an initializer are stored, one after another
   pub record StoresPieces (at : Place) (declaration : ℕ) (pieces : List Piece) (old new : Built) (p q : Point) : Type 0 where
     pub grows : Grows 0 old new
     pub does : (flow : Flow) → Has flow new → PiecesHaveArguments pieces → stores_at program flow routine (labels_in routine flow) at declaration pieces p q
-    pub brings : (flow : Flow) → Has flow new → PiecesHaveArguments pieces → (behind : Next) → MeetsNext flow q behind → Brings flow (points_pieces pieces behind) (q ∷ blocks old) (p ∷ blocks new)
+    pub brings : (flow : Flow) → Has flow new → PiecesHaveArguments pieces → (following : Next) → MeetsNext flow q following → Brings flow (points_pieces pieces following) (q ∷ blocks old) (p ∷ blocks new)
 
   -- a declaration
   pub record Declares (at : Place) (declaration : ℕ) (initial : Option Initial) (old new : Built) (p q : Point) : Type 0 where
     pub grows : Grows 0 old new
     pub does : (flow : Flow) → Has flow new → OptionInitialHasArguments initial → declares_at program flow routine (labels_in routine flow) at declaration initial p q
-    pub brings : (flow : Flow) → Has flow new → OptionInitialHasArguments initial → (to : Targets) (behind : Next) → MeetsNext flow q behind →
-        Brings flow (flows to (Declare at declaration initial) behind) (q ∷ blocks old) (p ∷ blocks new)
+    pub brings : (flow : Flow) → Has flow new → OptionInitialHasArguments initial → (to : Targets) (following : Next) → MeetsNext flow q following →
+        Brings flow (flows to (Declare at declaration initial) following) (q ∷ blocks old) (p ∷ blocks new)
 
   -- a `return`
   pub record Returns (at : Place) (value : Option Typed) (old new : Built) (p : Point) : Type 0 where
     pub grows : Grows 0 old new
     pub does : (flow : Flow) → Has flow new → OptionHasArguments value → returns_at program flow routine (labels_in routine flow) at value p
-    pub brings : (flow : Flow) → Has flow new → OptionHasArguments value → (to : Targets) (behind : Next) → Brings flow (flows to (Return at value) behind) (blocks old) (p ∷ blocks new)
+    pub brings : (flow : Flow) → Has flow new → OptionHasArguments value → (to : Targets) (following : Next) → Brings flow (flows to (Return at value) following) (blocks old) (p ∷ blocks new)
 
 -- a test, and then one of two blocks, is a use over no temporaries; the test of a `for` may be left out
 pub record TestsFor (program : TypedProgram) (at : Place) (test : Option Typed) (old new : Built) (p body : Point) (end : ℕ) : Type 0 where
   pub grows : Grows 0 old new
   pub does : (flow : Flow) (q : Point) → Has flow new → OptionHasArguments test → block_of flow end ≡ q → for_test_at program flow at test p body q
-  pub brings : (flow : Flow) → Has flow new → OptionHasArguments test → (inside behind : Next) → MeetsNext flow body inside → MeetsNext flow (block_of flow end) behind →
-      Brings flow (for_tested at test inside behind ++ for_points at test) (body ∷ blocks old) (p ∷ blocks new)
+  pub brings : (flow : Flow) → Has flow new → OptionHasArguments test → (inside following : Next) → MeetsNext flow body inside → MeetsNext flow (block_of flow end) following →
+      Brings flow (for_tested at test inside following ++ for_points at test) (body ∷ blocks old) (p ∷ blocks new)
 
 -- the last part of a `for`, with a jump to its head
 pub record EndsFor (program : TypedProgram) (last : Option Typed) (old new : Built) (block head : ℕ) : Type 0 where
   pub grows : Grows 0 old new
   pub does : (flow : Flow) → Has flow new → OptionHasArguments last → last_at program flow last (block_of flow block) (block_of flow head)
-  pub brings : (flow : Flow) → Has flow new → OptionHasArguments last → (behind : Next) → MeetsNext flow (block_of flow head) behind →
-      Brings flow (points_some last behind) (jump_to head ∷ blocks old) (blocks new)
+  pub brings : (flow : Flow) → Has flow new → OptionHasArguments last → (following : Next) → MeetsNext flow (block_of flow head) following →
+      Brings flow (points_some last following) (jump_to head ∷ blocks old) (blocks new)

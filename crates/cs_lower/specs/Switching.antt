@@ -2,7 +2,7 @@
 use Rattle.std.specs.Prelude.{ℕ, ℤ, List, [], ◌∷◌, length, Option, Some, None}
 use Rattle.cs_ast.specs.declared.place.Place.{Place}
 use Rattle.cs_ast.specs.declared.typed.statement.Case.{Case}
-use Rattle.cs_plain.specs.Statements.{default_item}
+use Rattle.cs_meaning.specs.Statements.{default_item}
 use Rattle.cs_cfg.specs.Graph as graph
 use Rattle.cs_cfg.specs.Graph.{Point, SwitchCase}
 use Rattle.cs_lower.specs.Statements.{block_at}
@@ -17,6 +17,6 @@ abbrev pub cases_to : List ℕ → ℕ → List Case → List SwitchCase
 cases_to blocks end [] = []
 cases_to blocks end (one ∷ others) = with_case one.value (block_at blocks end one.item) (cases_to blocks end others)
 
--- a number leads to the block of its case, or else to that of `default`, or else behind all statements
+-- a number leads to the block of its case, or else to that of `default`, or else after all statements
 abbrev pub leads_to : Place → List Case → List ℕ → ℕ → Point
 leads_to at cases blocks end = record { operations = []; end = graph.Switch at 0 (cases_to blocks end cases) (block_at blocks end (default_item cases (length blocks))) }

@@ -8,10 +8,10 @@ ghost use Rattle.cs_lower.specs.Sealing.{Seals, SealsMark};
 use crate::strips::Strip;
 use cs_ast::Place;
 use cs_cfg::{Block, Flow, Mark};
-use cs_runs::PointKind;
+use cs_events::PointKind;
 use std::alloc::{AllocError, Global};
 
-/// The blocks that were built of the graph of a function. The block of a mark has the mark's number, and the others come behind.
+/// The blocks that were built of the graph of a function. The block of a mark has the mark's number, and the others come after.
 #[derive(Drop)]
 pub struct GraphBuilder {
     /// How many loop heads and labels the function has.
@@ -59,8 +59,8 @@ impl GraphBuilder {
     fn next_block(&self) -> Result<u32, AllocError>
         ensures { IfOk result (λ block. block ≡ self.now.marks + length (built_of self.now).others) }
     {
-        let behind = u32::try_from(self.others.len()).map_err(|_| AllocError)?;
-        self.marks.checked_add(behind).ok_or(AllocError)
+        let following = u32::try_from(self.others.len()).map_err(|_| AllocError)?;
+        self.marks.checked_add(following).ok_or(AllocError)
     }
 
     /// The number of the mark before so many others that have no block yet.

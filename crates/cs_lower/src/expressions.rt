@@ -28,57 +28,61 @@ impl Lowering<'_> {
         graph: &mut GraphBuilder,
         e: &Expr,
         number: u32,
-        behind: Strip,
+        following: Strip,
     ) -> Result<Strip, AllocError>
         requires { IsLaidOut self.now.program.now.model self.now.program.now.table.list }
-        ensures { IfOk result (λ made. Evaluates (typed_program self.now.program.now) (typed e.now) number (built_of graph.old) (built_of graph.new) (point_of made) (point_of behind)) }
+        ensures { IfOk result (λ made. Evaluates (typed_program self.now.program.now) (typed e.now) number (built_of graph.old) (built_of graph.new) (point_of made) (point_of following)) }
     {
         let place = e.place;
-        let behind = self.act(e, number, behind)?;
+        let following = self.act(e, number, following)?;
         match &e.kind {
-            ExprKind::Number(_) | ExprKind::Null | ExprKind::Text(_) => Ok(behind),
-            ExprKind::Local(_) | ExprKind::Global(_) => Ok(behind),
-            ExprKind::Through(a) => self.lower_used(graph, a, number, behind),
-            ExprKind::Member(a, _) => self.lower_used(graph, a, number, behind),
-            ExprKind::Arrow(a, _) => self.lower_used(graph, a, number, behind),
-            ExprKind::Load(a) => self.lower_used(graph, a, number, behind),
-            ExprKind::Address(a) => self.lower_used(graph, a, number, behind),
-            ExprKind::Decay(a) => self.lower_used(graph, a, number, behind),
+            ExprKind::Number(_) | ExprKind::Null | ExprKind::Text(_) => Ok(following),
+            ExprKind::Local(_) | ExprKind::Global(_) => Ok(following),
+            ExprKind::Through(a) => self.lower_used(graph, a, number, following),
+            ExprKind::Member(a, _) => self.lower_used(graph, a, number, following),
+            ExprKind::Arrow(a, _) => self.lower_used(graph, a, number, following),
+            ExprKind::Load(a) => self.lower_used(graph, a, number, following),
+            ExprKind::Address(a) => self.lower_used(graph, a, number, following),
+            ExprKind::Decay(a) => self.lower_used(graph, a, number, following),
             ExprKind::Convert(a) => match e.ty {
-                CType::Void => self.lower_expression(graph, a, number, behind),
-                _ => self.lower_used(graph, a, number, behind),
+                CType::Void => self.lower_expression(graph, a, number, following),
+                _ => self.lower_used(graph, a, number, following),
             },
-            ExprKind::Unary(_, a) => self.lower_used(graph, a, number, behind),
-            ExprKind::Not(a) => self.lower_used(graph, a, number, behind),
-            ExprKind::Free(a) => self.lower_used(graph, a, number, behind),
+            ExprKind::Unary(_, a) => self.lower_used(graph, a, number, following),
+            ExprKind::Not(a) => self.lower_used(graph, a, number, following),
+            ExprKind::Free(a) => self.lower_used(graph, a, number, following),
             ExprKind::Index(a, b, order) => match order {
-                Order::PointerFirst => self.lower_pair(graph, a, b, number, behind),
-                Order::AmountFirst => self.lower_pair(graph, b, a, number, behind),
+                Order::PointerFirst => self.lower_pair(graph, a, b, number, following),
+                Order::AmountFirst => self.lower_pair(graph, b, a, number, following),
             },
             ExprKind::Sum(a, b, _, order) => match order {
-                Order::PointerFirst => self.lower_pair(graph, a, b, number, behind),
-                Order::AmountFirst => self.lower_pair(graph, b, a, number, behind),
+                Order::PointerFirst => self.lower_pair(graph, a, b, number, following),
+                Order::AmountFirst => self.lower_pair(graph, b, a, number, following),
             },
-            ExprKind::Binary(_, a, b) => self.lower_pair(graph, a, b, number, behind),
-            ExprKind::Compare(_, a, b) => self.lower_pair(graph, a, b, number, behind),
-            ExprKind::Difference(a, b) => self.lower_pair(graph, a, b, number, behind),
-            ExprKind::Assign(a, b) => self.lower_pair(graph, a, b, number, behind),
-            ExprKind::And(a, b) => self.lower_and(graph, a, b, place, number, behind),
-            ExprKind::Or(a, b) => self.lower_or(graph, a, b, place, number, behind),
-            ExprKind::Choice(a, b, c) => self.lower_choice(graph, a, b, c, place, number, behind),
-            ExprKind::Comma(a, b) => self.lower_comma(graph, a, b, place, number, behind),
+            ExprKind::Binary(_, a, b) => self.lower_pair(graph, a, b, number, following),
+            ExprKind::Compare(_, a, b) => self.lower_pair(graph, a, b, number, following),
+            ExprKind::Difference(a, b) => self.lower_pair(graph, a, b, number, following),
+            ExprKind::Assign(a, b) => self.lower_pair(graph, a, b, number, following),
+            ExprKind::And(a, b) => self.lower_and(graph, a, b, place, number, following),
+            ExprKind::Or(a, b) => self.lower_or(graph, a, b, place, number, following),
+            ExprKind::Choice(a, b, c) => self.lower_choice(
+                graph, a, b, c, place, number, following,
+            ),
+            ExprKind::Comma(a, b) => self.lower_comma(graph, a, b, place, number, following),
             ExprKind::Update(_, a, b, _, _) => {
-                let made = self.lower_used(graph, b, above(number, 3)?, behind)?;
+                let made = self.lower_used(graph, b, above(number, 3)?, following)?;
                 let fetched = self.fetch(e, number, made)?;
                 self.lower_used(graph, a, number, fetched)
             }
             ExprKind::Move(a, b, _, _) => {
-                let made = self.lower_used(graph, b, above(number, 2)?, behind)?;
+                let made = self.lower_used(graph, b, above(number, 2)?, following)?;
                 let fetched = self.fetch(e, number, made)?;
                 self.lower_used(graph, a, number, fetched)
             }
-            ExprKind::Call(_, arguments) => self.lower_row(graph, arguments, number, behind),
-            ExprKind::Allocate(_, arguments, _) => self.lower_row(graph, arguments, number, behind),
+            ExprKind::Call(_, arguments) => self.lower_row(graph, arguments, number, following),
+            ExprKind::Allocate(_, arguments, _) => self.lower_row(
+                graph, arguments, number, following,
+            ),
         }
     }
 
@@ -89,13 +93,13 @@ impl Lowering<'_> {
         graph: &mut GraphBuilder,
         e: &Expr,
         number: u32,
-        behind: Strip,
+        following: Strip,
     ) -> Result<Strip, AllocError>
         requires { IsLaidOut self.now.program.now.model self.now.program.now.table.list }
-        ensures { IfOk result (λ made. Uses (typed_program self.now.program.now) (typed e.now) number (built_of graph.old) (built_of graph.new) (point_of made) (point_of behind)) }
+        ensures { IfOk result (λ made. Uses (typed_program self.now.program.now) (typed e.now) number (built_of graph.old) (built_of graph.new) (point_of made) (point_of following)) }
     {
-        let behind = used_before(e, number, behind)?;
-        let made = self.lower_expression(graph, e, number, behind)?;
+        let following = used_before(e, number, following)?;
+        let made = self.lower_expression(graph, e, number, following)?;
         Ok(made)
     }
 
@@ -106,12 +110,12 @@ impl Lowering<'_> {
         graph: &mut GraphBuilder,
         e: &Expr,
         number: u32,
-        behind: Strip,
+        following: Strip,
     ) -> Result<u32, AllocError>
         requires { IsLaidOut self.now.program.now.model self.now.program.now.table.list }
-        ensures { IfOk result (λ made. UsesIn (typed_program self.now.program.now) (typed e.now) number (built_of graph.old) (built_of graph.new) made (point_of behind)) }
+        ensures { IfOk result (λ made. UsesIn (typed_program self.now.program.now) (typed e.now) number (built_of graph.old) (built_of graph.new) made (point_of following)) }
     {
-        let made = self.lower_used(graph, e, number, behind)?;
+        let made = self.lower_used(graph, e, number, following)?;
         let block = graph.seal(made)?;
         Ok(block)
     }
@@ -124,12 +128,12 @@ impl Lowering<'_> {
         first: &Expr,
         second: &Expr,
         number: u32,
-        behind: Strip,
+        following: Strip,
     ) -> Result<Strip, AllocError>
         requires { IsLaidOut self.now.program.now.model self.now.program.now.table.list }
-        ensures { IfOk result (λ made. UsesBoth (typed_program self.now.program.now) (typed first.now) (typed second.now) number (built_of graph.old) (built_of graph.new) (point_of made) (point_of behind)) }
+        ensures { IfOk result (λ made. UsesBoth (typed_program self.now.program.now) (typed first.now) (typed second.now) number (built_of graph.old) (built_of graph.new) (point_of made) (point_of following)) }
     {
-        let made = self.lower_used(graph, second, above(number, 1)?, behind)?;
+        let made = self.lower_used(graph, second, above(number, 1)?, following)?;
         let made = self.lower_used(graph, first, number, made)?;
         Ok(made)
     }
@@ -141,12 +145,12 @@ impl Lowering<'_> {
         graph: &mut GraphBuilder,
         row: &[Expr],
         number: u32,
-        behind: Strip,
+        following: Strip,
     ) -> Result<Strip, AllocError>
         requires { IsLaidOut self.now.program.now.model self.now.program.now.table.list }
-        ensures { IfOk result (λ made. UsesAll (typed_program self.now.program.now) (typed_list row.now) number (built_of graph.old) (built_of graph.new) (point_of made) (point_of behind)) }
+        ensures { IfOk result (λ made. UsesAll (typed_program self.now.program.now) (typed_list row.now) number (built_of graph.old) (built_of graph.new) (point_of made) (point_of following)) }
     {
-        let mut made = behind;
+        let mut made = following;
         let mut left = row.len();
         while left > 0 {
             left -= 1;
@@ -164,12 +168,12 @@ impl Lowering<'_> {
         right: &Expr,
         place: Place,
         number: u32,
-        behind: Strip,
+        following: Strip,
     ) -> Result<Strip, AllocError>
         requires { IsLaidOut self.now.program.now.model self.now.program.now.table.list }
-        ensures { IfOk result (λ made. Ands (typed_program self.now.program.now) place (typed left.now) (typed right.now) number (built_of graph.old) (built_of graph.new) (point_of made) (point_of behind)) }
+        ensures { IfOk result (λ made. Ands (typed_program self.now.program.now) place (typed left.now) (typed right.now) number (built_of graph.old) (built_of graph.new) (point_of made) (point_of following)) }
     {
-        let end = graph.seal(behind)?;
+        let end = graph.seal(following)?;
         let judged = self.judged(place, number, end)?;
         let one = self.lower_way(graph, right, number, judged)?;
         let other = self.known_way(graph, place, number, 0, end)?;
@@ -187,12 +191,12 @@ impl Lowering<'_> {
         right: &Expr,
         place: Place,
         number: u32,
-        behind: Strip,
+        following: Strip,
     ) -> Result<Strip, AllocError>
         requires { IsLaidOut self.now.program.now.model self.now.program.now.table.list }
-        ensures { IfOk result (λ made. Ors (typed_program self.now.program.now) place (typed left.now) (typed right.now) number (built_of graph.old) (built_of graph.new) (point_of made) (point_of behind)) }
+        ensures { IfOk result (λ made. Ors (typed_program self.now.program.now) place (typed left.now) (typed right.now) number (built_of graph.old) (built_of graph.new) (point_of made) (point_of following)) }
     {
-        let end = graph.seal(behind)?;
+        let end = graph.seal(following)?;
         let judged = self.judged(place, number, end)?;
         let other = self.lower_way(graph, right, number, judged)?;
         let one = self.known_way(graph, place, number, 1, end)?;
@@ -211,12 +215,12 @@ impl Lowering<'_> {
         second: &Expr,
         place: Place,
         number: u32,
-        behind: Strip,
+        following: Strip,
     ) -> Result<Strip, AllocError>
         requires { IsLaidOut self.now.program.now.model self.now.program.now.table.list }
-        ensures { IfOk result (λ made. Chooses (typed_program self.now.program.now) place (typed test.now) (typed first.now) (typed second.now) number (built_of graph.old) (built_of graph.new) (point_of made) (point_of behind)) }
+        ensures { IfOk result (λ made. Chooses (typed_program self.now.program.now) place (typed test.now) (typed first.now) (typed second.now) number (built_of graph.old) (built_of graph.new) (point_of made) (point_of following)) }
     {
-        let end = graph.seal(behind)?;
+        let end = graph.seal(following)?;
         let one = self.lower_way(graph, first, number, self.jump(end))?;
         let other = self.lower_way(graph, second, number, self.jump(end))?;
         let test_of = self.branch(place, number, one, other);
@@ -233,13 +237,13 @@ impl Lowering<'_> {
         second: &Expr,
         place: Place,
         number: u32,
-        behind: Strip,
+        following: Strip,
     ) -> Result<Strip, AllocError>
         requires { IsLaidOut self.now.program.now.model self.now.program.now.table.list }
-        ensures { IfOk result (λ made. Commas (typed_program self.now.program.now) place (typed first.now) (typed second.now) number (built_of graph.old) (built_of graph.new) (point_of made) (point_of behind)) }
+        ensures { IfOk result (λ made. Commas (typed_program self.now.program.now) place (typed first.now) (typed second.now) number (built_of graph.old) (built_of graph.new) (point_of made) (point_of following)) }
     {
-        let made = self.lower_used(graph, second, number, behind)?;
-        let dropped = made.behind(place, number, Work::Drop)?;
+        let made = self.lower_used(graph, second, number, following)?;
+        let dropped = made.following(place, number, Work::Drop)?;
         let made = self.lower_expression(graph, first, number, dropped)?;
         Ok(made)
     }
@@ -255,16 +259,18 @@ impl Lowering<'_> {
     ) -> Result<u32, AllocError>
         ensures { IfOk result (λ block. Seals (built_of graph.old) (built_of graph.new) block (does place number (Number value) (jump_to end))) }
     {
-        let made = self.jump(end).behind(place, number, Work::Number(value))?;
+        let made = self
+            .jump(end)
+            .following(place, number, Work::Number(value))?;
         let block = graph.seal(made)?;
         Ok(block)
     }
 
-    // What comes behind the right part of `&&` or `||`: it is made a truth, and then comes a jump.
+    // What comes after the right part of `&&` or `||`: it is made a truth, and then comes a jump.
     fn judged(&self, place: Place, number: u32, end: u32) -> Result<Strip, AllocError>
         ensures { IfOk result (λ made. point_of made ≡ does place number Judge (jump_to end)) }
     {
-        self.jump(end).behind(place, number, Work::Judge)
+        self.jump(end).following(place, number, Work::Judge)
     }
 }
 
@@ -277,21 +283,21 @@ fn above(number: u32, more: usize) -> Result<u32, AllocError>
 }
 
 // What comes before a strip where the value of an expression is used: the result of a call is looked at.
-fn used_before(e: &Expr, number: u32, behind: Strip) -> Result<Strip, AllocError>
-    ensures { IfOk result (λ made. point_of made ≡ used_then (typed e.now) number (point_of behind)) }
+fn used_before(e: &Expr, number: u32, following: Strip) -> Result<Strip, AllocError>
+    ensures { IfOk result (λ made. point_of made ≡ used_then (typed e.now) number (point_of following)) }
 {
     match &e.kind {
-        ExprKind::Call(_, _) => behind.behind(e.place, number, Work::Use),
-        ExprKind::Number(_) | ExprKind::Null | ExprKind::Text(_) => Ok(behind),
-        ExprKind::Local(_) | ExprKind::Global(_) | ExprKind::Through(_) => Ok(behind),
-        ExprKind::Index(_, _, _) | ExprKind::Member(_, _) | ExprKind::Arrow(_, _) => Ok(behind),
-        ExprKind::Load(_) | ExprKind::Address(_) | ExprKind::Decay(_) => Ok(behind),
-        ExprKind::Convert(_) | ExprKind::Unary(_, _) | ExprKind::Not(_) => Ok(behind),
-        ExprKind::Binary(_, _, _) | ExprKind::Compare(_, _, _) => Ok(behind),
-        ExprKind::Sum(_, _, _, _) | ExprKind::Difference(_, _) => Ok(behind),
-        ExprKind::And(_, _) | ExprKind::Or(_, _) | ExprKind::Choice(_, _, _) => Ok(behind),
-        ExprKind::Comma(_, _) | ExprKind::Assign(_, _) => Ok(behind),
-        ExprKind::Update(_, _, _, _, _) | ExprKind::Move(_, _, _, _) => Ok(behind),
-        ExprKind::Allocate(_, _, _) | ExprKind::Free(_) => Ok(behind),
+        ExprKind::Call(_, _) => following.following(e.place, number, Work::Use),
+        ExprKind::Number(_) | ExprKind::Null | ExprKind::Text(_) => Ok(following),
+        ExprKind::Local(_) | ExprKind::Global(_) | ExprKind::Through(_) => Ok(following),
+        ExprKind::Index(_, _, _) | ExprKind::Member(_, _) | ExprKind::Arrow(_, _) => Ok(following),
+        ExprKind::Load(_) | ExprKind::Address(_) | ExprKind::Decay(_) => Ok(following),
+        ExprKind::Convert(_) | ExprKind::Unary(_, _) | ExprKind::Not(_) => Ok(following),
+        ExprKind::Binary(_, _, _) | ExprKind::Compare(_, _, _) => Ok(following),
+        ExprKind::Sum(_, _, _, _) | ExprKind::Difference(_, _) => Ok(following),
+        ExprKind::And(_, _) | ExprKind::Or(_, _) | ExprKind::Choice(_, _, _) => Ok(following),
+        ExprKind::Comma(_, _) | ExprKind::Assign(_, _) => Ok(following),
+        ExprKind::Update(_, _, _, _, _) | ExprKind::Move(_, _, _, _) => Ok(following),
+        ExprKind::Allocate(_, _, _) | ExprKind::Free(_) => Ok(following),
     }
 }

@@ -4,7 +4,7 @@ ghost use Rattle.cs_types.specs.Layout.{IsLaidOut};
 ghost use Rattle.cs_types.specs.Shape.{shape_of};
 ghost use Rattle.cs_ast.specs.TypedProgram.{typed_program, routine};
 ghost use Rattle.cs_ast.specs.TypedView.{statement};
-ghost use Rattle.cs_plain.specs.Calls.{falls_off};
+ghost use Rattle.cs_meaning.specs.Calls.{falls_off};
 ghost use Rattle.cs_cfg.specs.GraphView as view;
 ghost use Rattle.cs_cfg.specs.Working.{closed_with};
 ghost use Rattle.cs_cfg.specs.Lowered.{IsLowered};
@@ -22,7 +22,7 @@ use crate::strips::Strip;
 use cs_ast::typed::program::{Function, Program};
 use cs_ast::typed::statement::Stmt;
 use cs_cfg::{BlockEnd, Code, Flow, Work};
-use cs_runs::PointKind;
+use cs_events::PointKind;
 use cs_types::CType;
 use std::alloc::{AllocError, Global};
 use std::collections::BTreeMap;
@@ -108,10 +108,10 @@ impl Lowering<'_> {
         };
         let nothing = gives_nothing(&function.result);
         let leaving = Strip::ending(self.alloc, BlockEnd::Return(0));
-        let behind = leaving.behind(function.end, 0, Work::Close(nothing))?;
-        let inside = self.lower_statement(graph, body, exits, behind)?;
+        let following = leaving.following(function.end, 0, Work::Close(nothing))?;
+        let inside = self.lower_statement(graph, body, exits, following)?;
         let enter = Work::Meet(PointKind::Enter);
-        let entry = inside.behind(function.place, 0, enter)?;
+        let entry = inside.following(function.place, 0, enter)?;
         let block = graph.seal(entry)?;
         Ok(block)
     }

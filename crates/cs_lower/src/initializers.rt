@@ -3,10 +3,10 @@ ghost use Rattle.std.specs.Prelude.{◌≡◌, ◌∷◌, [], map, IfOk, Some, o
 ghost use Rattle.cs_types.specs.Layout.{IsLaidOut};
 ghost use Rattle.cs_ast.specs.TypedProgram.{typed_program, routine};
 ghost use Rattle.cs_ast.specs.TypedView.{typed, initial};
-ghost use Rattle.cs_plain.specs.Initials as initials;
-ghost use Rattle.cs_plain.specs.Types as types;
+ghost use Rattle.cs_meaning.specs.Initials as initials;
+ghost use Rattle.cs_meaning.specs.Types as types;
 ghost use Rattle.cs_cfg.specs.Executing.{type_in};
-ghost use Rattle.cs_interpreter.specs.MemoryView.{type_of, piece_of};
+ghost use Rattle.cs_run_state.specs.MemoryView.{type_of, piece_of};
 ghost use Rattle.cs_lower.specs.Building.{point_of, built_of};
 ghost use Rattle.cs_lower.specs.Statements.{Declares, StoresPieces};
 
@@ -17,10 +17,10 @@ use cs_ast::Place;
 use cs_ast::typed::expression::Expr;
 use cs_ast::typed::statement::Initial;
 use cs_cfg::Work;
-use cs_interpreter::access::is_scalar;
-use cs_interpreter::blocks::{BlockType, Piece};
-use cs_interpreter::pieces::pieces;
 use cs_names::Bytes;
+use cs_run_state::access::is_scalar;
+use cs_run_state::blocks::{BlockType, Piece};
+use cs_run_state::pieces::pieces;
 use std::alloc::AllocError;
 
 impl Lowering<'_> {
@@ -31,18 +31,18 @@ impl Lowering<'_> {
         place: Place,
         declaration: u32,
         first: Option<&Initial>,
-        behind: Strip,
+        following: Strip,
     ) -> Result<Strip, AllocError>
         requires { IsLaidOut self.now.program.now.model self.now.program.now.table.list }
-        ensures { IfOk result (λ made. Declares (typed_program self.now.program.now) (routine self.now.function.now) place declaration (option_map initial (option_copied first.entry)) (built_of graph.old) (built_of graph.new) (point_of made) (point_of behind)) }
+        ensures { IfOk result (λ made. Declares (typed_program self.now.program.now) (routine self.now.function.now) place declaration (option_map initial (option_copied first.entry)) (built_of graph.old) (built_of graph.new) (point_of made) (point_of following)) }
     {
         match first {
             None => {
                 let scalar = self.is_scalar_local(declaration);
-                behind.behind(place, 0, Work::Clear(declaration, scalar))
+                following.following(place, 0, Work::Clear(declaration, scalar))
             }
             Some(first) => {
-                let made = self.lower_initial(graph, place, declaration, first, behind)?;
+                let made = self.lower_initial(graph, place, declaration, first, following)?;
                 Ok(made)
             }
         }
@@ -55,23 +55,23 @@ impl Lowering<'_> {
         place: Place,
         declaration: u32,
         first: &Initial,
-        behind: Strip,
+        following: Strip,
     ) -> Result<Strip, AllocError>
         requires { IsLaidOut self.now.program.now.model self.now.program.now.table.list }
-        ensures { IfOk result (λ made. Declares (typed_program self.now.program.now) (routine self.now.function.now) place declaration (Some (initial first.now)) (built_of graph.old) (built_of graph.new) (point_of made) (point_of behind)) }
+        ensures { IfOk result (λ made. Declares (typed_program self.now.program.now) (routine self.now.function.now) place declaration (Some (initial first.now)) (built_of graph.old) (built_of graph.new) (point_of made) (point_of following)) }
     {
         match first {
             Initial::Value(value) => {
-                let made = self.lower_store(graph, place, declaration, 0, value, behind)?;
+                let made = self.lower_store(graph, place, declaration, 0, value, following)?;
                 Ok(made)
             }
             Initial::List(_) => {
-                let stored = self.lower_parts(graph, place, declaration, first, behind)?;
-                stored.behind(place, 0, Work::Zero(declaration))
+                let stored = self.lower_parts(graph, place, declaration, first, following)?;
+                stored.following(place, 0, Work::Zero(declaration))
             }
             Initial::Text(_) => {
-                let stored = self.lower_parts(graph, place, declaration, first, behind)?;
-                stored.behind(place, 0, Work::Zero(declaration))
+                let stored = self.lower_parts(graph, place, declaration, first, following)?;
+                stored.following(place, 0, Work::Zero(declaration))
             }
         }
     }
@@ -83,14 +83,14 @@ impl Lowering<'_> {
         place: Place,
         declaration: u32,
         first: &Initial,
-        behind: Strip,
+        following: Strip,
     ) -> Result<Strip, AllocError>
         requires { IsLaidOut self.now.program.now.model self.now.program.now.table.list }
-        ensures { IfOk result (λ made. StoresPieces (typed_program self.now.program.now) (routine self.now.function.now) place declaration (initials.pieces (typed_program self.now.program.now) (type_in (routine self.now.function.now) declaration) 0 (initial first.now)) (built_of graph.old) (built_of graph.new) (point_of made) (point_of behind)) }
+        ensures { IfOk result (λ made. StoresPieces (typed_program self.now.program.now) (routine self.now.function.now) place declaration (initials.pieces (typed_program self.now.program.now) (type_in (routine self.now.function.now) declaration) 0 (initial first.now)) (built_of graph.old) (built_of graph.new) (point_of made) (point_of following)) }
     {
         let ty = self.local_type(declaration);
         let pieces = pieces(self.alloc, self.program, ty, first)?;
-        let made = self.lower_pieces(graph, place, declaration, &pieces, behind)?;
+        let made = self.lower_pieces(graph, place, declaration, &pieces, following)?;
         Ok(made)
     }
 
@@ -101,12 +101,12 @@ impl Lowering<'_> {
         place: Place,
         declaration: u32,
         pieces: &[Piece],
-        behind: Strip,
+        following: Strip,
     ) -> Result<Strip, AllocError>
         requires { IsLaidOut self.now.program.now.model self.now.program.now.table.list }
-        ensures { IfOk result (λ made. StoresPieces (typed_program self.now.program.now) (routine self.now.function.now) place declaration (map piece_of pieces.now) (built_of graph.old) (built_of graph.new) (point_of made) (point_of behind)) }
+        ensures { IfOk result (λ made. StoresPieces (typed_program self.now.program.now) (routine self.now.function.now) place declaration (map piece_of pieces.now) (built_of graph.old) (built_of graph.new) (point_of made) (point_of following)) }
     {
-        let mut made = behind;
+        let mut made = following;
         let mut left = pieces.len();
         while left > 0 {
             left -= 1;
@@ -122,18 +122,18 @@ impl Lowering<'_> {
         place: Place,
         declaration: u32,
         piece: Piece,
-        behind: Strip,
+        following: Strip,
     ) -> Result<Strip, AllocError>
         requires { IsLaidOut self.now.program.now.model self.now.program.now.table.list }
-        ensures { IfOk result (λ made. StoresPieces (typed_program self.now.program.now) (routine self.now.function.now) place declaration (piece_of piece.entry ∷ []) (built_of graph.old) (built_of graph.new) (point_of made) (point_of behind)) }
+        ensures { IfOk result (λ made. StoresPieces (typed_program self.now.program.now) (routine self.now.function.now) place declaration (piece_of piece.entry ∷ []) (built_of graph.old) (built_of graph.new) (point_of made) (point_of following)) }
     {
         match piece {
             Piece::Value(offset, value) => {
-                self.lower_store(graph, place, declaration, offset, value, behind)
+                self.lower_store(graph, place, declaration, offset, value, following)
             }
             Piece::Text(offset, bytes) => {
                 let bytes = Bytes::from_slice(self.alloc, bytes)?;
-                behind.behind(place, 0, Work::Spell(declaration, offset, bytes))
+                following.following(place, 0, Work::Spell(declaration, offset, bytes))
             }
         }
     }
@@ -146,16 +146,16 @@ impl Lowering<'_> {
         declaration: u32,
         offset: u64,
         value: &Expr,
-        behind: Strip,
+        following: Strip,
     ) -> Result<Strip, AllocError>
         requires { IsLaidOut self.now.program.now.model self.now.program.now.table.list }
-        ensures { IfOk result (λ made. StoresPieces (typed_program self.now.program.now) (routine self.now.function.now) place declaration (initials.Evaluated offset (typed value.now) ∷ []) (built_of graph.old) (built_of graph.new) (point_of made) (point_of behind)) }
+        ensures { IfOk result (λ made. StoresPieces (typed_program self.now.program.now) (routine self.now.function.now) place declaration (initials.Evaluated offset (typed value.now) ∷ []) (built_of graph.old) (built_of graph.new) (point_of made) (point_of following)) }
     {
         let ty = value.ty.copy(self.alloc)?;
         let scalar = self.is_scalar_local(declaration);
         let work = Work::StoreLocal(declaration, offset, ty, scalar);
-        let behind = behind.behind(place, 0, work)?;
-        self.lower_used(graph, value, 0, behind)
+        let following = following.following(place, 0, work)?;
+        self.lower_used(graph, value, 0, following)
     }
 
     // Whether a local is a scalar.

@@ -4,19 +4,19 @@ ghost use Rattle.std.specs.Option.{option_or};
 ghost use Rattle.std.specs.BTreeMap.{get};
 ghost use Rattle.std.specs.Ordering.{nat_cmp};
 ghost use Rattle.cs_ast.specs.TypedView.{statement, statement_list};
-ghost use Rattle.cs_plain.specs.Marks as plain;
+ghost use Rattle.cs_meaning.specs.Marks as meaning;
 ghost use Rattle.cs_lower.specs.Labels.{label_in, label_among};
 
 use cs_ast::typed::statement::{Stmt, StmtKind};
-use cs_interpreter::marks::{marks_in, together};
+use cs_run_state::marks::{marks_in, together};
 use std::alloc::AllocError;
 use std::collections::BTreeMap;
 
 /// Adds the labels of a statement, the first mark of which has a number, each with its mark, unless the label is there already.
-/// Gives the number behind its marks.
+/// Gives the number after its marks.
 #[cycle(labels)]
 pub fn add_labels(labels: &mut BTreeMap<u32, u32>, s: &Stmt, mark: u64) -> Result<u64, AllocError>
-    ensures next { IfOk result (λ next. next ≡ mark + plain.marks (statement s.now)) }
+    ensures next { IfOk result (λ next. next ≡ mark + meaning.marks (statement s.now)) }
     ensures labels { OnOk result ((wanted : ℕ) → get nat_cmp labels.new wanted ≡ option_or (get nat_cmp labels.old wanted) (label_in wanted (statement s.now) mark)) }
 {
     match &s.kind {
@@ -57,7 +57,7 @@ fn add_labels_in(
     statements: &[Stmt],
     mark: u64,
 ) -> Result<u64, AllocError>
-    ensures next { IfOk result (λ next. next ≡ mark + plain.marks_in (statement_list statements.now)) }
+    ensures next { IfOk result (λ next. next ≡ mark + meaning.marks_in (statement_list statements.now)) }
     ensures labels { OnOk result ((wanted : ℕ) → get nat_cmp labels.new wanted ≡ option_or (get nat_cmp labels.old wanted) (label_among wanted (statement_list statements.now) mark)) }
 {
     let mut next = mark;

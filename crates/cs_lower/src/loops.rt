@@ -18,8 +18,8 @@ use cs_ast::Place;
 use cs_ast::typed::expression::Expr;
 use cs_ast::typed::statement::Stmt;
 use cs_cfg::Work;
-use cs_interpreter::marks::{marks, marks_in, together};
-use cs_runs::PointKind;
+use cs_events::PointKind;
+use cs_run_state::marks::{marks, marks_in, together};
 use std::alloc::AllocError;
 
 impl Lowering<'_> {
@@ -31,14 +31,14 @@ impl Lowering<'_> {
         body: &Stmt,
         place: Place,
         test: &Expr,
-        behind: Strip,
+        following: Strip,
     ) -> Result<Strip, AllocError>
         requires { IsReady self.now }
-        ensures { IfOk result (λ made. (out again : ℕ) → Executes (typed_program self.now.program.now) (routine self.now.function.now) (While place (typed test.now) (statement body.now)) out again (built_of graph.old) (built_of graph.new) (point_of made) (point_of behind)) }
+        ensures { IfOk result (λ made. (out again : ℕ) → Executes (typed_program self.now.program.now) (routine self.now.function.now) (While place (typed test.now) (statement body.now)) out again (built_of graph.old) (built_of graph.new) (point_of made) (point_of following)) }
     {
         let inner = marks(body)?;
         let head = graph.mark_before(inner)?;
-        let end = graph.seal(behind)?;
+        let end = graph.seal(following)?;
         let exits = Exits {
             out: end,
             again: head,
@@ -57,14 +57,14 @@ impl Lowering<'_> {
         body: &Stmt,
         place: Place,
         test: &Expr,
-        behind: Strip,
+        following: Strip,
     ) -> Result<Strip, AllocError>
         requires { IsReady self.now }
-        ensures { IfOk result (λ made. (out again : ℕ) → Executes (typed_program self.now.program.now) (routine self.now.function.now) (Do place (statement body.now) (typed test.now)) out again (built_of graph.old) (built_of graph.new) (point_of made) (point_of behind)) }
+        ensures { IfOk result (λ made. (out again : ℕ) → Executes (typed_program self.now.program.now) (routine self.now.function.now) (Do place (statement body.now) (typed test.now)) out again (built_of graph.old) (built_of graph.new) (point_of made) (point_of following)) }
     {
         let inner = marks(body)?;
         let start = graph.mark_before(inner)?;
-        let end = graph.seal(behind)?;
+        let end = graph.seal(following)?;
         let tested = self.lower_test(graph, place, test, start, end)?;
         let again = graph.seal(tested)?;
         let exits = Exits { out: end, again };
@@ -84,16 +84,16 @@ impl Lowering<'_> {
         test: &Option<Expr>,
         last: &Option<Expr>,
         around: u32,
-        behind: Strip,
+        following: Strip,
     ) -> Result<Strip, AllocError>
         requires { IsReady self.now }
-        ensures { IfOk result (λ made. (out : ℕ) → Executes (typed_program self.now.program.now) (routine self.now.function.now) (For place (statement_list first.now) (some_typed test.now) (some_typed last.now) (statement body.now)) out around (built_of graph.old) (built_of graph.new) (point_of made) (point_of behind)) }
+        ensures { IfOk result (λ made. (out : ℕ) → Executes (typed_program self.now.program.now) (routine self.now.function.now) (For place (statement_list first.now) (some_typed test.now) (some_typed last.now) (statement body.now)) out around (built_of graph.old) (built_of graph.new) (point_of made) (point_of following)) }
     {
         let before = marks_in(first)?;
         let inside = marks(body)?;
         let inner = together(before, inside)?;
         let head = graph.mark_before(inner)?;
-        let end = graph.seal(behind)?;
+        let end = graph.seal(following)?;
         let last = last.as_ref();
         let turn = self.lower_last(graph, place, last, head)?;
         let exits = Exits {
@@ -148,7 +148,7 @@ impl Lowering<'_> {
         }
     }
 
-    /// The last part of a `for`, if it has one, which leads to its head. Gives the block that comes behind the body.
+    /// The last part of a `for`, if it has one, which leads to its head. Gives the block that comes after the body.
     pub fn lower_last(
         &self,
         graph: &mut GraphBuilder,
@@ -162,8 +162,8 @@ impl Lowering<'_> {
         match last {
             None => Ok(head),
             Some(last) => {
-                let behind = self.jump(head).behind(place, 0, Work::Drop)?;
-                let made = self.lower_used(graph, last, 0, behind)?;
+                let following = self.jump(head).following(place, 0, Work::Drop)?;
+                let made = self.lower_used(graph, last, 0, following)?;
                 graph.seal(made)
             }
         }

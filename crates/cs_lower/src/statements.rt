@@ -17,8 +17,8 @@ use cs_ast::Place;
 use cs_ast::typed::expression::Expr;
 use cs_ast::typed::statement::{Stmt, StmtKind};
 use cs_cfg::{BlockEnd, Work};
-use cs_interpreter::marks::marks;
-use cs_runs::PointKind;
+use cs_events::PointKind;
+use cs_run_state::marks::marks;
 use std::alloc::AllocError;
 
 /// The blocks to which `break` and `continue` lead.
@@ -36,46 +36,63 @@ impl Lowering<'_> {
         graph: &mut GraphBuilder,
         s: &Stmt,
         exits: Exits,
-        behind: Strip,
+        following: Strip,
     ) -> Result<Strip, AllocError>
         requires { IsReady self.now }
-        ensures { IfOk result (λ made. Executes (typed_program self.now.program.now) (routine self.now.function.now) (statement s.now) exits.out exits.again (built_of graph.old) (built_of graph.new) (point_of made) (point_of behind)) }
+        ensures { IfOk result (λ made. Executes (typed_program self.now.program.now) (routine self.now.function.now) (statement s.now) exits.out exits.again (built_of graph.old) (built_of graph.new) (point_of made) (point_of following)) }
     {
         let place = s.place;
         match &s.kind {
-            StmtKind::Block(statements) => self.lower_all(graph, statements, exits, behind),
+            StmtKind::Block(statements) => self.lower_all(graph, statements, exits, following),
             StmtKind::Declare(declaration, first) => {
-                self.lower_declaration(graph, place, *declaration, first.as_ref(), behind)
+                self.lower_declaration(graph, place, *declaration, first.as_ref(), following)
             }
             StmtKind::Run(e) => {
-                let behind = behind.behind(place, 0, Work::Drop)?;
-                self.lower_expression(graph, e, 0, behind)
+                let following = following.following(place, 0, Work::Drop)?;
+                self.lower_expression(graph, e, 0, following)
             }
             StmtKind::If(test, body) => {
-                let end = graph.seal(behind)?;
+                let end = graph.seal(following)?;
                 let one = self.lower_way_out(graph, body, exits, end)?;
                 self.lower_test(graph, place, test, one, end)
             }
             StmtKind::IfElse(test, body, other) => {
-                let end = graph.seal(behind)?;
+                let end = graph.seal(following)?;
                 let other = self.lower_way_out(graph, other, exits, end)?;
                 let one = self.lower_way_out(graph, body, exits, end)?;
                 self.lower_test(graph, place, test, one, other)
             }
-            StmtKind::While(test, body) => self.lower_while(graph, body, place, test, behind),
-            StmtKind::Do(body, test) => self.lower_do(graph, body, place, test, behind),
+            StmtKind::While(test, body) => self.lower_while(graph, body, place, test, following),
+            StmtKind::Do(body, test) => self.lower_do(graph, body, place, test, following),
             StmtKind::For(first, test, last, body) => {
-                self.lower_for(graph, first, body, place, test, last, exits.again, behind)
+                self.lower_for(
+                    graph,
+                    first,
+                    body,
+                    place,
+                    test,
+                    last,
+                    exits.again,
+                    following,
+                )
             }
             StmtKind::Switch(value, cases, statements) => {
-                self.lower_switch(graph, statements, place, value, cases, exits.again, behind)
+                self.lower_switch(
+                    graph,
+                    statements,
+                    place,
+                    value,
+                    cases,
+                    exits.again,
+                    following,
+                )
             }
-            StmtKind::Goto(label) => self.lower_goto(graph, *label, behind),
-            StmtKind::Label(_, body) => self.lower_label(graph, body, place, exits, behind),
-            StmtKind::Break => self.lower_jump(graph, exits.out, behind),
-            StmtKind::Continue => self.lower_jump(graph, exits.again, behind),
+            StmtKind::Goto(label) => self.lower_goto(graph, *label, following),
+            StmtKind::Label(_, body) => self.lower_label(graph, body, place, exits, following),
+            StmtKind::Break => self.lower_jump(graph, exits.out, following),
+            StmtKind::Continue => self.lower_jump(graph, exits.again, following),
             StmtKind::Return(value) => {
-                graph.keep(behind)?;
+                graph.keep(following)?;
                 self.lower_return(graph, place, value.as_ref())
             }
         }
@@ -88,12 +105,12 @@ impl Lowering<'_> {
         graph: &mut GraphBuilder,
         statements: &[Stmt],
         exits: Exits,
-        behind: Strip,
+        following: Strip,
     ) -> Result<Strip, AllocError>
         requires { IsReady self.now }
-        ensures { IfOk result (λ made. ExecutesAll (typed_program self.now.program.now) (routine self.now.function.now) (statement_list statements.now) exits.out exits.again (built_of graph.old) (built_of graph.new) (point_of made) (point_of behind)) }
+        ensures { IfOk result (λ made. ExecutesAll (typed_program self.now.program.now) (routine self.now.function.now) (statement_list statements.now) exits.out exits.again (built_of graph.old) (built_of graph.new) (point_of made) (point_of following)) }
     {
-        let mut made = behind;
+        let mut made = following;
         let mut left = statements.len();
         while left > 0 {
             left -= 1;
@@ -151,28 +168,28 @@ impl Lowering<'_> {
         body: &Stmt,
         place: Place,
         exits: Exits,
-        behind: Strip,
+        following: Strip,
     ) -> Result<Strip, AllocError>
         requires { IsReady self.now }
-        ensures { IfOk result (λ made. (label : ℕ) → Executes (typed_program self.now.program.now) (routine self.now.function.now) (Label place label (statement body.now)) exits.out exits.again (built_of graph.old) (built_of graph.new) (point_of made) (point_of behind)) }
+        ensures { IfOk result (λ made. (label : ℕ) → Executes (typed_program self.now.program.now) (routine self.now.function.now) (Label place label (statement body.now)) exits.out exits.again (built_of graph.old) (built_of graph.new) (point_of made) (point_of following)) }
     {
         let inner = marks(body)?;
         let mark = graph.mark_before(inner)?;
-        let made = self.lower_statement(graph, body, exits, behind)?;
+        let made = self.lower_statement(graph, body, exits, following)?;
         graph.seal_mark(PointKind::Label, place, made)?;
         Ok(self.jump(mark))
     }
 
-    // A jump, and behind it code to which nothing leads.
+    // A jump, and after it code to which nothing leads.
     fn lower_jump(
         &self,
         graph: &mut GraphBuilder,
         block: u32,
-        behind: Strip,
+        following: Strip,
     ) -> Result<Strip, AllocError>
-        ensures { IfOk result (λ made. LeadsOff (built_of graph.old) (built_of graph.new) block (point_of made) (point_of behind)) }
+        ensures { IfOk result (λ made. LeadsOff (built_of graph.old) (built_of graph.new) block (point_of made) (point_of following)) }
     {
-        graph.keep(behind)?;
+        graph.keep(following)?;
         Ok(self.jump(block))
     }
 
@@ -181,14 +198,14 @@ impl Lowering<'_> {
         &self,
         graph: &mut GraphBuilder,
         label: u32,
-        behind: Strip,
+        following: Strip,
     ) -> Result<Strip, AllocError>
         requires { IsReady self.now }
-        ensures { IfOk result (λ made. (place : Place) (out again : ℕ) → Executes (typed_program self.now.program.now) (routine self.now.function.now) (Goto place label) out again (built_of graph.old) (built_of graph.new) (point_of made) (point_of behind)) }
+        ensures { IfOk result (λ made. (place : Place) (out again : ℕ) → Executes (typed_program self.now.program.now) (routine self.now.function.now) (Goto place label) out again (built_of graph.old) (built_of graph.new) (point_of made) (point_of following)) }
     {
         match self.labels.get(&label) {
-            Some(mark) => self.lower_jump(graph, *mark, behind),
-            None => Ok(behind),
+            Some(mark) => self.lower_jump(graph, *mark, following),
+            None => Ok(following),
         }
     }
 
@@ -203,9 +220,9 @@ impl Lowering<'_> {
         ensures { IfOk result (λ made. Returns (typed_program self.now.program.now) (routine self.now.function.now) place (option_map typed (option_copied value.entry)) (built_of graph.old) (built_of graph.new) (point_of made)) }
     {
         let leaving = Strip::ending(self.alloc, BlockEnd::Return(0));
-        let leaving = leaving.behind(place, 1, Work::Meet(PointKind::Return))?;
+        let leaving = leaving.following(place, 1, Work::Meet(PointKind::Return))?;
         match value {
-            None => leaving.behind(place, 0, Work::Nothing),
+            None => leaving.following(place, 0, Work::Nothing),
             Some(value) => self.lower_used(graph, value, 0, leaving),
         }
     }

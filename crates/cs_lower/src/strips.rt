@@ -8,7 +8,7 @@ use cs_ast::Place;
 use cs_cfg::{Block, BlockEnd, Mark, Operation, Work};
 use std::alloc::{AllocError, Global};
 
-/// Operations with the last one first, and the end behind them.
+/// Operations with the last one first, and the end after them.
 #[derive(Drop)]
 pub struct Strip {
     pub operations: Vec<Operation>,
@@ -27,7 +27,12 @@ impl Strip {
     }
 
     /// An operation on the temporaries from a number on, and then the strip.
-    pub fn behind(mut self, place: Place, temporary: u32, work: Work) -> Result<Strip, AllocError>
+    pub fn following(
+        mut self,
+        place: Place,
+        temporary: u32,
+        work: Work,
+    ) -> Result<Strip, AllocError>
         ensures { IfOk result (λ made. point_of made ≡ does place temporary (view.work work) (point_of self)) }
     {
         self.operations.push(Operation {

@@ -4,7 +4,7 @@ ghost use Rattle.cs_types.specs.Layout.{IsLaidOut};
 ghost use Rattle.cs_ast.specs.TypedTree.{Switch};
 ghost use Rattle.cs_ast.specs.TypedProgram.{typed_program, routine};
 ghost use Rattle.cs_ast.specs.TypedView.{typed, statement_list};
-ghost use Rattle.cs_plain.specs.Statements.{default_item};
+ghost use Rattle.cs_meaning.specs.Statements.{default_item};
 ghost use Rattle.cs_cfg.specs.GraphView.{switch_case};
 ghost use Rattle.cs_lower.specs.Building.{point_of, built_of};
 ghost use Rattle.cs_lower.specs.Expressions.{Uses};
@@ -24,7 +24,7 @@ use cs_cfg::{BlockEnd, SwitchCase};
 use std::alloc::AllocError;
 
 impl Lowering<'_> {
-    /// A `switch`. Its statements stand one after another, and `break` leads behind them.
+    /// A `switch`. Its statements stand one after another, and `break` leads after them.
     #[cycle(statements)]
     pub fn lower_switch(
         &self,
@@ -34,12 +34,12 @@ impl Lowering<'_> {
         value: &Expr,
         cases: &[Case],
         around: u32,
-        behind: Strip,
+        following: Strip,
     ) -> Result<Strip, AllocError>
         requires { IsReady self.now }
-        ensures { IfOk result (λ made. (out : ℕ) → Executes (typed_program self.now.program.now) (routine self.now.function.now) (Switch place (typed value.now) cases.now (statement_list statements.now)) out around (built_of graph.old) (built_of graph.new) (point_of made) (point_of behind)) }
+        ensures { IfOk result (λ made. (out : ℕ) → Executes (typed_program self.now.program.now) (routine self.now.function.now) (Switch place (typed value.now) cases.now (statement_list statements.now)) out around (built_of graph.old) (built_of graph.new) (point_of made) (point_of following)) }
     {
-        let end = graph.seal(behind)?;
+        let end = graph.seal(following)?;
         let exits = Exits {
             out: end,
             again: around,
@@ -49,7 +49,7 @@ impl Lowering<'_> {
         Ok(made)
     }
 
-    // The value of a `switch`, and then the block of its case. The blocks are those of its statements; `end` comes behind them.
+    // The value of a `switch`, and then the block of its case. The blocks are those of its statements; `end` comes after them.
     fn lower_cases(
         &self,
         graph: &mut GraphBuilder,
@@ -62,8 +62,8 @@ impl Lowering<'_> {
         requires { IsLaidOut self.now.program.now.model self.now.program.now.table.list }
         ensures { IfOk result (λ made. Uses (typed_program self.now.program.now) (typed value.now) 0 (built_of graph.old) (built_of graph.new) (point_of made) (leads_to place cases.now blocks.now end)) }
     {
-        let behind = self.choice(place, cases, blocks, end)?;
-        self.lower_used(graph, value, 0, behind)
+        let following = self.choice(place, cases, blocks, end)?;
+        self.lower_used(graph, value, 0, following)
     }
 
     // A number leads to the block of its case.
@@ -107,7 +107,7 @@ fn add_way(ways: &mut Vec<SwitchCase>, case: &Case, block: u32) -> Result<(), Al
     }
 }
 
-// The block of the statement with a number, or else the one behind all of them.
+// The block of the statement with a number, or else the one after all of them.
 fn block_at(blocks: &[u32], item: u32, end: u32) -> u32
     ensures { result ≡ statements.block_at blocks.now end item }
 {
@@ -117,7 +117,7 @@ fn block_at(blocks: &[u32], item: u32, end: u32) -> u32
     }
 }
 
-// The block of `default`, or else the one behind all statements.
+// The block of `default`, or else the one after all statements.
 fn default_block(cases: &[Case], blocks: &[u32], end: u32) -> u32
     ensures { result ≡ statements.block_at blocks.now end (default_item cases.now (length blocks.now)) }
 {

@@ -4,8 +4,8 @@ ghost use Rattle.cs_types.specs.Shape.{shape_of};
 ghost use Rattle.cs_types.specs.Layout.{IsLaidOut};
 ghost use Rattle.cs_ast.specs.TypedProgram.{typed_program};
 ghost use Rattle.cs_ast.specs.TypedView.{typed, typed_list, form};
-ghost use Rattle.cs_plain.specs.Access as plain;
-ghost use Rattle.cs_plain.specs.Expressions.{count_all};
+ghost use Rattle.cs_meaning.specs.Access as meaning;
+ghost use Rattle.cs_meaning.specs.Expressions.{count_all};
 ghost use Rattle.cs_cfg.specs.GraphView as view;
 ghost use Rattle.cs_cfg.specs.Standing as standing;
 ghost use Rattle.cs_lower.specs.Building.{point_of};
@@ -16,30 +16,30 @@ use crate::strips::Strip;
 use cs_ast::typed::expression::{Expr, ExprKind};
 use cs_ast::typed::operator::Direction;
 use cs_cfg::{Access, Work};
-use cs_interpreter::access::access_of;
-use cs_interpreter::constants::{integer_of, target_size};
-use cs_interpreter::types::size_of;
+use cs_run_state::access::access_of;
+use cs_run_state::constants::{integer_of, target_size};
+use cs_run_state::types::size_of;
 use std::alloc::AllocError;
 
 impl Lowering<'_> {
     /// What an expression does with its parts, before a strip.
-    pub fn act(&self, e: &Expr, number: u32, behind: Strip) -> Result<Strip, AllocError>
+    pub fn act(&self, e: &Expr, number: u32, following: Strip) -> Result<Strip, AllocError>
         requires { IsLaidOut self.now.program.now.model self.now.program.now.table.list }
-        ensures { IfOk result (λ made. point_of made ≡ acted (typed_program self.now.program.now) (typed e.now) number (point_of behind)) }
+        ensures { IfOk result (λ made. point_of made ≡ acted (typed_program self.now.program.now) (typed e.now) number (point_of following)) }
     {
         match self.work_of(e)? {
-            Some(work) => behind.behind(e.place, number, work),
-            None => Ok(behind),
+            Some(work) => following.following(e.place, number, work),
+            None => Ok(following),
         }
     }
 
     /// The load of an update, before a strip.
-    pub fn fetch(&self, e: &Expr, number: u32, behind: Strip) -> Result<Strip, AllocError>
-        ensures { IfOk result (λ made. point_of made ≡ fetched (typed e.now) number (point_of behind)) }
+    pub fn fetch(&self, e: &Expr, number: u32, following: Strip) -> Result<Strip, AllocError>
+        ensures { IfOk result (λ made. point_of made ≡ fetched (typed e.now) number (point_of following)) }
     {
         match self.fetch_of(e)? {
-            Some(work) => behind.behind(e.place, number, work),
-            None => Ok(behind),
+            Some(work) => following.following(e.place, number, work),
+            None => Ok(following),
         }
     }
 
@@ -139,7 +139,7 @@ impl Lowering<'_> {
 
     // What a load or a store needs to know of the expression that names an object.
     fn access(&self, object: &Expr) -> Result<Access, AllocError>
-        ensures { IfOk result (λ made. view.access made ≡ plain.access_of (typed object.now)) }
+        ensures { IfOk result (λ made. view.access made ≡ meaning.access_of (typed object.now)) }
     {
         let access = access_of(object);
         let ty = access.ty.copy(self.alloc)?;
@@ -153,7 +153,7 @@ impl Lowering<'_> {
 }
 
 // How many arguments there are.
-#[tactic(auto, using(cs_interpreter::proofs::StatementForms::counted))]
+#[tactic(auto, using(cs_run_state::proofs::StatementForms::counted))]
 fn count_of(arguments: &[Expr]) -> Result<u32, AllocError>
     ensures { IfOk result (λ count. count ≡ count_all (typed_list arguments.now)) }
 {

@@ -14,7 +14,7 @@ leads_on budgets {last = last} {more = more} (stays e) way = subst (λ x. Leads 
 leads_on budgets (goes s first) way = goes s (leads_on budgets first way)
 leads_on budgets (passes s first) way = passes s (leads_on budgets first way)
 
--- a way, and the end of the run behind it
+-- a way, and the end of the run after it
 pub ends_after : (budgets : Budgets) {m middle : Machine} {events more : List Event} {outcome : Outcome} → Leads budgets m events middle → Ends budgets middle more outcome → Ends budgets m (events ++ more) outcome
 ends_after budgets way end = record { last = end.last; leads = leads_on budgets way end.leads; stops = end.stops }
 

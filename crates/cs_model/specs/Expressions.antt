@@ -22,11 +22,11 @@ push operand m = record m { stack = operand ∷ m.stack }
 
 -- the parts of an expression in the order in which they are evaluated, before what is to be done then
 abbrev pub evaluates : Expression → List Item → List Item
-evaluates (Number at n) behind = Act (Number at n) ∷ behind
-evaluates (Local at d) behind = Act (Local at d) ∷ behind
-evaluates (Load at object) behind = Evaluate object ∷ (Act (Load at object) ∷ behind)
-evaluates (Binary at op l r) behind = Evaluate l ∷ (Evaluate r ∷ (Act (Binary at op l r) ∷ behind))
-evaluates (Compare at op l r) behind = Evaluate l ∷ (Evaluate r ∷ (Act (Compare at op l r) ∷ behind))
+evaluates (Number at n) following = Act (Number at n) ∷ following
+evaluates (Local at d) following = Act (Local at d) ∷ following
+evaluates (Load at object) following = Evaluate object ∷ (Act (Load at object) ∷ following)
+evaluates (Binary at op l r) following = Evaluate l ∷ (Evaluate r ∷ (Act (Binary at op l r) ∷ following))
+evaluates (Compare at op l r) following = Evaluate l ∷ (Evaluate r ∷ (Act (Compare at op l r) ∷ following))
 
 -- the value of a cell that is read at a place: to read one that was never set is a fault
 abbrev pub read_cell : Place → Cell → Machine → Step

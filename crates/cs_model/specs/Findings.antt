@@ -47,13 +47,13 @@ abbrev pub IsBefore : Place → Place → Type 0
 IsBefore p q = (p.file < q.file) ⊎ ((p.file ≡ q.file) × ((p.line < q.line) ⊎ ((p.line ≡ q.line) × (p.column < q.column))))
 
 -- one finding is told before another: by place, then by the number of its kind or budget
-abbrev pub IsToldBefore : Outcome → Outcome → Type 0
-IsToldBefore (Fault kind at) (Fault kind' at') = IsBefore at at' ⊎ ((at ≡ at') × (kind_number kind < kind_number kind'))
-IsToldBefore (Over budget at) (Over budget' at') = IsBefore at at' ⊎ ((at ≡ at') × (budget_number budget < budget_number budget'))
-IsToldBefore (Fault kind at) (Over budget at') = ⊥
-IsToldBefore (Over budget at) (Fault kind at') = ⊥
-IsToldBefore outcome (Done returned) = ⊥
-IsToldBefore (Done returned) outcome = ⊥
+abbrev pub IsReportedBefore : Outcome → Outcome → Type 0
+IsReportedBefore (Fault kind at) (Fault kind' at') = IsBefore at at' ⊎ ((at ≡ at') × (kind_number kind < kind_number kind'))
+IsReportedBefore (Over budget at) (Over budget' at') = IsBefore at at' ⊎ ((at ≡ at') × (budget_number budget < budget_number budget'))
+IsReportedBefore (Fault kind at) (Over budget at') = ⊥
+IsReportedBefore (Over budget at) (Fault kind at') = ⊥
+IsReportedBefore outcome (Done returned) = ⊥
+IsReportedBefore (Done returned) outcome = ⊥
 
 -- the verdict of a result: bounded where some run meets a budget, else complete
 abbrev pub verdict_of : List Finding → Verdict
@@ -71,7 +71,7 @@ pub record IsGoodEntry (function : Definition) (budgets : Budgets) (result : Ent
   pub overs : All (IsGoodFinding function budgets) result.overs.items
   pub report_faults : All (λ report. IsFault report.what) result.reports.items
   pub over_overs : All (λ over. IsOver over.what) result.overs.items
-  pub reports_in_order : AllPairs (λ one other. IsToldBefore one.what other.what) result.reports.items
-  pub overs_in_order : AllPairs (λ one other. IsToldBefore one.what other.what) result.overs.items
+  pub reports_in_order : AllPairs (λ one other. IsReportedBefore one.what other.what) result.reports.items
+  pub overs_in_order : AllPairs (λ one other. IsReportedBefore one.what other.what) result.overs.items
   pub verdict : result.verdict ≡ verdict_of result.overs.items
   pub covered : IsCovered function budgets (result.reports.items ++ result.overs.items)

@@ -1,4 +1,4 @@
--- The plain machine: what it has to do, and what it does at each step.
+-- The reference machine: what it has to do, and what it does at each step.
 use Rattle.std.specs.Prelude.{ℕ, ◌+◌, ℤ, pos, List, [], ◌∷◌, nat_lt, if◌then◌else◌}
 use Rattle.cs_ast.specs.Tree.{Expression, Statement, Definition}
 use Rattle.cs_model.specs.declared.event.Event.{Event}

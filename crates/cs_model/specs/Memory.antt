@@ -1,4 +1,4 @@
--- The memory of the plain machine, and the inputs that it begins with.
+-- The memory of the reference machine, and the inputs that it begins with.
 use Rattle.std.specs.Prelude.{ℕ, ℤ, pos, Bool, List, [], ◌∷◌, Option, Some, None, nat_eq, ◌==◌, ◌&&◌, if◌then◌else◌, slice_get, take}
 use Rattle.std.specs.Cmp.Lexicographic.{pointwise}
 use Rattle.cs_ast.specs.Tree.{Definition}

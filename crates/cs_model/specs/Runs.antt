@@ -1,4 +1,4 @@
--- Runs of the plain machine.
+-- Runs of the reference machine.
 use Rattle.std.specs.Prelude.{◌≡◌, List, [], ◌∷◌}
 use Rattle.cs_ast.specs.Tree.{Definition}
 use Rattle.cs_model.specs.declared.event.Event.{Event}

@@ -14,19 +14,19 @@ use Rattle.cs_model.specs.Expressions.{evaluates, act}
 
 -- statements in their order, before what is to be done then
 abbrev pub executes : Statements → List Item → List Item
-executes Empty behind = behind
-executes (Then first others) behind = Execute first ∷ executes others behind
+executes Empty following = following
+executes (Then first others) following = Execute first ∷ executes others following
 
 -- how a statement begins, before what is to be done then
 abbrev pub begins : Statement → List Item → List Item
-begins (Block at statements) behind = executes statements behind
-begins (If at test body) behind = Evaluate test ∷ (Decide (If at test body) ∷ behind)
-begins (Return at value) behind = Evaluate value ∷ (Leave ∷ behind)
+begins (Block at statements) following = executes statements following
+begins (If at test body) following = Evaluate test ∷ (Decide (If at test body) ∷ following)
+begins (Return at value) following = Evaluate value ∷ (Leave ∷ following)
 
 -- what is to be done after a test: the body where it holds
 abbrev pub chosen : Bool → Statement → List Item → List Item
-chosen true body behind = Execute body ∷ behind
-chosen false body behind = behind
+chosen true body following = Execute body ∷ following
+chosen false body following = following
 
 -- a test of a statement: the way shows, and is taken where the number is not 0 (C11 6.8.4.1, paragraph 2)
 abbrev pub branch : Budgets → Place → Bool → Statement → Machine → Step
@@ -53,10 +53,10 @@ perform budgets (Execute s) m = Goes (record m { todo = begins s m.todo })
 perform budgets (Decide s) m = decide budgets s m
 perform budgets Leave m = Stops (Done (returned_of (newest m.stack)))
 
--- one step of the machine. Behind the last statement of its body a function gives an unset result
+-- one step of the machine. After the last statement of its body a function gives an unset result
 abbrev pub step_with : Budgets → List Item → Machine → Step
 step_with budgets [] m = Stops (Done returned.Unset)
-step_with budgets (item ∷ behind) m = perform budgets item (record m { todo = behind })
+step_with budgets (item ∷ following) m = perform budgets item (record m { todo = following })
 
 abbrev pub step : Budgets → Machine → Step
 step budgets m = step_with budgets m.todo m

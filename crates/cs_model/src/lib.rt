@@ -1,4 +1,4 @@
-//! What a program means and what the analyzer says of it: the plain machine, its runs, and findings.
+//! What a program means and what the analyzer says of it: the reference machine, its runs, and findings.
 //!
 //! The meaning is stated in `specs/`, which knows syntax, numbers and memory alone: no range, no graph.
 #![tactic(auto)]

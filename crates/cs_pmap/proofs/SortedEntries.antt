@@ -115,9 +115,9 @@ module _ {K X : Type 0} (R : K → K → Ordering) where
         ap (λ w. cond (is_eq w) (Some e.1) (find R k (f ∷ r))) p
         ∙ find_past k f r (o.trans k e.0 f.0 p (next_above e f r s)) (sorted_tail e (f ∷ r) s)
 
-    find_behind : (k : K) (e : K × X) (r : List (K × X)) → R k e.0 ≡ Equal → Sorted (e ∷ r) → find R k r ≡ None
-    find_behind k e [] p s = refl
-    find_behind k e (f ∷ r) p s = find_past k f r (o.congr k e.0 f.0 p ∙ next_above e f r s) (sorted_tail e (f ∷ r) s)
+    find_after : (k : K) (e : K × X) (r : List (K × X)) → R k e.0 ≡ Equal → Sorted (e ∷ r) → find R k r ≡ None
+    find_after k e [] p s = refl
+    find_after k e (f ∷ r) p s = find_past k f r (o.congr k e.0 f.0 p ∙ next_above e f r s) (sorted_tail e (f ∷ r) s)
 
     find_before : (k : K) (l : List (K × X)) (e : K × X) (r : List (K × X)) → is_lt (R k e.0) ≡ false → Sorted (l ++ e ∷ r) → find R k l ≡ None
     find_before k [] e r n s = refl
@@ -165,7 +165,7 @@ module _ {K X : Type 0} (R : K → K → Ordering) where
     without_middle k l e r p s =
         without_front k l e r (ap is_lt p) s
         ∙ ap (λ w. l ++ cond (not (is_eq w)) (e ∷ without k r) (without k r)) p
-        ∙ ap (λ w. l ++ w) (without_missing k r (find_behind k e r p (sorted_back l (e ∷ r) s)))
+        ∙ ap (λ w. l ++ w) (without_missing k r (find_after k e r p (sorted_back l (e ∷ r) s)))
 
     pub without_right : (k : K) (l : List (K × X)) (e : K × X) (r : List (K × X)) → R k e.0 ≡ Greater → Sorted (l ++ e ∷ r) → without k (l ++ e ∷ r) ≡ l ++ e ∷ without k r
     without_right k l e r p s =

@@ -125,7 +125,7 @@ impl<V: Clone + Drop> Tree<V> {
     }
 }
 
-// The tree of the entries of one tree and of another behind it: what remains of a branch whose own entry is removed.
+// The tree of the entries of one tree and of another after it: what remains of a branch whose own entry is removed.
 fn joined<V: Clone + Drop>(
     alloc: Global,
     left: &Tree<V>,

@@ -7,7 +7,7 @@ use Rattle.std.proofs.lemmas.List.Elements.{Contains-append_left, Contains-appen
 use Rattle.cs_ranges.specs.declared.range_set.Interval.{Interval}
 use Rattle.cs_ranges.specs.Interval.{in_interval}
 use Rattle.cs_ranges.specs.RangeSet.{contains, IsSpread, IsSpreadFrom, IsCount}
-use Rattle.cs_ranges.proofs.Members.{in_interval_tells, contains-nil, contains-cons}
+use Rattle.cs_ranges.proofs.Members.{in_interval_yields, contains-nil, contains-cons}
 
 -- so many numbers, one after the other from x on
 unfoldable pub numbers_from : ℤ → ℕ → List ℤ
@@ -101,7 +101,7 @@ get_or-numbers_from x (suc n) (suc k) d lt =
 Contains-numbers_from : (i : Interval) (x : ℤ) → i.low ≤ℤ i.high → in_interval i x ≡ true → Contains (numbers_from i.low (size_of i)) x
 Contains-numbers_from i x le h =
     let k = unsigned_abs (x -ℤ i.low) in
-    let inside : (i.low ≤ℤ x) × (x ≤ℤ i.high) = grind (arith, in_interval_tells i x) in
+    let inside : (i.low ≤ℤ x) × (x ≤ℤ i.high) = grind (arith, in_interval_yields i x) in
     let lt : k < size_of i = omega (arith, ints, inside.0, inside.1) in
     (k, omega (arith, length-numbers_from i.low (size_of i)), get_or-numbers_from i.low (size_of i) k x lt ∙ omega (arith, ints, inside.0))
 
@@ -109,7 +109,7 @@ in_interval-from_Contains : (i : Interval) (x : ℤ) → i.low ≤ℤ i.high →
 in_interval-from_Contains i x le h =
     let lt : h.0 < size_of i = omega (arith, h.1, length-numbers_from i.low (size_of i)) in
     let is : x ≡ i.low +ℤ pos h.0 = sym h.2 ∙ get_or-numbers_from i.low (size_of i) h.0 x lt in
-    grind (arith, ints, in_interval_tells i x)
+    grind (arith, ints, in_interval_yields i x)
 
 Contains-numbers_of : (b : ℤ) (s : List Interval) (x : ℤ) → IsSpreadFrom b s → contains s x ≡ true → Contains (numbers_of s) x
 unfolding numbers_of

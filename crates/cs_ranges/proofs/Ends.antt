@@ -6,7 +6,7 @@ use Rattle.std.proofs.lemmas.Bool.{or_cases, or_left, or_right}
 use Rattle.cs_ranges.specs.declared.range_set.Interval.{Interval}
 use Rattle.cs_ranges.specs.RangeSet.{IsSpread, IsLeast, IsGreatest}
 use Rattle.cs_ranges.proofs.LastItem.{front_last}
-use Rattle.cs_ranges.proofs.Members.{in_interval_tells, in_interval-low, in_interval-high, contains-cons, contains-push}
+use Rattle.cs_ranges.proofs.Members.{in_interval_yields, in_interval-low, in_interval-high, contains-cons, contains-push}
 use Rattle.cs_ranges.proofs.Spread.{IsSpreadFrom-last, contains-from, contains-before_last}
 
 pub IsLeast-first : (s : List Interval) (d : Interval) → 0 < length s → IsSpread s → IsLeast s (get_or s 0 d).low
@@ -24,7 +24,7 @@ IsGreatest-push s i h =
       member = contains-push s i i.high ∙ or_right _ _ (in_interval-high i last.2);
       greatest = λ y t. elim (or_cases _ _ (sym (contains-push s i y) ∙ t)) [
         | inl in_s ↦ omega (arith, ints, contains-before_last _ s i y h in_s, last.2)
-        | inr in_i ↦ grind (arith, ints, in_interval_tells i y)
+        | inr in_i ↦ grind (arith, ints, in_interval_yields i y)
       ];
     }
 

@@ -5,10 +5,10 @@ use Rattle.std.proofs.lemmas.Int.{ints, by_lt_z}
 use Rattle.cs_ranges.specs.Affine.{affine}
 
 -- the test of a range, with what it tells
-pub over_tells : (x y s : ℤ) → (int_le x s && int_le s y) ≡ true → (x ≤ℤ s) × (s ≤ℤ y)
-over_tells x y s h = (grind (arith, ints), grind (arith, ints))
+pub over_yields : (x y s : ℤ) → (int_le x s && int_le s y) ≡ true → (x ≤ℤ s) × (s ≤ℤ y)
+over_yields x y s h = (grind (arith, ints), grind (arith, ints))
 
--- the value so many steps behind the first number
+-- the value so many steps after the first number
 affine-steps : (k : ℕ) (first start s : ℤ) → first ≤ℤ s → affine (pos k) first start s ≡ start +ℤ pos (k * unsigned_abs (s -ℤ first))
 affine-steps k first start s le =
     let steps : s -ℤ first ≡ pos (unsigned_abs (s -ℤ first)) = omega (arith, ints) in
@@ -37,7 +37,7 @@ slope_positive zero first last start end e le lt =
     absurd (omega (arith, ints, affine-steps 0 first start last le))
 slope_positive (suc k) first last start end e le lt = omega arith
 
--- the line comes to `low` one step behind those in which it rises by less
+-- the line comes to `low` one step after those in which it rises by less
 pub reaches_low : (k m : ℕ) (first start low s : ℤ) → 0 < k → low ≡ (start +ℤ pos m) +ℤ pos 1 → first ≤ℤ s → int_le low (affine (pos k) first start s) ≡ int_le ((first +ℤ pos (m / k)) +ℤ pos 1) s
 reaches_low k m first start low s k_pos e from =
     let u = unsigned_abs (s -ℤ first) in
@@ -84,5 +84,5 @@ always_high k first last start end high s e le from upto =
 pub never_high : (k : ℕ) (first start high s : ℤ) → high <ℤ start → first ≤ℤ s → int_le (affine (pos k) first start s) high ≡ int_le s (first -ℤ pos 1)
 never_high k first start high s lt from =
     let above : high <ℤ affine (pos k) first start s = omega (arith, ints, affine-steps k first start s from) in
-    let behind : (first -ℤ pos 1) <ℤ s = omega (arith, ints) in
-    int_le-false _ _ above ∙ sym (int_le-false _ _ behind)
+    let following : (first -ℤ pos 1) <ℤ s = omega (arith, ints) in
+    int_le-false _ _ above ∙ sym (int_le-false _ _ following)

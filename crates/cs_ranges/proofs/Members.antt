@@ -7,20 +7,20 @@ use Rattle.cs_ranges.specs.Interval.{in_interval}
 use Rattle.cs_ranges.specs.RangeSet.{contains}
 
 -- the test of an interval, with what it tells
-pub in_interval_tells : (i : Interval) (x : ℤ) → ((in_interval i x ≡ true) × (i.low ≤ℤ x) × (x ≤ℤ i.high)) ⊎ ((in_interval i x ≡ false) × ((x <ℤ i.low) ⊎ (i.high <ℤ x)))
+pub in_interval_yields : (i : Interval) (x : ℤ) → ((in_interval i x ≡ true) × (i.low ≤ℤ x) × (x ≤ℤ i.high)) ⊎ ((in_interval i x ≡ false) × ((x <ℤ i.low) ⊎ (i.high <ℤ x)))
 unfolding in_interval
-in_interval_tells i x = grind (arith, ints)
+in_interval_yields i x = grind (arith, ints)
 
 -- an interval with a number has both its ends
 pub in_interval-low : (i : Interval) → i.low ≤ℤ i.high → in_interval i i.low ≡ true
-in_interval-low i h = grind (arith, ints, in_interval_tells i i.low)
+in_interval-low i h = grind (arith, ints, in_interval_yields i i.low)
 
 pub in_interval-high : (i : Interval) → i.low ≤ℤ i.high → in_interval i i.high ≡ true
-in_interval-high i h = grind (arith, ints, in_interval_tells i i.high)
+in_interval-high i h = grind (arith, ints, in_interval_yields i i.high)
 
 -- an interval whose ends are turned round has no number
 pub in_interval-none : (i : Interval) (x : ℤ) → i.high <ℤ i.low → in_interval i x ≡ false
-in_interval-none i x h = grind (arith, ints, in_interval_tells i x)
+in_interval-none i x h = grind (arith, ints, in_interval_yields i x)
 
 pub or_assoc : (x y z : Bool) → (x || (y || z)) ≡ ((x || y) || z)
 or_assoc true y z = refl

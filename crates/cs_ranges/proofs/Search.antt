@@ -5,7 +5,7 @@ use Rattle.std.proofs.lemmas.Bool.{or_from}
 use Rattle.cs_ranges.specs.declared.range_set.Interval.{Interval}
 use Rattle.cs_ranges.specs.Interval.{in_interval}
 use Rattle.cs_ranges.specs.RangeSet.{contains, IsSpreadFrom}
-use Rattle.cs_ranges.proofs.Members.{in_interval_tells, contains-nil, contains-cons, or-false}
+use Rattle.cs_ranges.proofs.Members.{in_interval_yields, contains-nil, contains-cons, or-false}
 use Rattle.cs_ranges.proofs.Spread.{IsSpreadFrom-at, contains-below}
 
 -- the ends of the intervals rise
@@ -20,10 +20,10 @@ IsSpreadFrom-rises b (i ∷ s) (suc j) (suc k) d h le lt =
     IsSpreadFrom-rises (i.high +ℤ pos 2) s j k d h.3 (le_of_suc-le-suc le) (le_of_suc-le-suc lt)
 
 before : (i : Interval) (x : ℤ) → i.high <ℤ x → in_interval i x ≡ false
-before i x h = grind (arith, ints, in_interval_tells i x)
+before i x h = grind (arith, ints, in_interval_yields i x)
 
 reached : (i : Interval) (x : ℤ) → x ≤ℤ i.high → in_interval i x ≡ int_le i.low x
-reached i x h = grind (arith, ints, in_interval_tells i x)
+reached i x h = grind (arith, ints, in_interval_yields i x)
 
 -- all intervals end below the number
 pub contains-past : (s : List Interval) (d : Interval) (x : ℤ) → ((j : ℕ) → j < length s → (get_or s j d).high <ℤ x) → contains s x ≡ false

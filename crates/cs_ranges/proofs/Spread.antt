@@ -5,7 +5,7 @@ use Rattle.std.proofs.lemmas.Bool.{or_from, or_cases, both_ways}
 use Rattle.cs_ranges.specs.declared.range_set.Interval.{Interval}
 use Rattle.cs_ranges.specs.Interval.{IsInside, IsProper, in_interval}
 use Rattle.cs_ranges.specs.RangeSet.{contains, IsSpread, IsSpreadFrom, last_low_or}
-use Rattle.cs_ranges.proofs.Members.{in_interval_tells, contains-nil, contains-cons}
+use Rattle.cs_ranges.proofs.Members.{in_interval_yields, contains-nil, contains-cons}
 
 pub IsSpreadFrom-weaker : (b c : ℤ) (s : List Interval) → c ≤ℤ b → IsSpreadFrom b s → IsSpreadFrom c s
 IsSpreadFrom-weaker b c [] le h = tt
@@ -19,7 +19,7 @@ pub contains-below : (b : ℤ) (s : List Interval) (x : ℤ) → IsSpreadFrom b 
 unfolding contains
 contains-below b [] x h lt = refl
 contains-below b (i ∷ s) x h lt =
-    let out : in_interval i x ≡ false = grind (arith, ints, h.0, in_interval_tells i x) in
+    let out : in_interval i x ≡ false = grind (arith, ints, h.0, in_interval_yields i x) in
     or_from _ _ out (contains-below (i.high +ℤ pos 2) s x h.3 (omega (arith, ints, h.0, h.1)))
 
 pub contains-from : (b : ℤ) (s : List Interval) (x : ℤ) → IsSpreadFrom b s → contains s x ≡ true → b ≤ℤ x
@@ -30,7 +30,7 @@ pub contains-above : (b : ℤ) (s : List Interval) (x : ℤ) → IsSpreadFrom b 
 unfolding contains
 contains-above b [] x h lt = refl
 contains-above b (i ∷ s) x h lt =
-    let out : in_interval i x ≡ false = grind (arith, ints, h.2, in_interval_tells i x) in
+    let out : in_interval i x ≡ false = grind (arith, ints, h.2, in_interval_yields i x) in
     or_from _ _ out (contains-above (i.high +ℤ pos 2) s x h.3 lt)
 
 -- the interval at an index has a number, and lies inside the bounds
@@ -59,7 +59,7 @@ contains-before_last b [] i x h t = absurd (both_ways _ (contains-nil x) t)
 contains-before_last b (j ∷ s) i x h t =
     let last = IsSpreadFrom-last (j.high +ℤ pos 2) s i h.3 in
     let P : Type 0 = (x +ℤ pos 2) ≤ℤ i.low in
-    let in_first : in_interval j x ≡ true → P = λ in_j. grind (arith, ints, in_interval_tells j x, last.1) in
+    let in_first : in_interval j x ≡ true → P = λ in_j. grind (arith, ints, in_interval_yields j x, last.1) in
     elim (or_cases _ _ (sym (contains-cons j s x) ∙ t)) [
       | inl in_j ↦ in_first in_j
       | inr in_s ↦ contains-before_last (j.high +ℤ pos 2) s i x h.3 in_s
@@ -71,7 +71,7 @@ IsSpreadFrom-replace_last b [] i j h e p q = (omega (arith, ints, h.0, e), p, q,
 IsSpreadFrom-replace_last b (k ∷ s) i j h e p q =
     (h.0, h.1, h.2, IsSpreadFrom-replace_last (k.high +ℤ pos 2) s i j h.3 e p q)
 
--- an interval behind the last one, after a gap
+-- an interval after the last one, after a gap
 pub IsSpreadFrom-push : (b : ℤ) (s : List Interval) (i j : Interval) → IsSpreadFrom b (s ++ i ∷ []) → (i.high +ℤ pos 1) <ℤ j.low → j.low ≤ℤ j.high → j.high ≤ℤ pos (2 ^ 126) → IsSpreadFrom b ((s ++ i ∷ []) ++ j ∷ [])
 IsSpreadFrom-push b [] i j h gap p q = (h.0, h.1, h.2, (omega (arith, ints, gap), p, q, tt))
 IsSpreadFrom-push b (k ∷ s) i j h gap p q =

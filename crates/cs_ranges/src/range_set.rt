@@ -119,7 +119,7 @@ impl RangeSet {
     /// overlap or touch.
     fn push(&mut self, interval: Interval) -> Result<(), AllocError>
         requires proper { IsProper interval }
-        requires behind { last_low self.old ≤ℤ interval.low }
+        requires following { last_low self.old ≤ℤ interval.low }
         ensures members { OnOk result ((x : ℤ) → contains self.new x ≡ (contains self.old x || in_interval interval x)) }
         ensures last { OnOk result (last_low self.new ≤ℤ interval.low) }
     {

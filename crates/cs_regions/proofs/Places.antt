@@ -7,7 +7,7 @@ use Rattle.std.proofs.lemmas.List.Elements.{Contains-append_right, Contains-get_
 use Rattle.indexmap.specs.IndexMap.{insert_entry}
 
 module _ {K : Type 0} where
-  -- the keys stay where the key is among them, and else it goes behind the last
+  -- the keys stay where the key is among them, and else it goes after the last
   abbrev Seen : List K → K → List K → Type 0
   Seen before k after = (Contains before k × (after ≡ before)) ⊎ ((Contains before k → ⊥) × (after ≡ before ++ k ∷ []))
 
@@ -32,7 +32,7 @@ module _ {K : Type 0} (eq : K → K → Bool) (reflexive : (x : K) → eq x x �
           | inl nowhere ↦ omega arith
           | inr e ↦ true≢false (sym (reflexive k) ∙ ap (eq k) (sym e) ∙ t)
         ]
-        | inr behind ↦ none behind
+        | inr following ↦ none following
       ]
 
   -- a key stands at one place
@@ -67,5 +67,5 @@ module _ {K V : Type 0} (eq : K → K → Bool) (reflexive : (x : K) → eq x x 
           inl (subst (Contains (keys_of (e ∷ es))) (sym (same k e.0 t)) (Contains-get_or (keys_of (e ∷ es)) 0 e.0 (omega arith)), simp t)
       by false t (inl (there, stay)) =
           inl (Contains-append_right (e.0 ∷ []) (keys_of es) k there, simp t (ap (λ ks. e.0 ∷ ks) stay))
-      by false t (inr (none, behind)) =
-          inr (none_in_front eq reflexive e.0 (keys_of es) k t none, simp t (ap (λ ks. e.0 ∷ ks) behind))
+      by false t (inr (none, following)) =
+          inr (none_in_front eq reflexive e.0 (keys_of es) k t none, simp t (ap (λ ks. e.0 ∷ ks) following))

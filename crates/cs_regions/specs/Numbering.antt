@@ -11,7 +11,7 @@ IsNumberOf bases base number = slice_get bases number ≡ Some base
 abbrev pub IsNumbered : List Base → Type 0
 IsNumbered bases = (base : Base) (one other : ℕ) → IsNumberOf bases base one → IsNumberOf bases base other → one ≡ other
 
--- the list stays where it has the base region, and else the base region goes behind its last
+-- the list stays where it has the base region, and else the base region goes after its last
 abbrev pub IsSeenAfter : List Base → Base → List Base → Type 0
 IsSeenAfter before base after =
     (Contains before base × (after ≡ before)) ⊎ ((Contains before base → ⊥) × (after ≡ before ++ base ∷ []))

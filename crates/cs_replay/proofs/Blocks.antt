@@ -4,15 +4,15 @@ use Rattle.std.specs.Prelude.{slice_get}
 use Rattle.std.specs.Slice.{IsItemAt}
 use Rattle.std.proofs.lemmas.Option.{slice_get-get_or}
 
--- what is left behind so many elements, where there is one more
-pub behind_one : {X Y : Type 0} (seen : X → Y) (xs : List X) (n : ℕ) (x : X) → slice_get xs n ≡ Some x → drop n (map seen xs) ≡ seen x ∷ drop (n + 1) (map seen xs)
-behind_one seen [] n x is = cc
-behind_one seen (y ∷ ys) zero x is =
+-- what is left after so many elements, where there is one more
+pub after_one : {X Y : Type 0} (seen : X → Y) (xs : List X) (n : ℕ) (x : X) → slice_get xs n ≡ Some x → drop n (map seen xs) ≡ seen x ∷ drop (n + 1) (map seen xs)
+after_one seen [] n x is = cc
+after_one seen (y ∷ ys) zero x is =
     let same : y ≡ x = cc in
     ap (λ (z : _). seen z ∷ map seen ys) same
-behind_one seen (y ∷ ys) (suc n) x is =
+after_one seen (y ∷ ys) (suc n) x is =
     let next : suc n + 1 ≡ suc (n + 1) = omega arith in
-    rw next (behind_one seen ys n x is)
+    rw next (after_one seen ys n x is)
 
 -- the element that is lent, if there is one
 pub lent_is : {X : Type 0} (xs : List X) (i : ℕ) (x : Bor X) → IsItemAt xs i (Some x) → slice_get xs i ≡ Some x.now

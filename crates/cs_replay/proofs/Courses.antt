@@ -2,14 +2,14 @@
 use Rattle.std.proofs.Common.{◌≡◌, ℕ, ◌≤◌, ◌<◌, refl, sym, ap, ◌∙◌, subst, arith}
 use Rattle.cs_types.specs.Layout.{IsLaidOut}
 use Rattle.cs_ast.specs.TypedProgram.{typed_program}
-use Rattle.cs_runs.specs.declared.outcome.Outcome.{Outcome}
-use Rattle.cs_runs.specs.Acts.{Act}
-use Rattle.cs_runs.specs.Runs as runs
-use Rattle.cs_runs.specs.Runs.{Log, Performed, Continues, Finishes, perform, empty, Leads, stays, goes}
-use Rattle.cs_runs.proofs.RunLaws.{leads_on}
-use Rattle.cs_plain.specs.PlainRuns as plain
-use Rattle.cs_interpreter.specs.declared.settings.Setting.{Setting}
-use Rattle.cs_interpreter.specs.View.{setting_of, log_of}
+use Rattle.cs_events.specs.declared.outcome.Outcome.{Outcome}
+use Rattle.cs_events.specs.Acts.{Act}
+use Rattle.cs_events.specs.Runs as runs
+use Rattle.cs_events.specs.Runs.{Log, Performed, Continues, Finishes, perform, empty, Leads, stays, goes}
+use Rattle.cs_events.proofs.RunLaws.{leads_on}
+use Rattle.cs_meaning.specs.PlainRuns as meaning
+use Rattle.cs_run_state.specs.declared.settings.Setting.{Setting}
+use Rattle.cs_run_state.specs.View.{setting_of, log_of}
 use Rattle.cs_cfg.specs.declared.code.Code.{Code}
 use Rattle.cs_cfg.specs.CodeSteps.{code_step, code_start, CodeGives}
 use Rattle.cs_cfg.specs.GraphView as view
@@ -17,7 +17,7 @@ use Rattle.cs_cfg.specs.Lowered.{HasGraphs}
 use Rattle.cs_cfg.specs.Working.{CodeState}
 use Rattle.cs_replay.specs.declared.replayer.Replayer.{Replayer}
 use Rattle.cs_replay.specs.declared.replays.Course.{Course}
-use Rattle.cs_steps.specs.RunView.{run_of}
+use Rattle.cs_reference.specs.RunView.{run_of}
 use Rattle.cs_replay.specs.ReplayerView.{program_of, budgets_of, code_of, state_in, IsReady, KeepsSetting}
 use Rattle.cs_replay.specs.RunLengths.{HasLeft}
 use Rattle.cs_replay.proofs.Lengths.{counted, counts_left, one_less}
@@ -28,7 +28,7 @@ module _ (course : Course) where
   step_of = code_step (view.code course.code.now) (typed_program course.setting.now.program.now) course.setting.now.budgets
 
   abbrev pub goes_by : runs.Setting
-  goes_by = plain.setting_of (typed_program course.setting.now.program.now) (run_of course.setting.now) course.setting.now.budgets
+  goes_by = meaning.setting_of (typed_program course.setting.now.program.now) (run_of course.setting.now) course.setting.now.budgets
 
   abbrev pub first_of : CodeState
   first_of = code_start (view.code course.code.now) (typed_program course.setting.now.program.now) course.entry (run_of course.setting.now)
@@ -74,7 +74,7 @@ module _ (course : Course) where
       subst (λ (k : Code). at course.setting.now k) way.code (subst (λ (s : Setting). at s run.code.now) way.setting e)
 
   module _ (run new : Replayer) (way : OnWay run) (kept : KeepsSetting run new) (leads : perform (setting_of run.runner.setting.now) (log_of run.runner.log) (code_step (code_of run) (program_of run) (budgets_of run) (state_in run)) ≡ Continues (state_in new) (log_of new.runner.log)) where
-    -- behind a step it is still on its way
+    -- after a step it is still on its way
     pub goes_on : OnWay new
     goes_on =
         let e = comes_to run (Continues (state_in new) (log_of new.runner.log)) way leads in

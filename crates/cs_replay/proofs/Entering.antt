@@ -4,16 +4,16 @@ use Rattle.std.specs.Prelude.{option_map, slice_get}
 use Rattle.cs_ast.specs.declared.place.Place.{Place}
 use Rattle.cs_ast.specs.TypedTree.{Statement}
 use Rattle.cs_ast.specs.TypedProgram.{TypedProgram, Routine}
-use Rattle.cs_runs.specs.declared.outcome.RunBudgets.{RunBudgets}
-use Rattle.cs_plain.specs.Memory.{Block, Memory}
-use Rattle.cs_plain.specs.Machine.{Operand, Frame, newest, pop_many}
-use Rattle.cs_plain.specs.Calls.{local_block, inside, enter_as}
+use Rattle.cs_events.specs.declared.outcome.RunBudgets.{RunBudgets}
+use Rattle.cs_meaning.specs.Memory.{Block, Memory}
+use Rattle.cs_meaning.specs.Machine.{Operand, Frame, newest, pop_many}
+use Rattle.cs_meaning.specs.Calls.{local_block, inside, enter_as}
 use Rattle.cs_cfg.specs.Graph.{Flow, Code, no_flow, flow_of, block_of, block_in}
 use Rattle.cs_cfg.specs.Lowered.{is_there}
 use Rattle.cs_cfg.specs.Working.{CodeState, code_frame, call_flow}
 use Rattle.cs_replay.specs.CodeStates.{at_point, begun}
 use Rattle.cs_replay.specs.FrameChanges.{inside_with}
-use Rattle.cs_steps.proofs.Locals.{locals_are}
+use Rattle.cs_reference.proofs.Locals.{locals_are}
 
 -- the run in a new frame, which is as it should be
 pub entered_is : (code : Code) (program : TypedProgram) (function : ℕ) (flow : Flow) (routine : Routine) (arguments : List Operand) (frame : Frame) (locals : ℕ → Option Block) (m : CodeState) → frame ≡ begun function m.frames flow.marks → flow_of code function ≡ Some flow → ((n : ℕ) → locals n ≡ option_map (local_block program (slice_get arguments n)) (slice_get routine.variables n)) → inside_with (block_in code frame.function flow.entry) frame locals m ≡ inside program (code_frame function flow m.frames) routine arguments m

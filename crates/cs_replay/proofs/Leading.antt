@@ -1,57 +1,57 @@
--- Where acts of the code's run lead, and how they end it, by those of the plain machine: for the contracts of steps.
+-- Where acts of the code's run lead, and how they end it, by those of the reference machine: for the contracts of steps.
 use Rattle.std.proofs.Common.{◌≡◌, ℕ, Bool, List, [], ◌∷◌, refl, sym, ap, ◌∙◌}
 use Rattle.cs_ast.specs.declared.place.Place.{Place}
-use Rattle.cs_runs.specs.declared.event.Label.{Label}
-use Rattle.cs_runs.specs.declared.outcome.Outcome.{Outcome}
-use Rattle.cs_runs.specs.Objects.{Cell}
-use Rattle.cs_runs.specs.Touches.{Touch}
-use Rattle.cs_runs.specs.Acts.{Act, Goes, Stops, Touches}
-use Rattle.cs_runs.specs.Runs.{Setting, Log, Continues, Finishes, perform}
-use Rattle.cs_runs.specs.Simulation.{Tells}
-use Rattle.cs_plain.specs.Access.{shows_then}
-use Rattle.cs_plain.specs.Operators.{branch}
-use Rattle.cs_plain.specs.Calls.{leave}
-use Rattle.cs_plain.specs.Machine.{Operand, CallFrame, State, with_stack}
-use Rattle.cs_interpreter.specs.declared.logs.Stop.{Stop}
-use Rattle.cs_interpreter.specs.declared.logs.Stop.TheVariants as stop
-use Rattle.cs_interpreter.specs.Pieces.{finished}
-use Rattle.cs_interpreter.proofs.Performing.{perform-Goes}
+use Rattle.cs_events.specs.declared.event.Label.{Label}
+use Rattle.cs_events.specs.declared.outcome.Outcome.{Outcome}
+use Rattle.cs_events.specs.Objects.{Cell}
+use Rattle.cs_events.specs.Touches.{Touch}
+use Rattle.cs_events.specs.Acts.{Act, Goes, Stops, Touches}
+use Rattle.cs_events.specs.Runs.{Setting, Log, Continues, Finishes, perform}
+use Rattle.cs_events.specs.Simulation.{Yields}
+use Rattle.cs_meaning.specs.Access.{shows_then}
+use Rattle.cs_meaning.specs.Operators.{branch}
+use Rattle.cs_meaning.specs.Calls.{leave}
+use Rattle.cs_meaning.specs.Machine.{Operand, CallFrame, State, with_stack}
+use Rattle.cs_run_state.specs.declared.logs.Stop.{Stop}
+use Rattle.cs_run_state.specs.declared.logs.Stop.TheVariants as stop
+use Rattle.cs_run_state.specs.Pieces.{finished}
+use Rattle.cs_run_state.proofs.Performing.{perform-Goes}
 use Rattle.cs_cfg.specs.Graph.{Point}
 use Rattle.cs_cfg.specs.Working.{CodeState}
 use Rattle.cs_replay.specs.CodeStates.{code_state}
 use Rattle.cs_replay.specs.ReplayerView.{ended}
 use Rattle.cs_replay.proofs.Performs.{Seen, leads_so, finishes_so}
-use Rattle.cs_replay.proofs.Told.{shown_told, touched_told, marked, way_seen, marked_so, branch_told}
+use Rattle.cs_replay.proofs.Reported.{shown_reported, touched_reported, marked, way_seen, marked_so, branch_reported}
 
 module _ (setting : Setting) (log later : Log) where
   -- an act of the code's run ends the run as that of the machine does
-  pub ends_so : (seen : State → CodeState) (a : Act State) (b : Act CodeState) (stop : Stop) → Tells (Seen seen) a b → perform setting log a ≡ finished stop later (perform setting log a) → perform setting log b ≡ ended stop later (perform setting log b)
+  pub ends_so : (seen : State → CodeState) (a : Act State) (b : Act CodeState) (stop : Stop) → Yields (Seen seen) a b → perform setting log a ≡ finished stop later (perform setting log a) → perform setting log b ≡ ended stop later (perform setting log b)
   ends_so seen a b (stop.Outcome outcome) same ends = finishes_so seen setting log later a b outcome same ends
   ends_so seen a b stop.Memory same ends = refl
 
   -- a label shows
   pub shows_so : (at : Place) (what : Label) (m : State) (t : CodeState) → perform setting log (shows_then at what (Goes m)) ≡ perform setting later (Goes m) → perform setting log (shows_then at what (Goes t)) ≡ Continues t later
-  shows_so at what m t leads = leads_so (λ (s : State). t) setting log later (shows_then at what (Goes m)) (shows_then at what (Goes t)) m (shown_told at what m t) (leads ∙ perform-Goes setting later m)
+  shows_so at what m t leads = leads_so (λ (s : State). t) setting log later (shows_then at what (Goes m)) (shows_then at what (Goes t)) m (shown_reported at what m t) (leads ∙ perform-Goes setting later m)
 
   pub no_show : (at : Place) (what : Label) (m : State) (t : CodeState) (stop : Stop) → perform setting log (shows_then at what (Goes m)) ≡ finished stop later (perform setting log (shows_then at what (Goes m))) → perform setting log (shows_then at what (Goes t)) ≡ ended stop later (perform setting log (shows_then at what (Goes t)))
-  no_show at what m t stop ends = ends_so (λ (s : State). t) (shows_then at what (Goes m)) (shows_then at what (Goes t)) stop (shown_told at what m t) ends
+  no_show at what m t stop ends = ends_so (λ (s : State). t) (shows_then at what (Goes m)) (shows_then at what (Goes t)) stop (shown_reported at what m t) ends
 
   -- a control point is met, and a label shows
   pub meets_so : (touch : Touch) (at : Place) (what : Label) (m : State) (t : CodeState) → perform setting log (Touches touch (shows_then at what (Goes m))) ≡ perform setting later (Goes m) → perform setting log (Touches touch (shows_then at what (Goes t))) ≡ Continues t later
-  meets_so touch at what m t leads = leads_so (λ (s : State). t) setting log later (Touches touch (shows_then at what (Goes m))) (Touches touch (shows_then at what (Goes t))) m (touched_told touch at what m t) (leads ∙ perform-Goes setting later m)
+  meets_so touch at what m t leads = leads_so (λ (s : State). t) setting log later (Touches touch (shows_then at what (Goes m))) (Touches touch (shows_then at what (Goes t))) m (touched_reported touch at what m t) (leads ∙ perform-Goes setting later m)
 
   pub no_meeting : (touch : Touch) (at : Place) (what : Label) (m : State) (t : CodeState) (stop : Stop) → perform setting log (Touches touch (shows_then at what (Goes m))) ≡ finished stop later (perform setting log (Touches touch (shows_then at what (Goes m)))) → perform setting log (Touches touch (shows_then at what (Goes t))) ≡ ended stop later (perform setting log (Touches touch (shows_then at what (Goes t))))
-  no_meeting touch at what m t stop ends = ends_so (λ (s : State). t) (Touches touch (shows_then at what (Goes m))) (Touches touch (shows_then at what (Goes t))) stop (touched_told touch at what m t) ends
+  no_meeting touch at what m t stop ends = ends_so (λ (s : State). t) (Touches touch (shows_then at what (Goes m))) (Touches touch (shows_then at what (Goes t))) stop (touched_reported touch at what m t) ends
 
   -- a test takes a way
   pub branches_so : (at : Place) (cell : Cell) (m : State) (ways : Bool → CodeState) (holds : Bool) → ((onward : Bool → Act State) → perform setting log (branch at cell onward) ≡ perform setting later (onward holds)) → perform setting log (branch at cell (λ b. Goes (ways b))) ≡ Continues (ways holds) later
   branches_so at cell m ways holds leads =
-      leads_so (way_seen ways) setting log later (branch at cell (λ b. Goes (marked m b))) (branch at cell (λ b. Goes (ways b))) (marked m holds) (branch_told at cell m ways) (leads (λ b. Goes (marked m b)) ∙ perform-Goes setting later (marked m holds))
+      leads_so (way_seen ways) setting log later (branch at cell (λ b. Goes (marked m b))) (branch at cell (λ b. Goes (ways b))) (marked m holds) (branch_reported at cell m ways) (leads (λ b. Goes (marked m b)) ∙ perform-Goes setting later (marked m holds))
       ∙ ap (λ (t : CodeState). Continues t later) (sym (marked_so ways m holds))
 
   pub no_branch : (at : Place) (cell : Cell) (m : State) (ways : Bool → CodeState) (stop : Stop) → ((onward : Bool → Act State) → perform setting log (branch at cell onward) ≡ finished stop later (perform setting log (branch at cell onward))) → perform setting log (branch at cell (λ b. Goes (ways b))) ≡ ended stop later (perform setting log (branch at cell (λ b. Goes (ways b))))
   no_branch at cell m ways stop ends =
-      ends_so (way_seen ways) (branch at cell (λ b. Goes (marked m b))) (branch at cell (λ b. Goes (ways b))) stop (branch_told at cell m ways) (ends (λ b. Goes (marked m b)))
+      ends_so (way_seen ways) (branch at cell (λ b. Goes (marked m b))) (branch at cell (λ b. Goes (ways b))) stop (branch_reported at cell m ways) (ends (λ b. Goes (marked m b)))
 
 module _ (setting : Setting) (log : Log) where
   -- an act leads to a state that is told in another way

@@ -1,8 +1,8 @@
 -- How many steps the run of placed code has, and how many it has left on its way: for the loop of `follow`.
 use Rattle.std.proofs.Common.{◌≡◌, ℕ, zero, suc, ◌≤◌, refl, sym, ap, ◌∙◌, subst, arith}
-use Rattle.cs_runs.specs.Acts.{Act}
-use Rattle.cs_runs.specs.Runs.{Setting, Log, Performed, Continues, Finishes, perform, Leads, stays, goes, EndsFrom}
-use Rattle.cs_runs.specs.declared.outcome.Outcome.{Outcome}
+use Rattle.cs_events.specs.Acts.{Act}
+use Rattle.cs_events.specs.Runs.{Setting, Log, Performed, Continues, Finishes, perform, Leads, stays, goes, EndsFrom}
+use Rattle.cs_events.specs.declared.outcome.Outcome.{Outcome}
 use Rattle.cs_replay.specs.RunLengths.{HasLeft, HasLength}
 
 module _ {State : Type 0} (step : State → Act State) (setting : Setting) where
@@ -21,7 +21,7 @@ module _ {State : Type 0} (step : State → Act State) (setting : Setting) where
   counts_left (suc steps) (suc most) (Finishes outcome log) few left = absurd left
   counts_left (suc steps) (suc most) (Continues next log) few left = ap suc (counts_left steps most (perform setting log (step next)) (omega arith) left)
 
-  -- a run whose next act goes on has one step less behind it
+  -- a run whose next act goes on has one step less after it
   pub record OneLess (steps : ℕ) (next : State) (later : Log) : Type 0 where
     pub fewer : ℕ
     pub one_more : steps ≡ suc fewer

@@ -1,5 +1,5 @@
 mod Performs
-mod Told
+mod Reported
 mod Lengths
 mod LoweredRuns
 mod Blocks

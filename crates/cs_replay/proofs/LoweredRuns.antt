@@ -1,13 +1,13 @@
--- The run of lowered code ends, as the plain machine's does: for the contract of `replay`.
+-- The run of lowered code ends, as the reference machine's does: for the contract of `replay`.
 use Rattle.std.proofs.Common.{◌≡◌, ℕ, Option, Some, None, refl}
 use Rattle.cs_ast.specs.TypedTree.{Statement}
 use Rattle.cs_ast.specs.TypedProgram.{TypedProgram}
-use Rattle.cs_runs.specs.declared.outcome.RunBudgets.{RunBudgets}
-use Rattle.cs_runs.specs.declared.outcome.Outcome.{Outcome}
-use Rattle.cs_runs.specs.Runs.{Log, empty}
-use Rattle.cs_plain.specs.Machine.{routine_of}
-use Rattle.cs_plain.specs.PlainRuns.{PlainRun, RunGives, setting_of}
-use Rattle.cs_plain.proofs.PlainEndings.{run_ends}
+use Rattle.cs_events.specs.declared.outcome.RunBudgets.{RunBudgets}
+use Rattle.cs_events.specs.declared.outcome.Outcome.{Outcome}
+use Rattle.cs_events.specs.Runs.{Log, empty}
+use Rattle.cs_meaning.specs.Machine.{routine_of}
+use Rattle.cs_meaning.specs.PlainRuns.{PlainRun, RunGives, setting_of}
+use Rattle.cs_meaning.proofs.PlainEndings.{run_ends}
 use Rattle.cs_cfg.specs.Graph.{Flow, Code, flow_of}
 use Rattle.cs_cfg.specs.CodeSteps.{code_step, code_start, CodeGives}
 use Rattle.cs_cfg.specs.Lowered.{is_there, IsLowered}
@@ -28,7 +28,7 @@ module _ (code : Code) (program : TypedProgram) (entry : ℕ) (run : PlainRun) (
       let plain = run_ends program entry run budgets in
       has_length (code_step code program budgets) (setting_of program run budgets) (lowered.runs.ends entry body.0 run budgets plain.0 plain.1 body.1 plain.2)
 
-  -- and it is the plain machine's
+  -- and it is the reference machine's
   pub replays_so : (outcome : Outcome) (log : Log) → CodeGives code program entry run budgets outcome log → RunGives program entry run budgets outcome log
   replays_so outcome log gives =
       let body = has_body (flow_of code entry) (routine_of program entry).body found (lowered.graphs entry) there in

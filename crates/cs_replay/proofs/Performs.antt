@@ -1,10 +1,10 @@
 -- Acts that do the same, where one leads to the states of the other seen in some way: for the contracts of all steps.
 use Rattle.std.proofs.Common.{◌≡◌, Bool, true, false, if◌then◌else◌, refl, ap, ◌∙◌}
-use Rattle.cs_runs.specs.declared.outcome.Outcome.{Outcome}
-use Rattle.cs_runs.specs.Operations.{is_true}
-use Rattle.cs_runs.specs.Acts.{Act}
-use Rattle.cs_runs.specs.Runs.{Setting, Log, Performed, Continues, Finishes, perform, with_event, with_read, with_touch, has_room, operation_event, number_of, allocation_event, access_event}
-use Rattle.cs_runs.specs.Simulation.{Tells, both_go, both_stop, both_read, both_ask, both_allocate, both_reach, both_touch}
+use Rattle.cs_events.specs.declared.outcome.Outcome.{Outcome}
+use Rattle.cs_events.specs.Operations.{is_true}
+use Rattle.cs_events.specs.Acts.{Act}
+use Rattle.cs_events.specs.Runs.{Setting, Log, Performed, Continues, Finishes, perform, with_event, with_read, with_touch, has_room, operation_event, number_of, allocation_event, access_event}
+use Rattle.cs_events.specs.Simulation.{Yields, both_go, both_stop, both_read, both_ask, both_allocate, both_reach, both_touch}
 
 -- a state is another one seen in some way
 abbrev pub Seen : {S T : Type 0} → (S → T) → S → T → Type 0
@@ -20,7 +20,7 @@ module _ {S T : Type 0} (seen : S → T) where
   if_room true a b outcome log same = same
   if_room false a b outcome log same = refl
 
-  performs : (setting : Setting) (log : Log) {a : Act S} {b : Act T} → Tells (Seen seen) a b → perform setting log b ≡ seen_so (perform setting log a)
+  performs : (setting : Setting) (log : Log) {a : Act S} {b : Act T} → Yields (Seen seen) a b → perform setting log b ≡ seen_so (perform setting log a)
   unfolding perform
   performs setting log (both_go is) = ap (λ (t : T). Continues t log) is
   performs setting log both_stop = refl
@@ -34,9 +34,9 @@ module _ {S T : Type 0} (seen : S → T) where
   performs setting log (both_touch {touch = touch} same) = performs setting (with_touch log touch) same
 
   -- where one act leads on, so does the other
-  pub leads_so : (setting : Setting) (log later : Log) (a : Act S) (b : Act T) (m : S) → Tells (Seen seen) a b → perform setting log a ≡ Continues m later → perform setting log b ≡ Continues (seen m) later
+  pub leads_so : (setting : Setting) (log later : Log) (a : Act S) (b : Act T) (m : S) → Yields (Seen seen) a b → perform setting log a ≡ Continues m later → perform setting log b ≡ Continues (seen m) later
   leads_so setting log later a b m same leads = performs setting log same ∙ ap seen_so leads
 
   -- where one act ends the run, so does the other
-  pub finishes_so : (setting : Setting) (log later : Log) (a : Act S) (b : Act T) (outcome : Outcome) → Tells (Seen seen) a b → perform setting log a ≡ Finishes outcome later → perform setting log b ≡ Finishes outcome later
+  pub finishes_so : (setting : Setting) (log later : Log) (a : Act S) (b : Act T) (outcome : Outcome) → Yields (Seen seen) a b → perform setting log a ≡ Finishes outcome later → perform setting log b ≡ Finishes outcome later
   finishes_so setting log later a b outcome same ends = performs setting log same ∙ ap seen_so ends

@@ -1,15 +1,15 @@
 -- The step of the code at a point: for the contract of `step`.
 use Rattle.std.proofs.Common.{◌≡◌, ◌+◌, [], Result, Ok, Err, OnOk, refl, sym, ap, ◌∙◌, subst}
 use Rattle.cs_ast.specs.TypedProgram.{TypedProgram}
-use Rattle.cs_runs.specs.declared.outcome.RunBudgets.{RunBudgets}
-use Rattle.cs_runs.specs.Objects.{UnsetCell}
-use Rattle.cs_runs.specs.Acts.{Act}
-use Rattle.cs_runs.specs.Runs.{perform}
-use Rattle.cs_plain.specs.Machine.{Scalar, to_do}
-use Rattle.cs_plain.specs.Calls.{leave}
-use Rattle.cs_interpreter.specs.declared.logs.Stop.{Stop}
-use Rattle.cs_interpreter.specs.View.{setting_of, log_of}
-use Rattle.cs_interpreter.specs.MachineView.{state_of}
+use Rattle.cs_events.specs.declared.outcome.RunBudgets.{RunBudgets}
+use Rattle.cs_events.specs.Objects.{UnsetCell}
+use Rattle.cs_events.specs.Acts.{Act}
+use Rattle.cs_events.specs.Runs.{perform}
+use Rattle.cs_meaning.specs.Machine.{Scalar, to_do}
+use Rattle.cs_meaning.specs.Calls.{leave}
+use Rattle.cs_run_state.specs.declared.logs.Stop.{Stop}
+use Rattle.cs_run_state.specs.View.{setting_of, log_of}
+use Rattle.cs_run_state.specs.MachineView.{state_of}
 use Rattle.cs_cfg.specs.Graph.{Operation, BlockEnd, Point, Code, before, no_point}
 use Rattle.cs_cfg.specs.Working.{CodeState}
 use Rattle.cs_cfg.specs.CodeSteps.{do_operation, do_end, code_step}
@@ -20,8 +20,8 @@ use Rattle.cs_replay.specs.ReplayerView.{program_of, budgets_of, code_of, state_
 
 module _ (code : Code) (program : TypedProgram) (budgets : RunBudgets) (m : CodeState) where
   -- an operation comes next
-  pub step_works : (operation : Operation) (behind : Point) → m.frame.todo ≡ before operation behind → code_step code program budgets m ≡ do_operation code program budgets operation (to_do behind m)
-  step_works operation behind is = subst (λ (p : Point). code_step code program budgets (to_do p m) ≡ do_operation code program budgets operation (to_do behind (to_do p m))) (sym is) refl
+  pub step_works : (operation : Operation) (following : Point) → m.frame.todo ≡ before operation following → code_step code program budgets m ≡ do_operation code program budgets operation (to_do following m)
+  step_works operation following is = subst (λ (p : Point). code_step code program budgets (to_do p m) ≡ do_operation code program budgets operation (to_do following (to_do p m))) (sym is) refl
 
   -- the end of the block comes next
   pub step_ends : (end : BlockEnd) → m.frame.todo ≡ record { operations = []; end = end } → code_step code program budgets m ≡ do_end code end m
@@ -44,7 +44,7 @@ module _ (old moved new : Replayer) (operation : Operation) (is : moved ≡ reco
   unfolding state_of
   works_next = step_works (code_of old) (program_of old) (budgets_of old) (state_in old) operation (next_of old (one_more old)) next
 
-  -- where the operation behind it leads on, so does the step
+  -- where the operation after it leads on, so does the step
   pub leads_after : LeadsOn moved new (do_operation (code_of moved) (program_of moved) (budgets_of moved) operation (state_in moved)) → LeadsOn old new (code_step (code_of old) (program_of old) (budgets_of old) (state_in old))
   leads_after leads =
       ap (λ (act : Act CodeState). perform (setting_of old.runner.setting.now) (log_of old.runner.log) act) works_next

@@ -27,9 +27,9 @@ unmarked block = record { operations = map view.operation block.operations.items
 abbrev pub reaching : Mark → Operation
 reaching mark = record { at = mark.place; temporary = 0; work = Reach mark.kind mark.number }
 
--- this comes next at a point, and behind it the other point
+-- this comes next at a point, and after it the other point
 abbrev pub IsNext : Next → Point → Point → Type 0
-IsNext (next.Mark mark) here behind = here ≡ before (reaching mark.now) behind
-IsNext (next.Operation operation) here behind = here ≡ before (view.operation operation.now) behind
-IsNext (next.End end) here behind = here ≡ record { operations = []; end = view.block_end end.now }
-IsNext next.Nowhere here behind = here ≡ no_point
+IsNext (next.Mark mark) here following = here ≡ before (reaching mark.now) following
+IsNext (next.Operation operation) here following = here ≡ before (view.operation operation.now) following
+IsNext (next.End end) here following = here ≡ record { operations = []; end = view.block_end end.now }
+IsNext next.Nowhere here following = here ≡ no_point

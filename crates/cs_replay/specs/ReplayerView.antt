@@ -1,16 +1,16 @@
 -- A run of code on its way, seen as the run of the code that its definition speaks of: its state, and what an act does to it.
 use Rattle.std.specs.Prelude.{◌≡◌, List, map, reverse}
 use Rattle.cs_ast.specs.TypedProgram.{TypedProgram}
-use Rattle.cs_runs.specs.declared.outcome.RunBudgets.{RunBudgets}
-use Rattle.cs_runs.specs.Acts.{Act}
-use Rattle.cs_runs.specs.Runs as runs
-use Rattle.cs_runs.specs.Runs.{Performed, Continues, Finishes, perform}
-use Rattle.cs_plain.specs.Machine.{CallFrame}
-use Rattle.cs_interpreter.specs.declared.logs.Stop.{Stop}
-use Rattle.cs_interpreter.specs.declared.logs.Stop.TheVariants as stop
-use Rattle.cs_interpreter.specs.View.{setting_of, log_of}
-use Rattle.cs_interpreter.specs.MachineView.{frame_of}
-use Rattle.cs_steps.specs.RunnerView as runner
+use Rattle.cs_events.specs.declared.outcome.RunBudgets.{RunBudgets}
+use Rattle.cs_events.specs.Acts.{Act}
+use Rattle.cs_events.specs.Runs as runs
+use Rattle.cs_events.specs.Runs.{Performed, Continues, Finishes, perform}
+use Rattle.cs_meaning.specs.Machine.{CallFrame}
+use Rattle.cs_run_state.specs.declared.logs.Stop.{Stop}
+use Rattle.cs_run_state.specs.declared.logs.Stop.TheVariants as stop
+use Rattle.cs_run_state.specs.View.{setting_of, log_of}
+use Rattle.cs_run_state.specs.MachineView.{frame_of}
+use Rattle.cs_reference.specs.RunnerView as runner
 use Rattle.cs_cfg.specs.declared.code.Code.{Code}
 use Rattle.cs_cfg.specs.Graph as graph
 use Rattle.cs_cfg.specs.Graph.{Point}

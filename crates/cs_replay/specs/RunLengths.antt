@@ -3,8 +3,8 @@ use Rattle.std.specs.Prelude.{◌≡◌, ℕ, zero, suc, ⊤}
 use Rattle.std.specs.Coded.{Unit-prop}
 use mathlib.Core.HLevel.{Σ_prop_path, ⊥_prop}
 use Rattle.std.proofs.Common.{refl, ap}
-use Rattle.cs_runs.specs.Acts.{Act}
-use Rattle.cs_runs.specs.Runs.{Setting, Log, Performed, Continues, Finishes, perform}
+use Rattle.cs_events.specs.Acts.{Act}
+use Rattle.cs_events.specs.Runs.{Setting, Log, Performed, Continues, Finishes, perform}
 
 module _ {State : Type 0} (step : State → Act State) (setting : Setting) where
   -- where this was performed, the run has just so many steps left
@@ -14,7 +14,7 @@ module _ {State : Type 0} (step : State → Act State) (setting : Setting) where
   HasLeft (suc steps) (Finishes outcome log) = ⊥
   HasLeft (suc steps) (Continues next log) = HasLeft steps (perform setting log (step next))
 
-  -- the run from a state and a log has so many steps behind its next one
+  -- the run from a state and a log has so many steps after its next one
   abbrev pub HasLength : State → Log → Type 0
   HasLength m log = (steps : ℕ) × HasLeft steps (perform setting log (step m))
 

@@ -3,23 +3,23 @@ use Rattle.std.specs.Prelude.{ℕ, pos, not}
 use Rattle.cs_types.specs.Shape.{integer}
 use Rattle.cs_ast.specs.declared.place.Place.{Place}
 use Rattle.cs_ast.specs.TypedProgram.{TypedProgram}
-use Rattle.cs_runs.specs.declared.event.Label.TheVariants as label
-use Rattle.cs_runs.specs.declared.operation.Operation.TheVariants as operation
-use Rattle.cs_runs.specs.declared.outcome.RunBudgets.{RunBudgets}
-use Rattle.cs_runs.specs.declared.point.PointKind.TheVariants as point
-use Rattle.cs_runs.specs.Objects.{GlobalObject, LiteralObject, LocalObject, NumberCell, NullCell, PointerCell}
-use Rattle.cs_runs.specs.Touches.{Meets, Stores, Clears}
-use Rattle.cs_runs.specs.Acts.{Act, Goes, Asks, Touches}
-use Rattle.cs_plain.specs.Initials.{number_in, truth_cell, further, directed}
-use Rattle.cs_plain.specs.Types.{integer_of}
-use Rattle.cs_plain.specs.Memory.{UnsetFill, ZeroFill, changed}
-use Rattle.cs_plain.specs.Access.{shows_then, touches_then, load_object, write_operand}
-use Rattle.cs_plain.specs.Operators.{truth, operate, convert_number, convert, sum, compare, difference, arrow}
-use Rattle.cs_plain.specs.Machine.{Scalar, Nothing as NoOperand, Running, push, push_cell, pop, pop_many, with_stack, with_memory, operand_at, cell_of, cell_at}
-use Rattle.cs_plain.specs.Marks.{reach_mark}
-use Rattle.cs_plain.specs.Calls.{allocate, release}
-use Rattle.cs_plain.specs.Expressions.{pointer_age, amount_age, given, number_at, stores_to, judge, use_result}
-use Rattle.cs_plain.specs.Statements.{refilled, spell_local}
+use Rattle.cs_events.specs.declared.event.Label.TheVariants as label
+use Rattle.cs_events.specs.declared.operation.Operation.TheVariants as operation
+use Rattle.cs_events.specs.declared.outcome.RunBudgets.{RunBudgets}
+use Rattle.cs_events.specs.declared.point.PointKind.TheVariants as point
+use Rattle.cs_events.specs.Objects.{GlobalObject, LiteralObject, LocalObject, NumberCell, NullCell, PointerCell}
+use Rattle.cs_events.specs.Touches.{Meets, Stores, Clears}
+use Rattle.cs_events.specs.Acts.{Act, Goes, Asks, Touches}
+use Rattle.cs_meaning.specs.Initials.{number_in, truth_cell, further, directed}
+use Rattle.cs_meaning.specs.Types.{integer_of}
+use Rattle.cs_meaning.specs.Memory.{UnsetFill, ZeroFill, changed}
+use Rattle.cs_meaning.specs.Access.{shows_then, touches_then, load_object, write_operand}
+use Rattle.cs_meaning.specs.Operators.{truth, operate, convert_number, convert, sum, compare, difference, arrow}
+use Rattle.cs_meaning.specs.Machine.{Scalar, Nothing as NoOperand, Running, push, push_cell, pop, pop_many, with_stack, with_memory, operand_at, cell_of, cell_at}
+use Rattle.cs_meaning.specs.Marks.{reach_mark}
+use Rattle.cs_meaning.specs.Calls.{allocate, release}
+use Rattle.cs_meaning.specs.Expressions.{pointer_age, amount_age, given, number_at, stores_to, judge, use_result}
+use Rattle.cs_meaning.specs.Statements.{refilled, spell_local}
 use Rattle.cs_cfg.specs.Graph.{Work, Number, Null, Text, Local, Global, Nothing, Sum, Member, Arrow, Load, Convert, Unary, Not, Binary, Compare, Difference, Judge, Store, FetchNumber, Update, FetchPointer, Move, Call, Allocate, Free, Use, Drop, Clear, Zero, StoreLocal, Spell, Reach, Meet, Close}
 use Rattle.cs_cfg.specs.Working.{below, if_local, closed_with}
 

@@ -1,22 +1,22 @@
 //! Loads, stores and updates (C11 6.3.2.1, 6.5.16).
 ghost use Rattle.std.specs.Prelude.{◌≡◌, OnOk, IfErr};
-ghost use Rattle.cs_plain.specs.Machine as machine;
-ghost use Rattle.cs_plain.specs.Access as loads;
-ghost use Rattle.cs_interpreter.specs.AccessView as view;
-ghost use Rattle.cs_interpreter.specs.View.{cell_of, operand_of};
-ghost use Rattle.cs_interpreter.specs.Pieces as pieces;
+ghost use Rattle.cs_meaning.specs.Machine as machine;
+ghost use Rattle.cs_meaning.specs.Access as loads;
+ghost use Rattle.cs_run_state.specs.AccessView as view;
+ghost use Rattle.cs_run_state.specs.View.{cell_of, operand_of};
+ghost use Rattle.cs_run_state.specs.Pieces as pieces;
 ghost use Rattle.cs_cfg.specs.Graph as graph;
 ghost use Rattle.cs_cfg.specs.GraphView.{access};
-ghost use Rattle.cs_steps.specs.RunnerView.{program_of, budgets_of, state_in, IsReady, LeadsOn, Ends};
+ghost use Rattle.cs_reference.specs.RunnerView.{program_of, budgets_of, state_in, IsReady, LeadsOn, Ends};
 ghost use Rattle.cs_replay.specs.Works.{works};
 
 use cs_ast::Place;
 use cs_ast::typed::operator::{BinOp, Direction, Gives};
 use cs_cfg::Access;
-use cs_interpreter::constants::integer_of;
-use cs_interpreter::{Cell, Operand, Stop, access, stride_of};
-use cs_steps::operands::{given, given_number, pop_moved, pop_stored, pop_updated};
-use cs_steps::runner::Runner;
+use cs_reference::operands::{given, given_number, pop_moved, pop_stored, pop_updated};
+use cs_reference::runner::Runner;
+use cs_run_state::constants::integer_of;
+use cs_run_state::{Cell, Operand, Stop, access, stride_of};
 use cs_types::{CType, IntType};
 
 /// A load (C11 6.3.2.1).

@@ -4,11 +4,11 @@ ghost use Rattle.cs_ast.specs.TypedProgram.{typed_program, variable};
 ghost use Rattle.cs_cfg.specs.Graph as graph;
 ghost use Rattle.cs_cfg.specs.GraphView as view;
 ghost use Rattle.cs_cfg.specs.Working as working;
-ghost use Rattle.cs_plain.specs.Calls as calls;
-ghost use Rattle.cs_plain.specs.Machine as machine;
-ghost use Rattle.cs_interpreter.specs.View.{operand_of};
-ghost use Rattle.cs_interpreter.specs.MemoryView.{block_at};
-ghost use Rattle.cs_interpreter.specs.MachineView.{state_of, frame_of};
+ghost use Rattle.cs_meaning.specs.Calls as calls;
+ghost use Rattle.cs_meaning.specs.Machine as machine;
+ghost use Rattle.cs_run_state.specs.View.{operand_of};
+ghost use Rattle.cs_run_state.specs.MemoryView.{block_at};
+ghost use Rattle.cs_run_state.specs.MachineView.{state_of, frame_of};
 ghost use Rattle.cs_replay.specs.FrameChanges.{inside_with, called_by, back_in};
 ghost use Rattle.cs_replay.specs.ReplayerView.{program_of, budgets_of, code_of, caller_of, state_in, IsReady, LeadsOn, Ends, KeepsSetting};
 
@@ -19,12 +19,12 @@ use crate::replayer::{Caller, Replayer};
 use cs_ast::Place;
 use cs_ast::typed::program::{Local, Program};
 use cs_cfg::Flow;
-use cs_interpreter::blocks::Block;
-use cs_interpreter::machine::{Frame, Machine};
-use cs_interpreter::{Operand, Stop};
-use cs_runs::{Budget, Label, Outcome};
-use cs_steps::frames::local_blocks;
-use cs_steps::operands::pop_newest;
+use cs_events::{Budget, Label, Outcome};
+use cs_reference::frames::local_blocks;
+use cs_reference::operands::pop_newest;
+use cs_run_state::blocks::Block;
+use cs_run_state::machine::{Frame, Machine};
+use cs_run_state::{Operand, Stop};
 use std::alloc::AllocError;
 
 impl<'a> Replayer<'a> {
@@ -78,7 +78,7 @@ impl<'a> Replayer<'a> {
     }
 
     // Goes into a new frame, which has these locals, at the beginning of a block.
-    #[tactic(auto, using(cs_interpreter::proofs::States::states), unfolding(cs_interpreter::specs::MachineView::state_of))]
+    #[tactic(auto, using(cs_run_state::proofs::States::states), unfolding(cs_run_state::specs::MachineView::state_of))]
     fn go_inside(
         &mut self,
         frame: Frame<'a>,
@@ -115,7 +115,7 @@ impl<'a> Replayer<'a> {
     }
 
     // Takes the nearest of the frames that called the one that runs.
-    #[tactic(auto, using(cs_interpreter::proofs::States::states))]
+    #[tactic(auto, using(cs_run_state::proofs::States::states))]
     fn pop_caller(&mut self) -> Option<Caller<'a>>
         ensures some { IfSome result (λ caller. state_in self.old ≡ called_by (caller_of self.old.code.now caller) (state_in self.new)) }
         ensures none { IfNone result ((state_in self.old).callers ≡ []) }
@@ -129,7 +129,7 @@ impl<'a> Replayer<'a> {
     }
 
     // The frame that runs has ended, and gives a value to this one, which runs on.
-    #[tactic(auto, using(cs_interpreter::proofs::States::states), unfolding(cs_interpreter::specs::MachineView::state_of))]
+    #[tactic(auto, using(cs_run_state::proofs::States::states), unfolding(cs_run_state::specs::MachineView::state_of))]
     fn come_back(&mut self, caller: Caller<'a>, value: Operand) -> Result<(), AllocError>
         ensures state { OnOk result (state_in self.new ≡ back_in (caller_of self.old.code.now caller.entry) (operand_of value) (state_in self.old)) }
         ensures log { self.new.runner.log ≡ self.old.runner.log }
@@ -155,7 +155,7 @@ fn locals_of(program: &Program, function: u32) -> &[Local]
 }
 
 // How many frames there were.
-#[tactic(auto, unfolding(cs_interpreter::specs::MachineView::state_of))]
+#[tactic(auto, unfolding(cs_run_state::specs::MachineView::state_of))]
 fn frames_of(state: &Machine) -> u64
     ensures { result ≡ (state_of state.now).frames }
 {

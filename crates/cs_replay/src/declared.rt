@@ -3,27 +3,27 @@ ghost use Rattle.std.specs.Prelude.{◌≡◌, OnOk, IfErr};
 ghost use Rattle.cs_types.specs.Layout.{IsLaidOut};
 ghost use Rattle.cs_types.specs.Shape.{shape_of};
 ghost use Rattle.cs_ast.specs.TypedProgram.{typed_program};
-ghost use Rattle.cs_runs.specs.Objects.{LocalObject};
-ghost use Rattle.cs_plain.specs.Access as access;
-ghost use Rattle.cs_plain.specs.Machine as machine;
-ghost use Rattle.cs_plain.specs.Memory as memory;
-ghost use Rattle.cs_plain.specs.Statements as plain;
-ghost use Rattle.cs_interpreter.specs.MemoryView.{fill_of};
-ghost use Rattle.cs_interpreter.specs.MachineView.{state_of};
+ghost use Rattle.cs_events.specs.Objects.{LocalObject};
+ghost use Rattle.cs_meaning.specs.Access as access;
+ghost use Rattle.cs_meaning.specs.Machine as machine;
+ghost use Rattle.cs_meaning.specs.Memory as memory;
+ghost use Rattle.cs_meaning.specs.Statements as meaning;
+ghost use Rattle.cs_run_state.specs.MemoryView.{fill_of};
+ghost use Rattle.cs_run_state.specs.MachineView.{state_of};
 ghost use Rattle.cs_cfg.specs.Graph as graph;
 ghost use Rattle.cs_cfg.specs.Working as working;
-ghost use Rattle.cs_steps.specs.RunnerView.{program_of, budgets_of, state_in, IsReady, LeadsOn, Ends};
+ghost use Rattle.cs_reference.specs.RunnerView.{program_of, budgets_of, state_in, IsReady, LeadsOn, Ends};
 ghost use Rattle.cs_replay.specs.Works.{works};
 
 use cs_ast::Place;
 use cs_ast::typed::program::Program;
-use cs_interpreter::access::touch_store;
-use cs_interpreter::blocks::{Change, Fill};
-use cs_interpreter::machine::Machine;
-use cs_interpreter::{Object, Stop, Touch};
-use cs_steps::declarations::spell_local;
-use cs_steps::frames::number_of;
-use cs_steps::runner::Runner;
+use cs_reference::declarations::spell_local;
+use cs_reference::frames::number_of;
+use cs_reference::runner::Runner;
+use cs_run_state::access::touch_store;
+use cs_run_state::blocks::{Change, Fill};
+use cs_run_state::machine::Machine;
+use cs_run_state::{Object, Stop, Touch};
 use cs_types::CType;
 use std::alloc::AllocError;
 
@@ -98,7 +98,7 @@ fn if_local(scalar: bool, declaration: u32) -> Option<u32>
 }
 
 // The newest value of a type is taken, and written in a local at an offset.
-#[tactic(auto, using(cs_interpreter::proofs::States::states), unfolding(cs_interpreter::specs::MachineView::state_of))]
+#[tactic(auto, using(cs_run_state::proofs::States::states), unfolding(cs_run_state::specs::MachineView::state_of))]
 fn store_newest(
     state: &mut Machine,
     program: &Program,
@@ -119,7 +119,7 @@ fn store_newest(
 
 // A local of the frame that runs holds what a fill gives.
 fn refill<'a>(state: &mut Machine<'a>, declaration: u32, fill: Fill<'a>) -> Result<(), AllocError>
-    ensures { OnOk result (state_of state.new ≡ plain.refilled (fill_of fill.entry) declaration (state_of state.old)) }
+    ensures { OnOk result (state_of state.new ≡ meaning.refilled (fill_of fill.entry) declaration (state_of state.old)) }
 {
     let local = Object::Local(state.frame.number, declaration);
     state.memory.change(&local, Change::Refill(fill))?;

@@ -11,8 +11,8 @@ use crate::replayer::Replayer;
 use crate::ways::way_of;
 use cs_ast::Place;
 use cs_cfg::{BlockEnd, SwitchCase};
-use cs_interpreter::{Cell, Operand, Stop, Touch};
-use cs_runs::{Label, PointKind};
+use cs_events::{Label, PointKind};
+use cs_run_state::{Cell, Operand, Stop, Touch};
 
 impl<'a> Replayer<'a> {
     /// The end of a block: to another one, or out of the frame.

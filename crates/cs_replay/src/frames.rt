@@ -1,10 +1,10 @@
 //! New frames (C11 6.2.4, 6.9.1).
 ghost use Rattle.std.specs.Prelude.{◌≡◌, IfOk};
-ghost use Rattle.cs_interpreter.specs.MachineView.{frame_of};
+ghost use Rattle.cs_run_state.specs.MachineView.{frame_of};
 ghost use Rattle.cs_replay.specs.CodeStates.{begun};
 
-use cs_interpreter::machine::Frame;
-use cs_steps::frames::zeros;
+use cs_reference::frames::zeros;
+use cs_run_state::machine::Frame;
 use std::alloc::{AllocError, Global};
 
 /// A frame in which the graph of a function begins.

@@ -2,8 +2,8 @@
 
 use crate::positions::Position;
 use cs_cfg::Code;
-use cs_interpreter::machine::Frame;
-use cs_steps::runner::Runner;
+use cs_reference::runner::Runner;
+use cs_run_state::machine::Frame;
 
 /// A frame that waits for the value of a call, and how far it has come.
 #[derive(Drop)]

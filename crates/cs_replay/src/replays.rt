@@ -2,22 +2,22 @@
 ghost use Rattle.std.specs.Prelude.{◌≡◌, ◌↔◌, Err, None, IfOk};
 ghost use Rattle.cs_types.specs.Layout.{IsLaidOut};
 ghost use Rattle.cs_ast.specs.TypedProgram.{typed_program};
-ghost use Rattle.cs_runs.specs.Runs.{empty};
-ghost use Rattle.cs_plain.specs.Machine.{routine_of};
-ghost use Rattle.cs_plain.specs.PlainRuns as plain;
+ghost use Rattle.cs_events.specs.Runs.{empty};
+ghost use Rattle.cs_meaning.specs.Machine.{routine_of};
+ghost use Rattle.cs_meaning.specs.PlainRuns as meaning;
 ghost use Rattle.cs_cfg.specs.CodeSteps.{code_step, code_start, CodeGives};
 ghost use Rattle.cs_cfg.specs.GraphView as view;
 ghost use Rattle.cs_cfg.specs.Lowered.{HasGraphs, IsLowered};
-ghost use Rattle.cs_interpreter.specs.View.{log_of};
-ghost use Rattle.cs_steps.specs.RunView.{run_of};
+ghost use Rattle.cs_run_state.specs.View.{log_of};
+ghost use Rattle.cs_reference.specs.RunView.{run_of};
 ghost use Rattle.cs_replay.specs.RunLengths.{HasLength, HasLength-prop};
 
 use crate::nexts::flow_at;
 use crate::refusal::ReplayRefusal;
 use crate::starting::begin;
 use cs_cfg::Code;
-use cs_interpreter::{Log, Setting, Stop};
-use cs_runs::Outcome;
+use cs_events::Outcome;
+use cs_run_state::{Log, Setting, Stop};
 use std::alloc::{AllocError, Global};
 
 /// A replay that has ended: how, and what the run has shown, read and touched.
@@ -33,10 +33,10 @@ struct Course<'a> {
     setting: &'a Setting<'a>,
     code: &'a Code,
     entry: u32,
-    ghost ends: { HasLength (code_step (view.code code.now) (typed_program setting.now.program.now) setting.now.budgets) (plain.setting_of (typed_program setting.now.program.now) (run_of setting.now) setting.now.budgets) (code_start (view.code code.now) (typed_program setting.now.program.now) entry (run_of setting.now)) empty } by { HasLength-prop (code_step (view.code code.now) (typed_program setting.now.program.now) setting.now.budgets) (plain.setting_of (typed_program setting.now.program.now) (run_of setting.now) setting.now.budgets) (code_start (view.code code.now) (typed_program setting.now.program.now) entry (run_of setting.now)) empty },
+    ghost ends: { HasLength (code_step (view.code code.now) (typed_program setting.now.program.now) setting.now.budgets) (meaning.setting_of (typed_program setting.now.program.now) (run_of setting.now) setting.now.budgets) (code_start (view.code code.now) (typed_program setting.now.program.now) entry (run_of setting.now)) empty } by { HasLength-prop (code_step (view.code code.now) (typed_program setting.now.program.now) setting.now.budgets) (meaning.setting_of (typed_program setting.now.program.now) (run_of setting.now) setting.now.budgets) (code_start (view.code code.now) (typed_program setting.now.program.now) entry (run_of setting.now)) empty },
 }
 
-/// Runs the code of a function of a program until the run ends: as the plain machine's run of the function does, with the same log.
+/// Runs the code of a function of a program until the run ends: as the reference machine's run of the function does, with the same log.
 pub fn replay(
     alloc: Global,
     setting: &Setting,
@@ -45,7 +45,7 @@ pub fn replay(
 ) -> Result<Replayed, ReplayRefusal>
     requires laid_out { IsLaidOut setting.now.program.now.model setting.now.program.now.table.list }
     requires lowered { IsLowered (view.code code.now) (typed_program setting.now.program.now) }
-    ensures gives { IfOk result (λ replayed. plain.RunGives (typed_program setting.now.program.now) entry (run_of setting.now) setting.now.budgets replayed.outcome (log_of replayed.log)) }
+    ensures gives { IfOk result (λ replayed. meaning.RunGives (typed_program setting.now.program.now) entry (run_of setting.now) setting.now.budgets replayed.outcome (log_of replayed.log)) }
     ensures no_entry { (result ≡ Err ReplayRefusal.NoEntry) ↔ ((routine_of (typed_program setting.now.program.now) entry).body ≡ None) }
 {
     match flow_at(code, entry) {

@@ -12,7 +12,7 @@ use crate::replayer::Replayer;
 use crate::working::{takes, work};
 use cs_ast::Place;
 use cs_cfg::{Mark, Operation, Work};
-use cs_interpreter::{Cell, Operand, Stop};
+use cs_run_state::{Cell, Operand, Stop};
 use std::alloc::AllocError;
 
 impl<'a> Replayer<'a> {
@@ -58,7 +58,7 @@ impl<'a> Replayer<'a> {
         Ok(())
     }
 
-    // An operation works on the temporaries from its number on; those behind its operands are dropped.
+    // An operation works on the temporaries from its number on; those after its operands are dropped.
     fn operate(&mut self, operation: &'a Operation) -> Result<(), Stop>
         requires { IsReady self.old }
         ensures ok { OnOk result (LeadsOn self.old self.new (steps.do_operation (code_of self.old) (program_of self.old) (budgets_of self.old) (view.operation operation.now) (state_in self.old))) }

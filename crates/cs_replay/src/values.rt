@@ -1,20 +1,20 @@
 //! What operations do with values (C11 6.3, 6.5).
 ghost use Rattle.std.specs.Prelude.{◌≡◌, OnOk, IfErr};
 ghost use Rattle.cs_types.specs.Shape.{shape_of};
-ghost use Rattle.cs_plain.specs.Machine as machine;
-ghost use Rattle.cs_runs.specs.Acts.{Goes};
-ghost use Rattle.cs_interpreter.specs.View.{cell_of};
+ghost use Rattle.cs_meaning.specs.Machine as machine;
+ghost use Rattle.cs_events.specs.Acts.{Goes};
+ghost use Rattle.cs_run_state.specs.View.{cell_of};
 ghost use Rattle.cs_cfg.specs.Graph as graph;
-ghost use Rattle.cs_steps.specs.RunnerView.{program_of, budgets_of, state_in, LeadsOn, Ends};
+ghost use Rattle.cs_reference.specs.RunnerView.{program_of, budgets_of, state_in, LeadsOn, Ends};
 ghost use Rattle.cs_replay.specs.Works.{works};
 
 use cs_ast::Place;
 use cs_ast::typed::operator::{BinOp, CmpOp, Direction, Order, UnOp};
-use cs_interpreter::constants::{truth_cell, unary_operation};
-use cs_interpreter::{Cell, Object, Operand, Stop, stride_of};
-use cs_runs::Label;
-use cs_steps::frames::number_of;
-use cs_steps::runner::Runner;
+use cs_events::Label;
+use cs_reference::frames::number_of;
+use cs_reference::runner::Runner;
+use cs_run_state::constants::{truth_cell, unary_operation};
+use cs_run_state::{Cell, Object, Operand, Stop, stride_of};
 use cs_types::{CType, IntType};
 
 /// A scalar is left.

@@ -3,8 +3,8 @@ ghost use Rattle.std.specs.Prelude.{◌≡◌, OnOk, IfErr};
 ghost use Rattle.cs_cfg.specs.Graph as graph;
 ghost use Rattle.cs_cfg.specs.GraphView as view;
 ghost use Rattle.cs_cfg.specs.Working as working;
-ghost use Rattle.cs_interpreter.specs.View.{operand_of};
-ghost use Rattle.cs_steps.specs.RunnerView.{program_of, budgets_of, state_in, IsReady, LeadsOn, Ends};
+ghost use Rattle.cs_run_state.specs.View.{operand_of};
+ghost use Rattle.cs_reference.specs.RunnerView.{program_of, budgets_of, state_in, IsReady, LeadsOn, Ends};
 ghost use Rattle.cs_replay.specs.Works.{works};
 
 use crate::accesses::{assign, fetch_number, fetch_pointer, load, move_pointer, update};
@@ -16,9 +16,9 @@ use crate::values::{
 use cs_ast::Place;
 use cs_ast::typed::operator::Allocator;
 use cs_cfg::Work;
-use cs_interpreter::{Cell, Object, Operand, Stop, Touch};
-use cs_runs::PointKind;
-use cs_steps::runner::Runner;
+use cs_events::PointKind;
+use cs_reference::runner::Runner;
+use cs_run_state::{Cell, Object, Operand, Stop, Touch};
 
 /// Does what an operation does that is no call; a call goes on in another frame, and here does nothing.
 pub fn work<'a>(run: &mut Runner<'a>, place: Place, one: &'a Work) -> Result<(), Stop>

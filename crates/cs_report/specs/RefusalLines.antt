@@ -7,6 +7,6 @@ use Rattle.cs_ast.specs.declared.place.Place.{Place}
 abbrev pub located : List ℕ → Place → List ℕ
 located file at = file ++ codes ":" ++ decimal at.line ++ codes ":" ++ decimal at.column
 
--- `WORDS FILE:LINE:COLUMN`, the words with the space behind them
+-- `WORDS FILE:LINE:COLUMN`, the words with the space after them
 abbrev pub refusal_line : List ℕ → List ℕ → Place → List ℕ
 refusal_line words file at = words ++ located file at ++ codes "\n"

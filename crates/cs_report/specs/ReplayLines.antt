@@ -3,12 +3,12 @@ use Rattle.std.specs.Prelude.{ℕ, List, [], ◌++◌, codes}
 use Rattle.std.specs.Fmt.{signed_decimal}
 use Rattle.cs_model.specs.Kinds.{kind_name}
 use Rattle.cs_model.specs.Texts.{place_text}
-use Rattle.cs_runs.specs.declared.outcome.Outcome.{Outcome}
-use Rattle.cs_runs.specs.declared.outcome.Outcome.TheVariants.{Done, Fault, Over}
-use Rattle.cs_runs.specs.declared.outcome.Returned.{Returned}
-use Rattle.cs_runs.specs.declared.outcome.Returned.TheVariants.{Nothing, Number, Null, Object, Unset}
-use Rattle.cs_runs.specs.declared.outcome.Budget.{Budget}
-use Rattle.cs_runs.specs.declared.outcome.Budget.TheVariants.{Visits, Depth, Events}
+use Rattle.cs_events.specs.declared.outcome.Outcome.{Outcome}
+use Rattle.cs_events.specs.declared.outcome.Outcome.TheVariants.{Done, Fault, Over}
+use Rattle.cs_events.specs.declared.outcome.Returned.{Returned}
+use Rattle.cs_events.specs.declared.outcome.Returned.TheVariants.{Nothing, Number, Null, Object, Unset}
+use Rattle.cs_events.specs.declared.outcome.Budget.{Budget}
+use Rattle.cs_events.specs.declared.outcome.Budget.TheVariants.{Visits, Depth, Events}
 
 -- what an entry returned, with the space before it
 abbrev pub returned_text : Returned → List ℕ

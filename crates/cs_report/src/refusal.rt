@@ -15,7 +15,7 @@ fn append_located(text: &mut Vec<u8>, file: &Name, place: Place) -> Result<(), A
     append(text, format_args!(":{}:{}", place.line, place.column))
 }
 
-/// Appends `WORDS FILE:LINE:COLUMN`, the line by which a file is refused at a place. The words have the space behind them.
+/// Appends `WORDS FILE:LINE:COLUMN`, the line by which a file is refused at a place. The words have the space after them.
 pub fn append_refusal(
     text: &mut Vec<u8>,
     words: &str,

@@ -4,8 +4,8 @@ ghost use Rattle.cs_report.specs.ReplayLines.{returned_text, budget_word, replay
 
 use crate::place::append_place;
 use crate::text::append;
+use cs_events::{Budget, Outcome, Returned};
 use cs_names::Name;
-use cs_runs::{Budget, Outcome, Returned};
 use std::alloc::AllocError;
 
 /// Appends the line of a run: `done`, `done RETURNED`, `fault KIND PLACE` or `over BUDGET PLACE`.

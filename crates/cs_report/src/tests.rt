@@ -1,12 +1,12 @@
 //! Whole texts of results, written out by hand.
 use super::*;
 use cs_ast::Place;
+use cs_events as runs;
+use cs_events::Returned;
 use cs_model::{
     Budget, EntryResult, Event, Finding, Input, Kind, Label, Outcome, Run, Verdict, Wrap,
 };
 use cs_names::Name;
-use cs_runs as runs;
-use cs_runs::Returned;
 use std::alloc::{AllocError, Global};
 use std::test::Fail;
 
@@ -120,7 +120,7 @@ fn results_are_printed_line_by_line(rt: HostRuntime) -> Result<(), Fail> {
 }
 
 #[test]
-fn replayed_runs_are_told_by_their_end(rt: HostRuntime) -> Result<(), Fail> {
+fn replayed_runs_are_reported_by_their_end(rt: HostRuntime) -> Result<(), Fail> {
     let alloc = rt.alloc();
     let files = vec![in alloc; Name::from_slice(alloc, b"<input>".as_slice())?]?;
     for (outcome, line) in [

@@ -32,15 +32,15 @@ floor_bound x h n lt =
       λ le. by_lt_z q x
           (λ above.
           let next = *ℤ-pos-mono (q +ℤ pos 1) x n (omega (arith, ints)) in
-          absurd (behind h (x *ℤ pos n) (q *ℤ pos n) _ _ (pos 1 *ℤ pos n) rest.0 n rest.1 rest.2 parts (add-*ℤ q (pos 1) (pos n)) (omega (arith, ints)) next le))
+          absurd (following h (x *ℤ pos n) (q *ℤ pos n) _ _ (pos 1 *ℤ pos n) rest.0 n rest.1 rest.2 parts (add-*ℤ q (pos 1) (pos n)) (omega (arith, ints)) next le))
           (λ within. within),
     )
   where
     below : (h product whole rest : ℤ) (r : ℕ) → rest ≡ pos r → whole +ℤ rest ≡ h → product ≤ℤ whole → product ≤ℤ h
     below h product whole rest r e s le = omega (arith, ints)
 
-    behind : (h product whole rest next one : ℤ) (r n : ℕ) → rest ≡ pos r → r < n → whole +ℤ rest ≡ h → next ≡ whole +ℤ one → one ≡ pos n → next ≤ℤ product → product ≤ℤ h → ⊥
-    behind h product whole rest next one r n e lt s t u le le' = omega (arith, ints)
+    following : (h product whole rest next one : ℤ) (r n : ℕ) → rest ≡ pos r → r < n → whole +ℤ rest ≡ h → next ≡ whole +ℤ one → one ≡ pos n → next ≤ℤ product → product ≤ℤ h → ⊥
+    following h product whole rest next one r n e lt s t u le le' = omega (arith, ints)
 
 int_le-true : (x y : ℤ) → x ≤ℤ y → int_le x y ≡ true
 int_le-true x y h = grind (arith, ints)

@@ -45,17 +45,17 @@ and-true true b h = (refl, h)
 and-true false b h = absurd (cc)
 
 -- on the range an interval tells by the term's value whether the quotient is this
-pub Tells : Quotients → List Interval → Lin → ℤ → Interval → Type 0
-Tells quotient range term q values = (x : ℤ) → IsTrue (contains range x) → IsTrue (in_interval values (value_at term x)) ↔ (quotient x ≡ q)
+pub Yields : Quotients → List Interval → Lin → ℤ → Interval → Type 0
+Yields quotient range term q values = (x : ℤ) → IsTrue (contains range x) → IsTrue (in_interval values (value_at term x)) ↔ (quotient x ≡ q)
 
 -- the numbers at which the term has such a value are those with the quotient
-piece_from_values : (quotient : Quotients) (range piece : List Interval) (term : Lin) (q : ℤ) (values : Interval) → Tells quotient range term q values → IsAtValues term range values piece → IsPiece quotient range q piece
-unfolding Tells
-piece_from_values quotient range piece term q values tells at x = (
+piece_from_values : (quotient : Quotients) (range piece : List Interval) (term : Lin) (q : ℤ) (values : Interval) → Yields quotient range term q values → IsAtValues term range values piece → IsPiece quotient range q piece
+unfolding Yields
+piece_from_values quotient range piece term q values yields at x = (
   λ t.
       let both = and-true (contains range x) (in_interval values (value_at term x)) (sym (at x) ∙ t) in
-      (both.0, (tells x both.0).0 both.1),
-  λ p. at x ∙ ap (λ b. b && in_interval values (value_at term x)) p.0 ∙ (tells x p.0).1 p.1,
+      (both.0, (yields x both.0).0 both.1),
+  λ p. at x ∙ ap (λ b. b && in_interval values (value_at term x)) p.0 ∙ (yields x p.0).1 p.1,
 )
 
 far-true : (r u s p : Bool) → (((r && not u) && not s) && not p) ≡ true → (r ≡ true) × (u ≡ false) × (s ≡ false) × (p ≡ false)
@@ -88,7 +88,7 @@ far_piece quotient range under same past far u s p rest x = (
     all : (r u s p : Bool) → r ≡ true → u ≡ false → s ≡ false → p ≡ false → (((r && not u) && not s) && not p) ≡ true
     all r u s p h k l m = rw (h, k, l, m) refl
 
-pub pieces_from_cut : (quotient : Quotients) (near : Near) (term : Lin) (range : List Interval) (pieces : Pieces) → Tells quotient range term (negsuc 0) near.under → Tells quotient range term (pos 0) near.same → Tells quotient range term (pos 1) near.past → IsCut near term range pieces → ArePieces quotient range pieces
+pub pieces_from_cut : (quotient : Quotients) (near : Near) (term : Lin) (range : List Interval) (pieces : Pieces) → Yields quotient range term (negsuc 0) near.under → Yields quotient range term (pos 0) near.same → Yields quotient range term (pos 1) near.past → IsCut near term range pieces → ArePieces quotient range pieces
 pieces_from_cut quotient near term range pieces u s p cut =
     let under = piece_from_values quotient range pieces.under term (negsuc 0) near.under u cut.under in
     let same = piece_from_values quotient range pieces.same term (pos 0) near.same s cut.same in
@@ -101,17 +101,17 @@ pieces_from_cut quotient near term range pieces u s p cut =
     }
 
 -- an interval of numbers with a quotient tells that of the term's value
-pub tells_value : (quotient : ℤ → ℤ) (range : List Interval) (term : Lin) (q : ℤ) (values : Interval) → HasQuotient quotient q values → Tells (λ x. quotient (value_at term x)) range term q values
-unfolding Tells
-tells_value quotient range term q values h x t = h (value_at term x)
+pub yields_value : (quotient : ℤ → ℤ) (range : List Interval) (term : Lin) (q : ℤ) (values : Interval) → HasQuotient quotient q values → Yields (λ x. quotient (value_at term x)) range term q values
+unfolding Yields
+yields_value quotient range term q values h x t = h (value_at term x)
 
 -- an interval of cofactors tells that of the term's value times the factor
-pub tells_product : (quotient : ℤ → ℤ) (range : List Interval) (term : Lin) (factor q : ℤ) (products values : Interval) → HasQuotient quotient q products → HasCofactors products factor values → ((x : ℤ) → IsTrue (contains range x) → IsInside (value_at term x)) → Tells (λ x. quotient (value_at term x *ℤ factor)) range term q values
-unfolding Tells
-tells_product quotient range term factor q products values h cofactors inside x t =
+pub yields_product : (quotient : ℤ → ℤ) (range : List Interval) (term : Lin) (factor q : ℤ) (products values : Interval) → HasQuotient quotient q products → HasCofactors products factor values → ((x : ℤ) → IsTrue (contains range x) → IsInside (value_at term x)) → Yields (λ x. quotient (value_at term x *ℤ factor)) range term q values
+unfolding Yields
+yields_product quotient range term factor q products values h cofactors inside x t =
     let same = cofactors (value_at term x) (inside x t) in
-    let tells = h (value_at term x *ℤ factor) in
-    (λ t'. tells.0 (sym same ∙ t'), λ e. same ∙ tells.1 e)
+    let yields = h (value_at term x *ℤ factor) in
+    (λ t'. yields.0 (sym same ∙ t'), λ e. same ∙ yields.1 e)
 
 -- all numbers of a piece have its quotient
 pub one_quotient : (quotient : Quotients) (range piece : List Interval) (q : ℤ) → IsPiece quotient range q piece → HasOneQuotient quotient piece
@@ -120,7 +120,7 @@ one_quotient quotient range piece q is x y t u = ((is x).0 t).1 ∙ sym ((is y).
 pub product_pieces_from_cut : (model : DataModel) (ty : IntType) (products near : Near) (term : Lin) (factor : ℤ) (range : List Interval) (pieces : Pieces) → HaveQuotients (wrap_quotient model ty) products → HasCofactors products.under factor near.under → HasCofactors products.same factor near.same → HasCofactors products.past factor near.past → ((x : ℤ) → IsTrue (contains range x) → IsIntegerOfC (value_at term x)) → IsCut near term range pieces → ArePieces (product_quotient_of model ty term factor) range pieces
 product_pieces_from_cut model ty products near term factor range pieces quotients u s p integers cut =
     let inside : (x : ℤ) → IsTrue (contains range x) → IsInside (value_at term x) = λ x t. IsInside-from_integer (value_at term x) (integers x t) in
-    let under = tells_product (wrap_quotient model ty) range term factor _ products.under near.under quotients.under u inside in
-    let same = tells_product (wrap_quotient model ty) range term factor _ products.same near.same quotients.same s inside in
-    let past = tells_product (wrap_quotient model ty) range term factor _ products.past near.past quotients.past p inside in
+    let under = yields_product (wrap_quotient model ty) range term factor _ products.under near.under quotients.under u inside in
+    let same = yields_product (wrap_quotient model ty) range term factor _ products.same near.same quotients.same s inside in
+    let past = yields_product (wrap_quotient model ty) range term factor _ products.past near.past quotients.past p inside in
     pieces_from_cut (product_quotient_of model ty term factor) near term range pieces under same past cut

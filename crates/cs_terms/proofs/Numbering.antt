@@ -9,7 +9,7 @@ use Rattle.std.proofs.lemmas.Option.{slice_get_within, get_or_from_slice_get}
 use Rattle.indexmap.specs.IndexMap.{insert_entry}
 use Rattle.cs_terms.specs.Table.{HasEachOnce, IsNumbered}
 
--- an item keeps its place where others are put behind
+-- an item keeps its place where others are put after
 slice_get-append : {A : Type 0} (xs ys : List A) (k : ℕ) (x : A) → slice_get xs k ≡ Some x → slice_get (xs ++ ys) k ≡ Some x
 slice_get-append [] ys k x h = absurd (cc)
 slice_get-append (y ∷ xs) ys zero x h = h

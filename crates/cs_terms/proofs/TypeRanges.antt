@@ -3,7 +3,7 @@ use Rattle.std.proofs.Common.{◌≡◌, ◌⊎◌, ◌↔◌, ℕ, zero, suc, �
 use Rattle.std.specs.Prelude.{FitsSigned}
 use Rattle.std.specs.Int.{w128}
 use Rattle.std.proofs.lemmas.Int.{ints}
-use Rattle.cs_ranges.proofs.Lines.{over_tells}
+use Rattle.cs_ranges.proofs.Lines.{over_yields}
 use Rattle.cs_types.specs.declared.data_model.DataModel.{DataModel}
 use Rattle.cs_types.specs.declared.data_model.DataModel.TheVariants.{Lp64, Ilp32}
 use Rattle.cs_types.specs.declared.int_type.IntType.{IntType}
@@ -112,7 +112,7 @@ quotient_ends model ty q x low high e f =
 pub quotient_test : (model : DataModel) (ty : IntType) (q x low high : ℤ) → low ≡ least_of model ty +ℤ q *ℤ pos (modulus_of model ty) → high ≡ (low +ℤ pos (modulus_of model ty)) -ℤ pos 1 → ((int_le low x && int_le x high) ≡ true) ↔ (wrap_quotient model ty x ≡ q)
 quotient_test model ty q x low high e f =
     let ends = quotient_ends model ty q x low high e f in
-    (λ t. ends.0 (over_tells low high x t), λ t. let h = ends.1 t in both_true low x high h.0 h.1)
+    (λ t. ends.0 (over_yields low high x t), λ t. let h = ends.1 t in both_true low x high h.0 h.1)
   where
     both_true : (low x high : ℤ) → low ≤ℤ x → x ≤ℤ high → (int_le low x && int_le x high) ≡ true
     both_true low x high h k = grind (arith, ints)

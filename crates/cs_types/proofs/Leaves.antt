@@ -61,8 +61,8 @@ later-row o n e w h =
 
 first-row : (o n : ℕ) (e : Layout) → Within 0 e.size e.leaves → o < e.size → scalar_at o (row (suc n) e) ≡ scalar_at o e.leaves
 first-row o n e w h =
-    let behind : Within (e.size + 0) (e.size + n * e.size) (moved e.size (row n e)) = Within-moved e.size 0 (n * e.size) (row n e) (Within-row n e w) in
-    scalar_at-append o e.leaves (moved e.size (row n e)) ∙ ap (option_or (scalar_at o e.leaves)) (outside o (e.size + 0) (e.size + n * e.size) (moved e.size (row n e)) behind (inl (omega arith))) ∙ option_or-None (scalar_at o e.leaves)
+    let following : Within (e.size + 0) (e.size + n * e.size) (moved e.size (row n e)) = Within-moved e.size 0 (n * e.size) (row n e) (Within-row n e w) in
+    scalar_at-append o e.leaves (moved e.size (row n e)) ∙ ap (option_or (scalar_at o e.leaves)) (outside o (e.size + 0) (e.size + n * e.size) (moved e.size (row n e)) following (inl (omega arith))) ∙ option_or-None (scalar_at o e.leaves)
 
 row-at : (n q o r : ℕ) (e : Layout) → Within 0 e.size e.leaves → r < e.size → q < n → o ≡ q * e.size + r → scalar_at o (row n e) ≡ scalar_at r e.leaves
 row-at zero q o r e w h g eq = absurd (omega arith)

@@ -63,19 +63,19 @@ scalar_at-members of_type o from (m ∷ ms) (l ∷ ls) h e s =
     let at : ℕ = round_up from l.align in
     let begins : m.offset ≡ at = cc in
     let rest : map (λ (m : Member). m.offset) ms ≡ offsets (at + l.size) ls = cc in
-    let behind = scalar_at-members of_type o (at + l.size) ms ls others rest s.1 in
+    let following = scalar_at-members of_type o (at + l.size) ms ls others rest s.1 in
     let split = scalar_at-append o (moved at l.leaves) (side_by_side (at + l.size) ls).leaves in
-    split ∙ step (last_at o ms) refl own begins rest s behind
+    split ∙ step (last_at o ms) refl own begins rest s following
   where
     step : (later : Option Member) → last_at o ms ≡ later → of_type m.ty ≡ Some l → m.offset ≡ round_up from l.align → map (λ (m : Member). m.offset) ms ≡ offsets (round_up from l.align + l.size) ls → AllSound (l ∷ ls) → scalar_at o (side_by_side (round_up from l.align + l.size) ls).leaves ≡ at_member of_type o later → option_or (scalar_at o (moved (round_up from l.align) l.leaves)) (scalar_at o (side_by_side (round_up from l.align + l.size) ls).leaves) ≡ at_member of_type o (option_or later (cond (nat_le m.offset o) (Some m) None))
-    step (Some found) is own begins rest s behind =
+    step (Some found) is own begins rest s following =
         let at : ℕ = round_up from l.align in
         let bounds = last_at-bounds o (at + l.size) ms ls found rest s.1 is in
         let before = outside o (at + 0) (at + l.size) (moved at l.leaves) (Within-moved at 0 l.size l.leaves s.0.within) (inr (omega arith)) in
-        ap (λ x. option_or x (scalar_at o (side_by_side (at + l.size) ls).leaves)) before ∙ behind
-    step None is own begins rest s behind =
+        ap (λ x. option_or x (scalar_at o (side_by_side (at + l.size) ls).leaves)) before ∙ following
+    step None is own begins rest s following =
         let at : ℕ = round_up from l.align in
-        ap (option_or (scalar_at o (moved at l.leaves))) behind ∙ option_or-None (scalar_at o (moved at l.leaves)) ∙ only_first of_type o at m l own begins s.0.within (nat_le m.offset o) refl
+        ap (option_or (scalar_at o (moved at l.leaves))) following ∙ option_or-None (scalar_at o (moved at l.leaves)) ∙ only_first of_type o at m l own begins s.0.within (nat_le m.offset o) refl
 
 -- a found member is one of the members
 pub last_at-All : (P : Member → Type 0) (o : ℕ) (ms : List Member) (found : Member) → All P ms → last_at o ms ≡ Some found → P found

@@ -29,7 +29,7 @@ product_bound_of Ilp32 = 2 ^ 32 - 1
 abbrev pub greatest_multiple : ℕ → ℕ → ℕ
 greatest_multiple n limit = limit / n * n
 
--- the bytes of the block behind an unknown pointer to a type of this size
+-- the bytes of the block after an unknown pointer to a type of this size
 abbrev pub start_extent_of : DataModel → ℕ → ℕ
 start_extent_of Lp64 size = 2 ^ 20 * size
 start_extent_of Ilp32 size = if nat_lt (2 ^ 28) (2 ^ 20 * size) then greatest_multiple size (2 ^ 28) else 2 ^ 20 * size

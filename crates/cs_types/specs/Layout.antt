@@ -32,26 +32,26 @@ moved by leaves = map (λ (leaf : Leaf). record { offset = by + leaf.offset; sca
 abbrev pub alone : ℕ → Shape → Layout
 alone bytes scalar = record { size = bytes; align = bytes; leaves = record { offset = 0; scalar = scalar } ∷ [] }
 
--- the scalars of so many elements, one behind the other
+-- the scalars of so many elements, one after the other
 abbrev pub row : ℕ → Layout → List Leaf
 row zero element = []
 row (suc count) element = element.leaves ++ moved element.size (row count element)
 
--- so many elements, one behind the other
+-- so many elements, one after the other
 abbrev pub repeated : ℕ → Layout → Layout
 repeated count element = record { size = count * element.size; align = element.align; leaves = row count element }
 
 -- members side by side, from an offset on
 abbrev pub side_by_side : ℕ → List Layout → Layout
 side_by_side from [] = record { size = from; align = 1; leaves = [] }
-side_by_side from (first ∷ rest) = let at = round_up from first.align in let behind = side_by_side (at + first.size) rest in record { size = behind.size; align = max first.align behind.align; leaves = moved at first.leaves ++ behind.leaves }
+side_by_side from (first ∷ rest) = let at = round_up from first.align in let following = side_by_side (at + first.size) rest in record { size = following.size; align = max first.align following.align; leaves = moved at first.leaves ++ following.leaves }
 
 -- the offsets of members that are laid side by side from an offset on
 abbrev pub offsets : ℕ → List Layout → List ℕ
 offsets from [] = []
 offsets from (first ∷ rest) = let at = round_up from first.align in at ∷ offsets (at + first.size) rest
 
--- with so many bytes behind it that its size is a multiple of its alignment
+-- with so many bytes after it that its size is a multiple of its alignment
 abbrev pub padded : Layout → Layout
 padded layout = record { size = round_up layout.size layout.align; align = layout.align; leaves = layout.leaves }
 

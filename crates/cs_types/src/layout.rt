@@ -135,7 +135,7 @@ fn member_at<'a>(
     Some((member.ty(), offset - member.offset()))
 }
 
-// The last of the members that begin at or before an offset: the members behind it lie past the offset, and those
+// The last of the members that begin at or before an offset: the members after it lie past the offset, and those
 // before it end before it begins.
 fn last_member(members: &[Member], offset: u64) -> Option<&Member>
     ensures { option_copied result ≡ last_at offset members.now }

@@ -85,7 +85,7 @@ impl Members {
         }
     }
 
-    /// Adds a member behind the others.
+    /// Adds a member after the others.
     pub fn push(&mut self, member: Member) -> Result<(), AllocError>
         ensures ok { OnOk result (self.new ≡ self.old ++ member ∷ []) }
         ensures err { OnErr result (self.new ≡ self.old) }

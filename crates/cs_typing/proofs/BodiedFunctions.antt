@@ -10,7 +10,7 @@ use Rattle.cs_ast.specs.declared.typed.statement.StmtKind.TheVariants as kind
 use Rattle.cs_ast.specs.TypedTree.{Statement, Block}
 use Rattle.cs_ast.specs.TypedProgram.{Variable, Routine, variable, routine}
 use Rattle.cs_ast.specs.TypedView.{statement, statement_at}
-use Rattle.cs_typing.specs.Objects.{Told}
+use Rattle.cs_typing.specs.Objects.{Reported}
 use Rattle.cs_typing.specs.Statements.{in_a_row}
 use Rattle.cs_typing.specs.Functions.{bodied}
 use Rattle.cs_typing.proofs.StatementsInARow.{block-in_a_row}
@@ -41,8 +41,8 @@ with_parts function head body locals statements = record {
   written = function.written;
 }
 
-pub routine-bodied : (function : Function) (head : RawFunction) (body : RawBody) (locals : Vec Local Global) (statements : Vec Stmt Global) (told : Told) → told.inside.variables ≡ map variable locals.items → told.statements ≡ map statement statements.items → routine (with_parts function head body locals statements) ≡ bodied head body told (routine function)
-routine-bodied function head body locals statements told variables row =
-    let block : statement_at body.opening (kind.Block statements) ≡ Block body.opening (in_a_row told.statements) = block-in_a_row body.opening statements ∙ ap (λ (ss : List Statement). Block body.opening (in_a_row ss)) (sym row) in
+pub routine-bodied : (function : Function) (head : RawFunction) (body : RawBody) (locals : Vec Local Global) (statements : Vec Stmt Global) (reported : Reported) → reported.inside.variables ≡ map variable locals.items → reported.statements ≡ map statement statements.items → routine (with_parts function head body locals statements) ≡ bodied head body reported (routine function)
+routine-bodied function head body locals statements reported variables row =
+    let block : statement_at body.opening (kind.Block statements) ≡ Block body.opening (in_a_row reported.statements) = block-in_a_row body.opening statements ∙ ap (λ (ss : List Statement). Block body.opening (in_a_row ss)) (sym row) in
     ap (made function head body (map variable locals.items)) block
-    ∙ ap (λ (vs : List Variable). made function head body vs (Block body.opening (in_a_row told.statements))) (sym variables)
+    ∙ ap (λ (vs : List Variable). made function head body vs (Block body.opening (in_a_row reported.statements))) (sym variables)

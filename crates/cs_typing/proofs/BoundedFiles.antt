@@ -13,7 +13,7 @@ use Rattle.cs_ast.specs.declared.place.Place.{Place}
 use Rattle.cs_ast.specs.declared.token.Token.{Token}
 use Rattle.cs_ast.specs.declared.token.TokenKind.{TokenKind}
 use Rattle.cs_ast.specs.declared.token.TokenKind.TheVariants as token
-use Rattle.cs_ast.specs.declared.token.Mark.TheVariants as mark
+use Rattle.cs_ast.specs.declared.token.Punctuator.TheVariants as punctuator
 use Rattle.cs_ast.specs.declared.raw.declaration.RawSpecs.{RawSpecs}
 use Rattle.cs_ast.specs.declared.raw.external.RawExternal.{RawExternal}
 use Rattle.cs_ast.specs.declared.raw.external.RawExternalKind.{RawExternalKind}
@@ -22,7 +22,7 @@ use Rattle.cs_ast.specs.RawDeclarationView.{declared, declarator, specs, head}
 use Rattle.cs_ast.specs.RawStatementView.{items_list, external_of, external}
 use Rattle.cs_ast.specs.TypedProgram.{TypedProgram}
 use Rattle.cs_grammar.specs.Text.{Kinds}
-use Rattle.cs_grammar.specs.FileText.{mark_text, with_commas, declarator_text, declared_text, specs_text, head_text, items_text, external_text, externals_text, file_text}
+use Rattle.cs_grammar.specs.FileText.{punctuator_text, with_commas, declarator_text, declared_text, specs_text, head_text, items_text, external_text, externals_text, file_text}
 use Rattle.cs_grammar.proofs.FileTexts.{declared_append, items_append, head_append}
 use Rattle.cs_consts.specs.Verdicts.{Verdict, Fine}
 use Rattle.cs_declarations.specs.Bodies.{Typing, specs_type, typedefs_added}
@@ -35,7 +35,7 @@ use Rattle.cs_well_formed.specs.Nodes.{all_nodes, routine_nodes, program_nodes}
 use Rattle.cs_well_formed.specs.Places.{IsOfFiles, ObjectStandsAmong, RoutineStandsAmong, ProgramStandsAmong}
 use Rattle.cs_well_formed.specs.Sizes.{text_size, size_of}
 use Rattle.cs_well_formed.specs.WrittenPlaces.{DeclaredAmong, ExternalKindAmong, ExternalAmong}
-use Rattle.cs_well_formed.proofs.TextSizes.{size-behind, size-specs, size-with_commas, all_nodes-cons}
+use Rattle.cs_well_formed.proofs.TextSizes.{size-following, size-specs, size-with_commas, all_nodes-cons}
 use Rattle.cs_well_formed.proofs.Verdicts.{IfFine, if_fine-at, if_fine-weaker, lift-then}
 use Rattle.cs_typing.proofs.BoundedParts.{IsTyping, words-bounded, AreTypedefs, typedefs-bounded, grows-by}
 use Rattle.cs_typing.proofs.BoundedTexts.{declarators_size}
@@ -56,9 +56,9 @@ module _ {T : Type 0} (eq : T → T → Bool) where
   keys-added ks [] = omega arith
   keys-added ks (x ∷ xs) = let one = key-added ks x in let more = keys-added (insert_key eq ks x) xs in omega (arith, one, more)
 
-one-number : (kind : TokenKind) (behind : List ℤ) → length (number_before kind behind) ≤ length behind + 1
-one-number (token.Number constant) behind = omega arith
-one-number other behind = omega arith
+one-number : (kind : TokenKind) (following : List ℤ) → length (number_before kind following) ≤ length following + 1
+one-number (token.Number constant) following = omega arith
+one-number other following = omega arith
 
 few-numbers : (tokens : List Token) → length (numbers_in tokens) ≤ length tokens
 few-numbers [] = omega arith
@@ -81,28 +81,28 @@ placed-once defined (external_kind.Function s d) = by_test (is_of_library d.name
 
 -- a part of a file has a token at least
 some-token : (kind : RawExternalKind) (rest : Kinds) → 1 + text_size rest ≤ text_size (external_text (external_of kind) rest)
-some-token (external_kind.Type s) rest = let e = size-specs (specs s) (mark_text mark.Semicolon rest) in omega (arith, e)
+some-token (external_kind.Type s) rest = let e = size-specs (specs s) (punctuator_text punctuator.Semicolon rest) in omega (arith, e)
 some-token (external_kind.Typedef s names) rest =
-    let behind = mark_text mark.Semicolon rest in
-    let e = size-specs (specs s) (with_commas declarator_text (map declarator names.items) behind) in
-    let d = declarators_size (map declarator names.items) behind in
+    let following = punctuator_text punctuator.Semicolon rest in
+    let e = size-specs (specs s) (with_commas declarator_text (map declarator names.items) following) in
+    let d = declarators_size (map declarator names.items) following in
     omega (arith, e, d)
 some-token (external_kind.Objects s objects) rest =
-    let behind = mark_text mark.Semicolon rest in
-    let e = size-specs (specs s) (with_commas declared_text (map declared objects.items) behind) in
-    let d = size-with_commas declared_text declared_append (map declared objects.items) behind in
+    let following = punctuator_text punctuator.Semicolon rest in
+    let e = size-specs (specs s) (with_commas declared_text (map declared objects.items) following) in
+    let d = size-with_commas declared_text declared_append (map declared objects.items) following in
     omega (arith, e, d)
 some-token (external_kind.Function s d) rest =
-    let behind = mark_text mark.Semicolon rest in
-    let e = size-specs (specs s) (head_text (head d) behind) in
-    let h = size-behind (head_text (head d)) (head_append (head d)) behind in
+    let following = punctuator_text punctuator.Semicolon rest in
+    let e = size-specs (specs s) (head_text (head d) following) in
+    let h = size-following (head_text (head d)) (head_append (head d)) following in
     omega (arith, e, h)
 some-token (external_kind.Definition s d body) rest =
-    let close = mark_text mark.CloseBrace rest in
-    let behind = mark_text mark.OpenBrace (items_text (items_list body.items.items) close) in
-    let e = size-specs (specs s) (head_text (head d) behind) in
-    let h = size-behind (head_text (head d)) (head_append (head d)) behind in
-    let i = size-behind (items_text (items_list body.items.items)) (items_append (items_list body.items.items)) close in
+    let close = punctuator_text punctuator.CloseBrace rest in
+    let following = punctuator_text punctuator.OpenBrace (items_text (items_list body.items.items) close) in
+    let e = size-specs (specs s) (head_text (head d) following) in
+    let h = size-following (head_text (head d)) (head_append (head d)) following in
+    let i = size-following (items_text (items_list body.items.items)) (items_append (items_list body.items.items)) close in
     omega (arith, e, h, i)
 
 few-placed : (defined : List ℕ → Bool) (file : List RawExternal) (rest : Kinds) → length (all_placed defined file) + text_size rest ≤ text_size (externals_text (map external file) rest)
@@ -132,40 +132,40 @@ module _ (Is : Place → Type 0) (room : ℕ) where
   abbrev After : Kinds → Filed → Type 0
   After rest = FiledFits Is room (24 * text_size rest)
 
-  -- behind words before declarators
-  words-fit : (f : Filed) (s : RawSpecs) (ty : Typing) (behind : Kinds) → IsTyping f.known s ty → After (specs_text (specs s) behind) f → After behind (with_known ty.1 f)
-  words-fit f s ty behind g h =
-      let long = size-specs (specs s) behind in
+  -- after words before declarators
+  words-fit : (f : Filed) (s : RawSpecs) (ty : Typing) (following : Kinds) → IsTyping f.known s ty → After (specs_text (specs s) following) f → After following (with_known ty.1 f)
+  words-fit f s ty following g h =
+      let long = size-specs (specs s) following in
       let grown = grows-by f.known ty.1 (size_of (specs_text (specs s))) g in
       fits-known Is room f ty.1 _ _ (omega (arith, long, grown)) h
 
-  -- what stands behind the words of a part of a file
-  abbrev behind_words : RawExternalKind → Kinds → Kinds
-  behind_words (external_kind.Type s) rest = mark_text mark.Semicolon rest
-  behind_words (external_kind.Typedef s names) rest = with_commas declarator_text (map declarator names.items) (mark_text mark.Semicolon rest)
-  behind_words (external_kind.Objects s objects) rest = with_commas declared_text (map declared objects.items) (mark_text mark.Semicolon rest)
-  behind_words (external_kind.Function s d) rest = head_text (head d) (mark_text mark.Semicolon rest)
-  behind_words (external_kind.Definition s d body) rest = head_text (head d) (mark_text mark.OpenBrace (items_text (items_list body.items.items) (mark_text mark.CloseBrace rest)))
+  -- what stands after the words of a part of a file
+  abbrev after_words : RawExternalKind → Kinds → Kinds
+  after_words (external_kind.Type s) rest = punctuator_text punctuator.Semicolon rest
+  after_words (external_kind.Typedef s names) rest = with_commas declarator_text (map declarator names.items) (punctuator_text punctuator.Semicolon rest)
+  after_words (external_kind.Objects s objects) rest = with_commas declared_text (map declared objects.items) (punctuator_text punctuator.Semicolon rest)
+  after_words (external_kind.Function s d) rest = head_text (head d) (punctuator_text punctuator.Semicolon rest)
+  after_words (external_kind.Definition s d body) rest = head_text (head d) (punctuator_text punctuator.OpenBrace (items_text (items_list body.items.items) (punctuator_text punctuator.CloseBrace rest)))
 
-  -- a semicolon behind
-  passed-semicolon : (v : Verdict Filed) (rest : Kinds) → IfFine v (After (mark_text mark.Semicolon rest)) → IfFine v (After rest)
-  passed-semicolon v rest h = if_fine-weaker (After (mark_text mark.Semicolon rest)) (After rest) v h (λ g k. fits-less Is room g _ _ (omega arith) k)
+  -- a semicolon after
+  passed-semicolon : (v : Verdict Filed) (rest : Kinds) → IfFine v (After (punctuator_text punctuator.Semicolon rest)) → IfFine v (After rest)
+  passed-semicolon v rest h = if_fine-weaker (After (punctuator_text punctuator.Semicolon rest)) (After rest) v h (λ g k. fits-less Is room g _ _ (omega arith) k)
 
-  declared-fits : (kind : RawExternalKind) (f : Filed) (base : Shape) (rest : Kinds) → ExternalKindAmong Is kind → After (behind_words kind rest) f → IfFine (external_declared kind f base) (After rest)
+  declared-fits : (kind : RawExternalKind) (f : Filed) (base : Shape) (rest : Kinds) → ExternalKindAmong Is kind → After (after_words kind rest) f → IfFine (external_declared kind f base) (After rest)
   declared-fits (external_kind.Type s) f base rest among h = fits-less Is room f _ _ (omega arith) h
   declared-fits (external_kind.Typedef s names) f base rest among h =
-      let long = declarators_size (map declarator names.items) (mark_text mark.Semicolon rest) in
+      let long = declarators_size (map declarator names.items) (punctuator_text punctuator.Semicolon rest) in
       lift-then (AreTypedefs f.known) (After rest) _ (typedefs_added base names.items f.known) (typedefs-bounded f.known base names.items)
       (λ k g. let grown = grows-by f.known k 0 g in fits-known Is room f k _ _ (omega (arith, long, grown)) h)
   declared-fits (external_kind.Objects s objects) f base rest among h =
       passed-semicolon (objects_added s base objects.items f) rest
-      (objects_added-fits Is room s base objects.items f (mark_text mark.Semicolon rest) (recursion_from_All (DeclaredAmong Is) objects.items among) h)
-  declared-fits (external_kind.Function s d) f base rest among h = function_added-fits Is room d None f base rest among tt (mark_text mark.Semicolon rest) refl h
+      (objects_added-fits Is room s base objects.items f (punctuator_text punctuator.Semicolon rest) (recursion_from_All (DeclaredAmong Is) objects.items among) h)
+  declared-fits (external_kind.Function s d) f base rest among h = function_added-fits Is room d None f base rest among tt (punctuator_text punctuator.Semicolon rest) refl h
   declared-fits (external_kind.Definition s d body) f base rest among h =
-      function_added-fits Is room d (Some body) f base rest among.0 among.1 (mark_text mark.OpenBrace (items_text (items_list body.items.items) (mark_text mark.CloseBrace rest))) refl h
+      function_added-fits Is room d (Some body) f base rest among.0 among.1 (punctuator_text punctuator.OpenBrace (items_text (items_list body.items.items) (punctuator_text punctuator.CloseBrace rest))) refl h
 
   -- the words of a part of a file are in its text
-  words-first : (kind : RawExternalKind) (rest : Kinds) → text_size (specs_text (specs (specs_of kind)) (behind_words kind rest)) ≤ text_size (external_text (external_of kind) rest)
+  words-first : (kind : RawExternalKind) (rest : Kinds) → text_size (specs_text (specs (specs_of kind)) (after_words kind rest)) ≤ text_size (external_text (external_of kind) rest)
   words-first (external_kind.Type s) rest = omega arith
   words-first (external_kind.Typedef s names) rest = omega arith
   words-first (external_kind.Objects s objects) rest = omega arith
@@ -177,13 +177,13 @@ module _ (Is : Place → Type 0) (room : ℕ) where
       lift-then (IsTyping f.known (specs_of kind)) (After rest) (external_read kind f) (specs_type f.known at (specs_of kind)) (words-bounded f.known at (specs_of kind))
       (λ ty g.
       let first = words-first kind rest in
-      declared-fits kind (with_known ty.1 f) ty.0 rest among (words-fit f (specs_of kind) ty (behind_words kind rest) g (fits-less Is room f _ _ (omega (arith, first)) h)))
+      declared-fits kind (with_known ty.1 f) ty.0 rest among (words-fit f (specs_of kind) ty (after_words kind rest) g (fits-less Is room f _ _ (omega (arith, first)) h)))
 
   file-fits : (file : List RawExternal) (f : Filed) → AllByRecursion (ExternalAmong Is) file → After (externals_text (map external file) []) f → IfFine (file_typed file f) (After [])
   file-fits [] f among h = h
   file-fits (e ∷ es) f among h =
-      let behind = externals_text (map external es) [] in
-      lift-then (After behind) (After []) (file_typed es) (external_typed e.place e.kind f) (external-fits e.place e.kind f behind among.0 h) (λ g k. file-fits es g among.1 k)
+      let following = externals_text (map external es) [] in
+      lift-then (After following) (After []) (file_typed es) (external_typed e.place e.kind f) (external-fits e.place e.kind f following among.0 h) (λ g k. file-fits es g among.1 k)
 
 -- the place of functions that aren't declared
 abbrev blank_place : Place
@@ -215,4 +215,4 @@ typed-bounded model files tokens file tree =
     ))
 
 pub typed_is_bounded : (model : DataModel) (files : List (List ℕ)) (tokens : List Token) (file : List RawExternal) (p : TypedProgram) → IsFileTree files tokens file → typed model files tokens file ≡ Fine p → ProgramStandsAmong (IsOfFiles (length p.files)) p × (program_nodes p < 2 ^ 28)
-typed_is_bounded model files tokens file p tree told = if_fine-at IsBoundedProgram (typed model files tokens file) p (typed-bounded model files tokens file tree) told
+typed_is_bounded model files tokens file p tree reported = if_fine-at IsBoundedProgram (typed model files tokens file) p (typed-bounded model files tokens file tree) reported

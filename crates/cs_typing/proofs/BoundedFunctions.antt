@@ -10,13 +10,13 @@ use Rattle.cs_ast.specs.declared.raw.declaration.RawParameter.{RawParameter}
 use Rattle.cs_ast.specs.declared.raw.declaration.RawParameters.{RawParameters}
 use Rattle.cs_ast.specs.declared.raw.declaration.RawParameters.TheVariants as parameter_lists
 use Rattle.cs_ast.specs.declared.raw.external.RawBody.{RawBody}
-use Rattle.cs_ast.specs.declared.token.Mark.TheVariants as mark
+use Rattle.cs_ast.specs.declared.token.Punctuator.TheVariants as punctuator
 use Rattle.cs_ast.specs.declared.token.TokenKind.TheVariants as token
 use Rattle.cs_ast.specs.RawDeclarationView.{parameters, head}
 use Rattle.cs_ast.specs.RawStatementView.{items_list}
 use Rattle.cs_ast.specs.TypedProgram.{Variable, Routine}
 use Rattle.cs_grammar.specs.Text.{Kinds}
-use Rattle.cs_grammar.specs.FileText.{mark_text, parameters_text, head_text, items_text}
+use Rattle.cs_grammar.specs.FileText.{punctuator_text, parameters_text, head_text, items_text}
 use Rattle.cs_grammar.proofs.FileTexts.{items_append}
 use Rattle.cs_consts.specs.declared.refusal.TypeCode.TheVariants.{DeclaredTwice, IncompleteType}
 use Rattle.cs_consts.specs.declared.scope.Callee.{Callee}
@@ -26,16 +26,16 @@ use Rattle.cs_consts.specs.TypeNames.{starred}
 use Rattle.cs_consts.specs.Verdicts.{Fine, Fault, lift}
 use Rattle.cs_declarations.specs.Bodies.{specs_type}
 use Rattle.cs_declarations.specs.Known.{Known, meaning_here, entered}
-use Rattle.cs_declarations.specs.Parameters.{Head, place_of, is_free_name, with_parameter, parameter_passed, parameter_typed, parameters_behind, parameters_typed}
+use Rattle.cs_declarations.specs.Parameters.{Head, place_of, is_free_name, with_parameter, parameter_passed, parameter_typed, parameters_after, parameters_typed}
 use Rattle.cs_typing.specs.Objects.{Filed}
-use Rattle.cs_typing.specs.Statements.{in_a_row, nothing_told, body_typed}
+use Rattle.cs_typing.specs.Statements.{in_a_row, nothing_reported, body_typed}
 use Rattle.cs_typing.specs.Functions.{is_result, same_types, types_of, may_be_function, bodiless, number_in, Routed, new_function, function_of, declared_inside, bodied, with_body, at_beginning, where_in, body_added, completed, outside_of, headed, resulted, function_added}
 use Rattle.cs_well_formed.specs.Bounded.{texts_nodes}
 use Rattle.cs_well_formed.specs.Nodes.{statements_nodes, routine_nodes}
 use Rattle.cs_well_formed.specs.Places.{RoutineStandsAmong}
 use Rattle.cs_well_formed.specs.Sizes.{text_size, size_of}
 use Rattle.cs_well_formed.specs.WrittenPlaces.{ItemAmong, BodyAmong}
-use Rattle.cs_well_formed.proofs.TextSizes.{size-behind, size-pointers, size-parameters}
+use Rattle.cs_well_formed.proofs.TextSizes.{size-following, size-pointers, size-parameters}
 use Rattle.cs_well_formed.proofs.Verdicts.{IfFine, if_fine-any, if_fine-weaker, lift-then, cond-then}
 use Rattle.cs_typing.proofs.FilesSoFar.{changed-All}
 use Rattle.cs_typing.proofs.WellStatements.{both-fine}
@@ -60,11 +60,11 @@ parameter-one p before =
     (if_fine-any (parameter_passed found.1.context p (starred p.pointers.items found.0))) (λ passed _. length_push before.variables _))
     (λ _. tt))
 
-parameters-more : (ps : List RawParameter) (before : Head) → IfFine (parameters_behind ps before) (HasMore before (length ps))
+parameters-more : (ps : List RawParameter) (before : Head) → IfFine (parameters_after ps before) (HasMore before (length ps))
 parameters-more [] before = omega arith
 parameters-more (p ∷ ps) before =
-    lift-then (HasMore before 1) (HasMore before (suc (length ps))) (parameters_behind ps) (parameter_typed p before) (parameter-one p before)
-    (λ one h. if_fine-weaker (HasMore one (length ps)) (HasMore before (suc (length ps))) (parameters_behind ps one) (parameters-more ps one) (λ head k. omega (arith, h, k)))
+    lift-then (HasMore before 1) (HasMore before (suc (length ps))) (parameters_after ps) (parameter_typed p before) (parameter-one p before)
+    (λ one h. if_fine-weaker (HasMore one (length ps)) (HasMore before (suc (length ps))) (parameters_after ps one) (parameters-more ps one) (λ head k. omega (arith, h, k)))
 
 -- as many variables as the text of the parameters has room for
 abbrev FewVariables : RawParameters → Head → Type 0
@@ -75,7 +75,7 @@ few-variables k parameter_lists.Empty = omega arith
 few-variables k parameter_lists.Void = omega arith
 few-variables k (parameter_lists.List list) =
     let begun : Head = record { variables = []; written = []; known = k } in
-    if_fine-weaker (HasMore begun (length list.items)) (FewVariables (parameter_lists.List list)) (parameters_behind list.items begun) (parameters-more list.items begun)
+    if_fine-weaker (HasMore begun (length list.items)) (FewVariables (parameter_lists.List list)) (parameters_after list.items begun) (parameters-more list.items begun)
     (λ head h. omega (arith, h, parameters_count list.items))
 
 module _ (Is : Place → Type 0) (room : ℕ) where
@@ -108,12 +108,12 @@ module _ (Is : Place → Type 0) (room : ℕ) where
 
   -- the text of a body, or the semicolon in its place
   abbrev pub ending_length : Option RawBody → Kinds → ℕ
-  ending_length None rest = text_size (mark_text mark.Semicolon rest)
-  ending_length (Some body) rest = text_size (mark_text mark.OpenBrace (items_text (items_list body.items.items) (mark_text mark.CloseBrace rest)))
+  ending_length None rest = text_size (punctuator_text punctuator.Semicolon rest)
+  ending_length (Some body) rest = text_size (punctuator_text punctuator.OpenBrace (items_text (items_list body.items.items) (punctuator_text punctuator.CloseBrace rest)))
 
   body-longer : (body : RawBody) (rest : Kinds) (more : ℕ) → 24 * text_size rest ≤ more + 24 * ending_length (Some body) rest
   body-longer body rest more =
-      let items = size-behind (items_text (items_list body.items.items)) (items_append (items_list body.items.items)) (mark_text mark.CloseBrace rest) in
+      let items = size-following (items_text (items_list body.items.items)) (items_append (items_list body.items.items)) (punctuator_text punctuator.CloseBrace rest) in
       omega (arith, items)
 
   abbrev After : Kinds → Filed → Type 0
@@ -124,15 +124,15 @@ module _ (Is : Place → Type 0) (room : ℕ) where
   body_added-fits d body result variables inner Calloc f rest here among h = fits-less Is room f _ _ (body-longer body rest (length variables)) h
   body_added-fits d body result variables inner Free f rest here among h = fits-less Is room f _ _ (body-longer body rest (length variables)) h
   body_added-fits d body result variables inner (Numbered number) f rest here among h =
-      let behind = mark_text mark.CloseBrace rest in
+      let following = punctuator_text punctuator.CloseBrace rest in
       let begun = at_beginning f variables inner in
-      let inside = weight begun + 24 * text_size (items_text (items_list body.items.items) behind) in
-      lift-then (HasRoom Is inside (text_size behind)) (After rest) (with_body d body number f) (body_typed (where_in result body) body.items.items (nothing_told begun))
-      (body-fits Is inside (where_in result body) body.items.items (nothing_told begun) behind (recursion_from_All (ItemAmong Is) body.items.items among.inside) (tt, omega arith))
-      (λ told g. record {
+      let inside = weight begun + 24 * text_size (items_text (items_list body.items.items) following) in
+      lift-then (HasRoom Is inside (text_size following)) (After rest) (with_body d body number f) (body_typed (where_in result body) body.items.items (nothing_reported begun))
+      (body-fits Is inside (where_in result body) body.items.items (nothing_reported begun) following (recursion_from_All (ItemAmong Is) body.items.items among.inside) (tt, omega arith))
+      (λ reported g. record {
         globals = h.globals;
-        routines = changed-All (bodied d body told) (RoutineStandsAmong Is) number f.routines (λ x _ _. record { at = here; closes = among.closing; body = (among.opening, g.0) }) h.routines;
-        nodes = (let e = changed-nodes routine_nodes (bodied d body told) (length told.inside.variables + statements_nodes (in_a_row told.statements) + 1) (λ x. omega arith) number f.routines in
+        routines = changed-All (bodied d body reported) (RoutineStandsAmong Is) number f.routines (λ x _ _. record { at = here; closes = among.closing; body = (among.opening, g.0) }) h.routines;
+        nodes = (let e = changed-nodes routine_nodes (bodied d body reported) (length reported.inside.variables + statements_nodes (in_a_row reported.statements) + 1) (λ x. omega arith) number f.routines in
             let n = h.nodes in
             let m = g.1 in
             omega (arith, e, n, m));
@@ -144,8 +144,8 @@ module _ (Is : Place → Type 0) (room : ℕ) where
 
   -- ---- functions
 
-  headed-fits : (d : RawFunction) (body : Option RawBody) (f : Filed) (result : Shape) (h : Head) (rest : Kinds) → Is d.place → IfSome body (BodyAmong Is) → IsHead (entered f.known) d.parameters h → FewVariables d.parameters h → (behind : Kinds) → text_size behind ≡ ending_length body rest → FiledFits Is room (24 * text_size (head_text (head d) behind)) f → IfFine (headed d body f result h) (After rest)
-  headed-fits d body f result h rest here among bounded few behind ends fits =
+  headed-fits : (d : RawFunction) (body : Option RawBody) (f : Filed) (result : Shape) (h : Head) (rest : Kinds) → Is d.place → IfSome body (BodyAmong Is) → IsHead (entered f.known) d.parameters h → FewVariables d.parameters h → (following : Kinds) → text_size following ≡ ending_length body rest → FiledFits Is room (24 * text_size (head_text (head d) following)) f → IfFine (headed d body f result h) (After rest)
+  headed-fits d body f result h rest here among bounded few following ends fits =
       lift-then (RoutedFits more) (After rest) (completed d body result h.variables (declared_inside f.known h.known)) _
       (function_of-fits (outside_of f h) d result h.variables h.written (meaning_here d.name (outside_of f h).known) more here outside)
       (λ r k. completed-fits d body result h.variables (declared_inside f.known h.known) r rest here among k)
@@ -154,25 +154,25 @@ module _ (Is : Place → Type 0) (room : ℕ) where
       more = length h.variables + 24 * ending_length body rest
 
       passed : Kinds
-      passed = parameters_text (parameters d.parameters) (mark_text mark.CloseParenthesis behind)
+      passed = parameters_text (parameters d.parameters) (punctuator_text punctuator.CloseParenthesis following)
 
       outside : FiledFits Is room (more + (length h.variables + length h.written) + 1) (outside_of f h)
       outside =
           let same : texts_nodes h.known.literals ≡ texts_nodes f.known.literals = ap texts_nodes bounded.literals in
           let n = bounded.nodes in
-          let stars = size-pointers d.pointers.items (token.Name d.name ∷ mark_text mark.OpenParenthesis passed) in
-          let list = size-parameters (parameters d.parameters) (mark_text mark.CloseParenthesis behind) in
+          let stars = size-pointers d.pointers.items (token.Name d.name ∷ punctuator_text punctuator.OpenParenthesis passed) in
+          let list = size-parameters (parameters d.parameters) (punctuator_text punctuator.CloseParenthesis following) in
           fits-known Is room f _ _ _ (omega (arith, same, n, stars, list, few, ends)) fits
 
   -- a declared function, with its body if it has one
-  pub function_added-fits : (d : RawFunction) (body : Option RawBody) (f : Filed) (ty : Shape) (rest : Kinds) → Is d.place → IfSome body (BodyAmong Is) → (behind : Kinds) → text_size behind ≡ ending_length body rest → FiledFits Is room (24 * text_size (head_text (head d) behind)) f → IfFine (function_added d body f ty) (After rest)
-  function_added-fits d body f ty rest here among behind ends fits =
+  pub function_added-fits : (d : RawFunction) (body : Option RawBody) (f : Filed) (ty : Shape) (rest : Kinds) → Is d.place → IfSome body (BodyAmong Is) → (following : Kinds) → text_size following ≡ ending_length body rest → FiledFits Is room (24 * text_size (head_text (head d) following)) f → IfFine (function_added d body f ty) (After rest)
+  function_added-fits d body f ty rest here among following ends fits =
       let result = starred d.pointers.items ty in
       let v = parameters_typed (entered f.known) d.parameters in
       cond-then (After rest) (may_be_function f (is_some body) result (meaning_here d.name f.known)) (resulted d body f result) (Fault DeclaredTwice d.place)
       (λ _. cond-then (After rest) (is_result result) (lift (headed d body f result) v) (Fault IncompleteType d.place)
       (λ _. lift-then (λ h. IsHead (entered f.known) d.parameters h × FewVariables d.parameters h) (After rest) (headed d body f result) v
       (both-fine (IsHead (entered f.known) d.parameters) (FewVariables d.parameters) v (parameters-bounded (entered f.known) d.parameters) (few-variables (entered f.known) d.parameters))
-      (λ h k. headed-fits d body f result h rest here among k.0 k.1 behind ends fits))
+      (λ h k. headed-fits d body f result h rest here among k.0 k.1 following ends fits))
       (λ _. tt))
       (λ _. tt)

@@ -13,7 +13,7 @@ use Rattle.cs_ast.specs.declared.raw.declaration.RawInit.{RawInit}
 use Rattle.cs_ast.specs.RawDeclarationView.{initial, declared, declarator}
 use Rattle.cs_ast.specs.TypedProgram.{FileObject}
 use Rattle.cs_grammar.specs.Text.{Kinds}
-use Rattle.cs_grammar.specs.FileText.{each_behind_comma, with_commas, first_value_text, declared_text}
+use Rattle.cs_grammar.specs.FileText.{each_after_comma, with_commas, first_value_text, declared_text}
 use Rattle.cs_consts.specs.declared.refusal.TypeCode.TheVariants.{DeclaredTwice}
 use Rattle.cs_consts.specs.Meanings.{Meaning, Typedef, Constant, Global, Local, Function}
 use Rattle.cs_consts.specs.Verdicts.{Fine, Fault}
@@ -56,7 +56,7 @@ module _ (Is : Place → Type 0) (room : ℕ) where
   pub fits-less : (f : Filed) (more less : ℕ) → less ≤ more → FiledFits Is room more f → FiledFits Is room less f
   fits-less f more less le h = record { globals = h.globals; routines = h.routines; nodes = (let k = h.nodes in omega (arith, le, k)) }
 
-  -- behind what makes more known
+  -- after what makes more known
   pub fits-known : (f : Filed) (k : Known) (more less : ℕ) → nodes_known k + less ≤ nodes_known f.known + more → FiledFits Is room more f → FiledFits Is room less (with_known k f)
   fits-known f k more less le h = record { globals = h.globals; routines = h.routines; nodes = (let n = h.nodes in omega (arith, le, n)) }
 
@@ -115,9 +115,9 @@ module _ (Is : Place → Type 0) (room : ℕ) where
       cond-then After (may_be_object f.globals (is_completed f base d.declarator) (is_some d.initial) before) _ (Fault DeclaredTwice d.declarator.place)
       (λ _. lift-then (λ _. Unit {0}) After _ (object_type f.known.context base d) (if_fine-any (object_type f.known.context base d))
       (λ ty _.
-      lift-then (ObjectFits behind) After (object_initialized ty d.initial) _
-      (lift-then (ObjectFits behind) (ObjectFits behind) (marked s d.declarator) _ (object_of-fits f d.declarator before ty behind among.name (fits-less Is room f _ (behind + 1) (omega (arith, named)) h))
-      (λ o k. marked-fits s d.declarator o behind k))
+      lift-then (ObjectFits following) After (object_initialized ty d.initial) _
+      (lift-then (ObjectFits following) (ObjectFits following) (marked s d.declarator) _ (object_of-fits f d.declarator before ty following among.name (fits-less Is room f _ (following + 1) (omega (arith, named)) h))
+      (λ o k. marked-fits s d.declarator o following k))
       (λ o k. object_initialized-fits ty d.initial o rest among.initial k)))
       (λ _. tt)
     where
@@ -127,22 +127,22 @@ module _ (Is : Place → Type 0) (room : ℕ) where
       After : Filed → Type 0
       After = FiledFits Is room (24 * text_size rest)
 
-      behind : ℕ
-      behind = 24 * first_length d.initial rest
+      following : ℕ
+      following = 24 * first_length d.initial rest
 
       named : 1 + first_length d.initial rest ≤ text_size (declared_text (declared d) rest)
       named = declarator_size (declarator d.declarator) (first_value_text (option_map (λ (v : RawFirstValue). initial v.initial) d.initial) rest)
 
-  further-objects : (s : RawSpecs) (base : Shape) (ds : List RawInit) (f : Filed) (rest : Kinds) → AllByRecursion (DeclaredAmong Is) ds → FiledFits Is room (24 * text_size (each_behind_comma declared_text (map declared ds) rest)) f → IfFine (objects_added s base ds f) (FiledFits Is room (24 * text_size rest))
+  further-objects : (s : RawSpecs) (base : Shape) (ds : List RawInit) (f : Filed) (rest : Kinds) → AllByRecursion (DeclaredAmong Is) ds → FiledFits Is room (24 * text_size (each_after_comma declared_text (map declared ds) rest)) f → IfFine (objects_added s base ds f) (FiledFits Is room (24 * text_size rest))
   further-objects s base [] f rest among h = h
   further-objects s base (d ∷ ds) f rest among h =
-      let behind = each_behind_comma declared_text (map declared ds) rest in
-      lift-then (FiledFits Is room (24 * text_size behind)) (FiledFits Is room (24 * text_size rest)) (objects_added s base ds) (object_added s base d f)
-      (object_added-fits s base d f behind among.0 (fits-less Is room f _ _ (omega arith) h)) (λ g k. further-objects s base ds g rest among.1 k)
+      let following = each_after_comma declared_text (map declared ds) rest in
+      lift-then (FiledFits Is room (24 * text_size following)) (FiledFits Is room (24 * text_size rest)) (objects_added s base ds) (object_added s base d f)
+      (object_added-fits s base d f following among.0 (fits-less Is room f _ _ (omega arith) h)) (λ g k. further-objects s base ds g rest among.1 k)
 
   pub objects_added-fits : (s : RawSpecs) (base : Shape) (ds : List RawInit) (f : Filed) (rest : Kinds) → AllByRecursion (DeclaredAmong Is) ds → FiledFits Is room (24 * text_size (with_commas declared_text (map declared ds) rest)) f → IfFine (objects_added s base ds f) (FiledFits Is room (24 * text_size rest))
   objects_added-fits s base [] f rest among h = h
   objects_added-fits s base (d ∷ ds) f rest among h =
-      let behind = each_behind_comma declared_text (map declared ds) rest in
-      lift-then (FiledFits Is room (24 * text_size behind)) (FiledFits Is room (24 * text_size rest)) (objects_added s base ds) (object_added s base d f) (object_added-fits s base d f behind among.0 h)
+      let following = each_after_comma declared_text (map declared ds) rest in
+      lift-then (FiledFits Is room (24 * text_size following)) (FiledFits Is room (24 * text_size rest)) (objects_added s base ds) (object_added s base d f) (object_added-fits s base d f following among.0 h)
       (λ g k. further-objects s base ds g rest among.1 k)

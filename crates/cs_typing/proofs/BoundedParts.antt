@@ -73,6 +73,6 @@ module _ (k : Known) where
   pub parameters-bounded : (raw : RawParameters) → IfFine (parameters_typed k raw) (IsHead raw)
   parameters-bounded raw = by_value (IsHead raw) (parameters_typed k raw) (λ head is. parameters_are_bounded k raw head is)
 
--- behind a text of some size
+-- after a text of some size
 pub grows-by : (k m : Known) (size : ℕ) → Grows k m size → nodes_known m ≤ nodes_known k + 16 * size
 grows-by k m size g = let same : texts_nodes m.literals ≡ texts_nodes k.literals = ap texts_nodes g.literals in omega (arith, g.structs, same)

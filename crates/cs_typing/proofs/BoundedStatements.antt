@@ -23,14 +23,14 @@ use Rattle.cs_ast.specs.declared.raw.statement.RawFirst.{RawFirst}
 use Rattle.cs_ast.specs.declared.raw.statement.RawFirst.TheVariants as first_part
 use Rattle.cs_ast.specs.declared.typed.statement.Case.{Case}
 use Rattle.cs_ast.specs.declared.token.Keyword.TheVariants as keyword
-use Rattle.cs_ast.specs.declared.token.Mark.TheVariants as mark
+use Rattle.cs_ast.specs.declared.token.Punctuator.TheVariants as punctuator
 use Rattle.cs_ast.specs.RawView.{written}
 use Rattle.cs_ast.specs.RawDeclarationView.{initial, declared, declarator, specs}
 use Rattle.cs_ast.specs.RawStatementView.{first_of, sentence, item, items_row, switch_row, switch_item, items_list}
 use Rattle.cs_ast.specs.TypedTree.{Typed, Statement}
 use Rattle.cs_ast.specs.TypedProgram.{Variable}
 use Rattle.cs_grammar.specs.Text.{Kinds, text}
-use Rattle.cs_grammar.specs.FileText.{some_text, each_behind_comma, with_commas, first_value_text, declared_text, declaration_text, first_text, test_text, sentence_text, item_text, items_text, switch_item_text, switch_text, mark_text, word_text}
+use Rattle.cs_grammar.specs.FileText.{some_text, each_after_comma, with_commas, first_value_text, declared_text, declaration_text, first_text, test_text, sentence_text, item_text, items_text, switch_item_text, switch_text, punctuator_text, word_text}
 use Rattle.cs_consts.specs.declared.refusal.TypeCode.TheVariants.{CaseTwice, DeclaredTwice, Jump, Return}
 use Rattle.cs_consts.specs.Integers.{type_of}
 use Rattle.cs_consts.specs.Verdicts.{Verdict, Fine, Fault, lift}
@@ -38,8 +38,8 @@ use Rattle.cs_consts.specs.Doors.{value_of, assigned_value, test_of, selector_of
 use Rattle.cs_declarations.specs.Initializers.{InFunction}
 use Rattle.cs_declarations.specs.Known.{is_declared_here}
 use Rattle.cs_declarations.specs.Objects.{object_type}
-use Rattle.cs_typing.specs.Objects.{Inside, LocalDeclared, Told, with_local, local_held, local_initialized, local_added, after_local, locals_added}
-use Rattle.cs_typing.specs.Statements.{Where, Part, Switching, in_loop, in_switch, in_a_row, part, past, tested_in, dropped_in, some_found, tested_if, dropped_if, is_void, value_returned, returned, label_number, goto_typed, is_first, meeting, in_block, declared_in, declaration_typed, first_place, nothing_told, telling, ran_first, first_typed, is_case, case_put, case_added, with_told, block_made, run_made, if_made, if_else_made, while_made, do_made, for_made, switch_made, return_made, label_made, selected, statement_typed, item_typed, items_typed, switch_item_typed, switch_typed, body_typed}
+use Rattle.cs_typing.specs.Objects.{Inside, LocalDeclared, Reported, with_local, local_held, local_initialized, local_added, after_local, locals_added}
+use Rattle.cs_typing.specs.Statements.{Where, Part, Switching, in_loop, in_switch, in_a_row, part, past, tested_in, dropped_in, some_found, tested_if, dropped_if, is_void, value_returned, returned, label_number, goto_typed, is_first, meeting, in_block, declared_in, declaration_typed, first_place, nothing_reported, telling, ran_first, first_typed, is_case, case_put, case_added, with_reported, block_made, run_made, if_made, if_else_made, while_made, do_made, for_made, switch_made, return_made, label_made, selected, statement_typed, item_typed, items_typed, switch_item_typed, switch_typed, body_typed}
 use Rattle.cs_well_formed.specs.Bounded.{IsBoundedBy}
 use Rattle.cs_well_formed.specs.Nodes.{expression_nodes, statement_nodes, statements_nodes, nodes_if_any}
 use Rattle.cs_well_formed.specs.Places.{StandsAmong, StatementStandsAmong, StatementsStandAmong}
@@ -54,7 +54,7 @@ use Rattle.cs_typing.proofs.BoundedTexts.{some_size, declarator_size}
 abbrev pub weight : Inside → ℕ
 weight i = nodes_known i.known + length i.variables
 
--- the nodes of statements behind others
+-- the nodes of statements after others
 row-nodes : (before : List Statement) (last : Statement) → statements_nodes (in_a_row (before ++ last ∷ [])) ≡ statements_nodes (in_a_row before) + statement_nodes last
 row-nodes [] last = omega arith
 row-nodes (s ∷ ss) last = let e = row-nodes ss last in omega (arith, e)
@@ -71,7 +71,7 @@ module _ (Is : Place → Type 0) where
   stands-at at (form.Call' p place function shape row) h = h.0
   stands-at at (form.Member' p place object name) h = h.0
   stands-at at (form.Arrow' p place pointer name) h = h.0
-  stands-at at (form.StepBehind' step p place object) h = h.0
+  stands-at at (form.StepAfter' step p place object) h = h.0
   stands-at at (form.StepBefore' step p place object) h = h.0
   stands-at at (form.Prefix' operator p place operand) h = h.0
   stands-at at (form.SizeOf' p place operand) h = h.0
@@ -88,7 +88,7 @@ module _ (Is : Place → Type 0) where
 
   -- ---- expressions
 
-  -- an expression of a text of some size, behind what is known at a point
+  -- an expression of a text of some size, after what is known at a point
   abbrev GivesExpression : Inside → ℕ → Part Typed → Type 0
   GivesExpression i size p = StandsAmong Is p.found × (weight p.inside + expression_nodes p.found ≤ weight i + 16 * size)
 
@@ -137,18 +137,18 @@ module _ (Is : Place → Type 0) where
 
   -- ---- declarations
 
-  -- statements so far, with room for a text of some size behind them
-  abbrev pub HasRoom : ℕ → ℕ → Told → Type 0
-  HasRoom room size told = StatementsStandAmong Is (in_a_row told.statements) × (weight told.inside + statements_nodes (in_a_row told.statements) + 24 * size ≤ room)
+  -- statements so far, with room for a text of some size after them
+  abbrev pub HasRoom : ℕ → ℕ → Reported → Type 0
+  HasRoom room size reported = StatementsStandAmong Is (in_a_row reported.statements) × (weight reported.inside + statements_nodes (in_a_row reported.statements) + 24 * size ≤ room)
 
   -- one more statement
-  tells-one : (room size : ℕ) (before : List Statement) (i j : Inside) (last : Statement) (longer : ℕ) → HasRoom room longer (record { statements = before; inside = i }) → StatementStandsAmong Is last → weight j + statement_nodes last + 24 * size ≤ weight i + 24 * longer → HasRoom room size (record { statements = before ++ last ∷ []; inside = j })
-  tells-one room size before i j last longer h stands fits = (row-stands before last h.0 stands, (let e = row-nodes before last in omega (arith, e, h.1, fits)))
+  yields-one : (room size : ℕ) (before : List Statement) (i j : Inside) (last : Statement) (longer : ℕ) → HasRoom room longer (record { statements = before; inside = i }) → StatementStandsAmong Is last → weight j + statement_nodes last + 24 * size ≤ weight i + 24 * longer → HasRoom room size (record { statements = before ++ last ∷ []; inside = j })
+  yields-one room size before i j last longer h stands fits = (row-stands before last h.0 stands, (let e = row-nodes before last in omega (arith, e, h.1, fits)))
 
   abbrev first_length : Option RawFirstValue → Kinds → ℕ
   first_length first rest = text_size (first_value_text (option_map (λ (v : RawFirstValue). initial v.initial) first) rest)
 
-  -- a local that fits into so much, with something behind it
+  -- a local that fits into so much, with something after it
   abbrev GivesLocal : ℕ → ℕ → LocalDeclared → Type 0
   GivesLocal room size one = StatementStandsAmong Is one.statement × (weight one.inside + statement_nodes one.statement + 24 * size ≤ room)
 
@@ -181,40 +181,40 @@ module _ (Is : Place → Type 0) where
           let more = length_push i.variables variable in
           omega (arith, named, more)
 
-  -- a local behind statements
-  local-behind : (room : ℕ) (base : Shape) (d : RawInit) (so_far : Told) (rest : Kinds) → DeclaredAmong Is d → HasRoom room (text_size (declared_text (declared d) rest)) so_far → IfFine (lift (after_local so_far.statements) (local_added base d so_far.inside)) (HasRoom room (text_size rest))
-  local-behind room base d so_far rest among h =
+  -- a local after statements
+  local-following : (room : ℕ) (base : Shape) (d : RawInit) (so_far : Reported) (rest : Kinds) → DeclaredAmong Is d → HasRoom room (text_size (declared_text (declared d) rest)) so_far → IfFine (lift (after_local so_far.statements) (local_added base d so_far.inside)) (HasRoom room (text_size rest))
+  local-following room base d so_far rest among h =
       lift-then (GivesLocal (weight so_far.inside + 24 * text_size (declared_text (declared d) rest)) (text_size rest)) (HasRoom room (text_size rest)) (after_local so_far.statements) _
       (local_added-gives base d so_far.inside rest among)
-      (λ one k. tells-one room (text_size rest) so_far.statements so_far.inside one.inside one.statement (text_size (declared_text (declared d) rest)) h k.0 k.1)
+      (λ one k. yields-one room (text_size rest) so_far.statements so_far.inside one.inside one.statement (text_size (declared_text (declared d) rest)) h k.0 k.1)
 
-  further-locals : (room : ℕ) (base : Shape) (ds : List RawInit) (so_far : Told) (rest : Kinds) → AllByRecursion (DeclaredAmong Is) ds → HasRoom room (text_size (each_behind_comma declared_text (map declared ds) rest)) so_far → IfFine (locals_added base ds so_far) (HasRoom room (text_size rest))
+  further-locals : (room : ℕ) (base : Shape) (ds : List RawInit) (so_far : Reported) (rest : Kinds) → AllByRecursion (DeclaredAmong Is) ds → HasRoom room (text_size (each_after_comma declared_text (map declared ds) rest)) so_far → IfFine (locals_added base ds so_far) (HasRoom room (text_size rest))
   further-locals room base [] so_far rest among h = h
   further-locals room base (d ∷ ds) so_far rest among h =
-      let behind = each_behind_comma declared_text (map declared ds) rest in
-      lift-then (HasRoom room (text_size behind)) (HasRoom room (text_size rest)) (locals_added base ds) _
-      (local-behind room base d so_far behind among.0 (h.0, (let k = h.1 in omega (arith, k)))) (λ told k. further-locals room base ds told rest among.1 k)
+      let following = each_after_comma declared_text (map declared ds) rest in
+      lift-then (HasRoom room (text_size following)) (HasRoom room (text_size rest)) (locals_added base ds) _
+      (local-following room base d so_far following among.0 (h.0, (let k = h.1 in omega (arith, k)))) (λ reported k. further-locals room base ds reported rest among.1 k)
 
-  pub locals-room : (room : ℕ) (base : Shape) (ds : List RawInit) (so_far : Told) (rest : Kinds) → AllByRecursion (DeclaredAmong Is) ds → HasRoom room (text_size (with_commas declared_text (map declared ds) rest)) so_far → IfFine (locals_added base ds so_far) (HasRoom room (text_size rest))
+  pub locals-room : (room : ℕ) (base : Shape) (ds : List RawInit) (so_far : Reported) (rest : Kinds) → AllByRecursion (DeclaredAmong Is) ds → HasRoom room (text_size (with_commas declared_text (map declared ds) rest)) so_far → IfFine (locals_added base ds so_far) (HasRoom room (text_size rest))
   locals-room room base [] so_far rest among h = h
   locals-room room base (d ∷ ds) so_far rest among h =
-      let behind = each_behind_comma declared_text (map declared ds) rest in
-      lift-then (HasRoom room (text_size behind)) (HasRoom room (text_size rest)) (locals_added base ds) _
-      (local-behind room base d so_far behind among.0 h) (λ told k. further-locals room base ds told rest among.1 k)
+      let following = each_after_comma declared_text (map declared ds) rest in
+      lift-then (HasRoom room (text_size following)) (HasRoom room (text_size rest)) (locals_added base ds) _
+      (local-following room base d so_far following among.0 h) (λ reported k. further-locals room base ds reported rest among.1 k)
 
-  declaration-room : (room : ℕ) (s : RawSpecs) (objects : List RawInit) (so_far : Told) (rest : Kinds) → All (DeclaredAmong Is) objects → HasRoom room (text_size (declaration_text (specs s) (map declared objects) rest)) so_far → IfFine (declaration_typed s objects so_far) (HasRoom room (text_size rest))
+  declaration-room : (room : ℕ) (s : RawSpecs) (objects : List RawInit) (so_far : Reported) (rest : Kinds) → All (DeclaredAmong Is) objects → HasRoom room (text_size (declaration_text (specs s) (map declared objects) rest)) so_far → IfFine (declaration_typed s objects so_far) (HasRoom room (text_size rest))
   declaration-room room s objects so_far rest among h =
-      let behind = mark_text mark.Semicolon rest in
-      let named = with_commas declared_text (map declared objects) behind in
+      let following = punctuator_text punctuator.Semicolon rest in
+      let named = with_commas declared_text (map declared objects) following in
       let long = size-specs (specs s) named in
       lift-then (IsTyping so_far.inside.known s) (HasRoom room (text_size rest)) (declared_in s objects so_far) _
       (words-bounded so_far.inside.known (first_place objects) s)
       (λ ty g.
       let grown = grows-by so_far.inside.known ty.1 _ g in
-      let begun : Told = record { statements = so_far.statements; inside = record { known = ty.1; variables = so_far.inside.variables; met = so_far.inside.met } } in
-      if_fine-weaker (HasRoom room (text_size behind)) (HasRoom room (text_size rest)) (locals_added ty.0 objects begun)
-      (locals-room room ty.0 objects begun behind (recursion_from_All (DeclaredAmong Is) objects among) (h.0, omega (arith, long, grown, h.1)))
-      (λ told k. (k.0, omega (arith, k.1))))
+      let begun : Reported = record { statements = so_far.statements; inside = record { known = ty.1; variables = so_far.inside.variables; met = so_far.inside.met } } in
+      if_fine-weaker (HasRoom room (text_size following)) (HasRoom room (text_size rest)) (locals_added ty.0 objects begun)
+      (locals-room room ty.0 objects begun following (recursion_from_All (DeclaredAmong Is) objects among) (h.0, omega (arith, long, grown, h.1)))
+      (λ reported k. (k.0, omega (arith, k.1))))
 
   -- ---- statements
 
@@ -222,24 +222,24 @@ module _ (Is : Place → Type 0) where
   test_length e rest = text_size (test_text (written e) rest)
 
   test-size : (e : RawExpr) (rest : Kinds) → test_length e rest ≡ written_length e + 2 + text_size rest
-  test-size e rest = let long = size-text (written e) (mark_text mark.CloseParenthesis rest) in omega (arith, long)
+  test-size e rest = let long = size-text (written e) (punctuator_text punctuator.CloseParenthesis rest) in omega (arith, long)
 
   first-room : (i : Inside) (first : RawFirst) (rest : Kinds) → FirstAmong Is first → IfFine (first_typed i first) (HasRoom (weight i + 24 * text_size (first_text (first_of first) rest)) (text_size rest))
   first-room i first_part.Empty rest among = (tt, omega arith)
   first-room i (first_part.Run e) rest among =
-      let long = size-text (written e) (mark_text mark.Semicolon rest) in
+      let long = size-text (written e) (punctuator_text punctuator.Semicolon rest) in
       lift-then (GivesExpression i (written_length e)) (HasRoom (weight i + 24 * text_size (first_text (first_of (first_part.Run e)) rest)) (text_size rest)) (ran_first e.place) (dropped_in i e) (dropped_in-gives i e among)
       (λ p g. (((stands-at e.place e.kind among, g.0), tt), omega (arith, g.1, long)))
-  first-room i (first_part.Declare s objects) rest among = declaration-room _ s objects.items (nothing_told i) rest among (tt, omega arith)
+  first-room i (first_part.Declare s objects) rest among = declaration-room _ s objects.items (nothing_reported i) rest among (tt, omega arith)
 
-  -- a statement that fits into so much, with something behind it
+  -- a statement that fits into so much, with something after it
   abbrev pub GivesStatement : ℕ → ℕ → Part Statement → Type 0
   GivesStatement room size p = StatementStandsAmong Is p.found × (weight p.inside + statement_nodes p.found + 24 * size ≤ room)
 
-  -- a `switch` so far, with room behind it
+  -- a `switch` so far, with room after it
   abbrev SwitchHasRoom : ℕ → ℕ → Switching → Type 0
   SwitchHasRoom room size s =
-      StatementsStandAmong Is (in_a_row s.told.statements) × (weight s.told.inside + statements_nodes (in_a_row s.told.statements) + length s.cases + 24 * size ≤ room)
+      StatementsStandAmong Is (in_a_row s.reported.statements) × (weight s.reported.inside + statements_nodes (in_a_row s.reported.statements) + length s.cases + 24 * size ≤ room)
 
   goto-gives : (at : Place) (i : Inside) (number : Option ℕ) (room size : ℕ) → weight i + 1 + 24 * size ≤ room → Is at → IfFine (goto_typed at i number) (GivesStatement room size)
   goto-gives at i (Some number) room size fits here = (here, fits)
@@ -252,8 +252,8 @@ module _ (Is : Place → Type 0) where
 
   case_added-room : (room size longer : ℕ) (at : Place) (so_far : Switching) (value : Option ℤ) → 1 + size ≤ longer → SwitchHasRoom room longer so_far → IfFine (case_added at so_far value) (SwitchHasRoom room size)
   case_added-room room size longer at so_far value long h =
-      lift-then (λ (all : List Case). length all ≡ length so_far.cases + 1) (SwitchHasRoom room size) _ (case_put at value (length so_far.told.statements) so_far.cases)
-      (case_put-longer at value (length so_far.told.statements) so_far.cases) (λ cases e. (h.0, (let k = h.1 in omega (arith, k, e, long))))
+      lift-then (λ (all : List Case). length all ≡ length so_far.cases + 1) (SwitchHasRoom room size) _ (case_put at value (length so_far.reported.statements) so_far.cases)
+      (case_put-longer at value (length so_far.reported.statements) so_far.cases) (λ cases e. (h.0, (let k = h.1 in omega (arith, k, e, long))))
 
   abbrev length_of : RawStmtKind → Kinds → ℕ
   length_of k rest = text_size (sentence_text (sentence k) rest)
@@ -261,13 +261,13 @@ module _ (Is : Place → Type 0) where
   mutual
     pub statement-fits : (w : Where) (i : Inside) (at : Place) (k : RawStmtKind) (rest : Kinds) → SentenceAmong Is at k → IfFine (statement_typed w i at k) (GivesStatement (weight i + 24 * length_of k rest) (text_size rest))
     statement-fits w i at (kind.Block' shape row) rest among =
-        let behind = mark_text mark.CloseBrace rest in
-        let room = weight i + 24 * text_size (items_text (items_row row) behind) in
-        lift-then (HasRoom room (text_size behind)) (GivesStatement (weight i + 24 * length_of (kind.Block' shape row) rest) (text_size rest)) (block_made at i) (items_typed w row (nothing_told (in_block i)))
-        (items-fit room w row (nothing_told (in_block i)) behind among.1 (tt, omega arith)) (λ told g. ((among.0, g.0), (let k = g.1 in omega (arith, k))))
+        let following = punctuator_text punctuator.CloseBrace rest in
+        let room = weight i + 24 * text_size (items_text (items_row row) following) in
+        lift-then (HasRoom room (text_size following)) (GivesStatement (weight i + 24 * length_of (kind.Block' shape row) rest) (text_size rest)) (block_made at i) (items_typed w row (nothing_reported (in_block i)))
+        (items-fit room w row (nothing_reported (in_block i)) following among.1 (tt, omega arith)) (λ reported g. ((among.0, g.0), (let k = g.1 in omega (arith, k))))
     statement-fits w i at kind.Empty rest among = ((among, tt), omega arith)
     statement-fits w i at (kind.Run e) rest among =
-        let long = size-text (written e) (mark_text mark.Semicolon rest) in
+        let long = size-text (written e) (punctuator_text punctuator.Semicolon rest) in
         lift-then (GivesExpression i (written_length e)) (GivesStatement (weight i + 24 * length_of (kind.Run e) rest) (text_size rest)) (run_made at) (dropped_in i e) (dropped_in-gives i e among.1)
         (λ p g. ((among.0, g.0), (let k = g.1 in omega (arith, k, long))))
     statement-fits w i at (kind.If' test p place body) rest among =
@@ -279,11 +279,11 @@ module _ (Is : Place → Type 0) where
         (λ b k. ((among.0, g.0, k.0), (let m = g.1 in let n = k.1 in omega (arith, long, m, n)))))
     statement-fits w i at (kind.IfElse' test p place body q place' other) rest among =
         let Whole = GivesStatement (weight i + 24 * length_of (kind.IfElse' test p place body q place' other) rest) (text_size rest) in
-        let behind = word_text keyword.Else (sentence_text (sentence other) rest) in
-        let long = test-size test (sentence_text (sentence body) behind) in
+        let following = word_text keyword.Else (sentence_text (sentence other) rest) in
+        let long = test-size test (sentence_text (sentence body) following) in
         lift-then (GivesExpression i (written_length test)) Whole _ (tested_in at i test) (tested_in-gives at i test among.1)
         (λ t g.
-        lift-then (GivesStatement (weight t.inside + 24 * length_of body behind) (text_size behind)) Whole _ (statement_typed w t.inside place body) (statement-fits w t.inside place body behind among.2)
+        lift-then (GivesStatement (weight t.inside + 24 * length_of body following) (text_size following)) Whole _ (statement_typed w t.inside place body) (statement-fits w t.inside place body following among.2)
         (λ one k.
         lift-then (GivesStatement (weight one.inside + 24 * length_of other rest) (text_size rest)) Whole (if_else_made at t.found one.found) (statement_typed w one.inside place' other)
         (statement-fits w one.inside place' other rest among.3)
@@ -298,20 +298,20 @@ module _ (Is : Place → Type 0) where
         (λ b k. ((among.0, g.0, k.0), (let m = g.1 in let n = k.1 in omega (arith, long, m, n)))))
     statement-fits w i at (kind.Do' p place body test) rest among =
         let Whole = GivesStatement (weight i + 24 * length_of (kind.Do' p place body test) rest) (text_size rest) in
-        let behind = word_text keyword.While (test_text (written test) (mark_text mark.Semicolon rest)) in
-        let long = test-size test (mark_text mark.Semicolon rest) in
-        lift-then (GivesStatement (weight i + 24 * length_of body behind) (text_size behind)) Whole _ (statement_typed (in_loop w) i place body) (statement-fits (in_loop w) i place body behind among.1)
+        let following = word_text keyword.While (test_text (written test) (punctuator_text punctuator.Semicolon rest)) in
+        let long = test-size test (punctuator_text punctuator.Semicolon rest) in
+        lift-then (GivesStatement (weight i + 24 * length_of body following) (text_size following)) Whole _ (statement_typed (in_loop w) i place body) (statement-fits (in_loop w) i place body following among.1)
         (λ b k.
         lift-then (GivesExpression b.inside (written_length test)) Whole (do_made at b.found) (tested_in at b.inside test) (tested_in-gives at b.inside test among.2)
         (λ t g. ((among.0, k.0, g.0), (let m = g.1 in let n = k.1 in omega (arith, long, m, n)))))
     statement-fits w i at (kind.For' first test last p place body) rest among =
         let Whole = GivesStatement (weight i + 24 * length_of (kind.For' first test last p place body) rest) (text_size rest) in
-        let third = mark_text mark.CloseParenthesis (sentence_text (sentence body) rest) in
-        let second = mark_text mark.Semicolon (some_text (option_map written last) third) in
-        let behind = some_text (option_map written test) second in
+        let third = punctuator_text punctuator.CloseParenthesis (sentence_text (sentence body) rest) in
+        let second = punctuator_text punctuator.Semicolon (some_text (option_map written last) third) in
+        let following = some_text (option_map written test) second in
         let long = some_size (option_map written test) second in
         let long' = some_size (option_map written last) third in
-        lift-then (HasRoom (weight i + 24 * text_size (first_text (first_of first) behind)) (text_size behind)) Whole _ (first_typed (in_block i) first) (first-room (in_block i) first behind among.1)
+        lift-then (HasRoom (weight i + 24 * text_size (first_text (first_of first) following)) (text_size following)) Whole _ (first_typed (in_block i) first) (first-room (in_block i) first following among.1)
         (λ f g.
         lift-then (GivesAny f.inside (any_length test)) Whole _ (tested_if at f.inside test) (tested_if-gives at f.inside test among.2)
         (λ t k.
@@ -322,14 +322,14 @@ module _ (Is : Place → Type 0) where
         (λ b n. ((among.0, g.0, k.0, m.0, n.0), (let g' = g.1 in let k' = k.1 in let m' = m.1 in let n' = n.1 in omega (arith, long, long', g', k', m', n')))))))
     statement-fits w i at (kind.Switch' value shape row) rest among =
         let Whole = GivesStatement (weight i + 24 * length_of (kind.Switch' value shape row) rest) (text_size rest) in
-        let behind = mark_text mark.CloseBrace rest in
-        let long = test-size value (mark_text mark.OpenBrace (switch_text (switch_row row) behind)) in
+        let following = punctuator_text punctuator.CloseBrace rest in
+        let long = test-size value (punctuator_text punctuator.OpenBrace (switch_text (switch_row row) following)) in
         lift-then (GivesExpression i (written_length value)) Whole _ (selected at i value) (selected-gives at i value among.0 among.1)
         (λ v g.
-        let room = weight v.inside + 24 * text_size (switch_text (switch_row row) behind) in
-        let begun : Switching = record { cases = []; told = nothing_told (in_block v.inside) } in
-        lift-then (SwitchHasRoom room (text_size behind)) Whole (switch_made at i v.found) (switch_typed (in_switch w) (type_of v.found) row begun)
-        (switch-fits room (in_switch w) (type_of v.found) row begun behind among.2 (tt, omega arith))
+        let room = weight v.inside + 24 * text_size (switch_text (switch_row row) following) in
+        let begun : Switching = record { cases = []; reported = nothing_reported (in_block v.inside) } in
+        lift-then (SwitchHasRoom room (text_size following)) Whole (switch_made at i v.found) (switch_typed (in_switch w) (type_of v.found) row begun)
+        (switch-fits room (in_switch w) (type_of v.found) row begun following among.2 (tt, omega arith))
         (λ s k. ((among.0, g.0, k.0), (let m = g.1 in let n = k.1 in omega (arith, long, m, n)))))
     statement-fits w i at (kind.Goto label) rest among = goto-gives at i (label_number label w.labels) _ (text_size rest) (omega arith) among
     statement-fits w i at kind.Continue rest among =
@@ -337,7 +337,7 @@ module _ (Is : Place → Type 0) where
     statement-fits w i at kind.Break rest among =
         cond-then (GivesStatement (weight i + 24 * length_of kind.Break rest) (text_size rest)) w.breaks _ (Fault Jump at) (λ _. (among, omega arith)) (λ _. tt)
     statement-fits w i at (kind.Return value) rest among =
-        let long = some_size (option_map written value) (mark_text mark.Semicolon rest) in
+        let long = some_size (option_map written value) (punctuator_text punctuator.Semicolon rest) in
         lift-then (GivesAny i (any_length value)) (GivesStatement (weight i + 24 * length_of (kind.Return value) rest) (text_size rest)) (return_made at) (returned w at i value) (returned-gives w at i value among.0 among.1)
         (λ p g. ((among.0, g.0), (let k = g.1 in omega (arith, k, long))))
     statement-fits w i at (kind.Label' name p place body) rest among =
@@ -348,42 +348,42 @@ module _ (Is : Place → Type 0) where
         (λ b k. ((among.0, k.0), (let m = k.1 in omega (arith, m)))))
         (λ _. tt)
 
-    pub item-fits : (room : ℕ) (w : Where) (one : RawItem) (so_far : Told) (rest : Kinds) → ItemAmong Is one → HasRoom room (text_size (item_text (item one) rest)) so_far → IfFine (item_typed w one so_far) (HasRoom room (text_size rest))
+    pub item-fits : (room : ℕ) (w : Where) (one : RawItem) (so_far : Reported) (rest : Kinds) → ItemAmong Is one → HasRoom room (text_size (item_text (item one) rest)) so_far → IfFine (item_typed w one so_far) (HasRoom room (text_size rest))
     item-fits room w (items.TheVariants.Declare s objects) so_far rest among h = declaration-room room s objects.items so_far rest among h
     item-fits room w (items.TheVariants.Run' place body) so_far rest among h =
         lift-then (GivesStatement (weight so_far.inside + 24 * length_of body rest) (text_size rest)) (HasRoom room (text_size rest)) (telling so_far.statements) (statement_typed w so_far.inside place body)
-        (statement-fits w so_far.inside place body rest among) (λ p g. tells-one room (text_size rest) so_far.statements so_far.inside p.inside p.found (length_of body rest) h g.0 g.1)
+        (statement-fits w so_far.inside place body rest among) (λ p g. yields-one room (text_size rest) so_far.statements so_far.inside p.inside p.found (length_of body rest) h g.0 g.1)
 
-    items-fit : {n : _} → (room : ℕ) (w : Where) (row : kinds.Row_of-RawItem n) (so_far : Told) (rest : Kinds) → ItemsAmong Is row → HasRoom room (text_size (items_text (items_row row) rest)) so_far → IfFine (items_typed w row so_far) (HasRoom room (text_size rest))
+    items-fit : {n : _} → (room : ℕ) (w : Where) (row : kinds.Row_of-RawItem n) (so_far : Reported) (rest : Kinds) → ItemsAmong Is row → HasRoom room (text_size (items_text (items_row row) rest)) so_far → IfFine (items_typed w row so_far) (HasRoom room (text_size rest))
     items-fit room w kinds.end_of-RawItem so_far rest among h = h
     items-fit room w (kinds.more_of-RawItem first others) so_far rest among h =
-        let behind = items_text (items_row others) rest in
-        lift-then (HasRoom room (text_size behind)) (HasRoom room (text_size rest)) (items_typed w others) (item_typed w first so_far) (item-fits room w first so_far behind among.0 h)
-        (λ told g. items-fit room w others told rest among.1 g)
+        let following = items_text (items_row others) rest in
+        lift-then (HasRoom room (text_size following)) (HasRoom room (text_size rest)) (items_typed w others) (item_typed w first so_far) (item-fits room w first so_far following among.0 h)
+        (λ reported g. items-fit room w others reported rest among.1 g)
 
     switch_item-fits : (room : ℕ) (w : Where) (ty : Shape) (one : switches.RawSwitchItem) (so_far : Switching) (rest : Kinds) → SwitchItemAmong Is one → SwitchHasRoom room (text_size (switch_item_text (switch_item one) rest)) so_far → IfFine (switch_item_typed w ty one so_far) (SwitchHasRoom room (text_size rest))
     switch_item-fits room w ty (switches.TheVariants.Case at value) so_far rest among h =
-        let long = size-text (written value) (mark_text mark.Colon rest) in
-        lift-then (λ _. Unit {0}) (SwitchHasRoom room (text_size rest)) _ (value_of so_far.told.inside.known.context value) (if_fine-any (value_of so_far.told.inside.known.context value))
+        let long = size-text (written value) (punctuator_text punctuator.Colon rest) in
+        lift-then (λ _. Unit {0}) (SwitchHasRoom room (text_size rest)) _ (value_of so_far.reported.inside.known.context value) (if_fine-any (value_of so_far.reported.inside.known.context value))
         (λ n _. case_added-room room (text_size rest) (text_size (switch_item_text (switch_item (switches.TheVariants.Case at value)) rest)) at so_far _ (omega (arith, long)) h)
     switch_item-fits room w ty (switches.TheVariants.Default at) so_far rest among h =
         case_added-room room (text_size rest) (text_size (switch_item_text (switch_item (switches.TheVariants.Default at)) rest)) at so_far None (omega arith) h
     switch_item-fits room w ty (switches.TheVariants.Item i) so_far rest among h =
-        let inner = weight so_far.told.inside + statements_nodes (in_a_row so_far.told.statements) + 24 * text_size (item_text (item i) rest) in
-        lift-then (HasRoom inner (text_size rest)) (SwitchHasRoom room (text_size rest)) (with_told so_far) (item_typed w i so_far.told) (item-fits inner w i so_far.told rest among (h.0, omega arith))
-        (λ told g. (g.0, (let k = g.1 in let l = h.1 in omega (arith, k, l))))
+        let inner = weight so_far.reported.inside + statements_nodes (in_a_row so_far.reported.statements) + 24 * text_size (item_text (item i) rest) in
+        lift-then (HasRoom inner (text_size rest)) (SwitchHasRoom room (text_size rest)) (with_reported so_far) (item_typed w i so_far.reported) (item-fits inner w i so_far.reported rest among (h.0, omega arith))
+        (λ reported g. (g.0, (let k = g.1 in let l = h.1 in omega (arith, k, l))))
 
     switch-fits : {n : _} → (room : ℕ) (w : Where) (ty : Shape) (row : kinds.Row_of-RawSwitchItem n) (so_far : Switching) (rest : Kinds) → SwitchItemsAmong Is row → SwitchHasRoom room (text_size (switch_text (switch_row row) rest)) so_far → IfFine (switch_typed w ty row so_far) (SwitchHasRoom room (text_size rest))
     switch-fits room w ty kinds.end_of-RawSwitchItem so_far rest among h = h
     switch-fits room w ty (kinds.more_of-RawSwitchItem first others) so_far rest among h =
-        let behind = switch_text (switch_row others) rest in
-        lift-then (SwitchHasRoom room (text_size behind)) (SwitchHasRoom room (text_size rest)) (switch_typed w ty others) (switch_item_typed w ty first so_far) (switch_item-fits room w ty first so_far behind among.0 h)
+        let following = switch_text (switch_row others) rest in
+        lift-then (SwitchHasRoom room (text_size following)) (SwitchHasRoom room (text_size rest)) (switch_typed w ty others) (switch_item_typed w ty first so_far) (switch_item-fits room w ty first so_far following among.0 h)
         (λ s g. switch-fits room w ty others s rest among.1 g)
 
   -- the body of a function
-  pub body-fits : (room : ℕ) (w : Where) (list : List RawItem) (so_far : Told) (rest : Kinds) → AllByRecursion (ItemAmong Is) list → HasRoom room (text_size (items_text (items_list list) rest)) so_far → IfFine (body_typed w list so_far) (HasRoom room (text_size rest))
+  pub body-fits : (room : ℕ) (w : Where) (list : List RawItem) (so_far : Reported) (rest : Kinds) → AllByRecursion (ItemAmong Is) list → HasRoom room (text_size (items_text (items_list list) rest)) so_far → IfFine (body_typed w list so_far) (HasRoom room (text_size rest))
   body-fits room w [] so_far rest among h = h
   body-fits room w (first ∷ others) so_far rest among h =
-      let behind = items_text (items_list others) rest in
-      lift-then (HasRoom room (text_size behind)) (HasRoom room (text_size rest)) (body_typed w others) (item_typed w first so_far) (item-fits room w first so_far behind among.0 h)
-      (λ told g. body-fits room w others told rest among.1 g)
+      let following = items_text (items_list others) rest in
+      lift-then (HasRoom room (text_size following)) (HasRoom room (text_size rest)) (body_typed w others) (item_typed w first so_far) (item-fits room w first so_far following among.0 h)
+      (λ reported g. body-fits room w others reported rest among.1 g)

@@ -24,7 +24,7 @@ use Rattle.cs_well_formed.specs.Growth.{Grows}
 use Rattle.cs_well_formed.specs.Leading.{Leads}
 use Rattle.cs_well_formed.proofs.Growth.{IsThere-grown}
 use Rattle.cs_well_formed.proofs.Structs.{keeps-self, keeps-trans, globals-longer, routines-longer}
-use Rattle.cs_typing.proofs.DeclarationsBehind.{Starts, starts-trans, start-take, IsPlain, DeclaresOn, on-starts}
+use Rattle.cs_typing.proofs.DeclarationsAfter.{Starts, starts-trans, start-take, IsPlain, DeclaresOn, on-starts}
 
 -- ---- lists
 
@@ -115,7 +115,7 @@ newest-none name ds none = All-from_recursion (IsOther name) ds (by_recursion ds
         later (Some m) found gone others = absurd (none-some m (sym gone))
         later None found gone others = (here d.meaning (pointwise nat_eq d.name name) gone, others found)
 
--- a name that stands for something does so behind further declarations
+-- a name that stands for something does so after further declarations
 pub newest-start : (name : List ℕ) (first rest : List Declaration) → is_some (newest name first) ≡ true → is_some (newest name (first ++ rest)) ≡ true
 newest-start name [] rest h = absurd cc
 newest-start name (d ∷ first) rest h = later (newest name first) (newest name (first ++ rest)) h (newest-start name first rest)
@@ -123,9 +123,9 @@ newest-start name (d ∷ first) rest h = later (newest name first) (newest name 
     here : Option Meaning
     here = cond (pointwise nat_eq d.name name) (Some d.meaning) None
 
-    behind : (p : Option Meaning) → is_some here ≡ true → is_some (option_or p here) ≡ true
-    behind (Some m) is = refl
-    behind None is = is
+    following : (p : Option Meaning) → is_some here ≡ true → is_some (option_or p here) ≡ true
+    following (Some m) is = refl
+    following None is = is
 
     first_one : (p : Option Meaning) → is_some p ≡ true → is_some (option_or p here) ≡ true
     first_one (Some m) is = refl
@@ -133,7 +133,7 @@ newest-start name (d ∷ first) rest h = later (newest name first) (newest name 
 
     later : (o p : Option Meaning) → is_some (option_or o here) ≡ true → (is_some o ≡ true → is_some p ≡ true) → is_some (option_or p here) ≡ true
     later (Some m) p is goes = first_one p (goes refl)
-    later None p is goes = behind p is
+    later None p is goes = following p is
 
 -- a function has its number by its name
 abbrev pub IsNumberOf : List (List ℕ) → List ℕ → Callee → Type 0
@@ -176,9 +176,9 @@ pub record TypesSoFar (f : Filed) : Type 0 where
   pub globals : All (λ (g : FileObject). NamesStructs (table_of f.known) g.ty) f.globals
   pub routines : All (HasNamedTypes (table_of f.known)) f.routines
 
--- they do so behind what changes no object and no function
-types-behind : (f : Filed) (k : Known) → TypesSoFar f → length (table_of f.known) ≤ length (table_of k) → KnownTypesAreNamed k.context → TypesSoFar (with_known k f)
-types-behind f k types longer named = record {
+-- they do so after what changes no object and no function
+types-following : (f : Filed) (k : Known) → TypesSoFar f → length (table_of f.known) ≤ length (table_of k) → KnownTypesAreNamed k.context → TypesSoFar (with_known k f)
+types-following f k types longer named = record {
   known = named;
   globals = globals-longer (table_of f.known) (table_of k) longer f.globals types.globals;
   routines = routines-longer (table_of f.known) (table_of k) longer f.routines types.routines;
@@ -212,7 +212,7 @@ module _ (p : TypedProgram) where
     pub globals : All (IsWellGlobal p) f.globals
     pub routines : All (IsWellRoutine p) f.routines
 
-  -- behind a part of a file
+  -- after a part of a file
   pub record Adds (f g : Filed) : Type 0 where
     pub order : g.order ≡ f.order
     pub kept : Kept g
@@ -265,8 +265,8 @@ module _ (p : TypedProgram) where
   all-there-kept f g globals routines ds all =
       All-weaker (λ (d : Declaration). IsThere (outside (with_parts f)) d.meaning) (λ (d : Declaration). IsThere (outside (with_parts g)) d.meaning) (λ d h. there-kept f g globals routines d.meaning h) ds all
 
-  -- what is known behind words, typedefs and parameters
-  pub record KnownBehind (f : Filed) (k : Known) : Type 0 where
+  -- what is known after words, typedefs and parameters
+  pub record KnownAfter (f : Filed) (k : Known) : Type 0 where
     pub model : model_of k ≡ model_of f.known
     pub literals : k.literals ≡ f.known.literals
     pub table : Keeps (table_of f.known) (table_of k)
@@ -274,10 +274,10 @@ module _ (p : TypedProgram) where
     pub on : DeclaresOn f.known k
     pub declared : All (λ (d : Declaration). IsThere (outside (with_parts f)) d.meaning) (declarations_of f.known) → All (λ (d : Declaration). IsThere (outside (with_parts f)) d.meaning) (declarations_of k)
 
-  pub leads-behind : (f : Filed) (k : Known) → Leads (outside (with_parts f)) f.known k → DeclaresOn f.known k → KnownTypesAreNamed k.context → KnownBehind f k
-  leads-behind f k leads on named = record { model = leads.model; literals = leads.literals; table = leads.table; named = named; on = on; declared = leads.declarations }
+  pub leads-following : (f : Filed) (k : Known) → Leads (outside (with_parts f)) f.known k → DeclaresOn f.known k → KnownTypesAreNamed k.context → KnownAfter f k
+  leads-following f k leads on named = record { model = leads.model; literals = leads.literals; table = leads.table; named = named; on = on; declared = leads.declarations }
 
-  pub known-adds : (f : Filed) (k : Known) → Kept f → KnownBehind f k → Adds f (with_known k f)
+  pub known-adds : (f : Filed) (k : Known) → Kept f → KnownAfter f k → Adds f (with_known k f)
   known-adds f k kept h = record {
     order = refl;
     kept = record {
@@ -290,7 +290,7 @@ module _ (p : TypedProgram) where
           (All-append numbered (declarations_of f.known) h.on.more kept.numbered
           (All-weaker (λ (d : Declaration). IsPlain d.meaning) numbered (λ d plain. plain-number f.order d.name d.meaning plain) h.on.more h.on.plain));
       counted = kept.counted;
-      types = types-behind f k kept.types h.table.longer h.named;
+      types = types-following f k kept.types h.table.longer h.named;
     };
     longer = h.table.longer;
     before = λ has. record {

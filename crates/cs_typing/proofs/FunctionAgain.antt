@@ -19,7 +19,7 @@ declared_again f d result parameters written meaning before same is types =
     ap (function_of f d result parameters written) (sym is)
     ∙ ap (λ (b : Bool). let v : Verdict Routed = if b then Fine (before.callee, f) else Fault DeclaredTwice d.place in v) (sym types)
 
--- something behind a reference is there if the reference is
+-- something after a reference is there if the reference is
 pub still_some : {A B : Type 0} (f : A → B) (o : Option A) → is_some o ≡ is_some (option_map f o)
 still_some f None = refl
 still_some f (Some x) = refl

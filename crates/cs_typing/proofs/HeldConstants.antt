@@ -27,12 +27,12 @@ use Rattle.cs_ast.specs.RawDeclarations.{Declarator, Constant, Spec, Static, Pla
 use Rattle.cs_ast.specs.RawDeclarationView.{initial, declared, declarator, specs, parameters, head}
 use Rattle.cs_ast.specs.RawStatementView.{first_of, sentence, item, items_row, switch_row, switch_item, items_list, external_of, external}
 use Rattle.cs_grammar.specs.Text.{Kinds, pointers_text, type_word_text}
-use Rattle.cs_grammar.specs.FileText.{name_text, some_text, comma_text, each_behind_comma, with_commas, brackets_text, declarator_text, value_text, constant_text, spec_text, specs_text, members_text, first_value_text, declared_text, declaration_text, parameter_text, parameters_text, head_text, first_text, test_text, sentence_text, item_text, items_text, switch_item_text, switch_text, external_text, externals_text, file_text}
+use Rattle.cs_grammar.specs.FileText.{name_text, some_text, comma_text, each_after_comma, with_commas, brackets_text, declarator_text, value_text, constant_text, spec_text, specs_text, members_text, first_value_text, declared_text, declaration_text, parameter_text, parameters_text, head_text, first_text, test_text, sentence_text, item_text, items_text, switch_item_text, switch_text, external_text, externals_text, file_text}
 use Rattle.cs_well_formed.specs.Constants.{HasConstants, InitialHasConstants}
 use Rattle.cs_ast.specs.HeldTokens.{IsHeldToken}
 use Rattle.cs_well_formed.proofs.Tokens.{AreHeld, text-held, initial_text-held}
 
--- the constants of what stands behind a declarator, and of declared objects
+-- the constants of what stands after a declarator, and of declared objects
 abbrev pub FirstValueHasConstants : Option RawFirstValue → Type 0
 FirstValueHasConstants None = Unit {0}
 FirstValueHasConstants (Some value) = InitialHasConstants (initial value.initial)
@@ -101,83 +101,83 @@ abbrev pub FileHasConstants : List RawExternal → Type 0
 FileHasConstants [] = Unit {0}
 FileHasConstants (e ∷ es) = ExternalHasConstants e.kind × FileHasConstants es
 
--- ---- what stands behind the parts of declarations
+-- ---- what stands after the parts of declarations
 
-behind_type_word : (w : TypeWord) (rest : Kinds) → AreHeld (type_word_text w rest) → AreHeld rest
-behind_type_word word.Const rest h = h.1
-behind_type_word (word.Integer kind) rest h = h.1
-behind_type_word word.Void rest h = h.1
-behind_type_word (word.Typedef name) rest h = h.1
-behind_type_word (word.Struct tag) rest h = h.1.1
-behind_type_word (word.Enum tag) rest h = h.1.1
+after_type_word : (w : TypeWord) (rest : Kinds) → AreHeld (type_word_text w rest) → AreHeld rest
+after_type_word word.Const rest h = h.1
+after_type_word (word.Integer kind) rest h = h.1
+after_type_word word.Void rest h = h.1
+after_type_word (word.Typedef name) rest h = h.1
+after_type_word (word.Struct tag) rest h = h.1.1
+after_type_word (word.Enum tag) rest h = h.1.1
 
-behind_pointers : (pointers : List PointerWord) (rest : Kinds) → AreHeld (pointers_text pointers rest) → AreHeld rest
-behind_pointers [] rest h = h
-behind_pointers (p ∷ pointers) rest h = behind_pointers pointers rest h.1
+after_pointers : (pointers : List PointerWord) (rest : Kinds) → AreHeld (pointers_text pointers rest) → AreHeld rest
+after_pointers [] rest h = h
+after_pointers (p ∷ pointers) rest h = after_pointers pointers rest h.1
 
-behind_name : (name : Option (List ℕ)) (rest : Kinds) → AreHeld (name_text name rest) → AreHeld rest
-behind_name None rest h = h
-behind_name (Some name) rest h = h.1
+after_name : (name : Option (List ℕ)) (rest : Kinds) → AreHeld (name_text name rest) → AreHeld rest
+after_name None rest h = h
+after_name (Some name) rest h = h.1
 
-behind_comma : (comma : Bool) (rest : Kinds) → AreHeld (comma_text comma rest) → AreHeld rest
-behind_comma true rest h = h.1
-behind_comma false rest h = h
+following_comma : (comma : Bool) (rest : Kinds) → AreHeld (comma_text comma rest) → AreHeld rest
+following_comma true rest h = h.1
+following_comma false rest h = h
 
-behind_some : (e : Option Written) (rest : Kinds) → AreHeld (some_text e rest) → AreHeld rest
-behind_some None rest h = h
-behind_some (Some e) rest h = (text-held e rest h).1
+after_some : (e : Option Written) (rest : Kinds) → AreHeld (some_text e rest) → AreHeld rest
+after_some None rest h = h
+after_some (Some e) rest h = (text-held e rest h).1
 
-behind_brackets : (bounds : List (Option Written)) (rest : Kinds) → AreHeld (brackets_text bounds rest) → AreHeld rest
-behind_brackets [] rest h = h
-behind_brackets (bound ∷ bounds) rest h = behind_brackets bounds rest (behind_some bound _ h.1).1
+after_brackets : (bounds : List (Option Written)) (rest : Kinds) → AreHeld (brackets_text bounds rest) → AreHeld rest
+after_brackets [] rest h = h
+after_brackets (bound ∷ bounds) rest h = after_brackets bounds rest (after_some bound _ h.1).1
 
-behind_declarator : (d : Declarator) (rest : Kinds) → AreHeld (declarator_text d rest) → AreHeld rest
-behind_declarator d rest h = behind_brackets d.bounds rest (behind_pointers d.pointers _ h).1
+after_declarator : (d : Declarator) (rest : Kinds) → AreHeld (declarator_text d rest) → AreHeld rest
+after_declarator d rest h = after_brackets d.bounds rest (after_pointers d.pointers _ h).1
 
-behind_value : (e : Option Written) (rest : Kinds) → AreHeld (value_text e rest) → AreHeld rest
-behind_value None rest h = h
-behind_value (Some e) rest h = (text-held e rest h.1).1
+after_value : (e : Option Written) (rest : Kinds) → AreHeld (value_text e rest) → AreHeld rest
+after_value None rest h = h
+after_value (Some e) rest h = (text-held e rest h.1).1
 
-behind_constant : (c : Constant) (rest : Kinds) → AreHeld (constant_text c rest) → AreHeld rest
-behind_constant c rest h = behind_value c.value rest h.1
+after_constant : (c : Constant) (rest : Kinds) → AreHeld (constant_text c rest) → AreHeld rest
+after_constant c rest h = after_value c.value rest h.1
 
 -- a list with commas between its parts
-module _ {A : Type 0} (of : A → Kinds → Kinds) (behind : (a : A) (rest : Kinds) → AreHeld (of a rest) → AreHeld rest) where
-  behind_each : (all : List A) (rest : Kinds) → AreHeld (each_behind_comma of all rest) → AreHeld rest
-  behind_each [] rest h = h
-  behind_each (a ∷ all) rest h = behind_each all rest (behind a _ h.1)
+module _ {A : Type 0} (of : A → Kinds → Kinds) (following : (a : A) (rest : Kinds) → AreHeld (of a rest) → AreHeld rest) where
+  after_each : (all : List A) (rest : Kinds) → AreHeld (each_after_comma of all rest) → AreHeld rest
+  after_each [] rest h = h
+  after_each (a ∷ all) rest h = after_each all rest (following a _ h.1)
 
-  behind_list : (all : List A) (rest : Kinds) → AreHeld (with_commas of all rest) → AreHeld rest
-  behind_list [] rest h = h
-  behind_list (a ∷ all) rest h = behind_each all rest (behind a _ h)
+  after_list : (all : List A) (rest : Kinds) → AreHeld (with_commas of all rest) → AreHeld rest
+  after_list [] rest h = h
+  after_list (a ∷ all) rest h = after_each all rest (following a _ h)
 
 mutual
-  behind_spec : (s : Spec) (rest : Kinds) → AreHeld (spec_text s rest) → AreHeld rest
-  behind_spec Static rest h = h.1
-  behind_spec (Plain w) rest h = behind_type_word w rest h
-  behind_spec (StructBody tag members) rest h = (behind_members members _ (behind_name tag _ h.1).1).1
-  behind_spec (EnumBody tag constants comma) rest h =
-      (behind_comma comma _ (behind_list constant_text behind_constant constants _ (behind_name tag _ h.1).1)).1
+  after_spec : (s : Spec) (rest : Kinds) → AreHeld (spec_text s rest) → AreHeld rest
+  after_spec Static rest h = h.1
+  after_spec (Plain w) rest h = after_type_word w rest h
+  after_spec (StructBody tag members) rest h = (after_members members _ (after_name tag _ h.1).1).1
+  after_spec (EnumBody tag constants comma) rest h =
+      (following_comma comma _ (after_list constant_text after_constant constants _ (after_name tag _ h.1).1)).1
 
-  behind_specs : (s : Specs) (rest : Kinds) → AreHeld (specs_text s rest) → AreHeld rest
-  behind_specs NoSpec rest h = h
-  behind_specs (MoreSpecs first others) rest h = behind_specs others rest (behind_spec first _ h)
+  after_specs : (s : Specs) (rest : Kinds) → AreHeld (specs_text s rest) → AreHeld rest
+  after_specs NoSpec rest h = h
+  after_specs (MoreSpecs first others) rest h = after_specs others rest (after_spec first _ h)
 
-  behind_members : (ms : Members) (rest : Kinds) → AreHeld (members_text ms rest) → AreHeld rest
-  behind_members NoMember rest h = h
-  behind_members (MoreMembers s declarators others) rest h =
-      behind_members others rest (behind_list declarator_text behind_declarator declarators _ (behind_specs s _ h)).1
+  after_members : (ms : Members) (rest : Kinds) → AreHeld (members_text ms rest) → AreHeld rest
+  after_members NoMember rest h = h
+  after_members (MoreMembers s declarators others) rest h =
+      after_members others rest (after_list declarator_text after_declarator declarators _ (after_specs s _ h)).1
 
-behind_parameter : (p : Parameter) (rest : Kinds) → AreHeld (parameter_text p rest) → AreHeld rest
-behind_parameter p rest h = behind_brackets p.bounds rest (behind_name p.name _ (behind_pointers p.pointers _ (behind_specs p.specs _ h)))
+after_parameter : (p : Parameter) (rest : Kinds) → AreHeld (parameter_text p rest) → AreHeld rest
+after_parameter p rest h = after_brackets p.bounds rest (after_name p.name _ (after_pointers p.pointers _ (after_specs p.specs _ h)))
 
-behind_parameters : (ps : Parameters) (rest : Kinds) → AreHeld (parameters_text ps rest) → AreHeld rest
-behind_parameters NoParameter rest h = h
-behind_parameters VoidAlone rest h = h.1
-behind_parameters (ParameterList list) rest h = behind_list parameter_text behind_parameter list rest h
+after_parameters : (ps : Parameters) (rest : Kinds) → AreHeld (parameters_text ps rest) → AreHeld rest
+after_parameters NoParameter rest h = h
+after_parameters VoidAlone rest h = h.1
+after_parameters (ParameterList list) rest h = after_list parameter_text after_parameter list rest h
 
-behind_head : (d : RawFunction) (rest : Kinds) → AreHeld (head_text (head d) rest) → AreHeld rest
-behind_head d rest h = (behind_parameters (parameters d.parameters) _ (behind_pointers d.pointers.items _ h).1.1).1
+after_head : (d : RawFunction) (rest : Kinds) → AreHeld (head_text (head d) rest) → AreHeld rest
+after_head d rest h = (after_parameters (parameters d.parameters) _ (after_pointers d.pointers.items _ h).1.1).1
 
 -- ---- declared objects
 
@@ -186,9 +186,9 @@ first_value-held None rest h = (tt, h)
 first_value-held (Some value) rest h = initial_text-held (initial value.initial) rest h.1
 
 declared-held : (d : RawInit) (rest : Kinds) → AreHeld (declared_text (declared d) rest) → FirstValueHasConstants d.initial × AreHeld rest
-declared-held d rest h = first_value-held d.initial rest (behind_declarator (declarator d.declarator) _ h)
+declared-held d rest h = first_value-held d.initial rest (after_declarator (declarator d.declarator) _ h)
 
-further_objects-held : (ds : List RawInit) (rest : Kinds) → AreHeld (each_behind_comma declared_text (map declared ds) rest) → ObjectsHaveConstants ds × AreHeld rest
+further_objects-held : (ds : List RawInit) (rest : Kinds) → AreHeld (each_after_comma declared_text (map declared ds) rest) → ObjectsHaveConstants ds × AreHeld rest
 further_objects-held [] rest h = (tt, h)
 further_objects-held (d ∷ ds) rest h = let one = declared-held d _ h.1 in let more = further_objects-held ds rest one.1 in ((one.0, more.0), more.1)
 
@@ -197,7 +197,7 @@ objects-held [] rest h = (tt, h)
 objects-held (d ∷ ds) rest h = let one = declared-held d _ h in let more = further_objects-held ds rest one.1 in ((one.0, more.0), more.1)
 
 declaration-held : (s : Specs) (ds : List RawInit) (rest : Kinds) → AreHeld (declaration_text s (map declared ds) rest) → ObjectsHaveConstants ds × AreHeld rest
-declaration-held s ds rest h = let all = objects-held ds _ (behind_specs s _ h) in (all.0, all.1.1)
+declaration-held s ds rest h = let all = objects-held ds _ (after_specs s _ h) in (all.0, all.1.1)
 
 -- ---- statements
 
@@ -268,13 +268,13 @@ items-held [] rest h = (tt, h)
 items-held (first ∷ others) rest h = let one = item-held first _ h in let more = items-held others rest one.1 in ((one.0, more.0), more.1)
 
 external-held : (k : RawExternalKind) (rest : Kinds) → AreHeld (external_text (external_of k) rest) → ExternalHasConstants k × AreHeld rest
-external-held (external_kind.Type s) rest h = (tt, (behind_specs (specs s) _ h).1)
+external-held (external_kind.Type s) rest h = (tt, (after_specs (specs s) _ h).1)
 external-held (external_kind.Typedef s names) rest h =
-    (tt, (behind_list declarator_text behind_declarator (map declarator names.items) _ (behind_specs (specs s) _ h.1)).1)
+    (tt, (after_list declarator_text after_declarator (map declarator names.items) _ (after_specs (specs s) _ h.1)).1)
 external-held (external_kind.Objects s objects) rest h = declaration-held (specs s) objects.items rest h
-external-held (external_kind.Function s d) rest h = (tt, (behind_head d _ (behind_specs (specs s) _ h)).1)
+external-held (external_kind.Function s d) rest h = (tt, (after_head d _ (after_specs (specs s) _ h)).1)
 external-held (external_kind.Definition s d body) rest h =
-    let all = items-held body.items.items _ (behind_head d _ (behind_specs (specs s) _ h)).1 in (all.0, all.1.1)
+    let all = items-held body.items.items _ (after_head d _ (after_specs (specs s) _ h)).1 in (all.0, all.1.1)
 
 externals-held : (file : List RawExternal) (rest : Kinds) → AreHeld (externals_text (map external file) rest) → FileHasConstants file × AreHeld rest
 externals-held [] rest h = (tt, h)

@@ -3,14 +3,14 @@ pub mod CasesInTurn
 pub mod ChangedParts
 pub mod ConstantNumbers
 pub mod ConstantsSoFar
-pub mod DeclarationsBehind
+pub mod DeclarationsAfter
 pub mod FilesSoFar
 pub mod FunctionAgain
 pub mod FunctionNumbers
 pub mod HeldConstants
 pub mod LedJumps
 pub mod LabelPlaces
-pub mod LiteralsBehind
+pub mod LiteralsAfter
 pub mod LocalsInTurn
 pub mod NumberedCases
 pub mod OrderedNames

@@ -11,9 +11,9 @@ use Rattle.cs_consts.proofs.SingleParts.{lift_is}
 use Rattle.cs_declarations.specs.Known.{is_declared_here}
 use Rattle.cs_declarations.specs.Objects.{object_type}
 use Rattle.cs_declarations.proofs.FoldedSoFar.{GoesOver}
-use Rattle.cs_typing.specs.Objects.{Inside, LocalDeclared, Told, with_local, local_initialized, local_added, after_local, locals_added}
+use Rattle.cs_typing.specs.Objects.{Inside, LocalDeclared, Reported, with_local, local_initialized, local_added, after_local, locals_added}
 
--- a local whose name is new, behind its type
+-- a local whose name is new, after its type
 abbrev local_rest : RawInit → Inside → Shape → Verdict LocalDeclared
 local_rest d i ty = local_initialized (length i.variables) ty d.declarator.place d.initial (with_local d.declarator.name ty i)
 
@@ -27,9 +27,9 @@ module _ (base : Shape) (d : RawInit) (i : Inside) (new : is_declared_here d.dec
   pub local_typed : (ty : Shape) → object_type i.known.context base d ≡ Fine ty → local_added base d i ≡ local_initialized (length i.variables) ty d.declarator.place d.initial (with_local d.declarator.name ty i)
   local_typed ty e = local_new ∙ lift_is (local_rest d i) _ ty e
 
--- a local behind statements
-abbrev pub local_behind : Shape → RawInit → Told → Verdict Told
-local_behind base d so_far = lift (after_local so_far.statements) (local_added base d so_far.inside)
+-- a local after statements
+abbrev pub local_after : Shape → RawInit → Reported → Verdict Reported
+local_after base d so_far = lift (after_local so_far.statements) (local_added base d so_far.inside)
 
-pub locals_over : (base : Shape) → GoesOver (locals_added base) (local_behind base)
+pub locals_over : (base : Shape) → GoesOver (locals_added base) (local_after base)
 locals_over base = (λ ds d so_far. refl, λ so_far. refl)

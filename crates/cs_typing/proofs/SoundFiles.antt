@@ -31,13 +31,13 @@ use Rattle.cs_declarations.proofs.SoundParameters.{HeadGoesOn, typedefs_added-Go
 use Rattle.cs_declarations.proofs.SoundStructs.{GoesOn, none-AreSound}
 use Rattle.cs_typing.specs.Objects.{Filed, Object, with_known, is_completed, may_be_object, object_of, object_initialized, marked, object_added, objects_added}
 use Rattle.cs_typing.specs.Order.{order_of}
-use Rattle.cs_typing.specs.Statements.{body_typed, nothing_told}
+use Rattle.cs_typing.specs.Statements.{body_typed, nothing_reported}
 use Rattle.cs_typing.specs.Functions.{Routed, same_types, types_of, function_of, may_be_function, where_in, at_beginning, declared_inside, body_added, completed, outside_of, headed, is_result, resulted, function_added}
 use Rattle.cs_typing.specs.Files.{beginning, external_declared, external_typed, specs_of, file_typed, typed_file}
-use Rattle.cs_typing.proofs.SoundStatements.{IsLaidUnder, behind, ToldIsSound, body_typed-sound}
+use Rattle.cs_typing.proofs.SoundStatements.{IsLaidUnder, following, ReportedIsSound, body_typed-sound}
 
 module _ (m : DataModel) where
-  -- the structs that are known behind parts of a file
+  -- the structs that are known after parts of a file
   abbrev pub FiledIsSound : Filed → Type 0
   FiledIsSound f = IsLaidUnder m f.known
 
@@ -85,8 +85,8 @@ module _ (m : DataModel) where
 
   body_added-sound : (d : RawFunction) (body : RawBody) (result : Shape) (parameters : List Variable) (inner : List Declaration) (callee : Callee) (f : Filed) → FiledIsSound f → IfFine (body_added d body result parameters inner callee f) FiledIsSound
   body_added-sound d body result parameters inner (Numbered number) f h =
-      IfFine-lift _ (body_typed (where_in result body) body.items.items (nothing_told (at_beginning f parameters inner))) (ToldIsSound m) FiledIsSound
-      (body_typed-sound m (where_in result body) body.items.items (nothing_told (at_beginning f parameters inner)) h) (λ told g. g)
+      IfFine-lift _ (body_typed (where_in result body) body.items.items (nothing_reported (at_beginning f parameters inner))) (ReportedIsSound m) FiledIsSound
+      (body_typed-sound m (where_in result body) body.items.items (nothing_reported (at_beginning f parameters inner)) h) (λ reported g. g)
   body_added-sound d body result parameters inner other f h = h
 
   completed-sound : (d : RawFunction) (body : Option RawBody) (result : Shape) (parameters : List Variable) (inner : List Declaration) (r : Routed) → RoutedIsSound r → IfFine (completed d body result parameters inner r) FiledIsSound
@@ -105,7 +105,7 @@ module _ (m : DataModel) where
       IfFine-cond (may_be_function f (is_some body) result (meaning_here d.name f.known)) (resulted d body f result) (Fault DeclaredTwice d.place) FiledIsSound
       (λ may. IfFine-cond (is_result result) (lift (headed d body f result) (parameters_typed (entered f.known) d.parameters)) (Fault IncompleteType d.place) FiledIsSound
       (λ fits. IfFine-lift (headed d body f result) (parameters_typed (entered f.known) d.parameters) (HeadGoesOn (entered f.known)) FiledIsSound
-      (parameters_typed-GoesOn (entered f.known) d.parameters h.0) (λ head g. headed-sound d body f result head (behind m (entered f.known) head.known h g)))
+      (parameters_typed-GoesOn (entered f.known) d.parameters h.0) (λ head g. headed-sound d body f result head (following m (entered f.known) head.known h g)))
       (λ none. tt))
       (λ may_not. tt)
 
@@ -114,7 +114,7 @@ module _ (m : DataModel) where
   external_declared-sound : (kind : RawExternalKind) (f : Filed) (base : Shape) → FiledIsSound f → IfFine (external_declared kind f base) FiledIsSound
   external_declared-sound (external.Type s) f base h = h
   external_declared-sound (external.Typedef s names) f base h =
-      IfFine-lift _ (typedefs_added base names.items f.known) (GoesOn f.known) FiledIsSound (typedefs_added-GoesOn f.known base names.items h.0) (λ k g. behind m f.known k h g)
+      IfFine-lift _ (typedefs_added base names.items f.known) (GoesOn f.known) FiledIsSound (typedefs_added-GoesOn f.known base names.items h.0) (λ k g. following m f.known k h g)
   external_declared-sound (external.Objects s objects) f base h = objects_added-sound s base objects.items f h
   external_declared-sound (external.Function s d) f base h = function_added-sound d None f base h
   external_declared-sound (external.Definition s d body) f base h = function_added-sound d (Some body) f base h
@@ -122,7 +122,7 @@ module _ (m : DataModel) where
   external_typed-sound : (at : Place) (kind : RawExternalKind) (f : Filed) → FiledIsSound f → IfFine (external_typed at kind f) FiledIsSound
   external_typed-sound at kind f h =
       IfFine-lift _ (specs_type f.known at (specs_of kind)) (TypeGoesOn f.known) FiledIsSound (specs_type-GoesOn f.known at (specs_of kind) h.0)
-      (λ ty g. external_declared-sound kind (with_known ty.1 f) ty.0 (behind m f.known ty.1 h g))
+      (λ ty g. external_declared-sound kind (with_known ty.1 f) ty.0 (following m f.known ty.1 h g))
 
   file_typed-sound : (file : List RawExternal) (f : Filed) → FiledIsSound f → IfFine (file_typed file f) FiledIsSound
   file_typed-sound [] f h = h

@@ -23,104 +23,104 @@ use Rattle.cs_declarations.specs.Answered.{AnswersWith}
 use Rattle.cs_typing.specs.declared.inside.Inside.{Inside as HeldInside}
 use Rattle.cs_typing.specs.Objects.{Inside}
 use Rattle.cs_typing.specs.Statements.{Where, in_a_row, part, tested_in, dropped_in, returned, run_made, if_made, if_else_made, return_made, block_typed, statement_typed}
-use Rattle.cs_typing.specs.View.{inside_of, told_of, typed_part, optional_part, statement_part, kind_part}
+use Rattle.cs_typing.specs.View.{inside_of, reported_of, typed_part, optional_part, statement_part, kind_part}
 use Rattle.cs_typing.proofs.StatementRows.{statement_typed-Block, row-statements}
-use Rattle.cs_typing.proofs.StatementsInTurn.{block_behind, block-closed, if_behind, else_behind, if_else_behind}
+use Rattle.cs_typing.proofs.StatementsInTurn.{block_after, block-closed, if_after, else_after, if_else_after}
 
 module _ (w : Where) (i : Inside) (at : Place) (tree : RawStmtKind) where
   -- what is told of a kind is told of the tree of that kind
-  pub told_as : (k : RawStmtKind) (result : Result StmtKind TypeRefusal) (now : HeldInside) → tree ≡ k → AnswersWith (kind_part at) (statement_typed w i at k) result now → AnswersWith (kind_part at) (statement_typed w i at tree) result now
-  told_as k result now is h = subst (λ x. AnswersWith (kind_part at) (statement_typed w i at x) result now) (sym is) h
+  pub reported_as : (k : RawStmtKind) (result : Result StmtKind TypeRefusal) (now : HeldInside) → tree ≡ k → AnswersWith (kind_part at) (statement_typed w i at k) result now → AnswersWith (kind_part at) (statement_typed w i at tree) result now
+  reported_as k result now is h = subst (λ x. AnswersWith (kind_part at) (statement_typed w i at x) result now) (sym is) h
 
   module _ (items : Vec RawItem Global) (is : tree ≡ raw.Block items) where
-    block_is : statement_typed w i at tree ≡ lift (block_behind at) (block_typed w i items.items)
+    block_is : statement_typed w i at tree ≡ lift (block_after at) (block_typed w i items.items)
     block_is = ap (statement_typed w i at) is ∙ statement_typed-Block w i at items ∙ block-closed i at _
 
     pub block_refused : (r : TypeRefusal) → IsRefused (block_typed w i items.items) r → IsRefused (statement_typed w i at tree) r
-    block_refused r h = refused_as r block_is (lift-refused (block_behind at) (block_typed w i items.items) r h)
+    block_refused r h = refused_as r block_is (lift-refused (block_after at) (block_typed w i items.items) r h)
 
-    pub block_told : (list : Vec Stmt Global) (now : HeldInside) → block_typed w i items.items ≡ Fine (told_of list.items now) → statement_typed w i at tree ≡ Fine (kind_part at (held.Block list) now)
-    block_told list now e =
-        block_is ∙ lift_is (block_behind at) _ (told_of list.items now) e
+    pub block_reported : (list : Vec Stmt Global) (now : HeldInside) → block_typed w i items.items ≡ Fine (reported_of list.items now) → statement_typed w i at tree ≡ Fine (kind_part at (held.Block list) now)
+    block_reported list now e =
+        block_is ∙ lift_is (block_after at) _ (reported_of list.items now) e
         ∙ ap (λ s. part (inside_of now) s) (ap (Block at) (row-statements list.items) ∙ sym (statement_at-Block at list))
 
   -- an empty statement
-  pub empty_told : (list : Vec Stmt Global) → tree ≡ raw.Empty → list.items ≡ [] → statement_typed w i at tree ≡ part i (statement_at at (held.Block list))
-  empty_told list is none = ap (statement_typed w i at) is ∙ ap (λ l. part i (Block at (statement_list l))) (sym none) ∙ ap (part i) (sym (statement_at-Block at list))
+  pub empty_reported : (list : Vec Stmt Global) → tree ≡ raw.Empty → list.items ≡ [] → statement_typed w i at tree ≡ part i (statement_at at (held.Block list))
+  empty_reported list is none = ap (statement_typed w i at) is ∙ ap (λ l. part i (Block at (statement_list l))) (sym none) ∙ ap (part i) (sym (statement_at-Block at list))
 
   module _ (value : RawExpr) (is : tree ≡ raw.Run value) where
     pub run_refused : (r : TypeRefusal) → IsRefused (dropped_in i value) r → IsRefused (statement_typed w i at tree) r
     run_refused r h = refused_as r (ap (statement_typed w i at) is) (lift-refused (run_made at) (dropped_in i value) r h)
 
-    pub run_told : (e : Expr) (now : HeldInside) → dropped_in i value ≡ Fine (typed_part e now) → statement_typed w i at tree ≡ Fine (kind_part at (held.Run e) now)
-    run_told e now h = ap (statement_typed w i at) is ∙ lift_is (run_made at) _ (typed_part e now) h
+    pub run_reported : (e : Expr) (now : HeldInside) → dropped_in i value ≡ Fine (typed_part e now) → statement_typed w i at tree ≡ Fine (kind_part at (held.Run e) now)
+    run_reported e now h = ap (statement_typed w i at) is ∙ lift_is (run_made at) _ (typed_part e now) h
 
   module _ (value : Option RawExpr) (is : tree ≡ raw.Return value) where
     pub return_refused : (r : TypeRefusal) → IsRefused (returned w at i value) r → IsRefused (statement_typed w i at tree) r
     return_refused r h = refused_as r (ap (statement_typed w i at) is) (lift-refused (return_made at) (returned w at i value) r h)
 
-    pub return_told : (e : Option Expr) (now : HeldInside) → returned w at i value ≡ Fine (optional_part e now) → statement_typed w i at tree ≡ Fine (kind_part at (held.Return e) now)
-    return_told e now h = ap (statement_typed w i at) is ∙ lift_is (return_made at) _ (optional_part e now) h
+    pub return_reported : (e : Option Expr) (now : HeldInside) → returned w at i value ≡ Fine (optional_part e now) → statement_typed w i at tree ≡ Fine (kind_part at (held.Return e) now)
+    return_reported e now h = ap (statement_typed w i at) is ∙ lift_is (return_made at) _ (optional_part e now) h
 
   -- `if`
   module _ (test : RawExpr) (body : Box RawStmt Global) (is : tree ≡ raw.If test body) where
     pub if_test_refused : (r : TypeRefusal) → IsRefused (tested_in at i test) r → IsRefused (statement_typed w i at tree) r
-    if_test_refused r h = refused_as r (ap (statement_typed w i at) is) (lift-refused (if_behind w at body.value.place body.value.kind) (tested_in at i test) r h)
+    if_test_refused r h = refused_as r (ap (statement_typed w i at) is) (lift-refused (if_after w at body.value.place body.value.kind) (tested_in at i test) r h)
 
     module _ (t : Expr) (between : HeldInside) (tests : tested_in at i test ≡ Fine (typed_part t between)) (run : RawStmt) (same : run ≡ body.value) where
       if_tested : statement_typed w i at tree ≡ lift (if_made at (typed t)) (statement_typed w (inside_of between) run.place run.kind)
       if_tested =
-          ap (statement_typed w i at) is ∙ lift_is (if_behind w at body.value.place body.value.kind) _ (typed_part t between) tests
+          ap (statement_typed w i at) is ∙ lift_is (if_after w at body.value.place body.value.kind) _ (typed_part t between) tests
           ∙ ap (λ (b : RawStmt). lift (if_made at (typed t)) (statement_typed w (inside_of between) b.place b.kind)) (sym same)
 
       pub if_body_refused : (r : TypeRefusal) → IsRefused (statement_typed w (inside_of between) run.place run.kind) r → IsRefused (statement_typed w i at tree) r
       if_body_refused r h = refused_as r if_tested (lift-refused (if_made at (typed t)) _ r h)
 
-      pub if_told : (one : Stmt) (now : HeldInside) (made : Box Stmt Global) → statement_typed w (inside_of between) run.place run.kind ≡ Fine (statement_part one now) → made.value ≡ one → statement_typed w i at tree ≡ Fine (kind_part at (held.If t made) now)
-      if_told one now made runs boxed =
+      pub if_reported : (one : Stmt) (now : HeldInside) (made : Box Stmt Global) → statement_typed w (inside_of between) run.place run.kind ≡ Fine (statement_part one now) → made.value ≡ one → statement_typed w i at tree ≡ Fine (kind_part at (held.If t made) now)
+      if_reported one now made runs boxed =
           if_tested ∙ lift_is (if_made at (typed t)) _ (statement_part one now) runs
           ∙ ap (λ (s : Stmt). part (inside_of now) (If at (typed t) (statement s))) (sym boxed)
 
   -- `if` with `else`
   module _ (test : RawExpr) (body other : Box RawStmt Global) (is : tree ≡ raw.IfElse test body other) where
     pub else_test_refused : (r : TypeRefusal) → IsRefused (tested_in at i test) r → IsRefused (statement_typed w i at tree) r
-    else_test_refused r h = refused_as r (ap (statement_typed w i at) is) (lift-refused (if_else_behind w at body.value.place body.value.kind other.value) (tested_in at i test) r h)
+    else_test_refused r h = refused_as r (ap (statement_typed w i at) is) (lift-refused (if_else_after w at body.value.place body.value.kind other.value) (tested_in at i test) r h)
 
     module _ (t : Expr) (between : HeldInside) (tests : tested_in at i test ≡ Fine (typed_part t between)) (run : RawStmt) (same : run ≡ body.value) where
-      else_tested : statement_typed w i at tree ≡ lift (else_behind w at other.value (typed t)) (statement_typed w (inside_of between) run.place run.kind)
+      else_tested : statement_typed w i at tree ≡ lift (else_after w at other.value (typed t)) (statement_typed w (inside_of between) run.place run.kind)
       else_tested =
-          ap (statement_typed w i at) is ∙ lift_is (if_else_behind w at body.value.place body.value.kind other.value) _ (typed_part t between) tests
-          ∙ ap (λ (b : RawStmt). lift (else_behind w at other.value (typed t)) (statement_typed w (inside_of between) b.place b.kind)) (sym same)
+          ap (statement_typed w i at) is ∙ lift_is (if_else_after w at body.value.place body.value.kind other.value) _ (typed_part t between) tests
+          ∙ ap (λ (b : RawStmt). lift (else_after w at other.value (typed t)) (statement_typed w (inside_of between) b.place b.kind)) (sym same)
 
       pub else_body_refused : (r : TypeRefusal) → IsRefused (statement_typed w (inside_of between) run.place run.kind) r → IsRefused (statement_typed w i at tree) r
-      else_body_refused r h = refused_as r else_tested (lift-refused (else_behind w at other.value (typed t)) _ r h)
+      else_body_refused r h = refused_as r else_tested (lift-refused (else_after w at other.value (typed t)) _ r h)
 
       module _ (one : Stmt) (middle : HeldInside) (runs : statement_typed w (inside_of between) run.place run.kind ≡ Fine (statement_part one middle)) (last : RawStmt) (like : last ≡ other.value) where
         else_ran : statement_typed w i at tree ≡ lift (if_else_made at (typed t) (statement one)) (statement_typed w (inside_of middle) last.place last.kind)
         else_ran =
-            else_tested ∙ lift_is (else_behind w at other.value (typed t)) _ (statement_part one middle) runs
+            else_tested ∙ lift_is (else_after w at other.value (typed t)) _ (statement_part one middle) runs
             ∙ ap (λ (b : RawStmt). lift (if_else_made at (typed t) (statement one)) (statement_typed w (inside_of middle) b.place b.kind)) (sym like)
 
         pub else_refused : (r : TypeRefusal) → IsRefused (statement_typed w (inside_of middle) last.place last.kind) r → IsRefused (statement_typed w i at tree) r
         else_refused r h = refused_as r else_ran (lift-refused (if_else_made at (typed t) (statement one)) _ r h)
 
-        pub else_told : (two : Stmt) (now : HeldInside) (made made_last : Box Stmt Global) → statement_typed w (inside_of middle) last.place last.kind ≡ Fine (statement_part two now) → made.value ≡ one → made_last.value ≡ two → statement_typed w i at tree ≡ Fine (kind_part at (held.IfElse t made made_last) now)
-        else_told two now made made_last runs_last boxed boxed_last =
+        pub else_reported : (two : Stmt) (now : HeldInside) (made made_last : Box Stmt Global) → statement_typed w (inside_of middle) last.place last.kind ≡ Fine (statement_part two now) → made.value ≡ one → made_last.value ≡ two → statement_typed w i at tree ≡ Fine (kind_part at (held.IfElse t made made_last) now)
+        else_reported two now made made_last runs_last boxed boxed_last =
             else_ran ∙ lift_is (if_else_made at (typed t) (statement one)) _ (statement_part two now) runs_last
             ∙ ap (λ (s : Stmt). part (inside_of now) (IfElse at (typed t) (statement s) (statement two))) (sym boxed)
             ∙ ap (λ (s : Stmt). part (inside_of now) (IfElse at (typed t) (statement made.value) (statement s))) (sym boxed_last)
 
 -- the parts of `for` and `switch` as they are held
-pub for_held : (at : Place) (first : Vec Stmt Global) (test last : Option Expr) (one : Stmt) (made : Box Stmt Global) (inside behind : Inside) → inside ≡ behind → made.value ≡ one → part behind (For at (in_a_row (map statement first.items)) (some_typed test) (some_typed last) (statement one)) ≡ part inside (statement_at at (held.For first test last made))
-for_held at first test last one made inside behind is boxed =
+pub for_held : (at : Place) (first : Vec Stmt Global) (test last : Option Expr) (one : Stmt) (made : Box Stmt Global) (inside following : Inside) → inside ≡ following → made.value ≡ one → part following (For at (in_a_row (map statement first.items)) (some_typed test) (some_typed last) (statement one)) ≡ part inside (statement_at at (held.For first test last made))
+for_held at first test last one made inside following is boxed =
     ap (λ x. part x (For at (in_a_row (map statement first.items)) (some_typed test) (some_typed last) (statement one))) (sym is)
     ∙ ap (part inside)
     (ap (λ ss. For at ss (some_typed test) (some_typed last) (statement one)) (row-statements first.items)
     ∙ ap (λ (s : Stmt). For at (statement_list first.items) (some_typed test) (some_typed last) (statement s)) (sym boxed)
     ∙ sym (statement_at-For at first test last made))
 
-pub switch_held : (at : Place) (value : Expr) (found : List Case) (cases : Vec Case Global) (list : Vec Stmt Global) (inside behind : Inside) → inside ≡ behind → cases.items ≡ found → part behind (Switch at (typed value) found (in_a_row (map statement list.items))) ≡ part inside (statement_at at (held.Switch value cases list))
-switch_held at value found cases list inside behind is listed =
+pub switch_held : (at : Place) (value : Expr) (found : List Case) (cases : Vec Case Global) (list : Vec Stmt Global) (inside following : Inside) → inside ≡ following → cases.items ≡ found → part following (Switch at (typed value) found (in_a_row (map statement list.items))) ≡ part inside (statement_at at (held.Switch value cases list))
+switch_held at value found cases list inside following is listed =
     ap (λ x. part x (Switch at (typed value) found (in_a_row (map statement list.items)))) (sym is)
     ∙ ap (part inside)
     (ap (λ ss. Switch at (typed value) found ss) (row-statements list.items)

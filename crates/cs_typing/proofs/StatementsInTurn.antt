@@ -17,8 +17,8 @@ use Rattle.cs_ast.specs.TypedView.{typed, statement}
 use Rattle.cs_consts.specs.declared.refusal.TypeCode.TheVariants.{Jump}
 use Rattle.cs_consts.specs.declared.refusal.TypeRefusal.{TypeRefusal}
 use Rattle.cs_consts.specs.Integers.{type_of}
-use Rattle.cs_consts.specs.Typing.{Literals, literals_behind}
-use Rattle.cs_consts.specs.Verdicts.{Verdict, Fine, Fault, lift, IsRefused, Tells, Answers}
+use Rattle.cs_consts.specs.Typing.{Literals, literals_after}
+use Rattle.cs_consts.specs.Verdicts.{Verdict, Fine, Fault, lift, IsRefused, Yields, Answers}
 use Rattle.cs_consts.proofs.Lifting.{lift-refused}
 use Rattle.cs_consts.proofs.Productions.{refused_as}
 use Rattle.cs_consts.proofs.SingleParts.{lift_is}
@@ -27,55 +27,55 @@ use Rattle.cs_declarations.specs.declared.known.Known.{Known as HeldKnown}
 use Rattle.cs_declarations.specs.Known.{Mark, mark_of, left_to, with_literals}
 use Rattle.cs_declarations.specs.View.{known_of}
 use Rattle.cs_typing.specs.declared.inside.Inside.{Inside as HeldInside}
-use Rattle.cs_typing.specs.Objects.{Inside, knowing, Told}
-use Rattle.cs_typing.specs.Statements.{Where, in_loop, in_switch, in_a_row, Part, part, past, tested_in, tested_if, dropped_if, label_number, in_block, behind_block, meeting, is_first, nothing_told, Switching, no_cases, closed, first_typed, body_typed, block_typed, block_made, if_made, if_else_made, while_made, do_made, for_made, switch_made, label_made, selected, statement_typed, switch_list_typed, switch_whole, while_typed, do_typed, for_typed, label_typed}
-use Rattle.cs_typing.specs.View.{inside_of, told_of, typed_part, kind_part, kind_at}
+use Rattle.cs_typing.specs.Objects.{Inside, knowing, Reported}
+use Rattle.cs_typing.specs.Statements.{Where, in_loop, in_switch, in_a_row, Part, part, past, tested_in, tested_if, dropped_if, label_number, in_block, after_block, meeting, is_first, nothing_reported, Switching, no_cases, closed, first_typed, body_typed, block_typed, block_made, if_made, if_else_made, while_made, do_made, for_made, switch_made, label_made, selected, statement_typed, switch_list_typed, switch_whole, while_typed, do_typed, for_typed, label_typed}
+use Rattle.cs_typing.specs.View.{inside_of, reported_of, typed_part, kind_part, kind_at}
 
--- an expression with the string literals behind it
-pub typed_behind : (i : Inside) (tree : RawExpr) (v : Verdict Typed) (result : Result Expr TypeRefusal) (literals : Literals) (now : HeldInside) → Tells v result → OnOk result (literals ≡ literals_behind i.known.literals tree.kind) → inside_of now ≡ knowing (with_literals literals i.known) i → AnswersWith typed_part (lift (part (past tree i)) v) result now
-typed_behind i tree v (Ok e) literals now told texts is =
-    lift_is (part (past tree i)) v (typed e) told
+-- an expression with the string literals after it
+pub typed_after : (i : Inside) (tree : RawExpr) (v : Verdict Typed) (result : Result Expr TypeRefusal) (literals : Literals) (now : HeldInside) → Yields v result → OnOk result (literals ≡ literals_after i.known.literals tree.kind) → inside_of now ≡ knowing (with_literals literals i.known) i → AnswersWith typed_part (lift (part (past tree i)) v) result now
+typed_after i tree v (Ok e) literals now reported texts is =
+    lift_is (part (past tree i)) v (typed e) reported
     ∙ ap (λ l. part (knowing (with_literals l i.known) i) (typed e)) (sym texts)
     ∙ ap (λ x. part x (typed e)) (sym is)
-typed_behind i tree v (Err refusal) literals now told texts is = lift-refused (part (past tree i)) v refusal told
+typed_after i tree v (Err refusal) literals now reported texts is = lift-refused (part (past tree i)) v refusal reported
 
 -- what an answer tells holds of an equal verdict
 pub answers_as : {A B C : Type 0} (view : A → B → C) (v w : Verdict C) (result : Result A TypeRefusal) (changed : B) → v ≡ w → AnswersWith view w result changed → AnswersWith view v result changed
 answers_as view v w result changed e h = subst (λ x. AnswersWith view x result changed) (sym e) h
 
--- a block by what it has, with what is known behind it
-abbrev pub block_behind : Place → Told → Verdict (Part Statement)
-block_behind at told = part told.inside (Block at (in_a_row told.statements))
+-- a block by what it has, with what is known after it
+abbrev pub block_after : Place → Reported → Verdict (Part Statement)
+block_after at reported = part reported.inside (Block at (in_a_row reported.statements))
 
-pub block-closed : (i : Inside) (at : Place) (v : Verdict Told) → lift (block_made at i) v ≡ lift (block_behind at) (lift (λ told. Fine (closed i told)) v)
+pub block-closed : (i : Inside) (at : Place) (v : Verdict Reported) → lift (block_made at i) v ≡ lift (block_after at) (lift (λ reported. Fine (closed i reported)) v)
 unfolding lift
-block-closed i at (Fine told) = refl
+block-closed i at (Fine reported) = refl
 block-closed i at (Fault code place) = refl
 
--- `if` behind its test
-abbrev pub if_behind : Where → Place → Place → RawStmtKind → Part Typed → Verdict (Part Statement)
-if_behind w at place body t = lift (if_made at t.found) (statement_typed w t.inside place body)
+-- `if` after its test
+abbrev pub if_after : Where → Place → Place → RawStmtKind → Part Typed → Verdict (Part Statement)
+if_after w at place body t = lift (if_made at t.found) (statement_typed w t.inside place body)
 
-abbrev pub else_behind : Where → Place → RawStmt → Typed → Part Statement → Verdict (Part Statement)
-else_behind w at other test one = lift (if_else_made at test one.found) (statement_typed w one.inside other.place other.kind)
+abbrev pub else_after : Where → Place → RawStmt → Typed → Part Statement → Verdict (Part Statement)
+else_after w at other test one = lift (if_else_made at test one.found) (statement_typed w one.inside other.place other.kind)
 
-abbrev pub if_else_behind : Where → Place → Place → RawStmtKind → RawStmt → Part Typed → Verdict (Part Statement)
-if_else_behind w at place body other t = lift (else_behind w at other t.found) (statement_typed w t.inside place body)
+abbrev pub if_else_after : Where → Place → Place → RawStmtKind → RawStmt → Part Typed → Verdict (Part Statement)
+if_else_after w at place body other t = lift (else_after w at other t.found) (statement_typed w t.inside place body)
 
--- `while` behind its test, and `do` behind its body
-abbrev while_behind : Where → Place → RawStmt → Part Typed → Verdict (Part Statement)
-while_behind w at body t = lift (while_made at t.found) (statement_typed (in_loop w) t.inside body.place body.kind)
+-- `while` after its test, and `do` after its body
+abbrev while_after : Where → Place → RawStmt → Part Typed → Verdict (Part Statement)
+while_after w at body t = lift (while_made at t.found) (statement_typed (in_loop w) t.inside body.place body.kind)
 
-abbrev do_behind : Place → RawExpr → Part Statement → Verdict (Part Statement)
-do_behind at test body = lift (do_made at body.found) (tested_in at body.inside test)
+abbrev do_after : Place → RawExpr → Part Statement → Verdict (Part Statement)
+do_after at test body = lift (do_made at body.found) (tested_in at body.inside test)
 
 module _ (w : Where) (i : Inside) (at : Place) (test : RawExpr) (body : RawStmt) where
   pub while_test_stops : (r : TypeRefusal) → IsRefused (tested_in at i test) r → IsRefused (while_typed w i at test body.place body.kind) r
-  while_test_stops r h = lift-refused (while_behind w at body) (tested_in at i test) r h
+  while_test_stops r h = lift-refused (while_after w at body) (tested_in at i test) r h
 
   module _ (within : Where) (t : Part Typed) (is : within ≡ in_loop w) (tests : tested_in at i test ≡ Fine t) where
     while_tested : while_typed w i at test body.place body.kind ≡ lift (while_made at t.found) (statement_typed within t.inside body.place body.kind)
-    while_tested = lift_is (while_behind w at body) _ t tests ∙ ap (λ x. lift (while_made at t.found) (statement_typed x t.inside body.place body.kind)) (sym is)
+    while_tested = lift_is (while_after w at body) _ t tests ∙ ap (λ x. lift (while_made at t.found) (statement_typed x t.inside body.place body.kind)) (sym is)
 
     pub while_body_stops : (r : TypeRefusal) → IsRefused (statement_typed within t.inside body.place body.kind) r → IsRefused (while_typed w i at test body.place body.kind) r
     while_body_stops r h = refused_as r while_tested (lift-refused (while_made at t.found) _ r h)
@@ -84,27 +84,27 @@ module _ (w : Where) (i : Inside) (at : Place) (test : RawExpr) (body : RawStmt)
     while_taken one runs = while_tested ∙ lift_is (while_made at t.found) _ one runs
 
   module _ (within : Where) (is : within ≡ in_loop w) where
-    do_entered : do_typed w i at test body.place body.kind ≡ lift (do_behind at test) (statement_typed within i body.place body.kind)
-    do_entered = ap (λ x. lift (do_behind at test) (statement_typed x i body.place body.kind)) (sym is)
+    do_entered : do_typed w i at test body.place body.kind ≡ lift (do_after at test) (statement_typed within i body.place body.kind)
+    do_entered = ap (λ x. lift (do_after at test) (statement_typed x i body.place body.kind)) (sym is)
 
     pub do_body_stops : (r : TypeRefusal) → IsRefused (statement_typed within i body.place body.kind) r → IsRefused (do_typed w i at test body.place body.kind) r
-    do_body_stops r h = refused_as r do_entered (lift-refused (do_behind at test) _ r h)
+    do_body_stops r h = refused_as r do_entered (lift-refused (do_after at test) _ r h)
 
     module _ (one : Part Statement) (runs : statement_typed within i body.place body.kind ≡ Fine one) where
       pub do_test_stops : (r : TypeRefusal) → IsRefused (tested_in at one.inside test) r → IsRefused (do_typed w i at test body.place body.kind) r
-      do_test_stops r h = refused_as r (do_entered ∙ lift_is (do_behind at test) _ one runs) (lift-refused (do_made at one.found) _ r h)
+      do_test_stops r h = refused_as r (do_entered ∙ lift_is (do_after at test) _ one runs) (lift-refused (do_made at one.found) _ r h)
 
       pub do_taken : (t : Part Typed) → tested_in at one.inside test ≡ Fine t → do_typed w i at test body.place body.kind ≡ do_made at one.found t
-      do_taken t tests = do_entered ∙ lift_is (do_behind at test) _ one runs ∙ lift_is (do_made at one.found) _ t tests
+      do_taken t tests = do_entered ∙ lift_is (do_after at test) _ one runs ∙ lift_is (do_made at one.found) _ t tests
 
--- `for` behind its parts
-abbrev for_last : Where → Inside → Place → Place → RawStmtKind → Told → Part (Option Typed) → Part (Option Typed) → Verdict (Part Statement)
+-- `for` after its parts
+abbrev for_last : Where → Inside → Place → Place → RawStmtKind → Reported → Part (Option Typed) → Part (Option Typed) → Verdict (Part Statement)
 for_last w i at place body f t l = lift (for_made at i f.statements t.found l.found) (statement_typed (in_loop w) l.inside place body)
 
-abbrev for_test : Where → Inside → Place → Option RawExpr → Place → RawStmtKind → Told → Part (Option Typed) → Verdict (Part Statement)
+abbrev for_test : Where → Inside → Place → Option RawExpr → Place → RawStmtKind → Reported → Part (Option Typed) → Verdict (Part Statement)
 for_test w i at last place body f t = lift (for_last w i at place body f t) (dropped_if t.inside last)
 
-abbrev for_first : Where → Inside → Place → Option RawExpr → Option RawExpr → Place → RawStmtKind → Told → Verdict (Part Statement)
+abbrev for_first : Where → Inside → Place → Option RawExpr → Option RawExpr → Place → RawStmtKind → Reported → Verdict (Part Statement)
 for_first w i at test last place body f = lift (for_test w i at last place body f) (tested_if at f.inside test)
 
 module _ (w : Where) (i : Inside) (at : Place) (first : RawFirst) (test last : Option RawExpr) (place : Place) (body : RawStmtKind) (inner : Inside) (enters : inner ≡ in_block i) where
@@ -114,7 +114,7 @@ module _ (w : Where) (i : Inside) (at : Place) (first : RawFirst) (test last : O
   pub for_first_stops : (r : TypeRefusal) → IsRefused (first_typed inner first) r → IsRefused (for_typed w i at first test last place body) r
   for_first_stops r h = refused_as r for_entered (lift-refused (for_first w i at test last place body) _ r h)
 
-  module _ (f : Told) (begins : first_typed inner first ≡ Fine f) where
+  module _ (f : Reported) (begins : first_typed inner first ≡ Fine f) where
     for_begun : for_typed w i at first test last place body ≡ for_first w i at test last place body f
     for_begun = for_entered ∙ lift_is (for_first w i at test last place body) _ f begins
 
@@ -141,18 +141,18 @@ module _ (w : Where) (i : Inside) (at : Place) (first : RawFirst) (test last : O
         for_taken one runs =
             for_dropped ∙ lift_is (for_made at i f.statements t.found l.found) _ one (subst (λ x. statement_typed x l.inside place body ≡ Fine one) is runs)
 
--- `switch` behind its value
-abbrev switch_behind : Where → Inside → Place → List RawSwitchItem → Part Typed → Verdict (Part Statement)
-switch_behind w i at list v = lift (switch_made at i v.found) (switch_list_typed (in_switch w) (type_of v.found) list (no_cases (in_block v.inside)))
+-- `switch` after its value
+abbrev switch_after : Where → Inside → Place → List RawSwitchItem → Part Typed → Verdict (Part Statement)
+switch_after w i at list v = lift (switch_made at i v.found) (switch_list_typed (in_switch w) (type_of v.found) list (no_cases (in_block v.inside)))
 
 module _ (w : Where) (i : Inside) (at : Place) (value : RawExpr) (list : List RawSwitchItem) where
   pub switch_value_stops : (r : TypeRefusal) → IsRefused (selected at i value) r → IsRefused (switch_whole w i at value list) r
-  switch_value_stops r h = lift-refused (switch_behind w i at list) (selected at i value) r h
+  switch_value_stops r h = lift-refused (switch_after w i at list) (selected at i value) r h
 
   module _ (v : Part Typed) (selects : selected at i value ≡ Fine v) (within : Where) (inner : Inside) (is : within ≡ in_switch w) (enters : inner ≡ in_block v.inside) where
     switch_entered : switch_whole w i at value list ≡ lift (switch_made at i v.found) (switch_list_typed within (type_of v.found) list (no_cases inner))
     switch_entered =
-        lift_is (switch_behind w i at list) _ v selects
+        lift_is (switch_after w i at list) _ v selects
         ∙ ap (λ x. lift (switch_made at i v.found) (switch_list_typed x (type_of v.found) list (no_cases (in_block v.inside)))) (sym is)
         ∙ ap (λ x. lift (switch_made at i v.found) (switch_list_typed within (type_of v.found) list (no_cases x))) (sym enters)
 
@@ -164,14 +164,14 @@ module _ (w : Where) (i : Inside) (at : Place) (value : RawExpr) (list : List Ra
 
 -- a block
 module _ (w : Where) (i : Inside) (list : List RawItem) (inner : Inside) (enters : inner ≡ in_block i) where
-  block_entered : block_typed w i list ≡ lift (λ told. Fine (closed i told)) (body_typed w list (nothing_told inner))
-  block_entered = ap (λ x. lift (λ told. Fine (closed i told)) (body_typed w list (nothing_told x))) (sym enters)
+  block_entered : block_typed w i list ≡ lift (λ reported. Fine (closed i reported)) (body_typed w list (nothing_reported inner))
+  block_entered = ap (λ x. lift (λ reported. Fine (closed i reported)) (body_typed w list (nothing_reported x))) (sym enters)
 
-  pub block_stops : (r : TypeRefusal) → IsRefused (body_typed w list (nothing_told inner)) r → IsRefused (block_typed w i list) r
-  block_stops r h = refused_as r block_entered (lift-refused (λ told. Fine (closed i told)) _ r h)
+  pub block_stops : (r : TypeRefusal) → IsRefused (body_typed w list (nothing_reported inner)) r → IsRefused (block_typed w i list) r
+  block_stops r h = refused_as r block_entered (lift-refused (λ reported. Fine (closed i reported)) _ r h)
 
-  pub block_taken : (told : Told) → body_typed w list (nothing_told inner) ≡ Fine told → block_typed w i list ≡ Fine (closed i told)
-  block_taken told runs = block_entered ∙ lift_is (λ told. Fine (closed i told)) _ told runs
+  pub block_taken : (reported : Reported) → body_typed w list (nothing_reported inner) ≡ Fine reported → block_typed w i list ≡ Fine (closed i reported)
+  block_taken reported runs = block_entered ∙ lift_is (λ reported. Fine (closed i reported)) _ reported runs
 
 -- a label, the first of its name
 module _ (w : Where) (i : Inside) (at : Place) (name : List ℕ) (place : Place) (body : RawStmtKind) (first : is_first i (label_number name w.labels) ≡ true) (inner : Inside) (meets : inner ≡ meeting i) where
@@ -186,23 +186,23 @@ module _ (w : Where) (i : Inside) (at : Place) (name : List ℕ) (place : Place)
   pub label_taken : (one : Part Statement) → statement_typed w inner place body ≡ Fine one → label_typed w i at name place body ≡ label_made at i.met one
   label_taken one runs = label_met ∙ lift_is (label_made at i.met) _ one runs
 
--- statements with one more behind them
-pub told_push : (before more : List Stmt) (s : Stmt) (now : HeldInside) → more ≡ before ++ s ∷ [] → record { statements = map statement before ++ statement s ∷ []; inside = inside_of now } ≡ told_of more now
-told_push before more s now is =
-    let made : List Statement → Told = λ ss. record { statements = ss; inside = inside_of now } in
+-- statements with one more after them
+pub reported_push : (before more : List Stmt) (s : Stmt) (now : HeldInside) → more ≡ before ++ s ∷ [] → record { statements = map statement before ++ statement s ∷ []; inside = inside_of now } ≡ reported_of more now
+reported_push before more s now is =
+    let made : List Statement → Reported = λ ss. record { statements = ss; inside = inside_of now } in
     ap made (sym (map-append statement before (s ∷ [])) ∙ ap (map statement) (sym is))
 
 -- no statements yet
-pub told_none : (list : List Stmt) (now : HeldInside) → list ≡ [] → nothing_told (inside_of now) ≡ told_of list now
-told_none list now is = ap (λ l. told_of l now) (sym is)
+pub reported_none : (list : List Stmt) (now : HeldInside) → list ≡ [] → nothing_reported (inside_of now) ≡ reported_of list now
+reported_none list now is = ap (λ l. reported_of l now) (sym is)
 
--- behind a scope
-pub left_is : (i : Inside) (now : HeldInside) (k : HeldKnown) (m : Mark) → known_of k ≡ left_to m (known_of now.known) → m ≡ mark_of i.known → knowing (known_of k) (inside_of now) ≡ behind_block i (inside_of now)
+-- after a scope
+pub left_is : (i : Inside) (now : HeldInside) (k : HeldKnown) (m : Mark) → known_of k ≡ left_to m (known_of now.known) → m ≡ mark_of i.known → knowing (known_of k) (inside_of now) ≡ after_block i (inside_of now)
 left_is i now k m leaves is = ap (λ x. knowing x (inside_of now)) (leaves ∙ ap (λ x. left_to x (known_of now.known)) is)
 
-pub closed_is : (i : Inside) (list : List Stmt) (now : HeldInside) (behind : Inside) → behind ≡ behind_block i (inside_of now) → closed i (told_of list now) ≡ record { statements = map statement list; inside = behind }
-closed_is i list now behind is =
-    let made : Inside → Told = λ x. record { statements = map statement list; inside = x } in
+pub closed_is : (i : Inside) (list : List Stmt) (now : HeldInside) (following : Inside) → following ≡ after_block i (inside_of now) → closed i (reported_of list now) ≡ record { statements = map statement list; inside = following }
+closed_is i list now following is =
+    let made : Inside → Reported = λ x. record { statements = map statement list; inside = x } in
     ap made (sym is)
 
 -- a part of which the inside is known

@@ -38,8 +38,8 @@ use Rattle.cs_well_formed.proofs.NamedTypes.{NamedOn, TypeNamed, specs_type-name
 use Rattle.cs_well_formed.proofs.Naming.{program-named}
 use Rattle.cs_well_formed.proofs.Structs.{keeps-self}
 use Rattle.cs_typing.proofs.BoundedFiles.{typed_is_bounded}
-use Rattle.cs_typing.proofs.DeclarationsBehind.{starts-self, DeclaresOn, TypeDeclaresOn, specs_type-on, typedefs_added-on}
-use Rattle.cs_typing.proofs.FilesSoFar.{HasNumber, IsCounted, with_parts, Kept, Has, IsWellSoFar, Adds, adds-self, adds-trans, leads-behind, known-adds}
+use Rattle.cs_typing.proofs.DeclarationsAfter.{starts-self, DeclaresOn, TypeDeclaresOn, specs_type-on, typedefs_added-on}
+use Rattle.cs_typing.proofs.FilesSoFar.{HasNumber, IsCounted, with_parts, Kept, Has, IsWellSoFar, Adds, adds-self, adds-trans, leads-following, known-adds}
 use Rattle.cs_typing.proofs.HeldConstants.{ExternalHasConstants, FileHasConstants, file_text-held}
 use Rattle.cs_typing.proofs.OrderedNames.{ExternalIsPlaced, FileIsPlaced, order_of-placed}
 use Rattle.cs_typing.proofs.SoundFiles.{FiledIsSound, typed_file-sound}
@@ -55,7 +55,7 @@ module _ (p : TypedProgram) (laid : IsLaidOut p.model p.table) where
       lift-then (λ (k : Known). Leads (outside (with_parts p f)) f.known k × (DeclaresOn f.known k × NamedOn f.known k)) (Adds p f) (λ k. Fine (with_known k f)) v
       (both-fine (Leads (outside (with_parts p f)) f.known) (λ (k : Known). DeclaresOn f.known k × NamedOn f.known k) v (typedefs_added-leads (outside (with_parts p f)) base names.items f.known)
       (both-fine (DeclaresOn f.known) (NamedOn f.known) v (typedefs_added-on base names.items f.known) (typedefs_added-named base names.items f.known named kept.types.known)))
-      (λ k h. known-adds p f k kept (leads-behind p f k h.0 h.1.0 h.1.1.known))
+      (λ k h. known-adds p f k kept (leads-following p f k h.0 h.1.0 h.1.1.known))
   external_declared-adds (external_kind.Objects s objects) f base named kept placed fit = objects_added-adds p laid s base objects.items f named kept fit
   external_declared-adds (external_kind.Function s d) f base named kept placed fit = function_added-adds p laid d None f base named kept placed tt
   external_declared-adds (external_kind.Definition s d body) f base named kept placed fit = function_added-adds p laid d (Some body) f base named kept placed fit
@@ -68,7 +68,7 @@ module _ (p : TypedProgram) (laid : IsLaidOut p.model p.table) where
       (specs_type-leads (outside (with_parts p f)) f.known at (specs_of k) kept.model)
       (both-fine (TypeDeclaresOn f.known) (TypeNamed f.known) v (specs_type-on f.known at (specs_of k)) (specs_type-named f.known at (specs_of k) kept.types.known)))
       (λ r h.
-      let words = known-adds p f r.1 kept (leads-behind p f r.1 h.0 h.1.0 h.1.1.0.known) in
+      let words = known-adds p f r.1 kept (leads-following p f r.1 h.0 h.1.0 h.1.1.0.known) in
       if_fine-weaker (Adds p (with_known r.1 f)) (Adds p f) (external_declared k (with_known r.1 f) r.0) (external_declared-adds k (with_known r.1 f) r.0 h.1.1.1 words.kept placed fit)
       (λ g more. adds-trans p f (with_known r.1 f) g words more))
 
@@ -169,4 +169,4 @@ typed-well model files tokens file tree =
     (λ f is. file-well model files tokens file f is tree)
 
 pub well_formed : (model : DataModel) (files : List (List ℕ)) (tokens : List Token) (file : List RawExternal) (p : TypedProgram) → typed model files tokens file ≡ Fine p → IsFileTree files tokens file → IsWellFormed p
-well_formed model files tokens file p told tree = if_fine-at IsWellFormed (typed model files tokens file) p (typed-well model files tokens file tree) told
+well_formed model files tokens file p reported tree = if_fine-at IsWellFormed (typed model files tokens file) p (typed-well model files tokens file tree) reported

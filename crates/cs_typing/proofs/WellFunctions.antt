@@ -26,8 +26,8 @@ use Rattle.cs_consts.specs.TypeNames.{starred}
 use Rattle.cs_consts.specs.Verdicts.{Verdict, Fine, Fault, lift}
 use Rattle.cs_declarations.specs.Known.{table_of, declarations_of, meaning_here, entered, left}
 use Rattle.cs_declarations.specs.Parameters.{Head, parameters_typed}
-use Rattle.cs_typing.specs.Objects.{Filed, Told, Inside, changed}
-use Rattle.cs_typing.specs.Statements.{in_a_row, nothing_told, body_typed, labels_of_items}
+use Rattle.cs_typing.specs.Objects.{Filed, Reported, Inside, changed}
+use Rattle.cs_typing.specs.Statements.{in_a_row, nothing_reported, body_typed, labels_of_items}
 use Rattle.cs_typing.specs.Order.{is_of_library}
 use Rattle.cs_typing.specs.Functions.{is_result, same_types, types_of, has_body, may_be_function, bodiless, numbered, number_in, Routed, new_function, function_of, declared_inside, bodied, with_body, at_beginning, where_in, body_added, completed, outside_of, headed, resulted, function_added}
 use Rattle.cs_typing.specs.Files.{allocators}
@@ -41,12 +41,12 @@ use Rattle.cs_well_formed.proofs.Verdicts.{IfFine, if_fine-at, if_fine-weaker, l
 use Rattle.cs_well_formed.proofs.Leading.{parameters_typed-leads}
 use Rattle.cs_well_formed.proofs.NamedTypes.{starred-named, declaring-known, entered-known, left-known, HeadNamed, parameters_typed-named}
 use Rattle.cs_well_formed.proofs.Structs.{found-at, names-longer, variables-longer, globals-longer, routine-longer, routines-longer, meaning-longer}
-use Rattle.cs_typing.proofs.DeclarationsBehind.{Starts, starts-trans, start-take, IsPlain, DeclaresOn, parameters_typed-on, AreScalars, HeadDeclaresOn}
+use Rattle.cs_typing.proofs.DeclarationsAfter.{Starts, starts-trans, start-take, IsPlain, DeclaresOn, parameters_typed-on, AreScalars, HeadDeclaresOn}
 use Rattle.cs_typing.proofs.FilesSoFar.{start-All, found-start, both-All, changed-length, changed-at, changed-other, changed-found, changed-All, newest-All, IsOther, newest-none, newest-start, HasNumber, there-inside, IsCounted, with_parts, Kept, Has, Adds, adds-self, adds-trans, HasGlobal, HasRoutine, all-there-kept, known-adds}
 use Rattle.cs_typing.proofs.HeldConstants.{ItemsHaveConstants}
-use Rattle.cs_typing.proofs.LedJumps.{ToldIsLed, body_typed-led}
+use Rattle.cs_typing.proofs.LedJumps.{ReportedIsLed, body_typed-led}
 use Rattle.cs_typing.proofs.OrderedNames.{IsOrdered, IsPlaced, number-names}
-use Rattle.cs_typing.proofs.WellStatements.{both-fine, Has as HasInside, Knows, Tells, body_typed-well, AreThere}
+use Rattle.cs_typing.proofs.WellStatements.{both-fine, Has as HasInside, Knows, Yields, body_typed-well, AreThere}
 
 -- what holds of a value for each of some
 for-each : {A : Type 0} (Q : Type 0) (P : Q → A → Type 0) (v : Verdict A) → ((q : Q) → IfFine v (P q)) → IfFine v (λ a. (q : Q) → P q a)
@@ -333,13 +333,13 @@ module _ (p : TypedProgram) (laid_out : IsLaidOut p.model p.table) where
   -- ---- bodies
 
   -- a function, in whose scope its parameters are declared, with its body
-  bodied-adds : (f g : Filed) (d : RawFunction) (body : RawBody) (result : Shape) (head : Head) (number : ℕ) (r : Routine) (told : Told) → Adds p f g → length (table_of head.known) ≤ length (table_of g.known) → IsHead f head →
+  bodied-adds : (f g : Filed) (d : RawFunction) (body : RawBody) (result : Shape) (head : Head) (number : ℕ) (r : Routine) (reported : Reported) → Adds p f g → length (table_of head.known) ≤ length (table_of g.known) → IsHead f head →
       slice_get g.routines number ≡ Some r → r.returns ≡ result → parameter_types r ≡ types_of head.variables → ItemsHaveConstants body.items.items →
-      body_typed (where_in result body) body.items.items (nothing_told (at_beginning g head.variables (declared_inside f.known head.known))) ≡ Fine told → IfFine (with_body d body number g told) (Adds p g)
-  bodied-adds f g d body result head number r told adds longer h found returns types fit is = record {
+      body_typed (where_in result body) body.items.items (nothing_reported (at_beginning g head.variables (declared_inside f.known head.known))) ≡ Fine reported → IfFine (with_body d body number g reported) (Adds p g)
+  bodied-adds f g d body result head number r reported adds longer h found returns types fit is = record {
     order = refl;
     kept = record {
-      model = behind.model;
+      model = following.model;
       outer = kept.outer;
       library = subst (Starts (allocators p.model)) (sym same) kept.library;
       order = changed-length change number g.routines ∙ kept.order;
@@ -348,13 +348,13 @@ module _ (p : TypedProgram) (laid_out : IsLaidOut p.model p.table) where
       numbered = subst (All (λ (x : Declaration). HasNumber g.order x.name x.meaning)) (sym same) kept.numbered;
       counted = changed-All change IsCounted number g.routines (λ x at counted. counted-still x at) kept.counted;
       types = record {
-        known = left-known g.known told.inside.known behind.known;
-        globals = globals-longer (table_of g.known) (table_of told.inside.known) tells.gives.longer g.globals kept.types.globals;
-        routines = changed-All change (HasNamedTypes (table_of told.inside.known)) number g.routines (λ x _ n. record { returns = n.returns; variables = behind.variables })
-            (routines-longer (table_of g.known) (table_of told.inside.known) tells.gives.longer g.routines kept.types.routines);
+        known = left-known g.known reported.inside.known following.known;
+        globals = globals-longer (table_of g.known) (table_of reported.inside.known) yields.gives.longer g.globals kept.types.globals;
+        routines = changed-All change (HasNamedTypes (table_of reported.inside.known)) number g.routines (λ x _ n. record { returns = n.returns; variables = following.variables })
+            (routines-longer (table_of g.known) (table_of reported.inside.known) yields.gives.longer g.routines kept.types.routines);
       };
     };
-    longer = omega (arith, adds.longer, tells.gives.longer);
+    longer = omega (arith, adds.longer, yields.gives.longer);
     before = before;
     well = λ has w. record { globals = w.globals; routines = changed-All change (IsWellRoutine p) number g.routines (λ x at well. well-still has x at well) w.routines };
   }
@@ -369,23 +369,23 @@ module _ (p : TypedProgram) (laid_out : IsLaidOut p.model p.table) where
       begun = at_beginning g head.variables inner
 
       block : Statement
-      block = Block body.opening (in_a_row told.statements)
+      block = Block body.opening (in_a_row reported.statements)
 
       change : Routine → Routine
-      change = bodied d body told
+      change = bodied d body reported
 
       s : Setting
       s = setting_of p (change r) block
 
       after : Filed
-      after = record { known = left g.known told.inside.known; globals = g.globals; order = g.order; routines = changed number change g.routines }
+      after = record { known = left g.known reported.inside.known; globals = g.globals; order = g.order; routines = changed number change g.routines }
 
       -- the body has all labels of the function
-      led : ToldIsLed (where_in result body) (nothing_told begun) (length (labels_of_items body.items.items)) told
-      led = if_fine-at (ToldIsLed (where_in result body) (nothing_told begun) (length (labels_of_items body.items.items))) _ told (body_typed-led (where_in result body) body.items.items (nothing_told begun)) is
+      led : ReportedIsLed (where_in result body) (nothing_reported begun) (length (labels_of_items body.items.items)) reported
+      led = if_fine-at (ReportedIsLed (where_in result body) (nothing_reported begun) (length (labels_of_items body.items.items))) _ reported (body_typed-led (where_in result body) body.items.items (nothing_reported begun)) is
 
-      labels : length (labels_of_items body.items.items) ≤ label_counts (in_a_row told.statements)
-      labels = let all : label_counts (in_a_row told.statements) ≡ 0 + length (labels_of_items body.items.items) = led.count in omega (arith, all)
+      labels : length (labels_of_items body.items.items) ≤ label_counts (in_a_row reported.statements)
+      labels = let all : label_counts (in_a_row reported.statements) ≡ 0 + length (labels_of_items body.items.items) = led.count in omega (arith, all)
 
       -- what is known at the beginning of the body
       begun-knows : Knows s laid_out begun
@@ -402,33 +402,33 @@ module _ (p : TypedProgram) (laid_out : IsLaidOut p.model p.table) where
         variables = variables-longer (table_of head.known) (table_of g.known) longer head.variables h.named.1;
       }
 
-      tells : Tells s laid_out (nothing_told begun) told
-      tells = if_fine-at (Tells s laid_out (nothing_told begun)) _ told (body_typed-well s laid_out (where_in result body) body.items.items (nothing_told begun) (sym returns, labels) begun-knows fit) is
+      yields : Yields s laid_out (nothing_reported begun) reported
+      yields = if_fine-at (Yields s laid_out (nothing_reported begun)) _ reported (body_typed-well s laid_out (where_in result body) body.items.items (nothing_reported begun) (sym returns, labels) begun-knows fit) is
 
-      behind : Knows s laid_out told.inside
-      behind = tells.gives.knows begun-knows
+      following : Knows s laid_out reported.inside
+      following = yields.gives.knows begun-knows
 
-      -- behind the body the declarations are those around it
+      -- after the body the declarations are those around it
       same : declarations_of after.known ≡ declarations_of g.known
       same =
-          start-take (declarations_of g.known) (declarations_of told.inside.known)
-          (starts-trans (declarations_of g.known) (declarations_of begun.known) (declarations_of told.inside.known) (inner, refl) tells.gives.scope)
+          start-take (declarations_of g.known) (declarations_of reported.inside.known)
+          (starts-trans (declarations_of g.known) (declarations_of begun.known) (declarations_of reported.inside.known) (inner, refl) yields.gives.scope)
 
-      has-inside : Has p after → HasInside s laid_out told.inside
+      has-inside : Has p after → HasInside s laid_out reported.inside
       has-inside has = record {
         table = has.table;
         texts = has.texts;
         variables = λ n v at. (v, at, refl);
         types = record {
           program = has.types;
-          variables = variables-longer (table_of told.inside.known) p.table has.table.longer told.inside.variables behind.variables;
-          returns = names-longer (table_of g.known) p.table (omega (arith, tells.gives.longer, has.table.longer)) r.returns (found-at (HasNamedTypes (table_of g.known)) g.routines number r kept.types.routines found).returns;
+          variables = variables-longer (table_of reported.inside.known) p.table has.table.longer reported.inside.variables following.variables;
+          returns = names-longer (table_of g.known) p.table (omega (arith, yields.gives.longer, has.table.longer)) r.returns (found-at (HasNamedTypes (table_of g.known)) g.routines number r kept.types.routines found).returns;
         };
       }
 
       before : Has p after → Has p g
       before has =
-          let start = tells.gives.before (has-inside has) in
+          let start = yields.gives.before (has-inside has) in
           record { table = start.table; texts = start.texts; there = subst (All (λ (x : Declaration). IsThere (outside p) x.meaning)) same has.there; types = has.types }
 
       is-routine : (x : Routine) → slice_get g.routines number ≡ Some x → x ≡ r
@@ -440,10 +440,10 @@ module _ (p : TypedProgram) (laid_out : IsLaidOut p.model p.table) where
       count : r.parameters ≡ length head.variables
       count = count-is r head.variables counted-at types
 
-      enough : r.parameters ≤ length told.inside.variables
+      enough : r.parameters ≤ length reported.inside.variables
       enough =
-          let long : length told.inside.variables ≡ length (head.variables ++ tells.gives.variables.0) = ap length tells.gives.variables.1 in
-          let parts = length-append head.variables tells.gives.variables.0 in
+          let long : length reported.inside.variables ≡ length (head.variables ++ yields.gives.variables.0) = ap length yields.gives.variables.1 in
+          let parts = length-append head.variables yields.gives.variables.0 in
           omega (arith, count, long, parts)
 
       counted-still : (x : Routine) → slice_get g.routines number ≡ Some x → IsCounted (change x)
@@ -451,8 +451,8 @@ module _ (p : TypedProgram) (laid_out : IsLaidOut p.model p.table) where
 
       same-types : parameter_types (change r) ≡ parameter_types r
       same-types =
-          ap (λ n. types_of (take n told.inside.variables)) count
-          ∙ types-first head.variables told.inside.variables tells.gives.variables
+          ap (λ n. types_of (take n reported.inside.variables)) count
+          ∙ types-first head.variables reported.inside.variables yields.gives.variables
           ∙ sym types
 
       IsSame : Routine → Routine → Type 0
@@ -471,7 +471,7 @@ module _ (p : TypedProgram) (laid_out : IsLaidOut p.model p.table) where
           let around = before has in
           let here = All-weaker Outside There (λ x there. there-inside s x.meaning there) (declarations_of g.known) around.there in
           let earlier = All-weaker Outside There (λ x there. there-inside s x.meaning there) (declarations_of f.known) (adds.before around).there in
-          let are : AreVariables s head.variables = λ n v at. (v, found-start head.variables told.inside.variables n v tells.gives.variables at, refl) in
+          let are : AreVariables s head.variables = λ n v at. (v, found-start head.variables reported.inside.variables n v yields.gives.variables at, refl) in
           let leads = h.leads s refl are in
           record {
             declared = All-append There (declarations_of g.known) inner here
@@ -484,11 +484,11 @@ module _ (p : TypedProgram) (laid_out : IsLaidOut p.model p.table) where
         returns = well.returns;
         parameters = enough;
         passed = subst (All IsScalar) (sym same-types) well.passed;
-        variables = (tells.gives.there (has-inside has) (there-begun has)).whole;
+        variables = (yields.gives.there (has-inside has) (there-begun has)).whole;
         written = well.written;
         named = record { returns = well.named.returns; variables = (has-inside has).types.variables };
         body = record {
-          statement = tells.gives.well (has-inside has) (there-begun has) tt;
+          statement = yields.gives.well (has-inside has) (there-begun has) tt;
           labels = led.numbered 0 refl tt;
           jumps = led.jumps tt;
         };
@@ -505,9 +505,9 @@ module _ (p : TypedProgram) (laid_out : IsLaidOut p.model p.table) where
   body_added-adds f d body result head Calloc g adds longer h routed fit = adds-self p g adds.kept
   body_added-adds f d body result head Free g adds longer h routed fit = adds-self p g adds.kept
   body_added-adds f d body result head (Numbered number) g adds longer h routed fit =
-      let v = body_typed (where_in result body) body.items.items (nothing_told (at_beginning g head.variables (declared_inside f.known head.known))) in
-      lift-then (λ told. v ≡ Fine told) (Adds p g) (with_body d body number g) v (itself v)
-      (λ told is. bodied-adds f g d body result head number routed.0 told adds longer h routed.1 routed.2 routed.3 fit is)
+      let v = body_typed (where_in result body) body.items.items (nothing_reported (at_beginning g head.variables (declared_inside f.known head.known))) in
+      lift-then (λ reported. v ≡ Fine reported) (Adds p g) (with_body d body number g) v (itself v)
+      (λ reported is. bodied-adds f g d body result head number routed.0 reported adds longer h routed.1 routed.2 routed.3 fit is)
 
   completed-adds : (f : Filed) (d : RawFunction) (body : Option RawBody) (result : Shape) (head : Head) (r : Routed) → Adds p f r.1 → length (table_of head.known) ≤ length (table_of r.1.known) → IsHead f head →
       IsRouted r.1 result head.variables r.0 → BodyHasConstants body → IfFine (completed d body result head.variables (declared_inside f.known head.known) r) (Adds p f)

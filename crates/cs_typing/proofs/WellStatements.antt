@@ -33,8 +33,8 @@ use Rattle.cs_declarations.specs.Bodies.{Typing, specs_type}
 use Rattle.cs_declarations.specs.Initializers.{InFunction, Reading, initial_typed}
 use Rattle.cs_declarations.specs.Known.{Known, model_of, table_of, declarations_of, with_literals, is_declared_here}
 use Rattle.cs_declarations.specs.Objects.{object_type}
-use Rattle.cs_typing.specs.Objects.{Inside, knowing, LocalDeclared, Told, with_local, local_held, local_initialized, local_added, after_local, locals_added}
-use Rattle.cs_typing.specs.Statements.{Where, Part, Switching, in_loop, in_switch, in_a_row, part, past, tested_in, dropped_in, some_found, tested_if, dropped_if, is_void, value_returned, returned, label_number, goto_typed, is_first, meeting, in_block, behind_block, declared_in, declaration_typed, first_place, nothing_told, telling, ran_first, first_typed, is_case, case_put, case_added, with_told, block_made, run_made, if_made, if_else_made, while_made, do_made, for_made, switch_made, return_made, label_made, selected, statement_typed, item_typed, items_typed, switch_item_typed, switch_typed, body_typed, wrapped_in, constant_case}
+use Rattle.cs_typing.specs.Objects.{Inside, knowing, LocalDeclared, Reported, with_local, local_held, local_initialized, local_added, after_local, locals_added}
+use Rattle.cs_typing.specs.Statements.{Where, Part, Switching, in_loop, in_switch, in_a_row, part, past, tested_in, dropped_in, some_found, tested_if, dropped_if, is_void, value_returned, returned, label_number, goto_typed, is_first, meeting, in_block, after_block, declared_in, declaration_typed, first_place, nothing_reported, telling, ran_first, first_typed, is_case, case_put, case_added, with_reported, block_made, run_made, if_made, if_else_made, while_made, do_made, for_made, switch_made, return_made, label_made, selected, statement_typed, item_typed, items_typed, switch_item_typed, switch_typed, body_typed, wrapped_in, constant_case}
 use Rattle.cs_well_formed.specs.Structs.{NamesStructs, VariablesName}
 use Rattle.cs_well_formed.specs.Expressions.{Setting, TypesAroundAreNamed, IsWell, IsValue, IsValueOf, IsScalarValue, IsIntegerValue, IsWhole}
 use Rattle.cs_well_formed.specs.Initials.{IsWellInitial}
@@ -50,11 +50,11 @@ use Rattle.cs_well_formed.proofs.Initials.{initial-well}
 use Rattle.cs_well_formed.proofs.Leading.{specs_type-leads, object_type-whole}
 use Rattle.cs_well_formed.proofs.NamedTypes.{NamedOn, TypeNamed, specs_type-named, object_type-named, declaring-known, entered-known, left-known}
 use Rattle.cs_well_formed.proofs.Structs.{found-at, keeps-trans, names-longer, variables-longer}
-use Rattle.cs_typing.proofs.DeclarationsBehind.{Starts, starts-self, starts-trans, DeclaresOn, TypeDeclaresOn, specs_type-on}
+use Rattle.cs_typing.proofs.DeclarationsAfter.{Starts, starts-self, starts-trans, DeclaresOn, TypeDeclaresOn, specs_type-on}
 use Rattle.cs_typing.proofs.HeldConstants.{FirstValueHasConstants, ObjectsHaveConstants, AnyHasConstants, FirstHasConstants, StatementHasConstants, ItemHasConstants, RowHasConstants, SwitchItemHasConstants, SwitchHasConstants, ItemsHaveConstants}
 use Rattle.cs_typing.proofs.NumberedCases.{count-length, new-case, wrapped_in-number, void-is}
 use Rattle.cs_typing.proofs.LedJumps.{label_number-below}
-use Rattle.cs_typing.proofs.LiteralsBehind.{GoesOnFrom, initial_typed-begins}
+use Rattle.cs_typing.proofs.LiteralsAfter.{GoesOnFrom, initial_typed-begins}
 
 -- ---- rules under a premise
 
@@ -99,7 +99,7 @@ module _ (s : Setting) (laid_out : IsLaidOut s.program.model s.program.table) wh
     pub known : KnownTypesAreNamed i.known.context
     pub variables : VariablesName (table_of i.known) i.variables
 
-  -- from one point to one behind it: something is well formed, if the program has what is known behind it
+  -- from one point to one after it: something is well formed, if the program has what is known after it
   pub record Gives (i j : Inside) (Well : Type 0) : Type 0 where
     pub knows : Knows i → Knows j
     pub longer : length (table_of i.known) ≤ length (table_of j.known)
@@ -127,7 +127,7 @@ module _ (s : Setting) (laid_out : IsLaidOut s.program.model s.program.table) wh
   so : {A B : Type 0} (i j : Inside) → Gives i j A → (A → B) → Gives i j B
   so i j g follows = record { knows = g.knows; longer = g.longer; scope = g.scope; variables = g.variables; before = g.before; there = g.there; well = λ h t. follows (g.well h t) }
 
-  -- one part behind another
+  -- one part after another
   both : {A B : Type 0} (i j k : Inside) → Gives i j A → Gives j k B → Gives i k (A × B)
   both i j k g h = record {
     knows = λ is. h.knows (g.knows is);
@@ -139,7 +139,7 @@ module _ (s : Setting) (laid_out : IsLaidOut s.program.model s.program.table) wh
     well = λ has t. (g.well (h.before has) t, h.well has (g.there (h.before has) t));
   }
 
-  -- inside of a new scope, and behind a label
+  -- inside of a new scope, and after a label
   block-knows : (i : Inside) → Knows i → Knows (in_block i)
   block-knows i is = record { model = is.model; known = entered-known i.known is.known; variables = is.variables }
 
@@ -158,10 +158,10 @@ module _ (s : Setting) (laid_out : IsLaidOut s.program.model s.program.table) wh
     well = λ has t. g.well has (record { declared = t.declared; whole = t.whole });
   }
 
-  -- to the point behind a scope that began here
-  leaving : {A : Type 0} (i j : Inside) → Gives i j A → Gives i (behind_block i j) A
+  -- to the point after a scope that began here
+  leaving : {A : Type 0} (i j : Inside) → Gives i j A → Gives i (after_block i j) A
   leaving i j g = record {
-    knows = λ is. let behind = g.knows is in record { model = behind.model; known = left-known i.known j.known behind.known; variables = behind.variables };
+    knows = λ is. let following = g.knows is in record { model = following.model; known = left-known i.known j.known following.known; variables = following.variables };
     longer = g.longer;
     scope = (
       [],
@@ -171,14 +171,14 @@ module _ (s : Setting) (laid_out : IsLaidOut s.program.model s.program.table) wh
     );
     variables = g.variables;
     before = λ has. g.before (inside has);
-    there = λ has t. let behind = g.there (inside has) t in record {
-      declared = All-take (λ (d : Declaration). IsThere s d.meaning) (length (declarations_of i.known)) (declarations_of j.known) behind.declared;
-      whole = behind.whole;
+    there = λ has t. let following = g.there (inside has) t in record {
+      declared = All-take (λ (d : Declaration). IsThere s d.meaning) (length (declarations_of i.known)) (declarations_of j.known) following.declared;
+      whole = following.whole;
     };
     well = λ has t. g.well (inside has) t;
   }
     where
-      inside : Has (behind_block i j) → Has j
+      inside : Has (after_block i j) → Has j
       inside has = record { table = has.table; texts = has.texts; variables = has.variables; types = has.types }
 
   -- the next label is met
@@ -243,7 +243,7 @@ module _ (s : Setting) (laid_out : IsLaidOut s.program.model s.program.table) wh
 
   -- ---- declarations
 
-  -- statements behind others
+  -- statements after others
   abbrev Row : List Statement → Type 0
   Row statements = AreWellStatements s (in_a_row statements)
 
@@ -251,21 +251,21 @@ module _ (s : Setting) (laid_out : IsLaidOut s.program.model s.program.table) wh
   row-push [] last h k = (k, tt)
   row-push (first ∷ statements) last h k = (h.0, row-push statements last h.1 k)
 
-  pub record Tells (so_far told : Told) : Type 0 where
-    pub gives : Gives so_far.inside told.inside (Row so_far.statements → Row told.statements)
-    pub longer : length so_far.statements ≤ length told.statements
+  pub record Yields (so_far reported : Reported) : Type 0 where
+    pub gives : Gives so_far.inside reported.inside (Row so_far.statements → Row reported.statements)
+    pub longer : length so_far.statements ≤ length reported.statements
 
-  tells-nothing : (so_far : Told) → Tells so_far so_far
-  tells-nothing so_far = record { gives = so so_far.inside so_far.inside (nothing so_far.inside) (λ _ row. row); longer = omega arith }
+  yields-nothing : (so_far : Reported) → Yields so_far so_far
+  yields-nothing so_far = record { gives = so so_far.inside so_far.inside (nothing so_far.inside) (λ _ row. row); longer = omega arith }
 
-  tells-on : (a b c : Told) → Tells a b → Tells b c → Tells a c
-  tells-on a b c h k = record {
+  yields-on : (a b c : Reported) → Yields a b → Yields b c → Yields a c
+  yields-on a b c h k = record {
     gives = so a.inside c.inside (both a.inside b.inside c.inside h.gives k.gives) (λ r row. r.1 (r.0 row));
     longer = omega (arith, h.longer, k.longer);
   }
 
-  tells-one : (before : List Statement) (i j : Inside) (last : Statement) → Gives i j (IsWellStatement s last) → Tells (record { statements = before; inside = i }) (record { statements = before ++ last ∷ []; inside = j })
-  tells-one before i j last g = record {
+  yields-one : (before : List Statement) (i j : Inside) (last : Statement) → Gives i j (IsWellStatement s last) → Yields (record { statements = before; inside = i }) (record { statements = before ++ last ∷ []; inside = j })
+  yields-one before i j last g = record {
     gives = so i j g (λ well row. row-push before last row well);
     longer = let more = length_push before last in omega (arith, more);
   }
@@ -277,7 +277,7 @@ module _ (s : Setting) (laid_out : IsLaidOut s.program.model s.program.table) wh
   abbrev IsVariable : ℕ → Shape → Type 0
   IsVariable number ty = (v : Variable) × (slice_get s.variables number ≡ Some v) × (v.ty ≡ ty)
 
-  -- behind the name of a local of a whole type
+  -- after the name of a local of a whole type
   with_local-gives : (name : List ℕ) (ty : Shape) (i : Inside) → NamesStructs (table_of i.known) ty → Knows i → (Agrees s i.known.context → IsWhole s.program ty) →
       Gives i (with_local name ty i) (IsVariable (length i.variables) ty × IsWhole s.program ty)
   with_local-gives name ty i named knows whole = record {
@@ -322,16 +322,16 @@ module _ (s : Setting) (laid_out : IsLaidOut s.program.model s.program.table) wh
       held : (r : Reading) → (Agrees s j.known.context × IsWhole s.program ty × NamesStructs s.program.table ty → AreFirst s.program r.1 → IsWellInitial s ty r.0) → GoesOnFrom j.known.literals r →
           IfFine (local_held number value.place j r) (GivesLocal i)
       held r well begins = record {
-        knows = λ is. let behind = g.knows is in record {
-          model = behind.model;
-          known = record { declarations = behind.known.declarations; tags = behind.known.tags; members = behind.known.members };
-          variables = behind.variables;
+        knows = λ is. let following = g.knows is in record {
+          model = following.model;
+          known = record { declarations = following.known.declarations; tags = following.known.tags; members = following.known.members };
+          variables = following.variables;
         };
         longer = g.longer;
         scope = g.scope;
         variables = g.variables;
         before = λ has. g.before (at_equal has);
-        there = λ has t. let behind = g.there (at_equal has) t in record { declared = behind.declared; whole = behind.whole };
+        there = λ has t. let following = g.there (at_equal has) t in record { declared = following.declared; whole = following.whole };
         well = λ has t.
             let is = g.well (at_equal has) t in
             let known = agrees j (g.knows knows) (at_equal has) (g.there (at_equal has) t) in
@@ -351,16 +351,16 @@ module _ (s : Setting) (laid_out : IsLaidOut s.program.model s.program.table) wh
       (object_type-named i.known.context base d named))
       (λ ty whole. local_initialized-well (length i.variables) ty d.declarator.place d.initial i (with_local d.declarator.name ty i) (with_local-gives d.declarator.name ty i whole.1 knows whole.0) knows fit))
 
-  locals_added-well : (base : Shape) (ds : List RawInit) (so_far : Told) → NamesStructs (table_of so_far.inside.known) base → Knows so_far.inside → ObjectsHaveConstants ds → IfFine (locals_added base ds so_far) (Tells so_far)
-  locals_added-well base [] so_far named knows fit = tells-nothing so_far
+  locals_added-well : (base : Shape) (ds : List RawInit) (so_far : Reported) → NamesStructs (table_of so_far.inside.known) base → Knows so_far.inside → ObjectsHaveConstants ds → IfFine (locals_added base ds so_far) (Yields so_far)
+  locals_added-well base [] so_far named knows fit = yields-nothing so_far
   locals_added-well base (d ∷ ds) so_far named knows fit =
-      lift-then (Tells so_far) (Tells so_far) (locals_added base ds) _
-      (lift-then (GivesLocal so_far.inside) (Tells so_far) (after_local so_far.statements) _ (local_added-well base d so_far.inside named knows fit.0)
-      (λ one g. tells-one so_far.statements so_far.inside one.inside one.statement g))
-      (λ told h. if_fine-weaker (Tells told) (Tells so_far) (locals_added base ds told)
-      (locals_added-well base ds told (names-longer (table_of so_far.inside.known) (table_of told.inside.known) h.gives.longer base named) (h.gives.knows knows) fit.1) (λ after k. tells-on so_far told after h k))
+      lift-then (Yields so_far) (Yields so_far) (locals_added base ds) _
+      (lift-then (GivesLocal so_far.inside) (Yields so_far) (after_local so_far.statements) _ (local_added-well base d so_far.inside named knows fit.0)
+      (λ one g. yields-one so_far.statements so_far.inside one.inside one.statement g))
+      (λ reported h. if_fine-weaker (Yields reported) (Yields so_far) (locals_added base ds reported)
+      (locals_added-well base ds reported (names-longer (table_of so_far.inside.known) (table_of reported.inside.known) h.gives.longer base named) (h.gives.knows knows) fit.1) (λ after k. yields-on so_far reported after h k))
 
-  -- behind the words of a declaration
+  -- after the words of a declaration
   knowing-gives : (i : Inside) (k : Known) → Leads s i.known k → DeclaresOn i.known k → NamedOn i.known k → Gives i (knowing k i) (Unit {0})
   knowing-gives i k leads on named = record {
     knows = λ is. record {
@@ -381,54 +381,54 @@ module _ (s : Setting) (laid_out : IsLaidOut s.program.model s.program.table) wh
     well = λ has t. tt;
   }
 
-  declaration_typed-well : (words : RawSpecs) (objects : List RawInit) (so_far : Told) → Knows so_far.inside → ObjectsHaveConstants objects → IfFine (declaration_typed words objects so_far) (Tells so_far)
+  declaration_typed-well : (words : RawSpecs) (objects : List RawInit) (so_far : Reported) → Knows so_far.inside → ObjectsHaveConstants objects → IfFine (declaration_typed words objects so_far) (Yields so_far)
   declaration_typed-well words objects so_far knows fit =
       let typing = specs_type so_far.inside.known (first_place objects) words in
-      lift-then (λ (r : Typing). Leads s so_far.inside.known r.1 × (TypeDeclaresOn so_far.inside.known r × TypeNamed so_far.inside.known r)) (Tells so_far) (declared_in words objects so_far) typing
+      lift-then (λ (r : Typing). Leads s so_far.inside.known r.1 × (TypeDeclaresOn so_far.inside.known r × TypeNamed so_far.inside.known r)) (Yields so_far) (declared_in words objects so_far) typing
       (both-fine (λ (r : Typing). Leads s so_far.inside.known r.1) (λ (r : Typing). TypeDeclaresOn so_far.inside.known r × TypeNamed so_far.inside.known r) typing
       (specs_type-leads s so_far.inside.known (first_place objects) words knows.model)
       (both-fine (TypeDeclaresOn so_far.inside.known) (TypeNamed so_far.inside.known) typing
       (specs_type-on so_far.inside.known (first_place objects) words) (specs_type-named so_far.inside.known (first_place objects) words knows.known)))
       (λ ty led.
       let known = knowing ty.1 so_far.inside in
-      let begun : Tells so_far (record { statements = so_far.statements; inside = known }) = record { gives = so so_far.inside known (knowing-gives so_far.inside ty.1 led.0 led.1.0 led.1.1.0) (λ _ row. row); longer = omega arith } in
-      if_fine-weaker (Tells (record { statements = so_far.statements; inside = known })) (Tells so_far) _
+      let begun : Yields so_far (record { statements = so_far.statements; inside = known }) = record { gives = so so_far.inside known (knowing-gives so_far.inside ty.1 led.0 led.1.0 led.1.1.0) (λ _ row. row); longer = omega arith } in
+      if_fine-weaker (Yields (record { statements = so_far.statements; inside = known })) (Yields so_far) _
       (locals_added-well ty.0 objects (record { statements = so_far.statements; inside = known }) led.1.1.1 (begun.gives.knows knows) fit)
-      (λ after k. tells-on so_far _ after begun k))
+      (λ after k. yields-on so_far _ after begun k))
 
-  first_typed-well : (i : Inside) (first : RawFirst) → Knows i → FirstHasConstants first → IfFine (first_typed i first) (λ told. Gives i told.inside (Row told.statements))
+  first_typed-well : (i : Inside) (first : RawFirst) → Knows i → FirstHasConstants first → IfFine (first_typed i first) (λ reported. Gives i reported.inside (Row reported.statements))
   first_typed-well i first_part.Empty knows fit = nothing i
   first_typed-well i (first_part.Run e) knows fit =
-      lift-then (GivesPart i IsDropped) (λ (told : Told). Gives i told.inside (Row told.statements)) (ran_first e.place) (dropped_in i e) (dropped_in-well i e knows fit) (λ p g. so i p.inside g (λ well. (well, tt)))
+      lift-then (GivesPart i IsDropped) (λ (reported : Reported). Gives i reported.inside (Row reported.statements)) (ran_first e.place) (dropped_in i e) (dropped_in-well i e knows fit) (λ p g. so i p.inside g (λ well. (well, tt)))
   first_typed-well i (first_part.Declare words objects) knows fit =
-      if_fine-weaker (Tells (nothing_told i)) (λ (told : Told). Gives i told.inside (Row told.statements)) (declaration_typed words objects.items (nothing_told i)) (declaration_typed-well words objects.items (nothing_told i) knows fit)
-      (λ told h. so i told.inside h.gives (λ row. row tt))
+      if_fine-weaker (Yields (nothing_reported i)) (λ (reported : Reported). Gives i reported.inside (Row reported.statements)) (declaration_typed words objects.items (nothing_reported i)) (declaration_typed-well words objects.items (nothing_reported i) knows fit)
+      (λ reported h. so i reported.inside h.gives (λ row. row tt))
 
   -- ---- cases
 
   -- the cases of a `switch` by a value of a type
   abbrev HasCases : Shape → Switching → Type 0
-  HasCases ty so_far = AreCases s.program.model ty (length so_far.told.statements) so_far.cases
+  HasCases ty so_far = AreCases s.program.model ty (length so_far.reported.statements) so_far.cases
 
-  -- what a `switch` has, behind what it had before
+  -- what a `switch` has, after what it had before
   pub record Switches (ty : Shape) (so_far after : Switching) : Type 0 where
-    pub told : Tells so_far.told after.told
+    pub reported : Yields so_far.reported after.reported
     pub cases : HasCases ty so_far → HasCases ty after
 
   no-cases : (ty : Shape) → AreCases s.program.model ty 0 []
   no-cases ty = record { each = All-nil (IsCase s.program.model ty 0); apart = λ i j d below within. absurd (omega (arith, within)) }
 
   switches-on : (ty : Shape) (a b c : Switching) → Switches ty a b → Switches ty b c → Switches ty a c
-  switches-on ty a b c h k = record { told = tells-on a.told b.told c.told h.told k.told; cases = λ all. k.cases (h.cases all) }
+  switches-on ty a b c h k = record { reported = yields-on a.reported b.reported c.reported h.reported k.reported; cases = λ all. k.cases (h.cases all) }
 
   case_added-well : (ty : Shape) (at : Place) (so_far : Switching) (value : Option ℤ) → IfSome value (IsNumberOf s.program.model ty) → IfFine (case_added at so_far value) (Switches ty so_far)
   case_added-well ty at so_far value number =
       lift-then Put (Switches ty so_far) _ (case_put at value count so_far.cases)
       (cond-then Put (is_case value so_far.cases) (Fault CaseTwice at) _ (λ _. tt) (λ new. put new))
-      (λ cases h. record { told = tells-nothing so_far.told; cases = h })
+      (λ cases h. record { reported = yields-nothing so_far.reported; cases = h })
     where
       count : ℕ
-      count = length so_far.told.statements
+      count = length so_far.reported.statements
 
       Put : List Case → Type 0
       Put cases = HasCases ty so_far → AreCases s.program.model ty count cases
@@ -440,21 +440,21 @@ module _ (s : Setting) (laid_out : IsLaidOut s.program.model s.program.table) wh
       }
 
   -- a written case has the number that it says, modulo where the type doesn't hold it
-  constant_case-well : (ty : Shape) (at : Place) (so_far : Switching) (n : ℤ) → Knows so_far.told.inside → IfFine (constant_case at so_far ty n) (Switches ty so_far)
+  constant_case-well : (ty : Shape) (at : Place) (so_far : Switching) (n : ℤ) → Knows so_far.reported.inside → IfFine (constant_case at so_far ty n) (Switches ty so_far)
   constant_case-well ty at so_far n knows =
-      case_added-well ty at so_far (Some (wrapped_in (model_of so_far.told.inside.known) ty n))
-      (subst (λ m. IsNumberOf m ty (wrapped_in (model_of so_far.told.inside.known) ty n)) knows.model (wrapped_in-number (model_of so_far.told.inside.known) ty n))
+      case_added-well ty at so_far (Some (wrapped_in (model_of so_far.reported.inside.known) ty n))
+      (subst (λ m. IsNumberOf m ty (wrapped_in (model_of so_far.reported.inside.known) ty n)) knows.model (wrapped_in-number (model_of so_far.reported.inside.known) ty n))
 
-  with_told-well : (ty : Shape) (so_far : Switching) (told : Told) → Tells so_far.told told → IfFine (with_told so_far told) (Switches ty so_far)
-  with_told-well ty so_far told h = record { told = h; cases = λ all. record { each = All-weaker Before Behind further so_far.cases all.each; apart = all.apart } }
+  with_reported-well : (ty : Shape) (so_far : Switching) (reported : Reported) → Yields so_far.reported reported → IfFine (with_reported so_far reported) (Switches ty so_far)
+  with_reported-well ty so_far reported h = record { reported = h; cases = λ all. record { each = All-weaker Before Following further so_far.cases all.each; apart = all.apart } }
     where
       Before : Case → Type 0
-      Before c = IsCase s.program.model ty (length so_far.told.statements) c
+      Before c = IsCase s.program.model ty (length so_far.reported.statements) c
 
-      Behind : Case → Type 0
-      Behind c = IsCase s.program.model ty (length told.statements) c
+      Following : Case → Type 0
+      Following c = IsCase s.program.model ty (length reported.statements) c
 
-      further : (c : Case) → Before c → Behind c
+      further : (c : Case) → Before c → Following c
       further c fits = record { item = omega (arith, fits.item, h.longer); number = fits.number }
 
   -- ---- statements
@@ -501,8 +501,8 @@ module _ (s : Setting) (laid_out : IsLaidOut s.program.model s.program.table) wh
   mutual
     pub statement_typed-well : (w : Where) (i : Inside) (at : Place) (k : RawStmtKind) → Fits w → Knows i → StatementHasConstants k → IfFine (statement_typed w i at k) (GivesStatement i)
     statement_typed-well w i at (kind.Block' shape row) fits knows fit =
-        lift-then (Tells (nothing_told (in_block i))) (GivesStatement i) (block_made at i) _ (items_typed-well w row (nothing_told (in_block i)) fits (block-knows i knows) fit)
-        (λ told h. leaving i told.inside (entering i told.inside (so (in_block i) told.inside h.gives (λ row. row tt))))
+        lift-then (Yields (nothing_reported (in_block i))) (GivesStatement i) (block_made at i) _ (items_typed-well w row (nothing_reported (in_block i)) fits (block-knows i knows) fit)
+        (λ reported h. leaving i reported.inside (entering i reported.inside (so (in_block i) reported.inside h.gives (λ row. row tt))))
     statement_typed-well w i at kind.Empty fits knows fit = nothing i
     statement_typed-well w i at (kind.Run e) fits knows fit =
         lift-then (GivesPart i IsDropped) (GivesStatement i) (run_made at) (dropped_in i e) (dropped_in-well i e knows fit) (λ p g. g)
@@ -526,7 +526,7 @@ module _ (s : Setting) (laid_out : IsLaidOut s.program.model s.program.table) wh
         (λ b g. lift-then (GivesPart b.inside IsTest) (GivesStatement i) (do_made at b.found) (tested_in at b.inside test) (tested_in-well at b.inside test (g.knows knows) fit.1)
         (λ t h. so i t.inside (both i b.inside t.inside g h) (λ r. (r.1.0, r.1.1, r.0))))
     statement_typed-well w i at (kind.For' first test last p place body) fits knows fit =
-        lift-then (λ (f : Told). Gives (in_block i) f.inside (Row f.statements)) (GivesStatement i) _ (first_typed (in_block i) first) (first_typed-well (in_block i) first (block-knows i knows) fit.0)
+        lift-then (λ (f : Reported). Gives (in_block i) f.inside (Row f.statements)) (GivesStatement i) _ (first_typed (in_block i) first) (first_typed-well (in_block i) first (block-knows i knows) fit.0)
         (λ f g. lift-then (GivesPart f.inside (IsTestIfAny s)) (GivesStatement i) _ (tested_if at f.inside test) (tested_if-well at f.inside test (g.knows (block-knows i knows)) fit.1)
         (λ t h.
         let tested = both (in_block i) f.inside t.inside g h in
@@ -537,13 +537,13 @@ module _ (s : Setting) (laid_out : IsLaidOut s.program.model s.program.table) wh
         (λ b m. leaving i b.inside (entering i b.inside (so (in_block i) b.inside (both (in_block i) l.inside b.inside front m) (λ r. (r.0.0.0, r.0.0.1, r.0.1, r.1))))))))
     statement_typed-well w i at (kind.Switch' value shape row) fits knows fit =
         lift-then (GivesPart i (λ v. IsWell s v × IsIntegerValue v)) (GivesStatement i) _ (selected at i value) (selected-well at i value knows fit.0)
-        (λ v g. let begun : Switching = record { cases = []; told = nothing_told (in_block v.inside) } in
+        (λ v g. let begun : Switching = record { cases = []; reported = nothing_reported (in_block v.inside) } in
         lift-then (Switches (type_of v.found) begun) (GivesStatement i) (switch_made at i v.found) _ (switch_typed-well (in_switch w) (type_of v.found) row begun fits (block-knows v.inside (g.knows knows)) fit.1)
         (λ all h.
-        let cases = subst (λ n. AreCases s.program.model (type_of v.found) n all.cases) (sym (count-length all.told.statements)) (h.cases (no-cases (type_of v.found))) in
-        leaving i all.told.inside
-        (so i all.told.inside
-        (both i v.inside all.told.inside g (entering v.inside all.told.inside (so (in_block v.inside) all.told.inside h.told.gives (λ row. row tt))))
+        let cases = subst (λ n. AreCases s.program.model (type_of v.found) n all.cases) (sym (count-length all.reported.statements)) (h.cases (no-cases (type_of v.found))) in
+        leaving i all.reported.inside
+        (so i all.reported.inside
+        (both i v.inside all.reported.inside g (entering v.inside all.reported.inside (so (in_block v.inside) all.reported.inside h.reported.gives (λ row. row tt))))
         (λ r. (r.0.0, r.0.1, cases, r.1)))))
     statement_typed-well w i at (kind.Goto label) fits knows fit = goto_typed-well at i (label_number label w.labels) (label-below w label fits)
     statement_typed-well w i at kind.Continue fits knows fit = cond-then (GivesStatement i) w.continues _ (Fault Jump at) (λ _. nothing i) (λ _. tt)
@@ -558,34 +558,34 @@ module _ (s : Setting) (laid_out : IsLaidOut s.program.model s.program.table) wh
         (λ b g. met-one i b.inside (so (meeting i) b.inside g (λ well. (below, well)))))
         (λ _. tt)
 
-    pub item_typed-well : (w : Where) (item : RawItem) (so_far : Told) → Fits w → Knows so_far.inside → ItemHasConstants item → IfFine (item_typed w item so_far) (Tells so_far)
+    pub item_typed-well : (w : Where) (item : RawItem) (so_far : Reported) → Fits w → Knows so_far.inside → ItemHasConstants item → IfFine (item_typed w item so_far) (Yields so_far)
     item_typed-well w (items.TheVariants.Declare words objects) so_far fits knows fit = declaration_typed-well words objects.items so_far knows fit
     item_typed-well w (items.TheVariants.Run' place body) so_far fits knows fit =
-        lift-then (GivesStatement so_far.inside) (Tells so_far) (telling so_far.statements) _ (statement_typed-well w so_far.inside place body fits knows fit)
-        (λ p g. tells-one so_far.statements so_far.inside p.inside p.found g)
+        lift-then (GivesStatement so_far.inside) (Yields so_far) (telling so_far.statements) _ (statement_typed-well w so_far.inside place body fits knows fit)
+        (λ p g. yields-one so_far.statements so_far.inside p.inside p.found g)
 
-    items_typed-well : {n : _} → (w : Where) (row : kinds.Row_of-RawItem n) (so_far : Told) → Fits w → Knows so_far.inside → RowHasConstants row → IfFine (items_typed w row so_far) (Tells so_far)
-    items_typed-well w kinds.end_of-RawItem so_far fits knows fit = tells-nothing so_far
+    items_typed-well : {n : _} → (w : Where) (row : kinds.Row_of-RawItem n) (so_far : Reported) → Fits w → Knows so_far.inside → RowHasConstants row → IfFine (items_typed w row so_far) (Yields so_far)
+    items_typed-well w kinds.end_of-RawItem so_far fits knows fit = yields-nothing so_far
     items_typed-well w (kinds.more_of-RawItem first others) so_far fits knows fit =
-        lift-then (Tells so_far) (Tells so_far) (items_typed w others) _ (item_typed-well w first so_far fits knows fit.0)
-        (λ told h. if_fine-weaker (Tells told) (Tells so_far) (items_typed w others told) (items_typed-well w others told fits (h.gives.knows knows) fit.1) (λ after k. tells-on so_far told after h k))
+        lift-then (Yields so_far) (Yields so_far) (items_typed w others) _ (item_typed-well w first so_far fits knows fit.0)
+        (λ reported h. if_fine-weaker (Yields reported) (Yields so_far) (items_typed w others reported) (items_typed-well w others reported fits (h.gives.knows knows) fit.1) (λ after k. yields-on so_far reported after h k))
 
-    switch_item_typed-well : (w : Where) (ty : Shape) (item : switches.RawSwitchItem) (so_far : Switching) → Fits w → Knows so_far.told.inside → SwitchItemHasConstants item → IfFine (switch_item_typed w ty item so_far) (Switches ty so_far)
+    switch_item_typed-well : (w : Where) (ty : Shape) (item : switches.RawSwitchItem) (so_far : Switching) → Fits w → Knows so_far.reported.inside → SwitchItemHasConstants item → IfFine (switch_item_typed w ty item so_far) (Switches ty so_far)
     switch_item_typed-well w ty (switches.TheVariants.Case at value) so_far fits knows fit =
-        lift-then (λ _. Unit {0}) (Switches ty so_far) _ _ (if_fine-any (value_of so_far.told.inside.known.context value)) (λ n _. constant_case-well ty at so_far n.1 knows)
+        lift-then (λ _. Unit {0}) (Switches ty so_far) _ _ (if_fine-any (value_of so_far.reported.inside.known.context value)) (λ n _. constant_case-well ty at so_far n.1 knows)
     switch_item_typed-well w ty (switches.TheVariants.Default at) so_far fits knows fit = case_added-well ty at so_far None tt
     switch_item_typed-well w ty (switches.TheVariants.Item i) so_far fits knows fit =
-        lift-then (Tells so_far.told) (Switches ty so_far) (with_told so_far) _ (item_typed-well w i so_far.told fits knows fit) (λ told h. with_told-well ty so_far told h)
+        lift-then (Yields so_far.reported) (Switches ty so_far) (with_reported so_far) _ (item_typed-well w i so_far.reported fits knows fit) (λ reported h. with_reported-well ty so_far reported h)
 
-    switch_typed-well : {n : _} → (w : Where) (ty : Shape) (row : kinds.Row_of-RawSwitchItem n) (so_far : Switching) → Fits w → Knows so_far.told.inside → SwitchHasConstants row → IfFine (switch_typed w ty row so_far) (Switches ty so_far)
-    switch_typed-well w ty kinds.end_of-RawSwitchItem so_far fits knows fit = record { told = tells-nothing so_far.told; cases = λ all. all }
+    switch_typed-well : {n : _} → (w : Where) (ty : Shape) (row : kinds.Row_of-RawSwitchItem n) (so_far : Switching) → Fits w → Knows so_far.reported.inside → SwitchHasConstants row → IfFine (switch_typed w ty row so_far) (Switches ty so_far)
+    switch_typed-well w ty kinds.end_of-RawSwitchItem so_far fits knows fit = record { reported = yields-nothing so_far.reported; cases = λ all. all }
     switch_typed-well w ty (kinds.more_of-RawSwitchItem first others) so_far fits knows fit =
         lift-then (Switches ty so_far) (Switches ty so_far) (switch_typed w ty others) _ (switch_item_typed-well w ty first so_far fits knows fit.0)
-        (λ next h. if_fine-weaker (Switches ty next) (Switches ty so_far) (switch_typed w ty others next) (switch_typed-well w ty others next fits (h.told.gives.knows knows) fit.1) (λ after k. switches-on ty so_far next after h k))
+        (λ next h. if_fine-weaker (Switches ty next) (Switches ty so_far) (switch_typed w ty others next) (switch_typed-well w ty others next fits (h.reported.gives.knows knows) fit.1) (λ after k. switches-on ty so_far next after h k))
 
   -- the body of a function
-  pub body_typed-well : (w : Where) (list : List RawItem) (so_far : Told) → Fits w → Knows so_far.inside → ItemsHaveConstants list → IfFine (body_typed w list so_far) (Tells so_far)
-  body_typed-well w [] so_far fits knows fit = tells-nothing so_far
+  pub body_typed-well : (w : Where) (list : List RawItem) (so_far : Reported) → Fits w → Knows so_far.inside → ItemsHaveConstants list → IfFine (body_typed w list so_far) (Yields so_far)
+  body_typed-well w [] so_far fits knows fit = yields-nothing so_far
   body_typed-well w (first ∷ others) so_far fits knows fit =
-      lift-then (Tells so_far) (Tells so_far) (body_typed w others) _ (item_typed-well w first so_far fits knows fit.0)
-      (λ told h. if_fine-weaker (Tells told) (Tells so_far) (body_typed w others told) (body_typed-well w others told fits (h.gives.knows knows) fit.1) (λ after k. tells-on so_far told after h k))
+      lift-then (Yields so_far) (Yields so_far) (body_typed w others) _ (item_typed-well w first so_far fits knows fit.0)
+      (λ reported h. if_fine-weaker (Yields reported) (Yields so_far) (body_typed w others reported) (body_typed-well w others reported fits (h.gives.knows knows) fit.1) (λ after k. yields-on so_far reported after h k))

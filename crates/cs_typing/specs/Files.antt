@@ -76,11 +76,11 @@ external_declared (external.Definition s d body) f base = function_added d (Some
 abbrev pub external_read : RawExternalKind → Filed → Typing → Verdict Filed
 external_read kind f ty = external_declared kind (with_known ty.1 f) ty.0
 
--- a part of a file at a place, behind others
+-- a part of a file at a place, after others
 abbrev pub external_typed : Place → RawExternalKind → Filed → Verdict Filed
 external_typed at kind f = lift (external_read kind f) (specs_type f.known at (specs_of kind))
 
--- the parts of a file, one behind another
+-- the parts of a file, one after another
 abbrev pub file_typed : List RawExternal → Filed → Verdict Filed
 file_typed [] f = Fine f
 file_typed (e ∷ es) f = lift (file_typed es) (external_typed e.place e.kind f)

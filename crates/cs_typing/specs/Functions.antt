@@ -16,8 +16,8 @@ use Rattle.cs_consts.specs.Meanings.{Meaning, Function, Signature, Declaration}
 use Rattle.cs_consts.specs.TypeNames.{starred}
 use Rattle.cs_declarations.specs.Known.{Known, declarations_of, with_declarations, declaring, meaning_here, entered, left}
 use Rattle.cs_declarations.specs.Parameters.{Head, parameters_typed}
-use Rattle.cs_typing.specs.Objects.{Filed, Inside, Told, changed, with_known}
-use Rattle.cs_typing.specs.Statements.{Where, in_a_row, nothing_told, body_typed, labels_of_items}
+use Rattle.cs_typing.specs.Objects.{Filed, Inside, Reported, changed, with_known}
+use Rattle.cs_typing.specs.Statements.{Where, in_a_row, nothing_reported, body_typed, labels_of_items}
 
 -- a result that a function may have (C11 6.9.1, paragraph 3)
 abbrev pub is_result : Shape → Bool
@@ -95,24 +95,24 @@ abbrev pub body_scope : Known → List Declaration → Known
 body_scope around inner = with_declarations (declarations_of around ++ inner) (length (declarations_of around)) around
 
 -- a function with its body
-abbrev pub bodied : RawFunction → RawBody → Told → Routine → Routine
-bodied d body told r = record {
+abbrev pub bodied : RawFunction → RawBody → Reported → Routine → Routine
+bodied d body reported r = record {
   name = r.name;
   at = d.place;
   returns = r.returns;
   parameters = r.parameters;
-  variables = told.inside.variables;
-  body = Some (Block body.opening (in_a_row told.statements));
+  variables = reported.inside.variables;
+  body = Some (Block body.opening (in_a_row reported.statements));
   closes = body.closing;
   written = r.written;
 }
 
-abbrev pub with_body : RawFunction → RawBody → ℕ → Filed → Told → Verdict Filed
-with_body d body number f told = Fine (record {
-  known = left f.known told.inside.known;
+abbrev pub with_body : RawFunction → RawBody → ℕ → Filed → Reported → Verdict Filed
+with_body d body number f reported = Fine (record {
+  known = left f.known reported.inside.known;
   globals = f.globals;
   order = f.order;
-  routines = changed number (bodied d body told) f.routines;
+  routines = changed number (bodied d body reported) f.routines;
 })
 
 -- the inside of a body at its beginning
@@ -125,7 +125,7 @@ where_in result body = record { returns = result; labels = labels_of_items body.
 -- the body of a function with these parameters, in whose scope so much is declared
 abbrev pub body_added : RawFunction → RawBody → Shape → List Variable → List Declaration → Callee → Filed → Verdict Filed
 body_added d body result parameters inner (Numbered number) f =
-    lift (with_body d body number f) (body_typed (where_in result body) body.items.items (nothing_told (at_beginning f parameters inner)))
+    lift (with_body d body number f) (body_typed (where_in result body) body.items.items (nothing_reported (at_beginning f parameters inner)))
 body_added d body result parameters inner other f = Fine f
 
 -- the body, where there is one
@@ -153,6 +153,6 @@ abbrev pub function_typed : RawFunction → Option RawBody → Filed → Shape �
 function_typed d body f result =
     if may_be_function f (is_some body) result (meaning_here d.name f.known) then resulted d body f result else Fault DeclaredTwice d.place
 
--- a declared function, behind whose words stands a type
+-- a declared function, after whose words stands a type
 abbrev pub function_added : RawFunction → Option RawBody → Filed → Shape → Verdict Filed
 function_added d body f ty = function_typed d body f (starred d.pointers.items ty)

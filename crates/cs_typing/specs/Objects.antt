@@ -82,7 +82,7 @@ holding first g = record { name = g.name; at = g.at; ty = g.ty; constant = g.con
 abbrev pub with_initial : ℕ → Filed → Reading → Verdict Filed
 with_initial number f r = Fine (record { known = with_literals r.1 f.known; globals = changed number (holding r.0) f.globals; order = f.order; routines = f.routines })
 
--- what stands behind its declarator
+-- what stands after its declarator
 abbrev pub object_initialized : Shape → Option RawFirstValue → Object → Verdict Filed
 object_initialized ty None o = Fine o.filed
 object_initialized ty (Some value) o =
@@ -117,7 +117,7 @@ pub record LocalDeclared : Type 0 where
   pub statement : Statement
   pub inside : Inside
 
--- behind the name of a local
+-- after the name of a local
 abbrev pub with_local : List ℕ → Shape → Inside → Inside
 with_local name ty i = record {
   known = declaring name (Local (length i.variables) ty) i.known;
@@ -128,7 +128,7 @@ with_local name ty i = record {
 abbrev pub local_held : ℕ → Place → Inside → Reading → Verdict LocalDeclared
 local_held number at i r = Fine (record { statement = Declare at number (Some r.0); inside = knowing (with_literals r.1 i.known) i })
 
--- a declaration stands at its `=`, or at its name where it has none; its name is known behind its declarator
+-- a declaration stands at its `=`, or at its name where it has none; its name is known after its declarator
 abbrev pub local_initialized : ℕ → Shape → Place → Option RawFirstValue → Inside → Verdict LocalDeclared
 local_initialized number ty at None i = Fine (record { statement = Declare at number None; inside = i })
 local_initialized number ty at (Some value) i =
@@ -140,14 +140,14 @@ local_added base d i =
     if is_declared_here d.declarator.name i.known then Fault DeclaredTwice d.declarator.place
     else lift (λ ty. local_initialized (length i.variables) ty d.declarator.place d.initial (with_local d.declarator.name ty i)) (object_type i.known.context base d)
 
--- statements with what is known behind them
-pub record Told : Type 0 where
+-- statements with what is known after them
+pub record Reported : Type 0 where
   pub statements : List Statement
   pub inside : Inside
 
-abbrev pub after_local : List Statement → LocalDeclared → Verdict Told
+abbrev pub after_local : List Statement → LocalDeclared → Verdict Reported
 after_local before one = Fine (record { statements = before ++ one.statement ∷ []; inside = one.inside })
 
-abbrev pub locals_added : Shape → List RawInit → Told → Verdict Told
+abbrev pub locals_added : Shape → List RawInit → Reported → Verdict Reported
 locals_added base [] so_far = Fine so_far
 locals_added base (d ∷ ds) so_far = lift (locals_added base ds) (lift (after_local so_far.statements) (local_added base d so_far.inside))

@@ -15,8 +15,8 @@ use Rattle.cs_typing.specs.Files.{typed_file}
 
 -- the value of an integer constant, before other numbers
 abbrev pub number_before : TokenKind → List ℤ → List ℤ
-number_before (Number constant) behind = pos constant.value ∷ behind
-number_before other behind = behind
+number_before (Number constant) following = pos constant.value ∷ following
+number_before other following = following
 
 -- the values of the integer constants among tokens
 abbrev pub numbers_in : List Token → List ℤ

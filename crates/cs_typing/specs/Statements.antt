@@ -23,11 +23,11 @@ use Rattle.cs_types.specs.Wrap.{wrapped}
 use Rattle.cs_consts.specs.declared.refusal.TypeCode.TheVariants.{Jump, CaseTwice, Return}
 use Rattle.cs_consts.specs.Verdicts.{Verdict, Fine, Fault, lift}
 use Rattle.cs_consts.specs.Integers.{type_of}
-use Rattle.cs_consts.specs.Typing.{literals_behind}
+use Rattle.cs_consts.specs.Typing.{literals_after}
 use Rattle.cs_consts.specs.Doors.{value_of, assigned_value, test_of, selector_of, discarded_value}
 use Rattle.cs_declarations.specs.Known.{model_of, entered, left, with_literals}
 use Rattle.cs_declarations.specs.Bodies.{Typing, specs_type}
-use Rattle.cs_typing.specs.Objects.{Inside, knowing, Told, locals_added}
+use Rattle.cs_typing.specs.Objects.{Inside, knowing, Reported, locals_added}
 
 -- where a statement stands: in a function with this result and these labels; whether a `break` and a `continue` lead somewhere
 pub record Where : Type 0 where
@@ -47,7 +47,7 @@ abbrev pub in_a_row : List Statement → Statements
 in_a_row [] = Empty
 in_a_row (s ∷ ss) = Then s (in_a_row ss)
 
--- a part of a statement, with what is known behind it
+-- a part of a statement, with what is known after it
 pub record Part (A : Type 0) : Type 0 where
   pub found : A
   pub inside : Inside
@@ -55,9 +55,9 @@ pub record Part (A : Type 0) : Type 0 where
 abbrev pub part : {A : Type 0} → Inside → A → Verdict (Part A)
 part i found = Fine (record { found = found; inside = i })
 
--- behind the string literals of an expression
+-- after the string literals of an expression
 abbrev pub past : RawExpr → Inside → Inside
-past e i = knowing (with_literals (literals_behind i.known.literals e.kind) i.known) i
+past e i = knowing (with_literals (literals_after i.known.literals e.kind) i.known) i
 
 -- an expression that is tested by a word at a place
 abbrev pub tested_in : Place → Inside → RawExpr → Verdict (Part Typed)
@@ -109,43 +109,43 @@ is_first i None = false
 abbrev pub meeting : Inside → Inside
 meeting i = record { known = i.known; variables = i.variables; met = i.met + 1 }
 
--- inside a block, and behind it
+-- inside a block, and after it
 abbrev pub in_block : Inside → Inside
 in_block i = knowing (entered i.known) i
 
-abbrev pub behind_block : Inside → Inside → Inside
-behind_block before i = knowing (left before.known i.known) i
+abbrev pub after_block : Inside → Inside → Inside
+after_block before i = knowing (left before.known i.known) i
 
 -- a declaration of locals in front of which statements stand
-abbrev pub declared_in : RawSpecs → List RawInit → Told → Typing → Verdict Told
+abbrev pub declared_in : RawSpecs → List RawInit → Reported → Typing → Verdict Reported
 declared_in s objects so_far ty = locals_added ty.0 objects (record { statements = so_far.statements; inside = knowing ty.1 so_far.inside })
 
 abbrev pub first_place : List RawInit → Place
 first_place [] = record { file = 0; line = 0; column = 0 }
 first_place (d ∷ ds) = d.declarator.place
 
-abbrev pub declaration_typed : RawSpecs → List RawInit → Told → Verdict Told
+abbrev pub declaration_typed : RawSpecs → List RawInit → Reported → Verdict Reported
 declaration_typed s objects so_far = lift (declared_in s objects so_far) (specs_type so_far.inside.known (first_place objects) s)
 
-abbrev pub nothing_told : Inside → Told
-nothing_told i = record { statements = []; inside = i }
+abbrev pub nothing_reported : Inside → Reported
+nothing_reported i = record { statements = []; inside = i }
 
-abbrev pub telling : List Statement → Part Statement → Verdict Told
+abbrev pub telling : List Statement → Part Statement → Verdict Reported
 telling before p = Fine (record { statements = before ++ p.found ∷ []; inside = p.inside })
 
 -- the first part of a `for` (C11 6.8.5.3)
-abbrev pub ran_first : Place → Part Typed → Verdict Told
+abbrev pub ran_first : Place → Part Typed → Verdict Reported
 ran_first at p = Fine (record { statements = Run at p.found ∷ []; inside = p.inside })
 
-abbrev pub first_typed : Inside → RawFirst → Verdict Told
-first_typed i first_part.Empty = Fine (nothing_told i)
+abbrev pub first_typed : Inside → RawFirst → Verdict Reported
+first_typed i first_part.Empty = Fine (nothing_reported i)
 first_typed i (first_part.Run e) = lift (ran_first e.place) (dropped_in i e)
-first_typed i (first_part.Declare s objects) = declaration_typed s objects.items (nothing_told i)
+first_typed i (first_part.Declare s objects) = declaration_typed s objects.items (nothing_reported i)
 
 -- what a `switch` has so far: its cases, its statements, and what is known
 pub record Switching : Type 0 where
   pub cases : List Case
-  pub told : Told
+  pub reported : Reported
 
 -- the numbers are the same, or both are `default`
 abbrev pub same_value : Option ℤ → Option ℤ → Bool
@@ -163,10 +163,10 @@ case_put at value item cases = if is_case value cases then Fault CaseTwice at el
 -- the same before the statement that comes next
 abbrev pub case_added : Place → Switching → Option ℤ → Verdict Switching
 case_added at so_far value =
-    lift (λ cases. Fine (record { cases = cases; told = so_far.told })) (case_put at value (length so_far.told.statements) so_far.cases)
+    lift (λ cases. Fine (record { cases = cases; reported = so_far.reported })) (case_put at value (length so_far.reported.statements) so_far.cases)
 
-abbrev pub with_told : Switching → Told → Verdict Switching
-with_told so_far told = Fine (record { cases = so_far.cases; told = told })
+abbrev pub with_reported : Switching → Reported → Verdict Switching
+with_reported so_far reported = Fine (record { cases = so_far.cases; reported = reported })
 
 abbrev mutual
   -- the names of a function's labels in their order
@@ -204,8 +204,8 @@ abbrev mutual
   labels_in_switch (kinds.more_of-RawSwitchItem first others) = labels_of_switch_item first ++ labels_in_switch others
 
 -- what is made of the parts of a statement
-abbrev pub block_made : Place → Inside → Told → Verdict (Part Statement)
-block_made at before told = part (behind_block before told.inside) (Block at (in_a_row told.statements))
+abbrev pub block_made : Place → Inside → Reported → Verdict (Part Statement)
+block_made at before reported = part (after_block before reported.inside) (Block at (in_a_row reported.statements))
 
 abbrev pub run_made : Place → Part Typed → Verdict (Part Statement)
 run_made at p = part p.inside (Run at p.found)
@@ -223,10 +223,10 @@ abbrev pub do_made : Place → Statement → Part Typed → Verdict (Part Statem
 do_made at body test = part test.inside (Do at body test.found)
 
 abbrev pub for_made : Place → Inside → List Statement → Option Typed → Option Typed → Part Statement → Verdict (Part Statement)
-for_made at before first test last body = part (behind_block before body.inside) (For at (in_a_row first) test last body.found)
+for_made at before first test last body = part (after_block before body.inside) (For at (in_a_row first) test last body.found)
 
 abbrev pub switch_made : Place → Inside → Typed → Switching → Verdict (Part Statement)
-switch_made at before value s = part (behind_block before s.told.inside) (Switch at value s.cases (in_a_row s.told.statements))
+switch_made at before value s = part (after_block before s.reported.inside) (Switch at value s.cases (in_a_row s.reported.statements))
 
 abbrev pub return_made : Place → Part (Option Typed) → Verdict (Part Statement)
 return_made at p = part p.inside (Returns at p.found)
@@ -240,7 +240,7 @@ wrapped_in model (integer ty) n = wrapped model ty n
 wrapped_in model other n = n
 
 abbrev pub constant_case : Place → Switching → Shape → ℤ → Verdict Switching
-constant_case at so_far ty n = case_added at so_far (Some (wrapped_in (model_of so_far.told.inside.known) ty n))
+constant_case at so_far ty n = case_added at so_far (Some (wrapped_in (model_of so_far.reported.inside.known) ty n))
 
 abbrev pub selected : Place → Inside → RawExpr → Verdict (Part Typed)
 selected at i e = lift (part (past e i)) (selector_of i.known.context i.known.literals at e)
@@ -249,7 +249,7 @@ abbrev mutual
   -- a statement at a place
   pub statement_typed : Where → Inside → Place → RawStmtKind → Verdict (Part Statement)
   -- C11 6.8.2
-  statement_typed w i at (kind.Block' shape row) = lift (block_made at i) (items_typed w row (nothing_told (in_block i)))
+  statement_typed w i at (kind.Block' shape row) = lift (block_made at i) (items_typed w row (nothing_reported (in_block i)))
   -- C11 6.8.3
   statement_typed w i at kind.Empty = part i (Block at Empty)
   statement_typed w i at (kind.Run e) = lift (run_made at) (dropped_in i e)
@@ -267,7 +267,7 @@ abbrev mutual
   statement_typed w i at (kind.Do' p place body test) =
       lift (λ (b : Part Statement). lift (do_made at b.found) (tested_in at b.inside test)) (statement_typed (in_loop w) i place body)
   statement_typed w i at (kind.For' first test last p place body) =
-      lift (λ (f : Told).
+      lift (λ (f : Reported).
       lift (λ (t : Part (Option Typed)).
       lift (λ (l : Part (Option Typed)).
       lift (for_made at i f.statements t.found l.found) (statement_typed (in_loop w) l.inside place body))
@@ -278,7 +278,7 @@ abbrev mutual
   statement_typed w i at (kind.Switch' value shape row) =
       lift (λ (v : Part Typed).
       lift (switch_made at i v.found)
-      (switch_typed (in_switch w) (type_of v.found) row (record { cases = []; told = nothing_told (in_block v.inside) })))
+      (switch_typed (in_switch w) (type_of v.found) row (record { cases = []; reported = nothing_reported (in_block v.inside) })))
       (selected at i value)
   -- C11 6.8.6
   statement_typed w i at (kind.Goto label) = goto_typed at i (label_number label w.labels)
@@ -289,29 +289,29 @@ abbrev mutual
   statement_typed w i at (kind.Label' name p place body) =
       if is_first i (label_number name w.labels) then lift (label_made at i.met) (statement_typed w (meeting i) place body) else Fault Jump at
 
-  -- what stands in a block, behind some statements
-  pub item_typed : Where → RawItem → Told → Verdict Told
+  -- what stands in a block, after some statements
+  pub item_typed : Where → RawItem → Reported → Verdict Reported
   item_typed w (items.TheVariants.Declare s objects) so_far = declaration_typed s objects.items so_far
   item_typed w (items.TheVariants.Run' place body) so_far = lift (telling so_far.statements) (statement_typed w so_far.inside place body)
 
-  pub items_typed : {n : _} → Where → kinds.Row_of-RawItem n → Told → Verdict Told
+  pub items_typed : {n : _} → Where → kinds.Row_of-RawItem n → Reported → Verdict Reported
   items_typed w kinds.end_of-RawItem so_far = Fine so_far
   items_typed w (kinds.more_of-RawItem first others) so_far = lift (items_typed w others) (item_typed w first so_far)
 
   -- what stands in a `switch` by a value of a type
   pub switch_item_typed : Where → Shape → switches.RawSwitchItem → Switching → Verdict Switching
   switch_item_typed w ty (switches.TheVariants.Case at value) so_far =
-      lift (λ n. constant_case at so_far ty n.1) (value_of so_far.told.inside.known.context value)
+      lift (λ n. constant_case at so_far ty n.1) (value_of so_far.reported.inside.known.context value)
   switch_item_typed w ty (switches.TheVariants.Default at) so_far = case_added at so_far None
-  switch_item_typed w ty (switches.TheVariants.Item i) so_far = lift (with_told so_far) (item_typed w i so_far.told)
+  switch_item_typed w ty (switches.TheVariants.Item i) so_far = lift (with_reported so_far) (item_typed w i so_far.reported)
 
   pub switch_typed : {n : _} → Where → Shape → kinds.Row_of-RawSwitchItem n → Switching → Verdict Switching
   switch_typed w ty kinds.end_of-RawSwitchItem so_far = Fine so_far
   switch_typed w ty (kinds.more_of-RawSwitchItem first others) so_far = lift (switch_typed w ty others) (switch_item_typed w ty first so_far)
 
 -- a block that was read: its scope ends
-abbrev pub closed : Inside → Told → Told
-closed before told = record { statements = told.statements; inside = behind_block before told.inside }
+abbrev pub closed : Inside → Reported → Reported
+closed before reported = record { statements = reported.statements; inside = after_block before reported.inside }
 
 -- what stands in a `switch`, as a list
 abbrev pub switch_list_typed : Where → Shape → List switches.RawSwitchItem → Switching → Verdict Switching
@@ -319,7 +319,7 @@ switch_list_typed w ty [] so_far = Fine so_far
 switch_list_typed w ty (first ∷ others) so_far = lift (switch_list_typed w ty others) (switch_item_typed w ty first so_far)
 
 -- the items of a function's body (C11 6.9.1)
-abbrev pub body_typed : Where → List RawItem → Told → Verdict Told
+abbrev pub body_typed : Where → List RawItem → Reported → Verdict Reported
 body_typed w [] so_far = Fine so_far
 body_typed w (first ∷ others) so_far = lift (body_typed w others) (item_typed w first so_far)
 
@@ -332,8 +332,8 @@ labels_of_switch_list [] = []
 labels_of_switch_list (first ∷ others) = labels_of_switch_item first ++ labels_of_switch_list others
 
 -- a block, as a list of items
-abbrev pub block_typed : Where → Inside → List RawItem → Verdict Told
-block_typed w i list = lift (λ told. Fine (closed i told)) (body_typed w list (nothing_told (in_block i)))
+abbrev pub block_typed : Where → Inside → List RawItem → Verdict Reported
+block_typed w i list = lift (λ reported. Fine (closed i reported)) (body_typed w list (nothing_reported (in_block i)))
 
 -- `while`
 abbrev pub while_typed : Where → Inside → Place → RawExpr → Place → RawStmtKind → Verdict (Part Statement)
@@ -348,7 +348,7 @@ do_typed w i at test place body =
 -- `for`
 abbrev pub for_typed : Where → Inside → Place → RawFirst → Option RawExpr → Option RawExpr → Place → RawStmtKind → Verdict (Part Statement)
 for_typed w i at first test last place body =
-    lift (λ (f : Told).
+    lift (λ (f : Reported).
     lift (λ (t : Part (Option Typed)).
     lift (λ (l : Part (Option Typed)).
     lift (for_made at i f.statements t.found l.found) (statement_typed (in_loop w) l.inside place body))
@@ -358,7 +358,7 @@ for_typed w i at first test last place body =
 
 -- a `switch` without cases or statements
 abbrev pub no_cases : Inside → Switching
-no_cases i = record { cases = []; told = nothing_told i }
+no_cases i = record { cases = []; reported = nothing_reported i }
 
 -- `switch`
 abbrev pub switch_whole : Where → Inside → Place → RawExpr → List switches.RawSwitchItem → Verdict (Part Statement)

@@ -13,7 +13,7 @@ use Rattle.cs_typing.specs.declared.filed.Filed.{Filed as HeldFiled}
 use Rattle.cs_typing.specs.declared.inside.Inside.{Inside as HeldInside}
 use Rattle.cs_typing.specs.declared.inside.Where.{Where as HeldWhere}
 use Rattle.cs_typing.specs.declared.switches.Switched.{Switched}
-use Rattle.cs_typing.specs.Objects.{Filed, Object, Inside, LocalDeclared, Told}
+use Rattle.cs_typing.specs.Objects.{Filed, Object, Inside, LocalDeclared, Reported}
 use Rattle.cs_consts.specs.declared.scope.Callee.{Callee}
 use Rattle.cs_consts.specs.Meanings.{Declaration, declaration_of}
 use Rattle.cs_declarations.specs.declared.scopes.Inner.{Inner}
@@ -38,9 +38,9 @@ object_of number f = record { number = number; filed = filed_of f }
 abbrev pub inside_of : HeldInside → Inside
 inside_of i = record { known = known_of i.known; variables = map variable i.locals.items; met = i.met }
 
--- parts of statements with the inside of the function behind them
-abbrev pub told_of : List Stmt → HeldInside → Told
-told_of statements i = record { statements = map statement statements; inside = inside_of i }
+-- parts of statements with the inside of the function after them
+abbrev pub reported_of : List Stmt → HeldInside → Reported
+reported_of statements i = record { statements = map statement statements; inside = inside_of i }
 
 abbrev pub local_of : Stmt → HeldInside → LocalDeclared
 local_of s i = record { statement = statement s; inside = inside_of i }
@@ -63,7 +63,7 @@ kind_part at kind i = kind_at at kind (inside_of i)
 
 -- a `switch` so far
 abbrev pub switching_of : Switched → HeldInside → Switching
-switching_of s i = record { cases = s.cases; told = told_of s.statements.items i }
+switching_of s i = record { cases = s.cases; reported = reported_of s.statements.items i }
 
 abbrev pub where_of : HeldWhere → Where
 where_of w = record { returns = shape_of w.returns.now; labels = w.labels.now; breaks = w.breaks; continues = w.continues }

@@ -5,7 +5,7 @@ ghost use Rattle.cs_ast.specs.TypedProgram.{variable, routine};
 ghost use Rattle.cs_consts.specs.declared.scope.Callee.TheVariants as callee;
 ghost use Rattle.cs_consts.specs.Verdicts.{Answers};
 ghost use Rattle.cs_ast.specs.TypedView.{statement};
-ghost use Rattle.cs_typing.specs.Objects.{Told as ToldOf, changed};
+ghost use Rattle.cs_typing.specs.Objects.{Reported as ReportedOf, changed};
 ghost use Rattle.cs_typing.specs.Functions as functions;
 ghost use Rattle.cs_typing.specs.Functions.{body_added, bodied, function_added};
 ghost use Rattle.cs_typing.specs.View.{filed_of, inner_of};
@@ -33,7 +33,7 @@ fn put_body(
     locals: Vec<Local>,
     statements: Vec<Stmt>,
 )
-    ensures { (told : ToldOf) → told.inside.variables ≡ map variable locals.items → told.statements ≡ map statement statements.items → map routine functions.new.items ≡ changed number (bodied head.now body.now told) (map routine functions.old.items) }
+    ensures { (reported : ReportedOf) → reported.inside.variables ≡ map variable locals.items → reported.statements ≡ map statement statements.items → map routine functions.new.items ≡ changed number (bodied head.now body.now reported) (map routine functions.old.items) }
 {
     if let Some(function) = functions.get_mut(number as usize) {
         function.place = head.place;
@@ -121,7 +121,7 @@ fn resulted(
     }
 }
 
-/// A file with one more function, behind whose words stands a type.
+/// A file with one more function, after whose words stands a type.
 #[tactic(auto, using(cs_consts::proofs::Lifting::lifts))]
 pub fn with_function(
     alloc: Global,

@@ -164,7 +164,7 @@ pub fn external_typed(
     with_external(alloc, filed, base, &external.kind)
 }
 
-// A file with further parts, one behind another.
+// A file with further parts, one after another.
 fn with_externals(alloc: Global, before: Filed, file: &[RawExternal]) -> Result<Filed, TypeRefusal>
     ensures { Answers filed_of (file_typed file.now (filed_of before)) result }
 {

@@ -5,7 +5,7 @@ use cs_declarations::Known;
 use cs_names::Name;
 use indexmap::IndexSet;
 
-/// What is known behind the parts of a file that were read, with its objects and functions.
+/// What is known after the parts of a file that were read, with its objects and functions.
 #[derive(Drop)]
 pub struct Filed {
     pub known: Known,

@@ -4,7 +4,7 @@ ghost use Rattle.cs_types.specs.Shape.{shape_of};
 ghost use Rattle.cs_declarations.specs.Answered.{AnswersWith};
 ghost use Rattle.cs_typing.specs.Objects.{local_added, local_initialized, locals_added, with_local};
 ghost use Rattle.cs_typing.specs.Statements.{in_loop, in_switch, tested_in, dropped_in, selected, tested_if, dropped_if, first_place, declaration_typed};
-ghost use Rattle.cs_typing.specs.View.{inside_of, where_of, typed_part, optional_part, local_of, told_of};
+ghost use Rattle.cs_typing.specs.View.{inside_of, where_of, typed_part, optional_part, local_of, reported_of};
 
 use crate::labels::Labels;
 use cs_ast::Place;
@@ -164,7 +164,7 @@ impl Inside {
         })
     }
 
-    // A declared object of a block, and the statement that declares it: its name is known behind its declarator.
+    // A declared object of a block, and the statement that declares it: its name is known after its declarator.
     fn declare_local(
         &mut self,
         alloc: Global,
@@ -198,7 +198,7 @@ impl Inside {
         Ok(number)
     }
 
-    // The statement of each of some declared objects of a block, behind others.
+    // The statement of each of some declared objects of a block, after others.
     fn declare_locals(
         &mut self,
         alloc: Global,
@@ -206,7 +206,7 @@ impl Inside {
         objects: &[RawInit],
         before: Vec<Stmt>,
     ) -> Result<Vec<Stmt>, TypeRefusal>
-        ensures { AnswersWith (λ list behind. told_of list.items behind) (locals_added (shape_of base.now) objects.now (told_of before.items self.old)) result self.new }
+        ensures { AnswersWith (λ list following. reported_of list.items following) (locals_added (shape_of base.now) objects.now (reported_of before.items self.old)) result self.new }
     {
         let mut statements = before;
         for declared in objects {
@@ -215,7 +215,7 @@ impl Inside {
         Ok(statements)
     }
 
-    /// A declaration in a block, behind statements: a statement for each of its objects.
+    /// A declaration in a block, after statements: a statement for each of its objects.
     pub fn declare(
         &mut self,
         alloc: Global,
@@ -223,7 +223,7 @@ impl Inside {
         objects: &[RawInit],
         before: Vec<Stmt>,
     ) -> Result<Vec<Stmt>, TypeRefusal>
-        ensures { AnswersWith (λ list behind. told_of list.items behind) (declaration_typed specs.now objects.now (told_of before.items self.old)) result self.new }
+        ensures { AnswersWith (λ list following. reported_of list.items following) (declaration_typed specs.now objects.now (reported_of before.items self.old)) result self.new }
     {
         let base = specs_type(alloc, &mut self.known, first_place(objects), specs)?;
         self.declare_locals(alloc, &base, objects, before)

@@ -41,7 +41,7 @@ impl Labels {
         }
     }
 
-    // Adds a label behind the others.
+    // Adds a label after the others.
     fn add(&mut self, name: &Name) -> Result<(), AllocError>
         ensures { OnOk result (self.new ≡ self.old ++ name.now ∷ []) }
     {

@@ -56,7 +56,7 @@ pub fn typed(
     tokens: &[Token],
     file: &[RawExternal],
 ) -> Result<Program, TypeRefusal>
-    ensures told { Answers typed_program (typed model files.now tokens.now file.now) result }
+    ensures reported { Answers typed_program (typed model files.now tokens.now file.now) result }
     ensures laid_out { IfOk result (λ program. IsLaidOut program.model program.table.list) }
     ensures well_formed { IsFileTree files.now tokens.now file.now → IfOk result (λ program. IsWellFormed (typed_program program)) }
 {

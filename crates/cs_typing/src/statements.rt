@@ -3,8 +3,8 @@ ghost use Rattle.std.specs.Prelude.{◌≡◌, if◌then◌else◌};
 ghost use Rattle.cs_types.specs.Shape.{shape_of};
 ghost use Rattle.cs_declarations.specs.Answered.{AnswersWith};
 ghost use Rattle.cs_typing.specs.Objects.{Inside as InsideOf};
-ghost use Rattle.cs_typing.specs.Statements.{nothing_told, statement_typed, while_typed, do_typed, for_typed, first_typed, block_typed, body_typed, item_typed, returned, value_returned, is_void, label_number, goto_typed, label_typed};
-ghost use Rattle.cs_typing.specs.View.{inside_of, where_of, told_of, statement_part, kind_part, kind_at, typed_part, optional_part};
+ghost use Rattle.cs_typing.specs.Statements.{nothing_reported, statement_typed, while_typed, do_typed, for_typed, first_typed, block_typed, body_typed, item_typed, returned, value_returned, is_void, label_number, goto_typed, label_typed};
+ghost use Rattle.cs_typing.specs.View.{inside_of, where_of, reported_of, statement_part, kind_part, kind_at, typed_part, optional_part};
 ghost use Rattle.cs_consts.specs.Verdicts.{Answers, Fine, Fault};
 ghost use Rattle.cs_consts.specs.declared.refusal.TypeCode.TheVariants.{Jump};
 
@@ -142,7 +142,7 @@ fn first_typed(
     inside: &mut Inside,
     first: &RawFirst,
 ) -> Result<Vec<Stmt>, TypeRefusal>
-    ensures { AnswersWith (λ list behind. told_of list.items behind) (first_typed (inside_of inside.old) first.now) result inside.new }
+    ensures { AnswersWith (λ list following. reported_of list.items following) (first_typed (inside_of inside.old) first.now) result inside.new }
 {
     let mut statements = Vec::new(alloc);
     match first {
@@ -166,7 +166,7 @@ fn block(
     at: Where,
     items: &[RawItem],
 ) -> Result<Vec<Stmt>, TypeRefusal>
-    ensures { AnswersWith (λ list behind. told_of list.items behind) (block_typed (where_of at.entry) (inside_of inside.old) items.now) result inside.new }
+    ensures { AnswersWith (λ list following. reported_of list.items following) (block_typed (where_of at.entry) (inside_of inside.old) items.now) result inside.new }
 {
     let around = inside.known.enter();
     let statements = items_typed(alloc, inside, at, items)?;
@@ -182,7 +182,7 @@ pub fn items_typed(
     at: Where,
     items: &[RawItem],
 ) -> Result<Vec<Stmt>, TypeRefusal>
-    ensures { AnswersWith (λ list behind. told_of list.items behind) (body_typed (where_of at.entry) items.now (nothing_told (inside_of inside.old))) result inside.new }
+    ensures { AnswersWith (λ list following. reported_of list.items following) (body_typed (where_of at.entry) items.now (nothing_reported (inside_of inside.old))) result inside.new }
 {
     let mut statements = Vec::new(alloc);
     for item in items {
@@ -191,7 +191,7 @@ pub fn items_typed(
     Ok(statements)
 }
 
-/// A declaration or a statement of a block, behind others.
+/// A declaration or a statement of a block, after others.
 #[cycle(statements)]
 pub fn item_typed(
     alloc: Global,
@@ -200,7 +200,7 @@ pub fn item_typed(
     item: &RawItem,
     before: Vec<Stmt>,
 ) -> Result<Vec<Stmt>, TypeRefusal>
-    ensures { AnswersWith (λ list behind. told_of list.items behind) (item_typed (where_of at.entry) item.now (told_of before.items inside.old)) result inside.new }
+    ensures { AnswersWith (λ list following. reported_of list.items following) (item_typed (where_of at.entry) item.now (reported_of before.items inside.old)) result inside.new }
 {
     match item {
         RawItem::Declare(specs, objects) => inside.declare(alloc, specs, objects, before),
@@ -289,7 +289,7 @@ fn leave(leads: bool, place: Place, kind: StmtKind) -> Result<StmtKind, TypeRefu
     }
 }
 
-// A label, the first one of its name in the function, and the statement behind it (C11 6.8.1).
+// A label, the first one of its name in the function, and the statement after it (C11 6.8.1).
 #[cycle(statements)]
 fn labelled(
     alloc: Global,

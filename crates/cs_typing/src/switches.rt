@@ -63,7 +63,7 @@ fn switch_items(
     Ok(so_far)
 }
 
-// One of these, behind others.
+// One of these, after others.
 #[cycle(statements)]
 fn switch_item(
     alloc: Global,

@@ -12,7 +12,7 @@ use Rattle.cs_consts.specs.declared.purpose.Purpose.TheVariants.{Run, Constant}
 use Rattle.cs_consts.specs.Integers.{type_of, raised}
 use Rattle.cs_consts.specs.Conversions.{converted}
 use Rattle.cs_consts.specs.Operators.{tested}
-use Rattle.cs_consts.specs.Typing.{Literals, literals_behind, formed, operand_in}
+use Rattle.cs_consts.specs.Typing.{Literals, literals_after, formed, operand_in}
 use Rattle.cs_consts.specs.Doors.{number_of_constant, value_of, operand_of, assigned_value, test_of, selector_of, discarded_value}
 use Rattle.cs_well_formed.specs.Structs.{NamesStructs}
 use Rattle.cs_well_formed.specs.Expressions.{Setting, IsWell, IsValueOf, IsScalarValue, IsIntegerValue}
@@ -25,7 +25,7 @@ use Rattle.cs_well_formed.proofs.Conversions.{converted-well}
 use Rattle.cs_well_formed.proofs.Operators.{tested-well}
 use Rattle.cs_well_formed.proofs.Typing.{IsWellValue, done-well, value_in-well, operand_in-well, formed-well}
 
--- an expression that is run, behind literals
+-- an expression that is run, after literals
 module _ (s : Setting) (c : Context) (literals : Literals) (e : RawExpr) (h : IsTyped s c literals e.kind) where
   run-well : (target : Option Shape) → TargetNames s target → IfFine (formed c Run literals target e.place e.kind) (IsWell s)
   run-well target names = formed-well s c h.agrees Run literals target names e.place e.kind h.constants h.texts
@@ -90,8 +90,8 @@ number-InRange s c (Of at ty form) same well = tt
 pub value_of-InRange : (s : Setting) (c : Context) (e : RawExpr) → Agrees s c → HasConstants (written e) → IfFine (value_of c e) (λ k. InRange c.model k.0 k.1)
 unfolding value_of
 value_of-InRange s c e h fit =
-    let alone = with_literals s (literals_behind [] e.kind) in
-    let agrees = agrees-with_literals s c (literals_behind [] e.kind) h in
+    let alone = with_literals s (literals_after [] e.kind) in
+    let agrees = agrees-with_literals s c (literals_after [] e.kind) h in
     lift-then (IsWell alone) (λ k. InRange c.model k.0 k.1) number_of_constant _
     (done-well alone c agrees Constant _ (formed-well alone c agrees Constant [] None tt e.place e.kind fit ([], sym (append-nil _))))
     (λ v well. number-InRange alone c v h.model well)

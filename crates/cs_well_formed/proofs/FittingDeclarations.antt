@@ -8,7 +8,7 @@ use Rattle.cs_types.specs.Shape.{Shape, integer}
 use Rattle.cs_types.specs.declared.int_type.IntType.TheVariants.{Int}
 use Rattle.cs_ast.specs.declared.place.Place.{Place}
 use Rattle.cs_ast.specs.declared.token.TokenKind.TheVariants as token
-use Rattle.cs_ast.specs.declared.token.Mark.TheVariants as mark
+use Rattle.cs_ast.specs.declared.token.Punctuator.TheVariants as punctuator
 use Rattle.cs_ast.specs.declared.raw.name.RawName.{RawName}
 use Rattle.cs_ast.specs.declared.raw.declaration.RawSpecs.{RawSpecs}
 use Rattle.cs_ast.specs.declared.raw.declaration.SpecWord as words
@@ -23,7 +23,7 @@ use Rattle.cs_ast.specs.declared.raw.written_type.TypeWord.TheVariants as word
 use Rattle.cs_ast.specs.RawDeclarations.{Declarator, Spec, Static, Plain, StructBody, Specs, MoreSpecs, Members, MoreMembers, Parameter}
 use Rattle.cs_ast.specs.RawDeclarationView.{declarator, spec, specs_row, members, specs_list, specs, parameter, parameters}
 use Rattle.cs_grammar.specs.Text.{pointers_text, integer_word_text}
-use Rattle.cs_grammar.specs.FileText.{mark_text, each_behind_comma, with_commas, brackets_text, name_text, declarator_text, spec_text, specs_text, members_text, parameter_text, parameters_text}
+use Rattle.cs_grammar.specs.FileText.{punctuator_text, each_after_comma, with_commas, brackets_text, name_text, declarator_text, spec_text, specs_text, members_text, parameter_text, parameters_text}
 use Rattle.cs_grammar.proofs.FileTexts.{declarator_append}
 use Rattle.cs_consts.specs.declared.context.Context.{Context}
 use Rattle.cs_consts.specs.declared.scope.TagMeaning.{TagMeaning}
@@ -35,14 +35,14 @@ use Rattle.cs_consts.specs.Objects.{bytes_in}
 use Rattle.cs_consts.specs.TypeNames.{whole_word, typedef_at, enum_at, tag_place, starred, complete_at}
 use Rattle.cs_declarations.specs.Known.{Known, table_of, declarations_of, declaring, is_declared_here}
 use Rattle.cs_declarations.specs.Bodies.{Typing, empty_struct, with_struct, with_tagged_struct, tag_in, struct_named, word_type, align_in, Laying, nothing_laid, has_member, placed_if, member_added, member_declared, declarator_type, members_declared, is_int, Counting, constant_added, number_said, constant_declared, constants_declared, with_enum_tag, is_new_enum, enum_body, Opening, is_among, opening_tagged, opening, name_or_none, Body, struct_read, group_declared, first_name, plain_row, row_type, members_read, plain_words, words_type, specs_type, typedef_added, typedefs_added}
-use Rattle.cs_declarations.specs.Parameters.{Head, Passed, name_in, may_write, naming, is_free_name, with_parameter, parameter_passed, parameter_typed, parameters_behind, parameters_typed}
+use Rattle.cs_declarations.specs.Parameters.{Head, Passed, name_in, may_write, naming, is_free_name, with_parameter, parameter_passed, parameter_typed, parameters_after, parameters_typed}
 use Rattle.cs_well_formed.specs.Nodes.{struct_nodes}
 use Rattle.cs_well_formed.specs.Sizes.{size_of}
 use Rattle.cs_well_formed.specs.Bounded.{known_nodes, IsBoundedHead, WordsAreBounded, TypedefsAreBounded, ParametersAreBounded}
 use Rattle.cs_well_formed.proofs.Verdicts.{IfFine, if_fine-at, if_fine-any, if_fine-weaker, lift-then, cond-then}
 use Rattle.cs_well_formed.proofs.TextSizes.{size-pointers, size-declarator, size-with_commas, size-spec, size-specs, size-members, size-parameter, token-some, all_nodes-append, all_nodes-set}
 
--- what is known behind something: no literal more, and so many structs and members more at most
+-- what is known after something: no literal more, and so many structs and members more at most
 pub record Adds (count : ℕ) (k m : Known) : Type 0 where
   pub literals : m.literals ≡ k.literals
   pub structs : known_nodes m ≤ known_nodes k + count
@@ -177,13 +177,13 @@ members_declared-lay c base (d ∷ ds) before =
 sized-declarator : (d : Declarator) → 1 ≤ size_of (declarator_text d)
 sized-declarator d = omega (arith, size-pointers d.pointers (token.Name d.name ∷ brackets_text d.bounds []))
 
-sized-each : (ds : List RawDeclarator) → length ds ≤ size_of (each_behind_comma declarator_text (map declarator ds))
+sized-each : (ds : List RawDeclarator) → length ds ≤ size_of (each_after_comma declarator_text (map declarator ds))
 sized-each [] = omega arith
-sized-each (d ∷ ds) = omega (arith, size-declarator (declarator d) (each_behind_comma declarator_text (map declarator ds) []), sized-each ds)
+sized-each (d ∷ ds) = omega (arith, size-declarator (declarator d) (each_after_comma declarator_text (map declarator ds) []), sized-each ds)
 
 sized-declarators : (ds : List RawDeclarator) → length ds ≤ size_of (with_commas declarator_text (map declarator ds))
 sized-declarators [] = omega arith
-sized-declarators (d ∷ ds) = omega (arith, size-declarator (declarator d) (each_behind_comma declarator_text (map declarator ds) []), sized-declarator (declarator d), sized-each ds)
+sized-declarators (d ∷ ds) = omega (arith, size-declarator (declarator d) (each_after_comma declarator_text (map declarator ds) []), sized-declarator (declarator d), sized-each ds)
 
 -- a word has a token
 sized-word : (w : TypeWord) → 1 ≤ size_of (spec_text (Plain w))
@@ -196,15 +196,15 @@ sized-word (word.Enum tag) = omega arith
 
 -- a body of a struct, with its word and its braces
 sized-body : (name : Option (List ℕ)) (ms : Members) → size_of (members_text ms) + 3 ≤ size_of (spec_text (StructBody name ms))
-sized-body None ms = omega (arith, size-members ms (mark_text mark.CloseBrace []))
-sized-body (Some name) ms = omega (arith, size-members ms (mark_text mark.CloseBrace []))
+sized-body None ms = omega (arith, size-members ms (punctuator_text punctuator.CloseBrace []))
+sized-body (Some name) ms = omega (arith, size-members ms (punctuator_text punctuator.CloseBrace []))
 
 sized-specs : (first : Spec) (others : Specs) → size_of (specs_text (MoreSpecs first others)) ≡ size_of (spec_text first) + size_of (specs_text others)
 sized-specs first others = size-spec first (specs_text others [])
 
 sized-group : (s : Specs) (ds : List Declarator) (others : Members) → size_of (members_text (MoreMembers s ds others)) ≡ size_of (specs_text s) + size_of (with_commas declarator_text ds) + size_of (members_text others) + 1
 sized-group s ds others =
-    omega (arith, size-specs s (with_commas declarator_text ds (mark_text mark.Semicolon (members_text others []))), size-with_commas declarator_text declarator_append ds (mark_text mark.Semicolon (members_text others [])))
+    omega (arith, size-specs s (with_commas declarator_text ds (punctuator_text punctuator.Semicolon (members_text others []))), size-with_commas declarator_text declarator_append ds (punctuator_text punctuator.Semicolon (members_text others [])))
 
 plain_row-room : {n : _} (row : words.Row_of-SpecWord n) → length (plain_row row) ≤ size_of (specs_text (specs_row row))
 plain_row-room words.end_of-SpecWord = omega arith
@@ -309,7 +309,7 @@ typedefs_are_bounded k m base names is =
     let h = if_fine-at (Adds 0 k) (typedefs_added base names k) m (typedefs_added-adds base names k) is in
     record { literals = h.literals; structs = omega (arith, h.structs) }
 
--- parameters behind others, with their marks
+-- parameters after others, with their marks
 record HeadFits (before : Head) (count : ℕ) (after : Head) : Type 0 where
   literals : after.known.literals ≡ before.known.literals
   nodes : length after.variables + length after.written + known_nodes after.known ≤ length before.variables + length before.written + known_nodes before.known + count
@@ -337,30 +337,30 @@ parameter_typed-fits p before =
 sized-parameter : (p : Parameter) → size_of (specs_text p.specs) ≤ size_of (parameter_text p)
 sized-parameter p = omega (arith, size-specs p.specs (pointers_text p.pointers (name_text p.name (brackets_text p.bounds []))))
 
-parameters_behind-fits : (ps : List RawParameter) (before : Head) → IfFine (parameters_behind ps before) (HeadFits before (16 * size_of (each_behind_comma parameter_text (map parameter ps))))
-parameters_behind-fits [] before = record { literals = refl; nodes = omega arith }
-parameters_behind-fits (p ∷ ps) before =
+parameters_after-fits : (ps : List RawParameter) (before : Head) → IfFine (parameters_after ps before) (HeadFits before (16 * size_of (each_after_comma parameter_text (map parameter ps))))
+parameters_after-fits [] before = record { literals = refl; nodes = omega arith }
+parameters_after-fits (p ∷ ps) before =
     let one = 16 * size_of (specs_text (specs p.specs)) + 2 in
-    let rest = size_of (each_behind_comma parameter_text (map parameter ps)) in
-    let all = 16 * size_of (each_behind_comma parameter_text (map parameter (p ∷ ps))) in
-    lift-then (HeadFits before one) (HeadFits before all) (parameters_behind ps) _ (parameter_typed-fits p before)
-    (λ head first. if_fine-weaker (HeadFits head (16 * rest)) (HeadFits before all) (parameters_behind ps head) (parameters_behind-fits ps head)
+    let rest = size_of (each_after_comma parameter_text (map parameter ps)) in
+    let all = 16 * size_of (each_after_comma parameter_text (map parameter (p ∷ ps))) in
+    lift-then (HeadFits before one) (HeadFits before all) (parameters_after ps) _ (parameter_typed-fits p before)
+    (λ head first. if_fine-weaker (HeadFits head (16 * rest)) (HeadFits before all) (parameters_after ps head) (parameters_after-fits ps head)
     (λ after others. record {
       literals = others.literals ∙ first.literals;
-      nodes = omega (arith, first.nodes, others.nodes, sized-parameter (parameter p), size-parameter (parameter p) (each_behind_comma parameter_text (map parameter ps) []));
+      nodes = omega (arith, first.nodes, others.nodes, sized-parameter (parameter p), size-parameter (parameter p) (each_after_comma parameter_text (map parameter ps) []));
     }))
 
-sized-parameters : (ps : List RawParameter) → size_of (each_behind_comma parameter_text (map parameter ps)) ≤ size_of (with_commas parameter_text (map parameter ps)) + 1
+sized-parameters : (ps : List RawParameter) → size_of (each_after_comma parameter_text (map parameter ps)) ≤ size_of (with_commas parameter_text (map parameter ps)) + 1
 sized-parameters [] = omega arith
-sized-parameters (p ∷ ps) = omega (arith, size-parameter (parameter p) (each_behind_comma parameter_text (map parameter ps) []))
+sized-parameters (p ∷ ps) = omega (arith, size-parameter (parameter p) (each_after_comma parameter_text (map parameter ps) []))
 
 parameters_typed-fits : (k : Known) (raw : RawParameters) → IfFine (parameters_typed k raw) (λ head. IsBoundedHead k head (size_of (parameters_text (parameters raw))))
 parameters_typed-fits k parameter_lists.Empty = record { literals = refl; nodes = omega arith }
 parameters_typed-fits k parameter_lists.Void = record { literals = refl; nodes = omega arith }
 parameters_typed-fits k (parameter_lists.List list) =
     let before : Head = record { variables = []; written = []; known = k } in
-    if_fine-weaker (HeadFits before (16 * size_of (each_behind_comma parameter_text (map parameter list.items)))) (λ head. IsBoundedHead k head (size_of (with_commas parameter_text (map parameter list.items)))) _
-    (parameters_behind-fits list.items before)
+    if_fine-weaker (HeadFits before (16 * size_of (each_after_comma parameter_text (map parameter list.items)))) (λ head. IsBoundedHead k head (size_of (with_commas parameter_text (map parameter list.items)))) _
+    (parameters_after-fits list.items before)
     (λ head h. record { literals = h.literals; nodes = omega (arith, h.nodes, sized-parameters list.items) })
 
 pub parameters_are_bounded : ParametersAreBounded

@@ -1,10 +1,10 @@
--- What the doors of the typing of expressions give is bounded by its text, together with the literals behind it: for `typed_nodes_are_bounded`.
+-- What the doors of the typing of expressions give is bounded by its text, together with the literals after it: for `typed_nodes_are_bounded`.
 use Rattle.std.proofs.Common.{ℕ, ◌+◌, ◌≤◌, Option, Some, None, arith}
 use Rattle.cs_types.specs.Shape.{Shape}
 use Rattle.cs_ast.specs.declared.place.Place.{Place}
 use Rattle.cs_ast.specs.declared.raw.expression.RawExpr.{RawExpr}
 use Rattle.cs_ast.specs.declared.raw.expression.RawExprKind.{RawExprKind}
-use Rattle.cs_ast.specs.RawTree.{Written, Named, Numeral, Character, Literal, Enclosed, Index, Call, Member, Arrow, StepBehind, StepBefore, Prefix, SizeOf, SizeOfType, Cast, Infix, Choice, Assign, Comma}
+use Rattle.cs_ast.specs.RawTree.{Written, Named, Numeral, Character, Literal, Enclosed, Index, Call, Member, Arrow, StepAfter, StepBefore, Prefix, SizeOf, SizeOfType, Cast, Infix, Choice, Assign, Comma}
 use Rattle.cs_ast.specs.RawView.{written_kind}
 use Rattle.cs_ast.specs.TypedTree.{Typed}
 use Rattle.cs_consts.specs.declared.context.Context.{Context}
@@ -12,12 +12,12 @@ use Rattle.cs_consts.specs.declared.purpose.Purpose.TheVariants.{Run}
 use Rattle.cs_consts.specs.Integers.{type_of, raised}
 use Rattle.cs_consts.specs.Conversions.{converted}
 use Rattle.cs_consts.specs.Operators.{tested}
-use Rattle.cs_consts.specs.Typing.{Literals, literals_behind, formed, operand_in}
+use Rattle.cs_consts.specs.Typing.{Literals, literals_after, formed, operand_in}
 use Rattle.cs_consts.specs.Doors.{operand_of, assigned_value, test_of, selector_of, discarded_value}
 use Rattle.cs_well_formed.specs.WrittenPlaces.{ExpressionAmong}
 use Rattle.cs_well_formed.specs.Bounded.{IsBounded, FormedAreBounded, OperandsAreBounded, AssignedAreBounded, TestsAreBounded, SelectorsAreBounded, DiscardedAreBounded}
 use Rattle.cs_well_formed.proofs.Verdicts.{IfFine, if_fine-at, lift-then}
-use Rattle.cs_well_formed.proofs.LiteralsBehind.{sized, sized-Index, sized-Call, sized-Member, sized-Arrow, sized-StepBehind, sized-Infix, sized-Choice, sized-Assign, sized-Comma, literals-grow}
+use Rattle.cs_well_formed.proofs.LiteralsAfter.{sized, sized-Index, sized-Call, sized-Member, sized-Arrow, sized-StepAfter, sized-Infix, sized-Choice, sized-Assign, sized-Comma, literals-grow}
 use Rattle.cs_well_formed.proofs.FittingValues.{Fits, converted-fits, raised-fits, tested-fits}
 use Rattle.cs_well_formed.proofs.FittingTyping.{room_of, value_in-fits, operand_in-fits, formed-fits}
 
@@ -32,7 +32,7 @@ sized-some (Index a n) = omega (arith, sized-Index a n)
 sized-some (Call f es) = omega (arith, sized-Call f es)
 sized-some (Member e name) = omega (arith, sized-Member e name)
 sized-some (Arrow e name) = omega (arith, sized-Arrow e name)
-sized-some (StepBehind step e) = omega (arith, sized-StepBehind step e)
+sized-some (StepAfter step e) = omega (arith, sized-StepAfter step e)
 sized-some (StepBefore step e) = omega arith
 sized-some (Prefix op e) = omega arith
 sized-some (SizeOf e) = omega arith
@@ -44,8 +44,8 @@ sized-some (Assign op l r) = omega (arith, sized-Assign op l r)
 sized-some (Comma l r) = omega (arith, sized-Comma l r)
 
 module _ (Is : Place → Type 0) where
-  -- with the literals behind it
-  pub fits-bounded : (literals : Literals) (k : RawExprKind) (room : ℕ) (e : Typed) → Fits Is room e → room ≤ room_of k + 2 → IsBounded Is literals (literals_behind literals k) (sized (written_kind k)) e
+  -- with the literals after it
+  pub fits-bounded : (literals : Literals) (k : RawExprKind) (room : ℕ) (e : Typed) → Fits Is room e → room ≤ room_of k + 2 → IsBounded Is literals (literals_after literals k) (sized (written_kind k)) e
   fits-bounded literals k room e h small = record {
     stands = h.stands;
     nodes = omega (arith, h.nodes, sized-some (written_kind k));

@@ -2,7 +2,7 @@
 use Rattle.std.proofs.Common.{◌≡◌, ℕ, ◌+◌, ◌*◌, ◌≤◌, Bool, true, false, List, [], ◌∷◌, length, Some, is_some, arith}
 use Rattle.cs_types.specs.Shape.{Shape, void, integer, pointer, array, struct}
 use Rattle.cs_ast.specs.declared.place.Place.{Place}
-use Rattle.cs_ast.specs.declared.token.Mark.TheVariants as mark
+use Rattle.cs_ast.specs.declared.token.Punctuator.TheVariants as punctuator
 use Rattle.cs_ast.specs.declared.raw.expression.RawExpr.{RawExpr}
 use Rattle.cs_ast.specs.declared.raw.expression.RawExprKind.{RawExprKind}
 use Rattle.cs_ast.specs.declared.raw.expression.RawExprKind.TheVariants as kind
@@ -12,7 +12,7 @@ use Rattle.cs_ast.specs.RawView.{written_kind, written}
 use Rattle.cs_ast.specs.RawDeclarations.{Initial as WrittenInitial, Listed, Initials as WrittenInitials, NoItem, MoreItems}
 use Rattle.cs_ast.specs.RawDeclarationView.{initial, initials}
 use Rattle.cs_ast.specs.TypedTree.{Typed, Initial, Value, Parts, Bytes, Initials, NoPart, Part}
-use Rattle.cs_grammar.specs.FileText.{mark_text, initial_text, initials_text, further_initials_text}
+use Rattle.cs_grammar.specs.FileText.{punctuator_text, initial_text, initials_text, further_initials_text}
 use Rattle.cs_consts.specs.declared.context.Context.{Context}
 use Rattle.cs_consts.specs.Verdicts.{Verdict, Fine, Fault, lift}
 use Rattle.cs_consts.specs.Integers.{type_of}
@@ -26,12 +26,12 @@ use Rattle.cs_well_formed.specs.Sizes.{size_of}
 use Rattle.cs_well_formed.specs.Bounded.{texts_nodes, IsBoundedInitial, InitialsAreBounded}
 use Rattle.cs_well_formed.proofs.Verdicts.{IfFine, if_fine-at, lift-then, cond-then}
 use Rattle.cs_well_formed.proofs.TextSizes.{size-initial, size-initials}
-use Rattle.cs_well_formed.proofs.LiteralsBehind.{sized, literals-grow}
+use Rattle.cs_well_formed.proofs.LiteralsAfter.{sized, literals-grow}
 use Rattle.cs_well_formed.proofs.FittingValues.{Fits, converted-fits}
 use Rattle.cs_well_formed.proofs.FittingTyping.{room_of}
 use Rattle.cs_well_formed.proofs.FittingDoors.{sized-some, operand_of-fits}
 
--- items, each behind a comma, and the same without the first comma
+-- items, each after a comma, and the same without the first comma
 sized-items : (first : WrittenInitial) (others : WrittenInitials) → size_of (further_initials_text (MoreItems first others)) ≡ size_of (initial_text first) + size_of (further_initials_text others) + 1
 sized-items first others = omega (arith, size-initial first (further_initials_text others []))
 
@@ -40,8 +40,8 @@ sized-further NoItem = omega arith
 sized-further (MoreItems first others) = omega (arith, size-initial first (further_initials_text others []))
 
 sized-list : (items : WrittenInitials) (comma : Bool) → size_of (initials_text items) + 2 ≤ size_of (initial_text (Listed items comma))
-sized-list items true = omega (arith, size-initials items (mark_text mark.Comma (mark_text mark.CloseBrace [])))
-sized-list items false = omega (arith, size-initials items (mark_text mark.CloseBrace []))
+sized-list items true = omega (arith, size-initials items (punctuator_text punctuator.Comma (punctuator_text punctuator.CloseBrace [])))
+sized-list items false = omega (arith, size-initials items (punctuator_text punctuator.CloseBrace []))
 
 -- the bytes of a text are in its token
 text-room : (k : RawExprKind) → length (text_of k) + 1 ≤ sized (written_kind k)
@@ -161,6 +161,6 @@ module _ (Is : Place → Type 0) where
           (λ _. tt)
 
   pub initials_are_bounded : InitialsAreBounded Is
-  initials_are_bounded c literals behind storage at ty raw found here among is =
-      if_fine-at (λ (r : Reading). IsBoundedInitial Is literals r.1 (size_of (initial_text (initial raw))) r.0) (initial_typed c literals storage at ty raw) (found, behind)
+  initials_are_bounded c literals following storage at ty raw found here among is =
+      if_fine-at (λ (r : Reading). IsBoundedInitial Is literals r.1 (size_of (initial_text (initial raw))) r.0) (initial_typed c literals storage at ty raw) (found, following)
       (initial-fits c storage at here literals ty raw among) is

@@ -22,7 +22,7 @@ use Rattle.cs_consts.specs.Verdicts.{Verdict, Fine, Fault}
 use Rattle.cs_consts.specs.Integers.{type_of, form_of}
 use Rattle.cs_consts.specs.Objects.{is_object, is_void, is_complete}
 use Rattle.cs_consts.specs.Scalars.{has_few_scalars}
-use Rattle.cs_consts.specs.Places.{address_of, through, element, indexed, member_found, member_in, member_behind, struct_number, struct_behind, member_by, selected, selected_through}
+use Rattle.cs_consts.specs.Places.{address_of, through, element, indexed, member_found, member_in, member_after, struct_number, struct_after, member_by, selected, selected_through}
 use Rattle.cs_consts.specs.Stores.{is_stored_to, assignable, assigned, is_additive, updatable_as, updatable, updated, taken_in, stepped}
 use Rattle.cs_consts.specs.Calls.{parameters_of, admitted, before_others, converted_list, allocated, freed, call_by, call_of}
 use Rattle.cs_consts.specs.Typing.{is_plain, operator_of, left_side, stored, call_with, call_or_not, no_function}
@@ -85,7 +85,7 @@ module _ (Is : Place → Type 0) where
     pub selected_through-fits : (table : List StructType) (name_at : Place) (name : List ℕ) (room : ℕ) (e : Typed) (ty : Shape) → Fits Is room e → IfFine (selected_through table at name_at name e ty) (Fits Is (room + 1))
     unfolding selected_through
     selected_through-fits table name_at name room e ty h =
-        member_by-fits (room + 1) table name_at name (member_behind at e) (struct_behind ty) (λ m. record { stands = (here, h.stands); nodes = omega (arith, h.nodes) })
+        member_by-fits (room + 1) table name_at name (member_after at e) (struct_after ty) (λ m. record { stands = (here, h.stands); nodes = omega (arith, h.nodes) })
 
     -- steps
     pub stepped-fits : (model : DataModel) (op : BinOp) (gives : Gives) (room : ℕ) (e : Typed) (ty : Shape) → Fits Is room e → IfFine (stepped model op gives at e ty) (Fits Is (room + 2))

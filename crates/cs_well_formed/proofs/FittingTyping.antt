@@ -12,7 +12,7 @@ use Rattle.cs_ast.specs.declared.typed.operator.Gives.{Gives}
 use Rattle.cs_ast.specs.declared.typed.operator.Gives.TheVariants.{Old, New}
 use Rattle.cs_ast.specs.RawView.{written_kind, written_row}
 use Rattle.cs_ast.specs.TypedTree.{Typed, TypedList}
-use Rattle.cs_grammar.specs.Text.{behind_commas}
+use Rattle.cs_grammar.specs.Text.{after_commas}
 use Rattle.cs_consts.specs.declared.context.Context.{Context}
 use Rattle.cs_consts.specs.declared.purpose.Purpose.{Purpose}
 use Rattle.cs_consts.specs.Meanings.{Meaning}
@@ -28,13 +28,13 @@ use Rattle.cs_consts.specs.Stores.{updatable, step_operator}
 use Rattle.cs_consts.specs.Scopes.{newest}
 use Rattle.cs_consts.specs.TypeNames.{arrayed}
 use Rattle.cs_consts.specs.Calls.{called, parameters_of}
-use Rattle.cs_consts.specs.Typing.{Literals, literals_behind, row_length, named, text_at, done, value_in, operand_in, purpose_if, purpose_behind, is_address, prefixed_value, prefixed, indexed_values, arrow_on, stepped_object, left_side, stored, right_target, cast_type, given_shape, cast_operand, cast_to, chosen_values, measured_type, measured_arrays, base_in, further, formed, arguments_formed}
+use Rattle.cs_consts.specs.Typing.{Literals, literals_after, row_length, named, text_at, done, value_in, operand_in, purpose_if, purpose_after, is_address, prefixed_value, prefixed, indexed_values, arrow_on, stepped_object, left_side, stored, right_target, cast_type, given_shape, cast_operand, cast_to, chosen_values, measured_type, measured_arrays, base_in, further, formed, arguments_formed}
 use Rattle.cs_well_formed.specs.Nodes.{row_nodes}
 use Rattle.cs_well_formed.specs.Places.{RowStandsAmong}
 use Rattle.cs_well_formed.specs.WrittenPlaces.{WrittenAmong, RowAmong}
 use Rattle.cs_well_formed.specs.Sizes.{size_of}
 use Rattle.cs_well_formed.proofs.Verdicts.{IfFine, if_fine-any, if_fine-weaker, lift-then, lift2-then, lift3-then, cond-then}
-use Rattle.cs_well_formed.proofs.LiteralsBehind.{sized, sized-Enclosed, sized-Index, sized-Call, sized-Member, sized-Arrow, sized-StepBehind, sized-Infix, sized-Choice, sized-Assign, sized-Comma, sized-SizeOfType, sized-Cast, sized-commas, sized-listed}
+use Rattle.cs_well_formed.proofs.LiteralsAfter.{sized, sized-Enclosed, sized-Index, sized-Call, sized-Member, sized-Arrow, sized-StepAfter, sized-Infix, sized-Choice, sized-Assign, sized-Comma, sized-SizeOfType, sized-Cast, sized-commas, sized-listed}
 use Rattle.cs_well_formed.proofs.FittingValues.{Fits, if_fine-more, finished-fits, valued-fits, operand-fits, measured-fits, raised-fits, turned-fits, recast-fits, combined-fits, chosen-fits, followed-fits, denied-fits, tested-fits}
 use Rattle.cs_well_formed.proofs.FittingObjects.{row_count, address_of-fits, through-fits, indexed-fits, selected-fits, selected_through-fits, stepped-fits, stored-fits, call-fits, updatable-fits, left_side-fits}
 
@@ -132,11 +132,11 @@ module _ (Is : Place → Type 0) (c : Context) where
         if_fine-more Is (room_of left + 1 + (room_of right + 1) + 1) _ _
         (lift2-then (Fits Is (room_of left + 1)) (Fits Is (room_of right + 1)) (Fits Is (room_of left + 1 + (room_of right + 1) + 1)) (indexed_values c at) _ _
         (operand_in-fits (room_of left) purpose _ (formed-fits purpose literals None place left h.1))
-        (operand_in-fits (room_of right) purpose _ (formed-fits purpose (literals_behind literals left) None place' right h.2))
+        (operand_in-fits (room_of right) purpose _ (formed-fits purpose (literals_after literals left) None place' right h.2))
         (λ a b. indexed-fits Is at h.0 c.table.list (room_of left + 1) (room_of right + 1) a b (type_of a) (type_of b)))
         (omega (arith, sized-Index (written_kind left) (written_kind right)))
     formed-fits purpose literals target at (kind.Call' p place function shape row) h =
-        let commas = size_of (behind_commas (written_row row)) in
+        let commas = size_of (after_commas (written_row row)) in
         if_fine-more Is (5 * commas + 1) _ _
         (call-fits Is at h.0 c (5 * commas) target (called c.scope.declarations function) (row_length row)
         (operand_in c purpose (formed c purpose literals None place function))
@@ -155,10 +155,10 @@ module _ (Is : Place → Type 0) (c : Context) where
         (operand_in-fits (room_of e) purpose _ (formed-fits purpose literals None place e h.1))
         (λ v. selected_through-fits Is at h.0 c.table.list name.place name.name (room_of e + 1) v (type_of v)))
         (omega (arith, sized-Arrow (written_kind e) name.name))
-    formed-fits purpose literals target at (kind.StepBehind' step p place object) h =
+    formed-fits purpose literals target at (kind.StepAfter' step p place object) h =
         if_fine-more Is (room_of object + 2) _ _
         (step-fits at h.0 (step_operator step) Old (room_of object) _ (done-fits (room_of object) purpose _ (formed-fits purpose literals None place object h.1)))
-        (omega (arith, sized-StepBehind step (written_kind object)))
+        (omega (arith, sized-StepAfter step (written_kind object)))
     formed-fits purpose literals target at (kind.StepBefore' step p place object) h =
         if_fine-more Is (room_of object + 2) _ _
         (step-fits at h.0 (step_operator step) New (room_of object) _ (done-fits (room_of object) purpose _ (formed-fits purpose literals None place object h.1)))
@@ -184,19 +184,19 @@ module _ (Is : Place → Type 0) (c : Context) where
         if_fine-more Is (room_of left + 1 + (room_of right + 1) + 3) _ _
         (lift2-then (Fits Is (room_of left + 1)) (Fits Is (room_of right + 1)) (Fits Is (room_of left + 1 + (room_of right + 1) + 3)) (combined c.model c.table.list operator at) _ _
         (operand_in-fits (room_of left) purpose _ (formed-fits purpose literals None place left h.1))
-        (operand_in-fits (room_of right) (purpose_behind operator purpose one) _ (formed-fits (purpose_behind operator purpose one) (literals_behind literals left) None place' right h.2))
+        (operand_in-fits (room_of right) (purpose_after operator purpose one) _ (formed-fits (purpose_after operator purpose one) (literals_after literals left) None place' right h.2))
         (λ a b g k. combined-fits Is at h.0 (room_of left + 1) (room_of right + 1) a b g k c.model c.table.list operator))
         (omega (arith, sized-Infix operator (written_kind left) (written_kind right)))
     formed-fits purpose literals target at (kind.Choice' p place test q place' one r place'' other) h =
-        let tells = lift (tested at) (operand_in c purpose (formed c purpose literals None place test)) in
-        let behind = literals_behind literals test in
+        let yields = lift (tested at) (operand_in c purpose (formed c purpose literals None place test)) in
+        let following = literals_after literals test in
         if_fine-more Is (room_of test + 1 + (room_of one + 1) + (room_of other + 1) + 3) _ _
         (lift3-then (Fits Is (room_of test + 1)) (Fits Is (room_of one + 1)) (Fits Is (room_of other + 1)) (Fits Is (room_of test + 1 + (room_of one + 1) + (room_of other + 1) + 3)) (chosen_values c at) _ _ _
         (lift-then (Fits Is (room_of test + 1)) (Fits Is (room_of test + 1)) (tested at) _
         (operand_in-fits (room_of test) purpose _ (formed-fits purpose literals None place test h.1))
         (λ v. tested-fits Is at (room_of test + 1) v))
-        (value_in-fits (room_of one) (purpose_if true purpose tells) _ (formed-fits (purpose_if true purpose tells) behind None place' one h.2))
-        (value_in-fits (room_of other) (purpose_if false purpose tells) _ (formed-fits (purpose_if false purpose tells) (literals_behind behind one) None place'' other h.3))
+        (value_in-fits (room_of one) (purpose_if true purpose yields) _ (formed-fits (purpose_if true purpose yields) following None place' one h.2))
+        (value_in-fits (room_of other) (purpose_if false purpose yields) _ (formed-fits (purpose_if false purpose yields) (literals_after following one) None place'' other h.3))
         (λ t a b g k l. chosen-fits Is at h.0 (room_of one + 1) (room_of other + 1) a b k l c.model (room_of test + 1) t (type_of a) (type_of b) g))
         (omega (arith, sized-Choice (written_kind test) (written_kind one) (written_kind other)))
     formed-fits purpose literals target at (kind.Assign' operator p place object q place' value) h =
@@ -206,25 +206,25 @@ module _ (Is : Place → Type 0) (c : Context) where
         (lift-then (Fits Is (room_of object)) (Fits Is (room_of object)) (left_side c operator at) _
         (done-fits (room_of object) purpose _ (formed-fits purpose literals None place object h.1))
         (λ e. left_side-fits Is c operator at (room_of object) e))
-        (operand_in-fits (room_of value) purpose _ (formed-fits purpose (literals_behind literals object) (right_target operator left) place' value h.2))
+        (operand_in-fits (room_of value) purpose _ (formed-fits purpose (literals_after literals object) (right_target operator left) place' value h.2))
         (λ o v. stored-fits Is at h.0 c operator (room_of object) (room_of value + 1) o v))
         (omega (arith, sized-Assign operator (written_kind object) (written_kind value)))
     formed-fits purpose literals target at (kind.Comma' p place first q place' second) h =
         if_fine-more Is (room_of first + 1 + (room_of second + 1) + 1) _ _
         (lift2-then (Fits Is (room_of first + 1)) (Fits Is (room_of second + 1)) (Fits Is (room_of first + 1 + (room_of second + 1) + 1)) (followed at) _ _
         (value_in-fits (room_of first) purpose _ (formed-fits purpose literals None place first h.1))
-        (value_in-fits (room_of second) purpose _ (formed-fits purpose (literals_behind literals first) None place' second h.2))
+        (value_in-fits (room_of second) purpose _ (formed-fits purpose (literals_after literals first) None place' second h.2))
         (λ a b g k. followed-fits Is at h.0 (room_of first + 1) (room_of second + 1) a b g k))
         (omega (arith, sized-Comma (written_kind first) (written_kind second)))
 
     -- the values of arguments
-    arguments-fit : (purpose : Purpose) (literals : Literals) (types : List Shape) {n : _} (row : Row_of-RawExpr n) → RowAmong Is row → IfFine (arguments_formed c purpose literals types row) (λ vs. RowStandsAmong Is vs × (row_nodes vs + row_count vs ≤ 5 * size_of (behind_commas (written_row row))))
+    arguments-fit : (purpose : Purpose) (literals : Literals) (types : List Shape) {n : _} (row : Row_of-RawExpr n) → RowAmong Is row → IfFine (arguments_formed c purpose literals types row) (λ vs. RowStandsAmong Is vs × (row_nodes vs + row_count vs ≤ 5 * size_of (after_commas (written_row row))))
     arguments-fit purpose literals types end_of-RawExpr h = (tt, omega arith)
     arguments-fit purpose literals [] (more_of-RawExpr place k rest) h = (tt, omega arith)
     arguments-fit purpose literals (ty ∷ types) (more_of-RawExpr place k rest) h =
-        let commas = size_of (behind_commas (written_row rest)) in
-        if_fine-weaker (λ vs. RowStandsAmong Is vs × (row_nodes vs + row_count vs ≤ (room_of k + 1) + 5 * commas + 1)) (λ vs. RowStandsAmong Is vs × (row_nodes vs + row_count vs ≤ 5 * size_of (behind_commas (written_row (more_of-RawExpr place k rest))))) _
+        let commas = size_of (after_commas (written_row rest)) in
+        if_fine-weaker (λ vs. RowStandsAmong Is vs × (row_nodes vs + row_count vs ≤ (room_of k + 1) + 5 * commas + 1)) (λ vs. RowStandsAmong Is vs × (row_nodes vs + row_count vs ≤ 5 * size_of (after_commas (written_row (more_of-RawExpr place k rest))))) _
         (further-fits (room_of k + 1) (5 * commas) _ _
         (operand_in-fits (room_of k) purpose _ (formed-fits purpose literals (Some ty) place k h.0))
-        (arguments-fit purpose (literals_behind literals k) types rest h.1))
+        (arguments-fit purpose (literals_after literals k) types rest h.1))
         (λ vs g. let small : row_nodes vs + row_count vs ≤ (room_of k + 1) + 5 * commas + 1 = g.1 in (g.0, omega (arith, small, sized-commas (written_kind k) (written_row rest))))

@@ -19,7 +19,7 @@ use Rattle.cs_consts.specs.declared.context.Context.{Context}
 use Rattle.cs_consts.specs.Verdicts.{Verdict, Fine, Fault, lift}
 use Rattle.cs_consts.specs.Integers.{type_of}
 use Rattle.cs_consts.specs.Conversions.{converted}
-use Rattle.cs_consts.specs.Typing.{Literals, literals_behind}
+use Rattle.cs_consts.specs.Typing.{Literals, literals_after}
 use Rattle.cs_consts.specs.Doors.{operand_of}
 use Rattle.cs_declarations.specs.Initializers.{Storage, InFile, InFunction, is_character, copies, member_types, part_types, text_of, is_admitted, takes_expression, has_form, have_forms, Reading, Readings, value_read, expression_read, types_or_none, parts_read, one_more, initial_read, items_read, is_braceless, value_held, value_judged, item_judged, before_others, part_judged, parts_judged, initial_judged, stored, limited, kept_with, initial_typed}
 use Rattle.cs_well_formed.specs.Structs.{NamesStructs, MembersName}
@@ -64,7 +64,7 @@ text-taken storage element count (kind.Text bytes) h =
 text-taken storage element count other h = absurd cc
 
 module _ (s : Setting) (c : Context) (agrees : Agrees s c) where
-  -- what is read, as far as the literals behind it are the program's
+  -- what is read, as far as the literals after it are the program's
   abbrev IsReading : Literals → Shape → Reading → Type 0
   IsReading literals ty r = (AreFirst s.program r.1 → IsRead s c.table.list ty r.0) × Begins literals r.1
 
@@ -73,8 +73,8 @@ module _ (s : Setting) (c : Context) (agrees : Agrees s c) where
 
   value-reading : (literals : Literals) (ty : Shape) (e : RawExpr) → NamesStructs s.program.table ty → HasConstants (written e) → IfFine (lift (value_read literals e.kind) (operand_of c literals (Some ty) e)) (IsReading literals ty)
   value-reading literals ty e names fit =
-      lift-then (λ v. AreFirst s.program (literals_behind literals e.kind) → IsWellValue s v) (IsReading literals ty) (value_read literals e.kind) (operand_of c literals (Some ty) e)
-      (under (AreFirst s.program (literals_behind literals e.kind)) (IsWellValue s) (operand_of c literals (Some ty) e) (λ texts. operand_of-well s c literals e (record { agrees = agrees; constants = fit; texts = texts }) (Some ty) names))
+      lift-then (λ v. AreFirst s.program (literals_after literals e.kind) → IsWellValue s v) (IsReading literals ty) (value_read literals e.kind) (operand_of c literals (Some ty) e)
+      (under (AreFirst s.program (literals_after literals e.kind)) (IsWellValue s) (operand_of c literals (Some ty) e) (λ texts. operand_of-well s c literals e (record { agrees = agrees; constants = fit; texts = texts }) (Some ty) names))
       (λ v well. (well, literals-begin literals e.kind))
 
   expression-reading : (storage : Storage) (literals : Literals) (ty : Shape) (e : RawExpr) → NamesStructs s.program.table ty → HasConstants (written e) → takes_expression storage ty e.kind ≡ true →
@@ -219,8 +219,8 @@ module _ (s : Setting) (c : Context) (agrees : Agrees s c) where
         (λ _. tt)
 
 pub initials_are_well : InitialsAreWell
-initials_are_well s c literals behind storage at ty raw found agrees laid_out whole names fit texts is =
-    if_fine-at (λ (r : Reading). AreFirst s.program r.1 → IsWellInitial s ty r.0) (initial_typed c literals storage at ty raw) (found, behind)
+initials_are_well s c literals following storage at ty raw found agrees laid_out whole names fit texts is =
+    if_fine-at (λ (r : Reading). AreFirst s.program r.1 → IsWellInitial s ty r.0) (initial_typed c literals storage at ty raw) (found, following)
     (initial-well s c agrees laid_out storage at literals ty raw whole names fit) is texts
 
 -- the values that the `=` lets an object of a file have
@@ -264,5 +264,5 @@ module _ (c : Context) (at : Place) where
       (λ _. tt)
 
 pub file_initials_are_constant : FileInitialsAreConstant
-file_initials_are_constant c literals behind at ty raw found is =
-    if_fine-at (λ (r : Reading). HasConstantValues c.model r.0) (initial_typed c literals InFile at ty raw) (found, behind) (initial-constant c at literals ty raw) is
+file_initials_are_constant c literals following at ty raw found is =
+    if_fine-at (λ (r : Reading). HasConstantValues c.model r.0) (initial_typed c literals InFile at ty raw) (found, following) (initial-constant c at literals ty raw) is

@@ -11,7 +11,7 @@ in_parts A B n low first others above below one other = by_part (cases_lt n (low
   where
     by_part : (n < low + first) ⊎ (low + first ≤ n) → A ⊎ B
     by_part (inl before) = inl (one before)
-    by_part (inr behind) = inr (other behind (omega (arith, below)))
+    by_part (inr following) = inr (other following (omega (arith, below)))
 
 nowhere : {A : Type 0} (n low : ℕ) → low ≤ n → n < low + 0 → A
 nowhere n low above below = absurd (omega (arith, above, below))
@@ -23,7 +23,7 @@ mutual
   in_statement (IfElse at test body other) n low h above below =
       in_parts (HasLabel n body) (HasLabel n other) n low (label_count body) (label_count other) above below
       (λ before. in_statement body n low h.0 above before)
-      (λ behind end. in_statement other n (low + label_count body) h.1 behind end)
+      (λ following end. in_statement other n (low + label_count body) h.1 following end)
   in_statement (While at test body) n low h above below = in_statement body n low h above below
   in_statement (Do at body test) n low h above below = in_statement body n low h above below
   in_statement (For at first test last body) n low h above below = in_statement body n low h.1 above below
@@ -45,7 +45,7 @@ mutual
   in_statements (Then first others) n low h above below =
       in_parts (HasLabel n first) (SomeHasLabel n others) n low (label_count first) (label_counts others) above below
       (λ before. in_statement first n low h.0 above before)
-      (λ behind end. in_statements others n (low + label_count first) h.1 behind end)
+      (λ following end. in_statements others n (low + label_count first) h.1 following end)
 
 pub labels_are_there : LabelsAreThere
 labels_are_there body n h below = in_statement body n 0 h (omega arith) (omega (arith, below))

@@ -1,4 +1,4 @@
--- What declarations make known: for the typing of statements and files, which goes on behind them.
+-- What declarations make known: for the typing of statements and files, which goes on after them.
 use Rattle.std.proofs.Common.{◌≡◌, ◌≢◌, ℕ, ◌≤◌, zero, suc, Bool, true, false, ◌||◌, List, [], ◌∷◌, ◌++◌, length, set, slice_get, Option, Some, None, is_some, refl, sym, ap, ◌∙◌, subst, arith}
 use Rattle.std.specs.Prelude.{ℤ, pos, ◌≤ℤ◌, int_le}
 use Rattle.std.specs.Option.{option_and_then}
@@ -37,7 +37,7 @@ use Rattle.cs_consts.specs.TypeNames.{whole_word, typedef_at, enum_at, tag_place
 use Rattle.cs_declarations.specs.Known.{Known, table_of, declarations_of, with_table, with_reading, with_tag, declaring, is_declared_here}
 use Rattle.cs_declarations.specs.Bodies.{Typing, empty_struct, with_struct, with_tagged_struct, tag_in, struct_named, word_type, Laying, nothing_laid, declarator_type, members_declared, with_members, is_int, Counting, constant_added, number_said, constant_declared, constants_declared, with_enum_tag, is_new_enum, enum_body, Opening, is_among, opened, opening_tagged, opening, name_or_none, Body, struct_read, group_declared, first_name, plain_row, row_type, members_read, plain_words, words_type, specs_type, typedef_added, typedefs_added}
 use Rattle.cs_declarations.specs.Objects.{count_given, object_type}
-use Rattle.cs_declarations.specs.Parameters.{Head, Passed, naming, is_free_name, with_parameter, parameter_passed, parameter_typed, parameters_behind, parameters_typed}
+use Rattle.cs_declarations.specs.Parameters.{Head, Passed, naming, is_free_name, with_parameter, parameter_passed, parameter_typed, parameters_after, parameters_typed}
 use Rattle.cs_well_formed.specs.Expressions.{Setting, IsWhole}
 use Rattle.cs_well_formed.specs.Agreement.{Keeps, IsThere, Agrees}
 use Rattle.cs_well_formed.specs.Leading.{Leads, AreVariables, WordsLead, TypedefsLead, ParametersLead, ObjectsAreWhole}
@@ -71,7 +71,7 @@ keeps-append table more = record {
   longer = let e = length-append table more in omega (arith, e);
 }
 
--- a struct behind all others is open
+-- a struct after all others is open
 last-open : (table : List StructType) → IsOpen table (length table)
 last-open table n members h =
     option_and_then_some (λ (laid : StructType). laid.members) (slice_get table n) members h
@@ -114,7 +114,7 @@ module _ (s : Setting) where
   leads-tagged : (name : List ℕ) (k : Known) → Leads s k (with_tagged_struct name k)
   leads-tagged name k = leads-trans k (with_struct name k) (with_tagged_struct name k) (leads-struct name k) (leads-tag name (tag.Struct (length (table_of k))) (with_struct name k))
 
-  -- behind the declaration of what is there
+  -- after the declaration of what is there
   pub leads-declaring : (name : List ℕ) (meaning : Meaning) (k : Known) → IsThere s meaning → Leads s k (declaring name meaning k)
   leads-declaring name meaning k there = record {
     model = refl;
@@ -328,11 +328,11 @@ module _ (s : Setting) where
   no_parameter-leads : (before : Head) → HeadLeads before before
   no_parameter-leads before = record { model = refl; known = λ _. leads-self s before.known; variables = λ h. h }
 
-  parameters_behind-leads : (ps : List RawParameter) (before : Head) → before.known.context.model ≡ s.program.model → IfFine (parameters_behind ps before) (HeadLeads before)
-  parameters_behind-leads [] before same = no_parameter-leads before
-  parameters_behind-leads (p ∷ ps) before same =
-      lift-then (HeadLeads before) (HeadLeads before) (parameters_behind ps) _ (parameter_typed-leads p before same)
-      (λ head first. if_fine-weaker (HeadLeads head) (HeadLeads before) (parameters_behind ps head) (parameters_behind-leads ps head (first.model ∙ same))
+  parameters_after-leads : (ps : List RawParameter) (before : Head) → before.known.context.model ≡ s.program.model → IfFine (parameters_after ps before) (HeadLeads before)
+  parameters_after-leads [] before same = no_parameter-leads before
+  parameters_after-leads (p ∷ ps) before same =
+      lift-then (HeadLeads before) (HeadLeads before) (parameters_after ps) _ (parameter_typed-leads p before same)
+      (λ head first. if_fine-weaker (HeadLeads head) (HeadLeads before) (parameters_after ps head) (parameters_after-leads ps head (first.model ∙ same))
       (λ after others. record {
         model = others.model ∙ first.model;
         known = λ are. leads-trans s before.known head.known after.known (first.known (others.variables are)) (others.known are);
@@ -347,7 +347,7 @@ module _ (s : Setting) where
   parameters_typed-leads k parameter_lists.Empty same = λ _. leads-self s k
   parameters_typed-leads k parameter_lists.Void same = λ _. leads-self s k
   parameters_typed-leads k (parameter_lists.List list) same =
-      if_fine-weaker (HeadLeads (nothing_before k)) (λ head. AreVariables s head.variables → Leads s k head.known) _ (parameters_behind-leads list.items (nothing_before k) same) (λ head h. h.known)
+      if_fine-weaker (HeadLeads (nothing_before k)) (λ head. AreVariables s head.variables → Leads s k head.known) _ (parameters_after-leads list.items (nothing_before k) same) (λ head h. h.known)
 
 -- the type of a declared object
 pub object_type-whole : (s : Setting) (c : Context) → Agrees s c → (base : Shape) (d : RawInit) → IfFine (object_type c base d) (IsWhole s.program)

@@ -21,7 +21,7 @@ pub mod Tokens
 pub mod Leading
 pub mod Labels
 pub mod TextSizes
-pub mod LiteralsBehind
+pub mod LiteralsAfter
 pub mod FittingValues
 pub mod FittingObjects
 pub mod FittingTyping

@@ -34,14 +34,14 @@ use Rattle.cs_consts.specs.Meanings.{Meaning, Typedef, Constant, Global, Local, 
 use Rattle.cs_consts.specs.Verdicts.{Verdict, Fine, Fault, lift}
 use Rattle.cs_consts.specs.Scopes.{newest, tagged}
 use Rattle.cs_consts.specs.Objects.{bytes_in, is_complete}
-use Rattle.cs_consts.specs.TypeNames.{whole_word, typedef_at, struct_at, enum_at, based, type_named, behind_stars, tag_place, is_star, starred, is_array_size, array_of, arrayed, complete_at}
+use Rattle.cs_consts.specs.TypeNames.{whole_word, typedef_at, struct_at, enum_at, based, type_named, after_stars, tag_place, is_star, starred, is_array_size, array_of, arrayed, complete_at}
 use Rattle.cs_consts.specs.Typing.{castable, cast_type, given_shape, base_in}
 use Rattle.cs_declarations.specs.Known.{Known, table_of, declarations_of, with_tag, declaring, is_declared_here, entered, left}
 use Rattle.cs_declarations.specs.Bodies.{Typing, empty_struct, with_struct, with_tagged_struct, tag_in, struct_named, word_type, Laying, nothing_laid, has_member, placed, placed_if, member_added, declarator_type, member_declared, members_declared, with_members, is_int, Counting, constant_added, number_said, constant_declared, constants_declared, with_enum_tag, is_new_enum, enum_body, Opening, is_among, opening_tagged, opening, name_or_none, Body, struct_read, group_declared, first_name, plain_row, row_type, members_read, plain_words, words_type, specs_type, typedefs_added}
 use Rattle.cs_declarations.specs.LaidOut.{IsOfTable}
 use Rattle.cs_declarations.specs.Sizes.{sizes_said, all_said, bounded, element_of, Extent, Whole, Unsized, outermost, extent_of, filled}
 use Rattle.cs_declarations.specs.Objects.{count_given, object_type}
-use Rattle.cs_declarations.specs.Parameters.{Head, Passed, place_of, plainly_passed, array_passed, passed, naming, is_free_name, with_parameter, parameter_passed, parameter_typed, parameters_behind, parameters_typed}
+use Rattle.cs_declarations.specs.Parameters.{Head, Passed, place_of, plainly_passed, array_passed, passed, naming, is_free_name, with_parameter, parameter_passed, parameter_typed, parameters_after, parameters_typed}
 use Rattle.cs_well_formed.specs.Structs.{NamesStructs, MembersName, VariablesName}
 use Rattle.cs_well_formed.specs.Agreement.{IsNamed, KnownTypesAreNamed}
 use Rattle.cs_well_formed.specs.Naming.{WordsAreNamed, TypedefsAreNamed, ParametersAreNamed, ObjectsAreNamed}
@@ -214,7 +214,7 @@ module _ (c : Context) where
     pub base_in-named : (at : Place) (ty : WrittenType) → IfFine (base_in c at ty) NamesHere
     unfolding type_named
     base_in-named at ty =
-        lift-then NamesHere NamesHere (behind_stars ty) _ (based-named at ty (whole_word ty.words.items)) (λ base h. starred-named c.table.list ty.pointers.items base h)
+        lift-then NamesHere NamesHere (after_stars ty) _ (based-named at ty (whole_word ty.words.items)) (λ base h. starred-named c.table.list ty.pointers.items base h)
 
     castable-named : (at : Place) (ty : Shape) → NamesHere ty → IfFine (castable at ty) NamesHere
     castable-named at void h = tt
@@ -233,7 +233,7 @@ pub given_shape-named : (P : Shape → Type 0) (v : Verdict Shape) → IfFine v 
 given_shape-named P (Fine ty) h = h
 given_shape-named P (Fault code place) h = tt
 
--- ---- what is known behind declarations
+-- ---- what is known after declarations
 
 -- it names structs of its table, which is no shorter than before
 pub record NamedOn (k m : Known) : Type 0 where
@@ -290,7 +290,7 @@ declaring-known name meaning k is h = record {
 declaring-named : (name : List ℕ) (meaning : Meaning) (k : Known) → IsNamed (table_of k) meaning → KnownTypesAreNamed k.context → NamedOn k (declaring name meaning k)
 declaring-named name meaning k is h = record { known = declaring-known name meaning k is h; longer = omega arith }
 
--- in a new scope, and behind one that ends (C11 6.2.1, paragraph 4)
+-- in a new scope, and after one that ends (C11 6.2.1, paragraph 4)
 pub entered-known : (k : Known) → KnownTypesAreNamed k.context → KnownTypesAreNamed (entered k).context
 entered-known k h = record { declarations = h.declarations; tags = h.tags; members = h.members }
 
@@ -455,17 +455,17 @@ naming-known (Some name) number ty k h = declaring-named name.name (Local number
 with_parameter-named : (p : RawParameter) (before : Head) (k : Known) (found : Passed) → VariablesName (table_of before.known) before.variables → NamedOn before.known k → NamesStructs (table_of k) found.ty →
     IfFine (with_parameter p before k found) (HeadNamed before.known)
 with_parameter-named p before k found variables h is = (
-  named_on-trans before.known k after h behind,
+  named_on-trans before.known k after h following,
   All-push (λ (v : Variable). NamesStructs (table_of after) v.ty) before.variables _
-      (variables-longer (table_of k) (table_of after) behind.longer before.variables (variables-longer (table_of before.known) (table_of k) h.longer before.variables variables))
-      (names-longer (table_of k) (table_of after) behind.longer found.ty is),
+      (variables-longer (table_of k) (table_of after) following.longer before.variables (variables-longer (table_of before.known) (table_of k) h.longer before.variables variables))
+      (names-longer (table_of k) (table_of after) following.longer found.ty is),
 )
   where
     after : Known
     after = naming p.name (length before.variables) found.ty k
 
-    behind : NamedOn k after
-    behind = naming-known p.name (length before.variables) found.ty k h.known
+    following : NamedOn k after
+    following = naming-known p.name (length before.variables) found.ty k h.known
 
 parameter_typed-named : (p : RawParameter) (before : Head) → VariablesName (table_of before.known) before.variables → KnownTypesAreNamed before.known.context → IfFine (parameter_typed p before) (HeadNamed before.known)
 parameter_typed-named p before variables h =
@@ -476,11 +476,11 @@ parameter_typed-named p before variables h =
     (λ way n. with_parameter-named p before found.1 way variables g.0 n))
     (λ _. tt))
 
-parameters_behind-named : (ps : List RawParameter) (before : Head) → VariablesName (table_of before.known) before.variables → KnownTypesAreNamed before.known.context → IfFine (parameters_behind ps before) (HeadNamed before.known)
-parameters_behind-named [] before variables h = (named_on-self before.known h, variables)
-parameters_behind-named (p ∷ ps) before variables h =
-    lift-then (HeadNamed before.known) (HeadNamed before.known) (parameters_behind ps) _ (parameter_typed-named p before variables h)
-    (λ head first. if_fine-weaker (HeadNamed head.known) (HeadNamed before.known) (parameters_behind ps head) (parameters_behind-named ps head first.1 first.0.known)
+parameters_after-named : (ps : List RawParameter) (before : Head) → VariablesName (table_of before.known) before.variables → KnownTypesAreNamed before.known.context → IfFine (parameters_after ps before) (HeadNamed before.known)
+parameters_after-named [] before variables h = (named_on-self before.known h, variables)
+parameters_after-named (p ∷ ps) before variables h =
+    lift-then (HeadNamed before.known) (HeadNamed before.known) (parameters_after ps) _ (parameter_typed-named p before variables h)
+    (λ head first. if_fine-weaker (HeadNamed head.known) (HeadNamed before.known) (parameters_after ps head) (parameters_after-named ps head first.1 first.0.known)
     (λ after others. (named_on-trans before.known head.known after.known first.0 others.0, others.1)))
 
 -- the parameters of a function
@@ -488,13 +488,13 @@ pub parameters_typed-named : (k : Known) (raw : RawParameters) → KnownTypesAre
 parameters_typed-named k parameter_lists.Empty h = (named_on-self k h, All-nil (λ (v : Variable). NamesStructs (table_of k) v.ty))
 parameters_typed-named k parameter_lists.Void h = (named_on-self k h, All-nil (λ (v : Variable). NamesStructs (table_of k) v.ty))
 parameters_typed-named k (parameter_lists.List list) h =
-    parameters_behind-named list.items (record { variables = []; written = []; known = k }) (All-nil (λ (v : Variable). NamesStructs (table_of k) v.ty)) h
+    parameters_after-named list.items (record { variables = []; written = []; known = k }) (All-nil (λ (v : Variable). NamesStructs (table_of k) v.ty)) h
 
 pub words_are_named : WordsAreNamed
 words_are_named k m at raw ty h is = let found = if_fine-at (TypeNamed k) (specs_type k at raw) (ty, m) (specs_type-named k at raw h) is in (found.1, found.0.known)
 
 pub typedefs_are_named : TypedefsAreNamed
-typedefs_are_named k m base names is h told = (if_fine-at (NamedOn k) (typedefs_added base names k) m (typedefs_added-named base names k is h) told).known
+typedefs_are_named k m base names is h reported = (if_fine-at (NamedOn k) (typedefs_added base names k) m (typedefs_added-named base names k is h) reported).known
 
 pub parameters_are_named : ParametersAreNamed
 parameters_are_named k raw head h is = let found = if_fine-at (HeadNamed k) (parameters_typed k raw) head (parameters_typed-named k raw h) is in (found.1, found.0.known)

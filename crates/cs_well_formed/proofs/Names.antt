@@ -14,7 +14,7 @@ use Rattle.cs_consts.specs.declared.context.Context.{Context}
 use Rattle.cs_consts.specs.Meanings.{Meaning, Typedef, Constant, Global, Local, Function, Declaration}
 use Rattle.cs_consts.specs.Scopes.{newest}
 use Rattle.cs_consts.specs.Calls.{function_in, called}
-use Rattle.cs_consts.specs.Typing.{Literals, literals_behind, literals_behind_row, named, text_at}
+use Rattle.cs_consts.specs.Typing.{Literals, literals_after, literals_after_row, named, text_at}
 use Rattle.cs_ast.specs.TypedProgram.{TypedProgram}
 use Rattle.cs_well_formed.specs.Expressions.{Setting, IsWell}
 use Rattle.cs_well_formed.specs.Agreement.{IsFunction, IsThere, Agrees, AreFirst}
@@ -31,34 +31,34 @@ pub begins-self : (a : Literals) → Begins a a
 begins-self a = ([], sym (append-nil a))
 
 mutual
-  -- the literals behind an expression begin with those before it
-  pub literals-begin : (literals : Literals) (k : RawExprKind) → Begins literals (literals_behind literals k)
+  -- the literals after an expression begin with those before it
+  pub literals-begin : (literals : Literals) (k : RawExprKind) → Begins literals (literals_after literals k)
   literals-begin literals (kind.Name name) = begins-self literals
   literals-begin literals (kind.Number constant) = begins-self literals
   literals-begin literals (kind.Character value) = begins-self literals
   literals-begin literals (kind.Text bytes) = (bytes ∷ [], refl)
   literals-begin literals (kind.Parenthesis' p place inner) = literals-begin literals inner
-  literals-begin literals (kind.Index' p place left q place' right) = begins-trans _ _ _ (literals-begin literals left) (literals-begin (literals_behind literals left) right)
+  literals-begin literals (kind.Index' p place left q place' right) = begins-trans _ _ _ (literals-begin literals left) (literals-begin (literals_after literals left) right)
   literals-begin literals (kind.Call' p place function shape row) = literals-begin_row literals row
   literals-begin literals (kind.Member' p place object name) = literals-begin literals object
   literals-begin literals (kind.Arrow' p place e name) = literals-begin literals e
-  literals-begin literals (kind.StepBehind' step p place object) = literals-begin literals object
+  literals-begin literals (kind.StepAfter' step p place object) = literals-begin literals object
   literals-begin literals (kind.StepBefore' step p place object) = literals-begin literals object
   literals-begin literals (kind.Prefix' operator p place e) = literals-begin literals e
   literals-begin literals (kind.SizeOf' p place e) = literals-begin literals e
   literals-begin literals (kind.SizeOfType' ty shape row) = literals-begin_row literals row
   literals-begin literals (kind.Cast' ty shape row p place e) = literals-begin literals e
-  literals-begin literals (kind.Infix' operator p place left q place' right) = begins-trans _ _ _ (literals-begin literals left) (literals-begin (literals_behind literals left) right)
+  literals-begin literals (kind.Infix' operator p place left q place' right) = begins-trans _ _ _ (literals-begin literals left) (literals-begin (literals_after literals left) right)
   literals-begin literals (kind.Choice' p place test q place' one r place'' other) =
       begins-trans _ _ _ (literals-begin literals test)
-      (begins-trans _ _ _ (literals-begin (literals_behind literals test) one) (literals-begin (literals_behind (literals_behind literals test) one) other))
-  literals-begin literals (kind.Assign' operator p place object q place' value) = begins-trans _ _ _ (literals-begin literals object) (literals-begin (literals_behind literals object) value)
-  literals-begin literals (kind.Comma' p place first q place' second) = begins-trans _ _ _ (literals-begin literals first) (literals-begin (literals_behind literals first) second)
+      (begins-trans _ _ _ (literals-begin (literals_after literals test) one) (literals-begin (literals_after (literals_after literals test) one) other))
+  literals-begin literals (kind.Assign' operator p place object q place' value) = begins-trans _ _ _ (literals-begin literals object) (literals-begin (literals_after literals object) value)
+  literals-begin literals (kind.Comma' p place first q place' second) = begins-trans _ _ _ (literals-begin literals first) (literals-begin (literals_after literals first) second)
 
   -- the same of expressions in a row
-  pub literals-begin_row : (literals : Literals) {n : _} (row : Row_of-RawExpr n) → Begins literals (literals_behind_row literals row)
+  pub literals-begin_row : (literals : Literals) {n : _} (row : Row_of-RawExpr n) → Begins literals (literals_after_row literals row)
   literals-begin_row literals end_of-RawExpr = begins-self literals
-  literals-begin_row literals (more_of-RawExpr place k rest) = begins-trans _ _ _ (literals-begin literals k) (literals-begin_row (literals_behind literals k) rest)
+  literals-begin_row literals (more_of-RawExpr place k rest) = begins-trans _ _ _ (literals-begin literals k) (literals-begin_row (literals_after literals k) rest)
 
 -- the literals of a part are the first ones of the program, if those of the whole are
 pub first-part : (p : TypedProgram) (some all : Literals) → Begins some all → AreFirst p all → AreFirst p some

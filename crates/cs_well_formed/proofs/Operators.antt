@@ -91,11 +91,11 @@ module _ (s : Setting) where
   pub chosen-well : (model : DataModel) (at : Place) (test one other : Typed) (t u : Shape) → NamesStructs s.program.table t → NamesStructs s.program.table u → IsWell s test → IsScalarValue test → IsWell s one → IsValueOf one t →
       IsWell s other → IsValueOf other u → IfFine (chosen model at test one other t u) (IsWell s)
   unfolding chosen
-  chosen-well model at test one other t u names names' tells scalar w v w' v' =
+  chosen-well model at test one other t u names names' yields scalar w v w' v' =
       cond-then (IsWell s) (alike t u) _ _
-      (λ h. (tells, w, w', scalar, v, (v'.0, v'.1 ∙ sym (alike-true t u h))))
+      (λ h. (yields, w, w', scalar, v, (v'.0, v'.1 ∙ sym (alike-true t u h))))
       (λ _. lift-then (AreMet s) (IsWell s) (chosen_pair at test) _ (met-well s model at one other t u names names' w v w' v')
-      (λ pair both. (tells, both.left, both.right, scalar, (both.scalar.0, refl), both.same)))
+      (λ pair both. (yields, both.left, both.right, scalar, (both.scalar.0, refl), both.same)))
 
   pub followed-well : (at : Place) (first second : Typed) → IsWell s first → IsValue first → IsWell s second → IsValue second → IfFine (followed at first second) (IsWell s)
   followed-well at first second w v w' v' = (w, w', v, (v', refl))

@@ -13,7 +13,7 @@ use Rattle.cs_ast.specs.TypedTree.{Typed}
 use Rattle.cs_consts.specs.declared.context.Context.{Context}
 use Rattle.cs_consts.specs.Integers.{type_of, form_of}
 use Rattle.cs_consts.specs.Objects.{is_object, is_void, is_complete}
-use Rattle.cs_consts.specs.Places.{address_of, through, element, indexed, member_named, member_at, member_found, member_in, member_behind, struct_number, member_by, selected, selected_through}
+use Rattle.cs_consts.specs.Places.{address_of, through, element, indexed, member_named, member_at, member_found, member_in, member_after, struct_number, member_by, selected, selected_through}
 use Rattle.cs_well_formed.specs.Expressions.{Setting, IsWell, IsObject, IsValueOf, HasType, HasMember}
 use Rattle.cs_well_formed.specs.Agreement.{Agrees}
 use Rattle.cs_well_formed.proofs.Verdicts.{IfFine, lift-then, cond-then}
@@ -78,5 +78,5 @@ module _ (s : Setting) (c : Context) (agrees : Agrees s c) where
   pub selected_through-well : (at name_at : Place) (name : List ℕ) (e : Typed) (ty : Shape) → IsWell s e → IsValueOf e ty → IfFine (selected_through c.table.list at name_at name e ty) (IsWell s)
   unfolding selected_through
   selected_through-well at name_at name e (pointer (struct number)) well v =
-      lift-then (λ m. HasMember s.program number m.offset m.ty) (IsWell s) (member_behind at e) _ (member-found name_at name number) (λ m has. (well, number, v, has))
+      lift-then (λ m. HasMember s.program number m.offset m.ty) (IsWell s) (member_after at e) _ (member-found name_at name number) (λ m has. (well, number, v, has))
   selected_through-well at name_at name e ty well v = tt

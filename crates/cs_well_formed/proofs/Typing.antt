@@ -29,7 +29,7 @@ use Rattle.cs_consts.specs.Places.{selected}
 use Rattle.cs_consts.specs.Stores.{updatable, step_operator}
 use Rattle.cs_consts.specs.Scopes.{newest}
 use Rattle.cs_consts.specs.Calls.{called, parameters_of}
-use Rattle.cs_consts.specs.Typing.{Literals, literals_behind, literals_behind_row, row_length, constant_type, done, value_in, operand_in, purpose_if, purpose_behind, is_address, prefixed_value, prefixed, indexed_values, arrow_on, stepped_object, is_plain, left_side, stored, type_in, right_target, cast_type, given_shape, cast_operand, cast_to, chosen_values, measured_type, measured_arrays, base_in, further, formed, arguments_formed}
+use Rattle.cs_consts.specs.Typing.{Literals, literals_after, literals_after_row, row_length, constant_type, done, value_in, operand_in, purpose_if, purpose_after, is_address, prefixed_value, prefixed, indexed_values, arrow_on, stepped_object, is_plain, left_side, stored, type_in, right_target, cast_type, given_shape, cast_operand, cast_to, chosen_values, measured_type, measured_arrays, base_in, further, formed, arguments_formed}
 use Rattle.cs_well_formed.specs.Structs.{NamesStructs}
 use Rattle.cs_well_formed.specs.Expressions.{Setting, IsWell, IsWellForm, IsValue, IsScalarValue}
 use Rattle.cs_ast.specs.HeldTokens.{IsHeldConstant}
@@ -55,9 +55,9 @@ use Rattle.cs_well_formed.proofs.Calls.{AreGiven, parameters_of-named, call-well
 abbrev pub IsWellValue : Setting → Typed → Type 0
 IsWellValue s e = IsWell s e × IsValue e
 
--- literals behind literals
-both-first : (s : Setting) (literals : Literals) (left right : RawExprKind) → AreFirst s.program (literals_behind (literals_behind literals left) right) → AreFirst s.program (literals_behind literals left)
-both-first s literals left right texts = first-part s.program (literals_behind literals left) _ (literals-begin (literals_behind literals left) right) texts
+-- literals after literals
+both-first : (s : Setting) (literals : Literals) (left right : RawExprKind) → AreFirst s.program (literals_after (literals_after literals left) right) → AreFirst s.program (literals_after literals left)
+both-first s literals left right texts = first-part s.program (literals_after literals left) _ (literals-begin (literals_after literals left) right) texts
 
 module _ (s : Setting) (c : Context) (agrees : Agrees s c) where
   pub done-well : (purpose : Purpose) (v : Verdict Typed) → IfFine v (IsWell s) → IfFine (done c purpose v) (IsWell s)
@@ -150,7 +150,7 @@ module _ (s : Setting) (c : Context) (agrees : Agrees s c) where
 
   mutual
     -- an expression, for any purpose and any target
-    pub formed-well : (purpose : Purpose) (literals : Literals) (target : Option Shape) → TargetNames s target → (at : Place) (k : RawExprKind) → HasConstants (written_kind k) → AreFirst s.program (literals_behind literals k) →
+    pub formed-well : (purpose : Purpose) (literals : Literals) (target : Option Shape) → TargetNames s target → (at : Place) (k : RawExprKind) → HasConstants (written_kind k) → AreFirst s.program (literals_after literals k) →
         IfFine (formed c purpose literals target at k) (IsWell s)
     formed-well purpose literals target names at (kind.Name name) fit texts = named-well s at (newest name c.scope.declarations) (newest-there s c agrees name)
     formed-well purpose literals target names at (kind.Number k) fit texts = number-well k fit
@@ -160,7 +160,7 @@ module _ (s : Setting) (c : Context) (agrees : Agrees s c) where
     formed-well purpose literals target names at (kind.Index' p place left q place' right) fit texts =
         lift2-then (IsWellValue s) (IsWellValue s) (IsWell s) (indexed_values c at) _ _
         (operand_in-well purpose _ (formed-well purpose literals None tt place left fit.0 (both-first s literals left right texts)))
-        (operand_in-well purpose _ (formed-well purpose (literals_behind literals left) None tt place' right fit.1 texts))
+        (operand_in-well purpose _ (formed-well purpose (literals_after literals left) None tt place' right fit.1 texts))
         (λ a b h k. indexed-well s c agrees at a b (type_of a) (type_of b) h.0 (h.1, refl) k.0 (k.1, refl))
     formed-well purpose literals target names at (kind.Call' p place function shape row) fit texts =
         call-well s c at target (called c.scope.declarations function) (row_length row)
@@ -176,7 +176,7 @@ module _ (s : Setting) (c : Context) (agrees : Agrees s c) where
         lift-then (IsWellValue s) (IsWell s) (arrow_on c at name.place name.name) _
         (operand_in-well purpose _ (formed-well purpose literals None tt place e fit texts))
         (λ v h. selected_through-well s c agrees at name.place name.name v (type_of v) h.0 (h.1, refl))
-    formed-well purpose literals target names at (kind.StepBehind' step p place object) fit texts =
+    formed-well purpose literals target names at (kind.StepAfter' step p place object) fit texts =
         step-well (step_operator step) Old at _ (done-well purpose _ (formed-well purpose literals None tt place object fit texts))
     formed-well purpose literals target names at (kind.StepBefore' step p place object) fit texts =
         step-well (step_operator step) New at _ (done-well purpose _ (formed-well purpose literals None tt place object fit texts))
@@ -195,17 +195,17 @@ module _ (s : Setting) (c : Context) (agrees : Agrees s c) where
         let one = operand_in c purpose (formed c purpose literals None place left) in
         infix-well operator at _ _
         (operand_in-well purpose _ (formed-well purpose literals None tt place left fit.0 (both-first s literals left right texts)))
-        (operand_in-well (purpose_behind operator purpose one) _ (formed-well (purpose_behind operator purpose one) (literals_behind literals left) None tt place' right fit.1 texts))
+        (operand_in-well (purpose_after operator purpose one) _ (formed-well (purpose_after operator purpose one) (literals_after literals left) None tt place' right fit.1 texts))
     formed-well purpose literals target names at (kind.Choice' p place test q place' one r place'' other) fit texts =
-        let tells = lift (tested at) (operand_in c purpose (formed c purpose literals None place test)) in
-        let behind = literals_behind literals test in
-        let before = both-first s behind one other texts in
+        let yields = lift (tested at) (operand_in c purpose (formed c purpose literals None place test)) in
+        let following = literals_after literals test in
+        let before = both-first s following one other texts in
         lift3-then (λ v. IsWell s v × IsScalarValue v) (IsWellValue s) (IsWellValue s) (IsWell s) (chosen_values c at) _ _ _
         (lift-then (IsWellValue s) (λ v. IsWell s v × IsScalarValue v) (tested at) _
         (operand_in-well purpose _ (formed-well purpose literals None tt place test fit.0 (both-first s literals test one before)))
         (λ v h. tested-well s at v h.0 h.1))
-        (value_in-well (purpose_if true purpose tells) _ (formed-well (purpose_if true purpose tells) behind None tt place' one fit.1 before))
-        (value_in-well (purpose_if false purpose tells) _ (formed-well (purpose_if false purpose tells) (literals_behind behind one) None tt place'' other fit.2 texts))
+        (value_in-well (purpose_if true purpose yields) _ (formed-well (purpose_if true purpose yields) following None tt place' one fit.1 before))
+        (value_in-well (purpose_if false purpose yields) _ (formed-well (purpose_if false purpose yields) (literals_after following one) None tt place'' other fit.2 texts))
         (λ t a b h k l. chosen-well s c.model at t a b (type_of a) (type_of b) (type_of-named s agrees.types a k.0) (type_of-named s agrees.types b l.0) h.0 h.1 k.0 (k.1, refl) l.0 (l.1, refl))
     formed-well purpose literals target names at (kind.Assign' operator p place object q place' value) fit texts =
         let left = lift (left_side c operator at) (done c purpose (formed c purpose literals None place object)) in
@@ -215,17 +215,17 @@ module _ (s : Setting) (c : Context) (agrees : Agrees s c) where
         (left_side-well s c agrees operator at) in
         let right_names = right_named operator left is_left in
         lift2-then (IsLeft s (is_plain operator)) (IsWellValue s) (IsWell s) (stored c operator at) _ _ is_left
-        (operand_in-well purpose _ (formed-well purpose (literals_behind literals object) (right_target operator left) right_names place' value fit.1 texts))
+        (operand_in-well purpose _ (formed-well purpose (literals_after literals object) (right_target operator left) right_names place' value fit.1 texts))
         (λ o v h k. stored-well s c agrees operator at o v h k.0 k.1)
     formed-well purpose literals target names at (kind.Comma' p place first q place' second) fit texts =
         lift2-then (IsWellValue s) (IsWellValue s) (IsWell s) (followed at) _ _
         (value_in-well purpose _ (formed-well purpose literals None tt place first fit.0 (both-first s literals first second texts)))
-        (value_in-well purpose _ (formed-well purpose (literals_behind literals first) None tt place' second fit.1 texts))
+        (value_in-well purpose _ (formed-well purpose (literals_after literals first) None tt place' second fit.1 texts))
         (λ a b h k. followed-well s at a b h.0 h.1 k.0 k.1)
 
     -- the values of arguments
     pub arguments-given : (purpose : Purpose) (literals : Literals) (types : List Shape) → AreNamed s.program.table types → {n : _} (row : Row_of-RawExpr n) → HaveConstants (written_row row) →
-        AreFirst s.program (literals_behind_row literals row) → IfFine (arguments_formed c purpose literals types row) (λ vs. length types ≡ row_length row → AreGiven s types vs)
+        AreFirst s.program (literals_after_row literals row) → IfFine (arguments_formed c purpose literals types row) (λ vs. length types ≡ row_length row → AreGiven s types vs)
     arguments-given purpose literals types names end_of-RawExpr fit texts = none types
       where
         none : (types : List Shape) → length types ≡ 0 → AreGiven s types NoMore
@@ -234,5 +234,5 @@ module _ (s : Setting) (c : Context) (agrees : Agrees s c) where
     arguments-given purpose literals [] names (more_of-RawExpr place k rest) fit texts = λ h. absurd (omega (arith, h))
     arguments-given purpose literals (ty ∷ types) names (more_of-RawExpr place k rest) fit texts =
         further-given ty types (row_length rest) _ _
-        (operand_in-well purpose _ (formed-well purpose literals (Some ty) names.0 place k fit.0 (first-part s.program (literals_behind literals k) _ (literals-begin_row (literals_behind literals k) rest) texts)))
-        (arguments-given purpose (literals_behind literals k) types names.1 rest fit.1 texts)
+        (operand_in-well purpose _ (formed-well purpose literals (Some ty) names.0 place k fit.0 (first-part s.program (literals_after literals k) _ (literals-begin_row (literals_after literals k) rest) texts)))
+        (arguments-given purpose (literals_after literals k) types names.1 rest fit.1 texts)

@@ -16,7 +16,7 @@ use Rattle.cs_grammar.specs.FileText.{initial_text, specs_text, parameters_text}
 use Rattle.cs_consts.specs.declared.context.Context.{Context}
 use Rattle.cs_consts.specs.declared.purpose.Purpose.{Purpose}
 use Rattle.cs_consts.specs.Verdicts.{Fine}
-use Rattle.cs_consts.specs.Typing.{Literals, literals_behind, formed}
+use Rattle.cs_consts.specs.Typing.{Literals, literals_after, formed}
 use Rattle.cs_consts.specs.Doors.{operand_of, assigned_value, test_of, selector_of, discarded_value}
 use Rattle.cs_declarations.specs.Known.{Known, table_of}
 use Rattle.cs_declarations.specs.Initializers.{Storage, initial_typed}
@@ -31,27 +31,27 @@ use Rattle.cs_well_formed.specs.Sizes.{size_of}
 abbrev pub texts_nodes : Literals → ℕ
 texts_nodes literals = all_nodes literal_nodes literals
 
--- an expression of a text of some size, with the literals before it and behind it
-pub record IsBounded (Is : Place → Type 0) (literals behind : Literals) (size : ℕ) (e : Typed) : Type 0 where
+-- an expression of a text of some size, with the literals before it and after it
+pub record IsBounded (Is : Place → Type 0) (literals following : Literals) (size : ℕ) (e : Typed) : Type 0 where
   pub stands : StandsAmong Is e
   pub nodes : expression_nodes e ≤ 16 * size
-  pub with_texts : expression_nodes e + texts_nodes behind ≤ texts_nodes literals + 16 * size
+  pub with_texts : expression_nodes e + texts_nodes following ≤ texts_nodes literals + 16 * size
 
 -- the same of an initializer
-pub record IsBoundedInitial (Is : Place → Type 0) (literals behind : Literals) (size : ℕ) (i : Initial) : Type 0 where
+pub record IsBoundedInitial (Is : Place → Type 0) (literals following : Literals) (size : ℕ) (i : Initial) : Type 0 where
   pub stands : InitialStandsAmong Is i
   pub nodes : initial_nodes i ≤ 16 * size
-  pub with_texts : initial_nodes i + texts_nodes behind ≤ texts_nodes literals + 16 * size
+  pub with_texts : initial_nodes i + texts_nodes following ≤ texts_nodes literals + 16 * size
 
 -- an expression of this tree
 abbrev pub IsBoundedBy : (Place → Type 0) → Literals → RawExpr → Typed → Type 0
-IsBoundedBy Is literals e v = IsBounded Is literals (literals_behind literals e.kind) (size_of (text (written e))) v
+IsBoundedBy Is literals e v = IsBounded Is literals (literals_after literals e.kind) (size_of (text (written e))) v
 
 -- an expression, for any purpose and any target
 abbrev pub FormedAreBounded : (Place → Type 0) → Type 0
 FormedAreBounded Is =
     (c : Context) (purpose : Purpose) (literals : Literals) (target : Option Shape) (at : Place) (k : RawExprKind) (e : Typed) →
-    WrittenAmong Is at k → formed c purpose literals target at k ≡ Fine e → IsBounded Is literals (literals_behind literals k) (size_of (text (written_kind k))) e
+    WrittenAmong Is at k → formed c purpose literals target at k ≡ Fine e → IsBounded Is literals (literals_after literals k) (size_of (text (written_kind k))) e
 
 -- an expression that has to have a value
 abbrev pub OperandsAreBounded : (Place → Type 0) → Type 0
@@ -78,25 +78,25 @@ abbrev pub DiscardedAreBounded : (Place → Type 0) → Type 0
 DiscardedAreBounded Is = (c : Context) (literals : Literals) (e : RawExpr) (v : Typed) →
     ExpressionAmong Is e → discarded_value c literals e ≡ Fine v → IsBoundedBy Is literals e v
 
--- the literals behind an expression are those before it with those of its text
-pub record TextsGrow (literals behind : Literals) (size : ℕ) : Type 0 where
-  pub no_fewer : texts_nodes literals ≤ texts_nodes behind
-  pub no_more : texts_nodes behind ≤ texts_nodes literals + size
+-- the literals after an expression are those before it with those of its text
+pub record TextsGrow (literals following : Literals) (size : ℕ) : Type 0 where
+  pub no_fewer : texts_nodes literals ≤ texts_nodes following
+  pub no_more : texts_nodes following ≤ texts_nodes literals + size
 
 abbrev pub LiteralsAreBounded : Type 0
-LiteralsAreBounded = (literals : Literals) (k : RawExprKind) → TextsGrow literals (literals_behind literals k) (size_of (text (written_kind k)))
+LiteralsAreBounded = (literals : Literals) (k : RawExprKind) → TextsGrow literals (literals_after literals k) (size_of (text (written_kind k)))
 
 -- what an object holds at first
 abbrev pub InitialsAreBounded : (Place → Type 0) → Type 0
 InitialsAreBounded Is =
-    (c : Context) (literals behind : Literals) (storage : Storage) (at : Place) (ty : Shape) (raw : RawInitial) (found : Initial) →
-    Is at → ValuesAmong Is raw → initial_typed c literals storage at ty raw ≡ Fine (found, behind) → IsBoundedInitial Is literals behind (size_of (initial_text (initial raw))) found
+    (c : Context) (literals following : Literals) (storage : Storage) (at : Place) (ty : Shape) (raw : RawInitial) (found : Initial) →
+    Is at → ValuesAmong Is raw → initial_typed c literals storage at ty raw ≡ Fine (found, following) → IsBoundedInitial Is literals following (size_of (initial_text (initial raw))) found
 
 -- the nodes of the structs that are known
 abbrev pub known_nodes : Known → ℕ
 known_nodes k = all_nodes struct_nodes (table_of k)
 
--- what is known behind a text of some size: no literal more, and so many structs and members more at most
+-- what is known after a text of some size: no literal more, and so many structs and members more at most
 pub record Grows (k m : Known) (size : ℕ) : Type 0 where
   pub literals : m.literals ≡ k.literals
   pub structs : known_nodes m ≤ known_nodes k + 16 * size

@@ -2,7 +2,7 @@
 use Rattle.std.specs.Prelude.{FitsSigned}
 use Rattle.std.specs.Int.{w32}
 use Rattle.cs_ast.specs.HeldTokens.{IsHeldConstant}
-use Rattle.cs_ast.specs.RawTree.{Written, WrittenList, Named, Numeral, Character, Literal, Enclosed, Index, Call, Member, Arrow, StepBehind, StepBefore, Prefix, SizeOf, SizeOfType, Cast, Infix, Choice, Assign, Comma, End, More}
+use Rattle.cs_ast.specs.RawTree.{Written, WrittenList, Named, Numeral, Character, Literal, Enclosed, Index, Call, Member, Arrow, StepAfter, StepBefore, Prefix, SizeOf, SizeOfType, Cast, Infix, Choice, Assign, Comma, End, More}
 use Rattle.cs_ast.specs.RawDeclarations.{Initial, Single, Listed, Initials, NoItem, MoreItems}
 
 abbrev mutual
@@ -17,7 +17,7 @@ abbrev mutual
   HasConstants (Call function arguments) = HasConstants function × HaveConstants arguments
   HasConstants (Member object name) = HasConstants object
   HasConstants (Arrow e name) = HasConstants e
-  HasConstants (StepBehind step object) = HasConstants object
+  HasConstants (StepAfter step object) = HasConstants object
   HasConstants (StepBefore step object) = HasConstants object
   HasConstants (Prefix operator e) = HasConstants e
   HasConstants (SizeOf e) = HasConstants e

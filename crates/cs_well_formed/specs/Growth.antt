@@ -1,4 +1,4 @@
--- A program that grows: what it has by now, it has behind each further part of a file.
+-- A program that grows: what it has by now, it has after each further part of a file.
 use Rattle.std.specs.Prelude.{◌≡◌, ℕ, ◌≤◌, List, Some, slice_get}
 use Rattle.cs_types.specs.Shape.{Shape}
 use Rattle.cs_ast.specs.TypedTree.{Typed, Initial, Statement}

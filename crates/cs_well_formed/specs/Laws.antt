@@ -14,7 +14,7 @@ use Rattle.cs_ast.specs.TypedTree.{Typed, Initial}
 use Rattle.cs_consts.specs.declared.context.Context.{Context}
 use Rattle.cs_consts.specs.declared.purpose.Purpose.{Purpose}
 use Rattle.cs_consts.specs.Verdicts.{Fine}
-use Rattle.cs_consts.specs.Typing.{Literals, literals_behind, formed}
+use Rattle.cs_consts.specs.Typing.{Literals, literals_after, formed}
 use Rattle.cs_consts.specs.Doors.{value_of, operand_of, assigned_value, test_of, selector_of, discarded_value}
 use Rattle.cs_declarations.specs.Initializers.{Storage, InFile, initial_typed}
 use Rattle.cs_well_formed.specs.Structs.{NamesStructs}
@@ -23,12 +23,12 @@ use Rattle.cs_well_formed.specs.Initials.{IsWellInitial, HasConstantValues}
 use Rattle.cs_well_formed.specs.Constants.{HasConstants, InitialHasConstants}
 use Rattle.cs_well_formed.specs.Agreement.{Agrees, AreFirst}
 
--- an expression of which the constants are not too wide, typed where what is known agrees with a program, behind literals that are
+-- an expression of which the constants are not too wide, typed where what is known agrees with a program, after literals that are
 -- the first ones of the program
 pub record IsTyped (s : Setting) (c : Context) (literals : Literals) (k : RawExprKind) : Type 0 where
   pub agrees : Agrees s c
   pub constants : HasConstants (written_kind k)
-  pub texts : AreFirst s.program (literals_behind literals k)
+  pub texts : AreFirst s.program (literals_after literals k)
 
 -- the type to which a value goes, if one is asked for, names structs
 abbrev pub TargetNames : Setting → Option Shape → Type 0
@@ -71,11 +71,11 @@ ConstantsAreInRange = (s : Setting) (c : Context) (e : RawExpr) (ty : IntType) (
 
 -- what an object of a whole type holds at first, where the structs of the program are laid out
 abbrev pub InitialsAreWell : Type 0
-InitialsAreWell = (s : Setting) (c : Context) (literals behind : Literals) (storage : Storage) (at : Place) (ty : Shape) (raw : RawInitial) (found : Initial) →
-    Agrees s c → IsLaidOut s.program.model s.program.table → IsWhole s.program ty → NamesStructs s.program.table ty → InitialHasConstants (initial raw) → AreFirst s.program behind →
-    initial_typed c literals storage at ty raw ≡ Fine (found, behind) → IsWellInitial s ty found
+InitialsAreWell = (s : Setting) (c : Context) (literals following : Literals) (storage : Storage) (at : Place) (ty : Shape) (raw : RawInitial) (found : Initial) →
+    Agrees s c → IsLaidOut s.program.model s.program.table → IsWhole s.program ty → NamesStructs s.program.table ty → InitialHasConstants (initial raw) → AreFirst s.program following →
+    initial_typed c literals storage at ty raw ≡ Fine (found, following) → IsWellInitial s ty found
 
 -- what an object of a file holds at first is constant
 abbrev pub FileInitialsAreConstant : Type 0
-FileInitialsAreConstant = (c : Context) (literals behind : Literals) (at : Place) (ty : Shape) (raw : RawInitial) (found : Initial) →
-    initial_typed c literals InFile at ty raw ≡ Fine (found, behind) → HasConstantValues c.model found
+FileInitialsAreConstant = (c : Context) (literals following : Literals) (at : Place) (ty : Shape) (raw : RawInitial) (found : Initial) →
+    initial_typed c literals InFile at ty raw ≡ Fine (found, following) → HasConstantValues c.model found

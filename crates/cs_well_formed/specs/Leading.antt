@@ -18,7 +18,7 @@ use Rattle.cs_declarations.specs.Parameters.{Head, parameters_typed}
 use Rattle.cs_well_formed.specs.Expressions.{Setting, IsWhole}
 use Rattle.cs_well_formed.specs.Agreement.{Keeps, IsThere, Agrees}
 
--- what is known at a point of a file, and what is known behind a part of it
+-- what is known at a point of a file, and what is known after a part of it
 pub record Leads (s : Setting) (k m : Known) : Type 0 where
   pub model : m.context.model ≡ k.context.model
   pub literals : m.literals ≡ k.literals

@@ -29,7 +29,7 @@ InitialsAreNamed = (s : Setting) (ty : Shape) (i : Initial) → TypesAroundAreNa
 abbrev pub StatementsAreNamed : Type 0
 StatementsAreNamed = (s : Setting) (b : Statement) → TypesAroundAreNamed s → IsWellStatement s b → StatementNames s.program.table b
 
--- the type that words name, and all that is known behind them
+-- the type that words name, and all that is known after them
 abbrev pub WordsAreNamed : Type 0
 WordsAreNamed = (k m : Known) (at : Place) (words : RawSpecs) (ty : Shape) → KnownTypesAreNamed k.context → specs_type k at words ≡ Fine (ty, m) → NamesStructs (table_of m) ty × KnownTypesAreNamed m.context
 

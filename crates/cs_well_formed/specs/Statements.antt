@@ -25,7 +25,7 @@ IsTestIfAny s (Some e) = IsWell s e × IsScalarValue e
 abbrev pub IsNumberOf : DataModel → Shape → ℤ → Type 0
 IsNumberOf model ty n = (kind : IntType) → ty ≡ integer kind → InRange model kind n
 
--- a case stands before one of so many statements, or behind the last; its number is one of the type that the `switch` goes by
+-- a case stands before one of so many statements, or after the last; its number is one of the type that the `switch` goes by
 pub record IsCase (model : DataModel) (ty : Shape) (count : ℕ) (c : Case) : Type 0 where
   pub item : c.item ≤ count
   pub number : IfSome c.value (IsNumberOf model ty)

@@ -9,7 +9,7 @@ use Rattle.cs_well_formed.specs.Constants.{HasConstants, InitialHasConstants}
 
 -- where no token is too wide, no constant is
 abbrev pub TextsHoldConstants : Type 0
-TextsHoldConstants = (e : Written) (behind : Kinds) → All IsHeldToken (text e behind) → HasConstants e
+TextsHoldConstants = (e : Written) (following : Kinds) → All IsHeldToken (text e following) → HasConstants e
 
 abbrev pub InitialTextsHoldConstants : Type 0
-InitialTextsHoldConstants = (i : Initial) (behind : Kinds) → All IsHeldToken (initial_text i behind) → InitialHasConstants i
+InitialTextsHoldConstants = (i : Initial) (following : Kinds) → All IsHeldToken (initial_text i following) → InitialHasConstants i

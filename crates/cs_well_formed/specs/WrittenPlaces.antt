@@ -35,7 +35,7 @@ abbrev mutual
   WrittenAmong Is at (kind.Call' p place function shape row) = Is at × WrittenAmong Is place function × RowAmong Is row
   WrittenAmong Is at (kind.Member' p place object name) = Is at × WrittenAmong Is place object
   WrittenAmong Is at (kind.Arrow' p place pointer name) = Is at × WrittenAmong Is place pointer
-  WrittenAmong Is at (kind.StepBehind' step p place object) = Is at × WrittenAmong Is place object
+  WrittenAmong Is at (kind.StepAfter' step p place object) = Is at × WrittenAmong Is place object
   WrittenAmong Is at (kind.StepBefore' step p place object) = Is at × WrittenAmong Is place object
   WrittenAmong Is at (kind.Prefix' operator p place operand) = Is at × WrittenAmong Is place operand
   WrittenAmong Is at (kind.SizeOf' p place operand) = Is at × WrittenAmong Is place operand

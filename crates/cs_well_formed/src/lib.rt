@@ -57,7 +57,7 @@ pub fn constants_are_tokens()
     ensures initializers { InitialTextsHoldConstants }
 {}
 
-/// Behind a declaration structs keep their members, and what it declares is there; the type of a declared object is whole.
+/// After a declaration structs keep their members, and what it declares is there; the type of a declared object is whole.
 pub fn declarations_lead()
     ensures words { WordsLead }
     ensures typedefs { TypedefsLead }
@@ -82,7 +82,7 @@ pub fn typed_nodes_are_bounded()
     ensures initializers { (count : ℕ) → InitialsAreBounded (IsOfFiles count) }
 {}
 
-/// How much is known behind a declaration is bounded by the size of its text.
+/// How much is known after a declaration is bounded by the size of its text.
 pub fn declarations_are_bounded()
     ensures words { WordsAreBounded }
     ensures typedefs { TypedefsAreBounded }

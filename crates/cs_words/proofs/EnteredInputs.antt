@@ -26,7 +26,7 @@ same_input text one other m n r s =
     let names = same_named text one other r.spelling s.spelling (named text one m r) (named text other n s) in
     (names.0, same_value s.spelling m n (subst (λ (t : List ℕ). SpellsNumber t m) names.1 r.spells) s.spells)
 
--- ---- words behind words
+-- ---- words after words
 pub entered_more : (before : List (Path × ℤ)) (words : List (List ℕ)) (middle : List (Path × ℤ)) (word : List ℕ) (path : Path) (number : ℤ) → AreEntered before words middle → SpellsInput word path number → AreEntered before (words ++ word ∷ []) (insert_entry path_order middle path number)
 entered_more before [] middle word path number h spells = (path, number, spells, ap (λ (entries : List (Path × ℤ)). insert_entry path_order entries path number) h)
 entered_more before (w ∷ ws) middle word path number h spells = (h.0, h.1, h.2, entered_more (insert_entry path_order before h.0 h.1) ws middle word path number h.3 spells)
@@ -53,10 +53,10 @@ pub record AreEnteredTo (words : List (List ℕ)) (inputs : List (Path × ℤ)) 
 pub none_entered : (words : List (List ℕ)) (inputs : List (Path × ℤ)) → inputs ≡ [] → AreEnteredTo words inputs words
 none_entered words inputs none = record { done = []; whole = refl; entered = none }
 
-pub one_more : (words : List (List ℕ)) (before after : List (Path × ℤ)) (rest : List (List ℕ)) (word : List ℕ) (behind : List (List ℕ)) (path : Path) (number : ℤ) → AreEnteredTo words before rest → rest ≡ word ∷ behind → SpellsInput word path number → after ≡ insert_entry path_order before path number → AreEnteredTo words after behind
-one_more words before after rest word behind path number to is spells e = record {
+pub one_more : (words : List (List ℕ)) (before after : List (Path × ℤ)) (rest : List (List ℕ)) (word : List ℕ) (following : List (List ℕ)) (path : Path) (number : ℤ) → AreEnteredTo words before rest → rest ≡ word ∷ following → SpellsInput word path number → after ≡ insert_entry path_order before path number → AreEnteredTo words after following
+one_more words before after rest word following path number to is spells e = record {
   done = to.done ++ word ∷ [];
-  whole = to.whole ∙ ap (λ (w : List (List ℕ)). to.done ++ w) is ∙ sym (append_assoc to.done (word ∷ []) behind);
+  whole = to.whole ∙ ap (λ (w : List (List ℕ)). to.done ++ w) is ∙ sym (append_assoc to.done (word ∷ []) following);
   entered = subst (λ (entries : List (Path × ℤ)). AreEntered [] (to.done ++ word ∷ []) entries) (sym e) (entered_more [] to.done before word path number to.entered spells);
 }
 
@@ -64,11 +64,11 @@ pub all_entered : (words : List (List ℕ)) (inputs : List (Path × ℤ)) (rest 
 all_entered words inputs rest to none =
     subst (λ (w : List (List ℕ)). AreEntered [] w inputs) (sym (to.whole ∙ ap (λ (w : List (List ℕ)). to.done ++ w) none ∙ append-nil to.done)) to.entered
 
-pub no_input : (words : List (List ℕ)) (inputs : List (Path × ℤ)) (rest : List (List ℕ)) (word : List ℕ) (behind : List (List ℕ)) (total number : ℕ) → AreEnteredTo words inputs rest → rest ≡ word ∷ behind → number + length rest ≡ total + 1 → ((path : Path) (n : ℤ) → SpellsInput word path n → ⊥) → IsNoInputAt words total number
-no_input words inputs rest word behind total number to is counts none = record {
+pub no_input : (words : List (List ℕ)) (inputs : List (Path × ℤ)) (rest : List (List ℕ)) (word : List ℕ) (following : List (List ℕ)) (total number : ℕ) → AreEnteredTo words inputs rest → rest ≡ word ∷ following → number + length rest ≡ total + 1 → ((path : Path) (n : ℤ) → SpellsInput word path n → ⊥) → IsNoInputAt words total number
+no_input words inputs rest word following total number to is counts none = record {
   before = to.done;
   word = word;
-  behind = behind;
+  following = following;
   whole = to.whole ∙ ap (λ (w : List (List ℕ)). to.done ++ w) is;
   counts = ap (λ (w : List (List ℕ)). number + length w) (sym is) ∙ counts;
   inputs = inputs;

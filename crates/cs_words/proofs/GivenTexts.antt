@@ -1,4 +1,4 @@
--- Settings one behind the other: which texts are given to which options, and that none is given twice.
+-- Settings one after the other: which texts are given to which options, and that none is given twice.
 use Rattle.std.proofs.Common.{◌≡◌, ℕ, Bool, true, false, List, [], ◌∷◌, ◌++◌, Option, Some, None, ap, sym, ◌∙◌, refl}
 use Rattle.std.specs.Prelude.{if◌then◌else◌}
 use Rattle.cs_words.specs.Options.{Verb, Setting, takes}
@@ -24,9 +24,9 @@ own_text g later = ap (λ (b : Bool). if b then Some g.text else text_of g.setti
 pub text_here : (g : Given) (given later : List Given) → text_of g.setting given ≡ None → text_of g.setting (given ++ g ∷ later) ≡ Some g.text
 text_here g given later none = text_append g.setting given (g ∷ later) ∙ ap (λ (t : Option (List ℕ)). first_some t (text_of g.setting (g ∷ later))) none ∙ own_text g later
 
-never_none : (told : Option (List ℕ)) (text : List ℕ) → first_some told (Some text) ≡ None → ⊥
+never_none : (reported : Option (List ℕ)) (text : List ℕ) → first_some reported (Some text) ≡ None → ⊥
 never_none None text e = absurd (cc)
-never_none (Some told) text e = absurd (cc)
+never_none (Some reported) text e = absurd (cc)
 
 given_somewhere : (g : Given) (given later : List Given) → text_of g.setting (given ++ g ∷ later) ≡ None → ⊥
 given_somewhere g given later none =
@@ -77,6 +77,6 @@ pub text_more : (setting : Setting) (g : Given) (given : List Given) → is_same
 text_more setting g given other =
     text_append setting given (g ∷ []) ∙ ap (λ (b : Bool). first_some (text_of setting given) (if b then Some g.text else None)) other ∙ kept (text_of setting given)
   where
-    kept : (told : Option (List ℕ)) → first_some told None ≡ told
+    kept : (reported : Option (List ℕ)) → first_some reported None ≡ reported
     kept None = refl
     kept (Some text) = refl

@@ -73,9 +73,9 @@ tail_at : (text : Option (List ℕ)) → IsEmptyOrAt 61 (tail_text text)
 tail_at None = tt
 tail_at (Some text) = refl
 
-pub behind_dashes : (setting : Setting) (text : Option (List ℕ)) → option_text setting text ≡ codes "--" ++ (setting_text setting ++ tail_text text)
-behind_dashes setting None = ap (λ (t : List ℕ). 45 ∷ 45 ∷ t) (sym (append-nil (setting_text setting)))
-behind_dashes setting (Some text) = ap (λ (t : List ℕ). 45 ∷ 45 ∷ t) (append_assoc (setting_text setting) (codes "=") text)
+pub after_dashes : (setting : Setting) (text : Option (List ℕ)) → option_text setting text ≡ codes "--" ++ (setting_text setting ++ tail_text text)
+after_dashes setting None = ap (λ (t : List ℕ). 45 ∷ 45 ∷ t) (sym (append-nil (setting_text setting)))
+after_dashes setting (Some text) = ap (λ (t : List ℕ). 45 ∷ 45 ∷ t) (append_assoc (setting_text setting) (codes "=") text)
 
 same_tail : (one other : Option (List ℕ)) → tail_text one ≡ tail_text other → one ≡ other
 same_tail None None e = refl
@@ -87,11 +87,11 @@ pub same_cut_text : (one : Setting) (name tail : List ℕ) (text : Option (List 
 same_cut_text one name tail text none at e = one_cut 61 (setting_text one) name (tail_text text) tail (no_equals one) none (tail_at text) at e
 
 -- a word is of one option, and with one value's text or none
-pub same_option : (one other : Setting) (text told : Option (List ℕ)) → option_text one text ≡ option_text other told → (one ≡ other) × (text ≡ told)
-same_option one other text told e =
-    let bodies : setting_text one ++ tail_text text ≡ setting_text other ++ tail_text told = ap (drop 2) (sym (behind_dashes one text) ∙ e ∙ behind_dashes other told) in
-    let cut = same_cut_text one (setting_text other) (tail_text told) text (no_equals other) (tail_at told) bodies in
-    (same_setting one other cut.0, same_tail text told cut.1)
+pub same_option : (one other : Setting) (text reported : Option (List ℕ)) → option_text one text ≡ option_text other reported → (one ≡ other) × (text ≡ reported)
+same_option one other text reported e =
+    let bodies : setting_text one ++ tail_text text ≡ setting_text other ++ tail_text reported = ap (drop 2) (sym (after_dashes one text) ∙ e ∙ after_dashes other reported) in
+    let cut = same_cut_text one (setting_text other) (tail_text reported) text (no_equals other) (tail_at reported) bodies in
+    (same_setting one other cut.0, same_tail text reported cut.1)
 
 -- an option's word is no name
 pub no_name : (setting : Setting) (text : Option (List ℕ)) → is_name (option_text setting text) ≡ false
@@ -111,12 +111,12 @@ joined_at name (b ∷ bs) text mark at is =
 
 pub with_text : (word body name tail text : List ℕ) (mark : ℕ) (setting : Setting) → word ≡ 45 ∷ 45 ∷ body → SplitsBefore 61 body name tail → setting_text setting ≡ name → tail ≡ mark ∷ text → word ≡ option_text setting (Some text)
 with_text word body name tail text mark setting is cut named marked =
-    is ∙ ap (λ (t : List ℕ). 45 ∷ 45 ∷ t) (cut.whole ∙ ap (λ (t : List ℕ). name ++ t) (joined_at name tail text mark cut.at marked) ∙ ap (λ (t : List ℕ). t ++ (codes "=" ++ text)) (sym named)) ∙ sym (behind_dashes setting (Some text))
+    is ∙ ap (λ (t : List ℕ). 45 ∷ 45 ∷ t) (cut.whole ∙ ap (λ (t : List ℕ). name ++ t) (joined_at name tail text mark cut.at marked) ∙ ap (λ (t : List ℕ). t ++ (codes "=" ++ text)) (sym named)) ∙ sym (after_dashes setting (Some text))
 
 pub unknown : (word body name tail : List ℕ) → word ≡ 45 ∷ 45 ∷ body → SplitsBefore 61 body name tail → ((setting : Setting) → setting_text setting ≡ name → ⊥) → (setting : Setting) (text : Option (List ℕ)) → word ≡ option_text setting text → ⊥
 unknown word body name tail is cut none setting text e =
-    let bodies : setting_text setting ++ tail_text text ≡ name ++ tail = ap (drop 2) (sym (behind_dashes setting text) ∙ sym e ∙ is) ∙ cut.whole in
+    let bodies : setting_text setting ++ tail_text text ≡ name ++ tail = ap (drop 2) (sym (after_dashes setting text) ∙ sym e ∙ is) ∙ cut.whole in
     none setting (same_cut_text setting name tail text cut.none cut.at bodies).0
 
 pub no_dashes : (word : List ℕ) → ((body : List ℕ) → word ≡ 45 ∷ 45 ∷ body → ⊥) → (setting : Setting) (text : Option (List ℕ)) → word ≡ option_text setting text → ⊥
-no_dashes word none setting text e = none (setting_text setting ++ tail_text text) (e ∙ behind_dashes setting text)
+no_dashes word none setting text e = none (setting_text setting ++ tail_text text) (e ∙ after_dashes setting text)

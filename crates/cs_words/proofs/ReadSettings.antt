@@ -12,11 +12,11 @@ use Rattle.cs_words.specs.Meaning.{Command, AskFor, WordsMean, BeginsACommand}
 use Rattle.cs_words.specs.Scan.{Settings, IsSetTo, is_set, HasValue, IsSetBesides, AreReadTo, BeginWithNoOption}
 use Rattle.cs_words.proofs.OptionTexts.{same_verb, same_option, same_place}
 use Rattle.cs_words.proofs.GivenTexts.{text_here, not_given, different_more, taken_more, taken_here, text_more}
-use Rattle.cs_words.proofs.SettingWords.{heads, joined, followed, asks_no_option, behind_read, none_left}
-use Rattle.cs_words.proofs.FoundFields.{IsTold, not_set, told_from, told_some, some_budgets, some_model, visits_told, depth_told, events_told, model_told}
+use Rattle.cs_words.proofs.SettingWords.{heads, joined, followed, asks_no_option, after_read, none_left}
+use Rattle.cs_words.proofs.FoundFields.{IsReported, not_set, reported_from, reported_some, some_budgets, some_model, visits_reported, depth_reported, events_reported, model_reported}
 
 -- ---- words that go on
--- words behind settings that were read go on to a command
+-- words after settings that were read go on to a command
 pub record GoOn (verb : Verb) (given : List Given) (words : List (List ℕ)) (command : Command) : Type 0 where
   pub later : List Given
   pub others : List (List ℕ)
@@ -27,9 +27,9 @@ pub record GoOn (verb : Verb) (given : List Given) (words : List (List ℕ)) (co
 
 pub goes_on : (verb : Verb) (given : List Given) (done words : List (List ℕ)) (command : Command) → BeginWithSettings given [] done → WordsMean ((verb_text verb ∷ done) ++ words) command → GoOn verb given words command
 goes_on verb given done words command spelled m =
-    let first = heads (verb_text verb) (verb_text m.verb) (done ++ words) m.behind m.first in
+    let first = heads (verb_text verb) (verb_text m.verb) (done ++ words) m.following m.first in
     let verbs : m.verb ≡ verb = sym (same_verb verb m.verb first.0) in
-    let read = behind_read given m.given done m.others words (asks_no_option m.verb m.given m.others command m.asks) spelled (subst (λ (w : List (List ℕ)). BeginWithSettings m.given m.others w) (sym first.1) m.settings) in
+    let read = after_read given m.given done m.others words (asks_no_option m.verb m.given m.others command m.asks) spelled (subst (λ (w : List (List ℕ)). BeginWithSettings m.given m.others w) (sym first.1) m.settings) in
     record {
       later = read.0;
       others = m.others;
@@ -51,14 +51,14 @@ pub record AreSpelled (verb : Verb) (given : List Given) (done : List (List ℕ)
   pub words : BeginWithSettings given [] done
   pub taken : AreTaken verb given
   pub different : AreDifferent given
-  pub told : (setting : Setting) → IsTold setting (text_of setting given)
+  pub reported : (setting : Setting) → IsReported setting (text_of setting given)
 
 pub means_with : (verb : Verb) (given : List Given) (done others : List (List ℕ)) (command : Command) → BeginWithSettings given [] done → AreTaken verb given → AreDifferent given → AskFor verb given others command → WordsMean ((verb_text verb ∷ done) ++ others) command
 means_with verb given done others command words taken different asks = record {
   verb = verb;
   given = given;
   others = others;
-  behind = done ++ others;
+  following = done ++ others;
   first = refl;
   settings = followed given done others words;
   taken = taken;
@@ -67,35 +67,35 @@ means_with verb given done others command words taken different asks = record {
 }
 
 -- they go on to some command
-completed : (verb : Verb) (given : List Given) → ((setting : Setting) → IsTold setting (text_of setting given)) → (others : List (List ℕ)) × (command : Command) × AskFor verb given others command
-completed verbs.Analyze given told =
-    let model = some_model given told in
+completed : (verb : Verb) (given : List Given) → ((setting : Setting) → IsReported setting (text_of setting given)) → (others : List (List ℕ)) × (command : Command) × AskFor verb given others command
+completed verbs.Analyze given reported =
+    let model = some_model given reported in
     ([], Analyze (record { model = model.0 }), (refl, model.1))
-completed verbs.Flow given told =
-    let model = some_model given told in
+completed verbs.Flow given reported =
+    let model = some_model given reported in
     ([], Flow (record { model = model.0 }), (refl, model.1))
-completed verbs.Replay given told =
-    let model = some_model given told in
-    let budgets = some_budgets given told in
+completed verbs.Replay given reported =
+    let model = some_model given reported in
+    let budgets = some_budgets given reported in
     (codes "f" ∷ [], Replay (record { budgets = budgets.0; entry = codes "f"; inputs = []; model = model.0 }), record { budgets = budgets.1; model = model.1; name = refl; input_words = []; whole = refl; inputs = refl })
 
 pub begins : (verb : Verb) (given : List Given) (done : List (List ℕ)) → AreSpelled verb given done → BeginsACommand (verb_text verb ∷ done)
 begins verb given done s =
-    let end = completed verb given s.told in
+    let end = completed verb given s.reported in
     (end.0, end.1, means_with verb given done end.0 end.1 s.words s.taken s.different end.2)
 
-told_more : (g : Given) (given : List Given) → text_of g.setting given ≡ None → HasValue g.setting g.text → ((setting : Setting) → IsTold setting (text_of setting given)) → (setting : Setting) (same : Bool) → is_same setting g.setting ≡ same → IsTold setting (text_of setting (given ++ g ∷ []))
-told_more g given none value told setting true is =
-    subst (λ (s : Setting). IsTold s (text_of s (given ++ g ∷ []))) (sym (same_place setting g.setting is)) (subst (λ (t : Option (List ℕ)). IsTold g.setting t) (sym (text_here g given [] none)) (told_some g.setting g.text value))
-told_more g given none value told setting false is =
-    subst (λ (t : Option (List ℕ)). IsTold setting t) (sym (text_more setting g given is)) (told setting)
+reported_more : (g : Given) (given : List Given) → text_of g.setting given ≡ None → HasValue g.setting g.text → ((setting : Setting) → IsReported setting (text_of setting given)) → (setting : Setting) (same : Bool) → is_same setting g.setting ≡ same → IsReported setting (text_of setting (given ++ g ∷ []))
+reported_more g given none value reported setting true is =
+    subst (λ (s : Setting). IsReported s (text_of s (given ++ g ∷ []))) (sym (same_place setting g.setting is)) (subst (λ (t : Option (List ℕ)). IsReported g.setting t) (sym (text_here g given [] none)) (reported_some g.setting g.text value))
+reported_more g given none value reported setting false is =
+    subst (λ (t : Option (List ℕ)). IsReported setting t) (sym (text_more setting g given is)) (reported setting)
 
 pub spelled_more : (verb : Verb) (g : Given) (given : List Given) (done words : List (List ℕ)) → AreSpelled verb given done → takes verb g.setting ≡ true → text_of g.setting given ≡ None → HasValue g.setting g.text → BeginWithSetting g [] words → AreSpelled verb (given ++ g ∷ []) (done ++ words)
 spelled_more verb g given done words s taken none value begins = record {
   words = joined given (g ∷ []) done [] words s.words ([], begins, refl);
   taken = taken_more verb g given s.taken taken;
   different = different_more g given s.different none;
-  told = λ setting. told_more g given none value s.told setting (is_same setting g.setting) refl;
+  reported = λ setting. reported_more g given none value s.reported setting (is_same setting g.setting) refl;
 }
 
 -- ---- the same of what the scan has found
@@ -104,7 +104,7 @@ spelled_by verb words settings rest read = record {
   words = read.spelled;
   taken = read.taken;
   different = read.different;
-  told = λ setting. told_from setting (text_of setting read.given) settings (read.fields setting);
+  reported = λ setting. reported_from setting (text_of setting read.given) settings (read.fields setting);
 }
 
 fields_more : (g : Given) (given : List Given) (before after : Settings) → text_of g.setting given ≡ None → IsSetBesides g.setting g.text before after → ((setting : Setting) → IsSetTo setting (text_of setting given) before) → (setting : Setting) (same : Bool) → is_same setting g.setting ≡ same → IsSetTo setting (text_of setting (given ++ g ∷ [])) after
@@ -128,54 +128,54 @@ read_more verb g words before after rest own left read whole begins taken unset 
 
 -- ---- an option's word that goes on
 asked_value : (verb : Verb) (setting : Setting) (given : List Given) (others : List (List ℕ)) (command : Command) (text : List ℕ) → AskFor verb given others command → takes verb setting ≡ true → text_of setting given ≡ Some text → HasValue setting text
-asked_value verbs.Analyze Model given others (Analyze words) text asks taken e = model_told given words.model text asks.1 e
+asked_value verbs.Analyze Model given others (Analyze words) text asks taken e = model_reported given words.model text asks.1 e
 asked_value verbs.Analyze Model given others (Flow words) text asks taken e = absurd asks
 asked_value verbs.Analyze Model given others (Replay words) text asks taken e = absurd asks
 asked_value verbs.Analyze setting given others command text asks taken e = absurd (cc)
 asked_value verbs.Flow Model given others (Analyze words) text asks taken e = absurd asks
-asked_value verbs.Flow Model given others (Flow words) text asks taken e = model_told given words.model text asks.1 e
+asked_value verbs.Flow Model given others (Flow words) text asks taken e = model_reported given words.model text asks.1 e
 asked_value verbs.Flow Model given others (Replay words) text asks taken e = absurd asks
 asked_value verbs.Flow setting given others command text asks taken e = absurd (cc)
 asked_value verbs.Replay setting given others (Analyze words) text asks taken e = absurd asks
 asked_value verbs.Replay setting given others (Flow words) text asks taken e = absurd asks
-asked_value verbs.Replay Visits given others (Replay words) text asks taken e = visits_told given words.budgets text asks.budgets e
-asked_value verbs.Replay Depth given others (Replay words) text asks taken e = depth_told given words.budgets text asks.budgets e
-asked_value verbs.Replay Events given others (Replay words) text asks taken e = events_told given words.budgets text asks.budgets e
-asked_value verbs.Replay Model given others (Replay words) text asks taken e = model_told given words.model text asks.model e
+asked_value verbs.Replay Visits given others (Replay words) text asks taken e = visits_reported given words.budgets text asks.budgets e
+asked_value verbs.Replay Depth given others (Replay words) text asks taken e = depth_reported given words.budgets text asks.budgets e
+asked_value verbs.Replay Events given others (Replay words) text asks taken e = events_reported given words.budgets text asks.budgets e
+asked_value verbs.Replay Model given others (Replay words) text asks taken e = model_reported given words.model text asks.model e
 
 -- what is known of an option whose word goes on to a command
-pub record IsGoodOption (verb : Verb) (given : List Given) (setting : Setting) (told : Option (List ℕ)) (behind : List (List ℕ)) : Type 0 where
+pub record IsGoodOption (verb : Verb) (given : List Given) (setting : Setting) (reported : Option (List ℕ)) (following : List (List ℕ)) : Type 0 where
   pub text : List ℕ
   pub taken : takes verb setting ≡ true
   pub new : text_of setting given ≡ None
   pub value : HasValue setting text
-  pub place : (told ≡ Some text) ⊎ ((told ≡ None) × (rest : List (List ℕ)) × (behind ≡ text ∷ rest))
+  pub place : (reported ≡ Some text) ⊎ ((reported ≡ None) × (rest : List (List ℕ)) × (following ≡ text ∷ rest))
 
-good_here : (verb : Verb) (given later : List Given) (g : Given) (others : List (List ℕ)) (command : Command) (setting : Setting) (told : Option (List ℕ)) (behind : List (List ℕ)) → setting ≡ g.setting → ((told ≡ Some g.text) ⊎ ((told ≡ None) × (rest : List (List ℕ)) × (behind ≡ g.text ∷ rest))) → AreTaken verb (given ++ g ∷ later) → AreDifferent (given ++ g ∷ later) → AskFor verb (given ++ g ∷ later) others command → IsGoodOption verb given setting told behind
-good_here verb given later g others command setting told behind same place taken different asks =
+good_here : (verb : Verb) (given later : List Given) (g : Given) (others : List (List ℕ)) (command : Command) (setting : Setting) (reported : Option (List ℕ)) (following : List (List ℕ)) → setting ≡ g.setting → ((reported ≡ Some g.text) ⊎ ((reported ≡ None) × (rest : List (List ℕ)) × (following ≡ g.text ∷ rest))) → AreTaken verb (given ++ g ∷ later) → AreDifferent (given ++ g ∷ later) → AskFor verb (given ++ g ∷ later) others command → IsGoodOption verb given setting reported following
+good_here verb given later g others command setting reported following same place taken different asks =
     let takes_it : takes verb g.setting ≡ true = taken_here verb g given later taken in
     let new : text_of g.setting given ≡ None = not_given g given later different in
     let value : HasValue g.setting g.text = asked_value verb g.setting (given ++ g ∷ later) others command g.text asks takes_it (text_here g given later new) in
-    subst (λ (s : Setting). IsGoodOption verb given s told behind) (sym same) (record { text = g.text; taken = takes_it; new = new; value = value; place = place })
+    subst (λ (s : Setting). IsGoodOption verb given s reported following) (sym same) (record { text = g.text; taken = takes_it; new = new; value = value; place = place })
 
-begin_alone : (setting : Setting) (told : Option (List ℕ)) (word : List ℕ) (behind others : List (List ℕ)) → word ≡ option_text setting told → word ∷ behind ≡ others → BeginWithNoOption others → ⊥
-begin_alone setting told word behind [] is e absent = absurd (cc)
-begin_alone setting told word behind (w ∷ ws) is e absent = absent setting told (sym (heads word w behind ws e).0 ∙ is)
+begin_alone : (setting : Setting) (reported : Option (List ℕ)) (word : List ℕ) (following others : List (List ℕ)) → word ≡ option_text setting reported → word ∷ following ≡ others → BeginWithNoOption others → ⊥
+begin_alone setting reported word following [] is e absent = absurd (cc)
+begin_alone setting reported word following (w ∷ ws) is e absent = absent setting reported (sym (heads word w following ws e).0 ∙ is)
 
-named : (verb : Verb) (given later : List Given) (others behind : List (List ℕ)) (command : Command) (setting : Setting) (told : Option (List ℕ)) (word : List ℕ) → word ≡ option_text setting told → BeginWithNoOption others → BeginWithSettings later others (word ∷ behind) → AreTaken verb (given ++ later) → AreDifferent (given ++ later) → AskFor verb (given ++ later) others command → IsGoodOption verb given setting told behind
-named verb given [] others behind command setting told word is absent begins taken different asks = absurd (begin_alone setting told word behind others is begins absent)
-named verb given (g ∷ gs) others behind command setting told word is absent begins taken different asks = at begins.1
+named : (verb : Verb) (given later : List Given) (others following : List (List ℕ)) (command : Command) (setting : Setting) (reported : Option (List ℕ)) (word : List ℕ) → word ≡ option_text setting reported → BeginWithNoOption others → BeginWithSettings later others (word ∷ following) → AreTaken verb (given ++ later) → AreDifferent (given ++ later) → AskFor verb (given ++ later) others command → IsGoodOption verb given setting reported following
+named verb given [] others following command setting reported word is absent begins taken different asks = absurd (begin_alone setting reported word following others is begins absent)
+named verb given (g ∷ gs) others following command setting reported word is absent begins taken different asks = at begins.1
   where
-    at : BeginWithSetting g begins.0 (word ∷ behind) → IsGoodOption verb given setting told behind
+    at : BeginWithSetting g begins.0 (word ∷ following) → IsGoodOption verb given setting reported following
     at (inl e) =
-        let first = heads word (option_text g.setting None) behind (g.text ∷ begins.0) e in
-        let same = same_option setting g.setting told None (sym is ∙ first.0) in
-        good_here verb given gs g others command setting told behind same.0 (inr (same.1, begins.0, first.1)) taken different asks
+        let first = heads word (option_text g.setting None) following (g.text ∷ begins.0) e in
+        let same = same_option setting g.setting reported None (sym is ∙ first.0) in
+        good_here verb given gs g others command setting reported following same.0 (inr (same.1, begins.0, first.1)) taken different asks
     at (inr e) =
-        let first = heads word (option_text g.setting (Some g.text)) behind begins.0 e in
-        let same = same_option setting g.setting told (Some g.text) (sym is ∙ first.0) in
-        good_here verb given gs g others command setting told behind same.0 (inl same.1) taken different asks
+        let first = heads word (option_text g.setting (Some g.text)) following begins.0 e in
+        let same = same_option setting g.setting reported (Some g.text) (sym is ∙ first.0) in
+        good_here verb given gs g others command setting reported following same.0 (inl same.1) taken different asks
 
-pub good_option : (verb : Verb) (given : List Given) (behind : List (List ℕ)) (command : Command) (setting : Setting) (told : Option (List ℕ)) (word : List ℕ) → word ≡ option_text setting told → GoOn verb given (word ∷ behind) command → IsGoodOption verb given setting told behind
-good_option verb given behind command setting told word is on =
-    named verb given on.later on.others behind command setting told word is (asks_no_option verb (given ++ on.later) on.others command on.asks) on.settings on.taken on.different on.asks
+pub good_option : (verb : Verb) (given : List Given) (following : List (List ℕ)) (command : Command) (setting : Setting) (reported : Option (List ℕ)) (word : List ℕ) → word ≡ option_text setting reported → GoOn verb given (word ∷ following) command → IsGoodOption verb given setting reported following
+good_option verb given following command setting reported word is on =
+    named verb given on.later on.others following command setting reported word is (asks_no_option verb (given ++ on.later) on.others command on.asks) on.settings on.taken on.different on.asks

@@ -20,17 +20,17 @@ begins_itself : (words : List (List ℕ)) (command : Command) → WordsMean word
 begins_itself words command m = ([], command, subst (λ (w : List (List ℕ)). WordsMean w command) (sym (append-nil words)) m)
 
 -- a word that is refused ends each command that the words before it begin
-ends_there : (before behind : List (List ℕ)) → EndBefore before behind → (word : List ℕ) (more : List (List ℕ)) → behind ≡ word ∷ more → BeginsACommand (before ++ word ∷ []) → ⊥
+ends_there : (before following : List (List ℕ)) → EndBefore before following → (word : List ℕ) (more : List (List ℕ)) → following ≡ word ∷ more → BeginsACommand (before ++ word ∷ []) → ⊥
 ends_there before [] end word more e h = absurd (cc)
 ends_there before (w ∷ ws) end word more e h = end (subst (λ (v : List ℕ). BeginsACommand (before ++ v ∷ [])) (let s : word ≡ w = cc in s) h)
 
-none_meant : (before behind : List (List ℕ)) → EndBefore before behind → (command : Command) → WordsMean (before ++ behind) command → ⊥
+none_meant : (before following : List (List ℕ)) → EndBefore before following → (command : Command) → WordsMean (before ++ following) command → ⊥
 none_meant before [] end command m = end command (subst (λ (w : List (List ℕ)). WordsMean w command) (append-nil before) m)
 none_meant before (w ∷ ws) end command m =
     end (ws, command, subst (λ (v : List (List ℕ)). WordsMean v command) (sym (append_assoc before (w ∷ []) ws)) m)
 
 pub not_meant : (words : List (List ℕ)) (number : ℕ) → AreRefusedAt words number → (command : Command) → WordsMean words command → ⊥
-not_meant words number r command m = none_meant r.before r.behind r.end command (subst (λ (w : List (List ℕ)). WordsMean w command) r.whole m)
+not_meant words number r command m = none_meant r.before r.following r.end command (subst (λ (w : List (List ℕ)). WordsMean w command) r.whole m)
 
 -- of two fronts of the same words one goes on to the other
 one_front : (a c b d : List (List ℕ)) → a ++ b ≡ c ++ d → (a ≡ c) ⊎ (((word : List ℕ) × (more : List (List ℕ)) × (others : List (List ℕ)) × (b ≡ word ∷ others) × (c ≡ a ++ word ∷ more)) ⊎ ((word : List ℕ) × (more : List (List ℕ)) × (others : List (List ℕ)) × (d ≡ word ∷ others) × (a ≡ c ++ word ∷ more)))
@@ -48,40 +48,40 @@ one_front (x ∷ a) (y ∷ c) b d e =
       ]
     ]
 
-past_end : (before behind more : List (List ℕ)) (word : List ℕ) (others front : List (List ℕ)) → EndBefore before behind → behind ≡ word ∷ others → front ≡ before ++ word ∷ more → BeginsACommand front → ⊥
-past_end before behind more word others front end e longer h =
-    ends_there before behind end word others e (shorter (before ++ word ∷ []) more (subst BeginsACommand (longer ∙ sym (append_assoc before (word ∷ []) more)) h))
+past_end : (before following more : List (List ℕ)) (word : List ℕ) (others front : List (List ℕ)) → EndBefore before following → following ≡ word ∷ others → front ≡ before ++ word ∷ more → BeginsACommand front → ⊥
+past_end before following more word others front end e longer h =
+    ends_there before following end word others e (shorter (before ++ word ∷ []) more (subst BeginsACommand (longer ∙ sym (append_assoc before (word ∷ []) more)) h))
 
 -- one word is refused
 pub one_refusal : (words : List (List ℕ)) (m n : ℕ) → AreRefusedAt words m → AreRefusedAt words n → m ≡ n
 one_refusal words m n r s =
-    elim (one_front r.before s.before r.behind s.behind (sym r.whole ∙ s.whole)) [
+    elim (one_front r.before s.before r.following s.following (sym r.whole ∙ s.whole)) [
       | inl same ↦ r.counts ∙ ap (λ (w : List (List ℕ)). length w + 1) same ∙ sym s.counts
       | inr longer ↦ elim longer [
-        | inl h ↦ absurd (past_end r.before r.behind h.1 h.0 h.2 s.before r.end h.3 h.4 s.begin)
-        | inr h ↦ absurd (past_end s.before s.behind h.1 h.0 h.2 r.before s.end h.3 h.4 r.begin)
+        | inl h ↦ absurd (past_end r.before r.following h.1 h.0 h.2 s.before r.end h.3 h.4 s.begin)
+        | inr h ↦ absurd (past_end s.before s.following h.1 h.0 h.2 r.before s.end h.3 h.4 r.begin)
       ]
     ]
 
 -- ---- the refusal of a word by what is left
-pub refused_so : (words before behind : List (List ℕ)) (number : ℕ) → words ≡ before ++ behind → number + length behind ≡ length words + 1 → BeginsACommand before → EndBefore before behind → AreRefusedAt words number
-refused_so words before behind number whole counts begin end = record {
+pub refused_so : (words before following : List (List ℕ)) (number : ℕ) → words ≡ before ++ following → number + length following ≡ length words + 1 → BeginsACommand before → EndBefore before following → AreRefusedAt words number
+refused_so words before following number whole counts begin end = record {
   before = before;
-  behind = behind;
+  following = following;
   whole = whole;
-  counts = omega (arith, ap length whole, length-append before behind);
+  counts = omega (arith, ap length whole, length-append before following);
   begin = begin;
   end = end;
 }
 
--- a word behind settings that were read is refused where none goes on with it
+-- a word after settings that were read is refused where none goes on with it
 pub no_word : (verb : Verb) (given : List Given) (done : List (List ℕ)) (word : List ℕ) → BeginWithSettings given [] done → ((more : List (List ℕ)) (command : Command) → GoOn verb given (word ∷ more) command → ⊥) → BeginsACommand ((verb_text verb ∷ done) ++ word ∷ []) → ⊥
 no_word verb given done word spelled none h =
     none h.0 h.1 (goes_on verb given done (word ∷ h.0) h.1 spelled (subst (λ (w : List (List ℕ)). WordsMean w h.1) (append_assoc (verb_text verb ∷ done) (word ∷ []) h.0) h.2))
 
-pub refused_first : (verb : Verb) (words : List (List ℕ)) (settings : Settings) (rest : List (List ℕ)) (number : ℕ) (word : List ℕ) (behind : List (List ℕ)) → (read : AreReadTo verb words settings rest) → rest ≡ word ∷ behind → number + length rest ≡ length words + 1 → ((more : List (List ℕ)) (command : Command) → GoOn verb read.given (word ∷ more) command → ⊥) → AreRefusedAt words number
-refused_first verb words settings rest number word behind read is counts none =
-    refused_so words (verb_text verb ∷ read.done) (word ∷ behind) number (read.whole ∙ ap (λ (w : List (List ℕ)). (verb_text verb ∷ read.done) ++ w) is) (ap (λ (w : List (List ℕ)). number + length w) (sym is) ∙ counts) (begins verb read.given read.done (spelled_by verb words settings rest read)) (no_word verb read.given read.done word read.spelled none)
+pub refused_first : (verb : Verb) (words : List (List ℕ)) (settings : Settings) (rest : List (List ℕ)) (number : ℕ) (word : List ℕ) (following : List (List ℕ)) → (read : AreReadTo verb words settings rest) → rest ≡ word ∷ following → number + length rest ≡ length words + 1 → ((more : List (List ℕ)) (command : Command) → GoOn verb read.given (word ∷ more) command → ⊥) → AreRefusedAt words number
+refused_first verb words settings rest number word following read is counts none =
+    refused_so words (verb_text verb ∷ read.done) (word ∷ following) number (read.whole ∙ ap (λ (w : List (List ℕ)). (verb_text verb ∷ read.done) ++ w) is) (ap (λ (w : List (List ℕ)). number + length w) (sym is) ∙ counts) (begins verb read.given read.done (spelled_by verb words settings rest read)) (no_word verb read.given read.done word read.spelled none)
 
 -- the same where words are missing
 pub refused_end : (verb : Verb) (words : List (List ℕ)) (settings : Settings) (rest : List (List ℕ)) (number : ℕ) → (read : AreReadTo verb words settings rest) → rest ≡ [] → number + length rest ≡ length words + 1 → ((command : Command) → GoOn verb read.given [] command → ⊥) → AreRefusedAt words number
@@ -101,7 +101,7 @@ unfit verb words settings rest others number option read first counts fault =
         let f : is_set (setting_in option) settings ≡ false = none_is_unset (setting_in option) settings (subst (λ (o : Option (List ℕ)). IsSetTo (setting_in option) o settings) good.new (read.fields (setting_in option))) in
         absurd (cc)
 
--- no value behind the `=`
+-- no value after the `=`
 pub bad_joined : (verb : Verb) (words : List (List ℕ)) (settings : Settings) (rest others : List (List ℕ)) (number : ℕ) (option : OptionWord) (text : List ℕ) → AreReadTo verb words settings rest → IsFirstOption option others rest → number + length rest ≡ length words + 1 → text_in option ≡ Some text → (HasValue (setting_in option) text → ⊥) → AreRefusedAt words number
 bad_joined verb words settings rest others number option text read first counts is none =
     refused_first verb words settings rest number first.word others read first.whole counts (λ more command on. absent (good_option verb read.given more command (setting_in option) (text_in option) first.word first.names on))
@@ -129,9 +129,9 @@ begins_alone verb words settings rest others option read first is taken unset =
     let more = spelled_more verb (record { setting = setting; text = value.0 }) read.given read.done (first.word ∷ value.0 ∷ []) (spelled_by verb words settings rest read) taken none value.1 (inl (ap (λ (w : List ℕ). w ∷ value.0 ∷ []) word)) in
     shorter ((verb_text verb ∷ read.done) ++ first.word ∷ []) (value.0 ∷ []) (subst BeginsACommand (sym (append_assoc (verb_text verb ∷ read.done) (first.word ∷ []) (value.0 ∷ []))) (begins verb (read.given ++ record { setting = setting; text = value.0 } ∷ []) (read.done ++ first.word ∷ value.0 ∷ []) more))
 
--- what stands behind an option's word that is no value, or is missing
-pub bad_behind : (verb : Verb) (words : List (List ℕ)) (settings : Settings) (rest others : List (List ℕ)) (number : ℕ) (option : OptionWord) → AreReadTo verb words settings rest → IsFirstOption option others rest → number + length others ≡ length words + 1 → text_in option ≡ None → takes verb (setting_in option) ≡ true → is_set (setting_in option) settings ≡ false → ((text : List ℕ) (left : List (List ℕ)) → others ≡ text ∷ left → HasValue (setting_in option) text → ⊥) → AreRefusedAt words number
-bad_behind verb words settings rest others number option read first counts is taken unset none =
+-- what stands after an option's word that is no value, or is missing
+pub bad_after : (verb : Verb) (words : List (List ℕ)) (settings : Settings) (rest others : List (List ℕ)) (number : ℕ) (option : OptionWord) → AreReadTo verb words settings rest → IsFirstOption option others rest → number + length others ≡ length words + 1 → text_in option ≡ None → takes verb (setting_in option) ≡ true → is_set (setting_in option) settings ≡ false → ((text : List ℕ) (left : List (List ℕ)) → others ≡ text ∷ left → HasValue (setting_in option) text → ⊥) → AreRefusedAt words number
+bad_after verb words settings rest others number option read first counts is taken unset none =
     refused_so words ((verb_text verb ∷ read.done) ++ first.word ∷ []) others number (read.whole ∙ ap (λ (w : List (List ℕ)). (verb_text verb ∷ read.done) ++ w) first.whole ∙ sym (append_assoc (verb_text verb ∷ read.done) (first.word ∷ []) others)) counts (begins_alone verb words settings rest others option read first is taken unset) (at others none)
   where
     absent : (more : List (List ℕ)) (command : Command) → WordsMean ((verb_text verb ∷ read.done) ++ first.word ∷ more) command → (text : List ℕ) × HasValue (setting_in option) text × (left : List (List ℕ)) × (more ≡ text ∷ left)
@@ -142,7 +142,7 @@ bad_behind verb words settings rest others number option read first counts is ta
           | inr e ↦ (good.text, good.value, e.1, e.2)
         ]
 
-    at : (behind : List (List ℕ)) → ((text : List ℕ) (left : List (List ℕ)) → behind ≡ text ∷ left → HasValue (setting_in option) text → ⊥) → EndBefore ((verb_text verb ∷ read.done) ++ first.word ∷ []) behind
+    at : (following : List (List ℕ)) → ((text : List ℕ) (left : List (List ℕ)) → following ≡ text ∷ left → HasValue (setting_in option) text → ⊥) → EndBefore ((verb_text verb ∷ read.done) ++ first.word ∷ []) following
     at [] none = λ command m.
         let good = absent [] command m in
         let e = good.3 in absurd (cc)
@@ -157,6 +157,6 @@ pub joined_read : (verb : Verb) (words : List (List ℕ)) (before after : Settin
 joined_read verb words before after rest others option text read first is taken unset set =
     read_more verb (record { setting = setting_in option; text = text }) words before after rest (first.word ∷ []) others read first.whole (inr (ap (λ (w : List ℕ). w ∷ []) (first.names ∙ ap (option_text (setting_in option)) is))) taken unset set
 
-pub behind_read : (verb : Verb) (words : List (List ℕ)) (before after : Settings) (rest others left : List (List ℕ)) (option : OptionWord) (text : List ℕ) → AreReadTo verb words before rest → IsFirstOption option others rest → text_in option ≡ None → others ≡ text ∷ left → takes verb (setting_in option) ≡ true → is_set (setting_in option) before ≡ false → IsSetBesides (setting_in option) text before after → AreReadTo verb words after left
-behind_read verb words before after rest others left option text read first is behind taken unset set =
-    read_more verb (record { setting = setting_in option; text = text }) words before after rest (first.word ∷ text ∷ []) left read (first.whole ∙ ap (λ (w : List (List ℕ)). first.word ∷ w) behind) (inl (ap (λ (w : List ℕ). w ∷ text ∷ []) (first.names ∙ ap (option_text (setting_in option)) is))) taken unset set
+pub after_read : (verb : Verb) (words : List (List ℕ)) (before after : Settings) (rest others left : List (List ℕ)) (option : OptionWord) (text : List ℕ) → AreReadTo verb words before rest → IsFirstOption option others rest → text_in option ≡ None → others ≡ text ∷ left → takes verb (setting_in option) ≡ true → is_set (setting_in option) before ≡ false → IsSetBesides (setting_in option) text before after → AreReadTo verb words after left
+after_read verb words before after rest others left option text read first is following taken unset set =
+    read_more verb (record { setting = setting_in option; text = text }) words before after rest (first.word ∷ text ∷ []) left read (first.whole ∙ ap (λ (w : List (List ℕ)). first.word ∷ w) following) (inl (ap (λ (w : List ℕ). w ∷ text ∷ []) (first.names ∙ ap (option_text (setting_in option)) is))) taken unset set

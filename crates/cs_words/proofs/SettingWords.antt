@@ -48,7 +48,7 @@ pub followed : (given : List Given) (done others : List (List ℕ)) → BeginWit
 followed [] done others h = ap (λ (d : List (List ℕ)). d ++ others) h
 followed (g ∷ gs) done others h = (h.0 ++ others, longer g h.0 done others h.1, followed gs h.0 others h.2)
 
--- settings are cut off the words behind them
+-- settings are cut off the words after them
 pub cut_off : (given : List Given) (others words : List (List ℕ)) → BeginWithSettings given others words → (done : List (List ℕ)) × (words ≡ done ++ others) × BeginWithSettings given [] done
 cut_off [] others words h = ([], h, refl)
 cut_off (g ∷ gs) others words h =
@@ -56,9 +56,9 @@ cut_off (g ∷ gs) others words h =
     let first = shortened g h.0 words h.1 rest.0 others rest.1 in
     (first.0, first.1, (rest.0, first.2, rest.2))
   where
-    shortened : (g : Given) (behind words : List (List ℕ)) → BeginWithSetting g behind words → (done others : List (List ℕ)) → behind ≡ done ++ others → (front : List (List ℕ)) × (words ≡ front ++ others) × BeginWithSetting g done front
-    shortened g behind words (inl e) done others is = (option_text g.setting None ∷ g.text ∷ done, e ∙ ap (λ (w : List (List ℕ)). option_text g.setting None ∷ g.text ∷ w) is, inl refl)
-    shortened g behind words (inr e) done others is = (option_text g.setting (Some g.text) ∷ done, e ∙ ap (λ (w : List (List ℕ)). option_text g.setting (Some g.text) ∷ w) is, inr refl)
+    shortened : (g : Given) (following words : List (List ℕ)) → BeginWithSetting g following words → (done others : List (List ℕ)) → following ≡ done ++ others → (front : List (List ℕ)) × (words ≡ front ++ others) × BeginWithSetting g done front
+    shortened g following words (inl e) done others is = (option_text g.setting None ∷ g.text ∷ done, e ∙ ap (λ (w : List (List ℕ)). option_text g.setting None ∷ g.text ∷ w) is, inl refl)
+    shortened g following words (inr e) done others is = (option_text g.setting (Some g.text) ∷ done, e ∙ ap (λ (w : List (List ℕ)). option_text g.setting (Some g.text) ∷ w) is, inr refl)
 
 -- ---- where settings end
 pub no_setting : (g : Given) (b words : List (List ℕ)) → BeginWithNoOption words → BeginWithSetting g b words → ⊥
@@ -67,7 +67,7 @@ no_setting g b [] absent (inr e) = absurd (cc)
 no_setting g b (word ∷ words) absent (inl e) = absent g.setting None (heads word (option_text g.setting None) words (g.text ∷ b) e).0
 no_setting g b (word ∷ words) absent (inr e) = absent g.setting (Some g.text) (heads word (option_text g.setting (Some g.text)) words b e).0
 
--- what stands behind the settings begins with no option's word
+-- what stands after the settings begins with no option's word
 named_first : (entry : List ℕ) (numbers others : List (List ℕ)) → is_name entry ≡ true → others ≡ entry ∷ numbers → BeginWithNoOption others
 named_first entry numbers [] named e = tt
 named_first entry numbers (word ∷ words) named e = λ setting text is.
@@ -91,12 +91,12 @@ asks_no_option verbs.Replay given others (Flow words) asks = absurd asks
 asks_no_option verbs.Replay given others (Replay words) asks = named_first words.entry asks.input_words others asks.name asks.whole
 
 -- ---- settings that were read are the first of all
-pub behind_read : (given all : List Given) (done others t : List (List ℕ)) → BeginWithNoOption others → BeginWithSettings given [] done → BeginWithSettings all others (done ++ t) → (later : List Given) × (all ≡ given ++ later) × BeginWithSettings later others t
-behind_read [] all done others t absent h k = (all, refl, subst (λ (d : List (List ℕ)). BeginWithSettings all others (d ++ t)) h k)
-behind_read (g ∷ gs) [] done others t absent h k = absurd (no_setting g (h.0 ++ t) others absent (subst (λ (w : List (List ℕ)). BeginWithSetting g (h.0 ++ t) w) k (longer g h.0 done t h.1)))
-behind_read (g ∷ gs) (a ∷ more) done others t absent h k =
+pub after_read : (given all : List Given) (done others t : List (List ℕ)) → BeginWithNoOption others → BeginWithSettings given [] done → BeginWithSettings all others (done ++ t) → (later : List Given) × (all ≡ given ++ later) × BeginWithSettings later others t
+after_read [] all done others t absent h k = (all, refl, subst (λ (d : List (List ℕ)). BeginWithSettings all others (d ++ t)) h k)
+after_read (g ∷ gs) [] done others t absent h k = absurd (no_setting g (h.0 ++ t) others absent (subst (λ (w : List (List ℕ)). BeginWithSetting g (h.0 ++ t) w) k (longer g h.0 done t h.1)))
+after_read (g ∷ gs) (a ∷ more) done others t absent h k =
     let same = one_setting a g k.0 (h.0 ++ t) (done ++ t) k.1 (longer g h.0 done t h.1) in
-    let rest = behind_read gs more h.0 others t absent h.2 (subst (λ (w : List (List ℕ)). BeginWithSettings more others w) same.1 k.2) in
+    let rest = after_read gs more h.0 others t absent h.2 (subst (λ (w : List (List ℕ)). BeginWithSettings more others w) same.1 k.2) in
     (rest.0, (λ i. same.0 i ∷ rest.1 i), rest.2)
 
 -- before words that begin with no option's there are no settings

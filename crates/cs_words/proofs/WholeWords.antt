@@ -77,7 +77,7 @@ flow_right words settings rest found whole none is =
     let model = model_found whole.read.given settings found.model whole.read.fields is in
     (all_meant verbs.Flow words settings rest whole.read (Flow found) (none, model), λ other m. only_flow whole.read.given rest found model other (all_asked verbs.Flow words settings rest whole other m))
 
--- a command that asks for nothing behind its settings
+-- a command that asks for nothing after its settings
 abbrev pub AsksForNoMore : Verb → Type 0
 AsksForNoMore verb = (given : List Given) (word : List ℕ) (more : List (List ℕ)) (command : Command) → AskFor verb given (word ∷ more) command → ⊥
 
@@ -86,15 +86,15 @@ nothing_analyzed given word more (Analyze words) asks = let e = asks.0 in absurd
 nothing_analyzed given word more (Flow words) asks = asks
 nothing_analyzed given word more (Replay words) asks = asks
 
-pub nothing_told : AsksForNoMore verbs.Flow
-nothing_told given word more (Analyze words) asks = asks
-nothing_told given word more (Flow words) asks = let e = asks.0 in absurd (cc)
-nothing_told given word more (Replay words) asks = asks
+pub nothing_reported : AsksForNoMore verbs.Flow
+nothing_reported given word more (Analyze words) asks = asks
+nothing_reported given word more (Flow words) asks = let e = asks.0 in absurd (cc)
+nothing_reported given word more (Replay words) asks = asks
 
 pub one_more : (verb : Verb) → AsksForNoMore verb → (words : List (List ℕ)) (settings : Settings) (rest : List (List ℕ)) (number : ℕ) → AreReadWhole verb words settings rest → 0 < length rest → number + length rest ≡ length words + 1 → AreRefusedAt words number
 one_more verb none words settings [] number whole some counts = absurd (omega arith)
-one_more verb none words settings (word ∷ behind) number whole some counts =
-    refused_first verb words settings (word ∷ behind) number word behind whole.read refl counts (λ more command on. none whole.read.given word more command (asks_here verb whole.read.given (word ∷ more) command whole.no_more on))
+one_more verb none words settings (word ∷ following) number whole some counts =
+    refused_first verb words settings (word ∷ following) number word following whole.read refl counts (λ more command on. none whole.read.given word more command (asks_here verb whole.read.given (word ∷ more) command whole.no_more on))
 
 -- ---- `replay`
 no_entry_asked : (given : List Given) (command : Command) → AskFor verbs.Replay given [] command → ⊥
@@ -116,10 +116,10 @@ entry_asked given word more (Replay words) absent asks =
     let both : is_name words.entry ≡ false = ap is_name same ∙ absent in
     absurd (cc)
 
-pub bad_entry : (words : List (List ℕ)) (settings : Settings) (rest : List (List ℕ)) (number : ℕ) (word : List ℕ) (behind : List (List ℕ)) → AreReadWhole verbs.Replay words settings rest → rest ≡ word ∷ behind → is_name word ≡ false → number + length rest ≡ length words + 1 → AreRefusedAt words number
-bad_entry words settings rest number word behind whole is absent counts =
-    let first : BeginWithNoOption (word ∷ behind) = subst BeginWithNoOption is whole.no_more in
-    refused_first verbs.Replay words settings rest number word behind whole.read is counts (λ more command on. entry_asked whole.read.given word more command absent (asks_here verbs.Replay whole.read.given (word ∷ more) command first on))
+pub bad_entry : (words : List (List ℕ)) (settings : Settings) (rest : List (List ℕ)) (number : ℕ) (word : List ℕ) (following : List (List ℕ)) → AreReadWhole verbs.Replay words settings rest → rest ≡ word ∷ following → is_name word ≡ false → number + length rest ≡ length words + 1 → AreRefusedAt words number
+bad_entry words settings rest number word following whole is absent counts =
+    let first : BeginWithNoOption (word ∷ following) = subst BeginWithNoOption is whole.no_more in
+    refused_first verbs.Replay words settings rest number word following whole.read is counts (λ more command on. entry_asked whole.read.given word more command absent (asks_here verbs.Replay whole.read.given (word ∷ more) command first on))
 
 -- a run that the words read so far ask for, whatever its inputs
 replay_of : (given : List Given) (settings : Settings) (rest : List (List ℕ)) (found : ReplayWords) (numbers : List (List ℕ)) → AreBudgets given found.budgets → IsDataModel given found.model → rest ≡ found.entry ∷ numbers → is_name found.entry ≡ true → AreEntered [] numbers found.inputs → IsReplay given rest found
@@ -146,14 +146,14 @@ bad_input words settings rest number entry others whole is name bad =
     let given = whole.read.given in
     let done = verb_text verbs.Replay ∷ whole.read.done in
     let front : List (List ℕ) = entry ∷ bad.before in
-    let parts : words ≡ (done ++ front) ++ bad.word ∷ bad.behind = whole.read.whole ∙ ap (λ (w : List (List ℕ)). done ++ w) (is ∙ ap (λ (w : List (List ℕ)). entry ∷ w) bad.whole) ∙ sym (append_assoc done front (bad.word ∷ bad.behind)) in
-    refused_so words (done ++ front) (bad.word ∷ bad.behind) number parts bad.counts begin end
+    let parts : words ≡ (done ++ front) ++ bad.word ∷ bad.following = whole.read.whole ∙ ap (λ (w : List (List ℕ)). done ++ w) (is ∙ ap (λ (w : List (List ℕ)). entry ∷ w) bad.whole) ∙ sym (append_assoc done front (bad.word ∷ bad.following)) in
+    refused_so words (done ++ front) (bad.word ∷ bad.following) number parts bad.counts begin end
   where
     begin : BeginsACommand ((verb_text verbs.Replay ∷ whole.read.done) ++ entry ∷ bad.before)
     begin =
-        let told = (spelled_by verbs.Replay words settings rest whole.read).told in
-        let budgets = some_budgets whole.read.given told in
-        let model = some_model whole.read.given told in
+        let reported = (spelled_by verbs.Replay words settings rest whole.read).reported in
+        let budgets = some_budgets whole.read.given reported in
+        let model = some_model whole.read.given reported in
         let found : ReplayWords = record { budgets = budgets.0; entry = entry; inputs = bad.inputs; model = model.0 } in
         let asks : IsReplay whole.read.given (entry ∷ bad.before) found = replay_of whole.read.given settings (entry ∷ bad.before) found bad.before budgets.1 model.1 refl name bad.entered in
         ([], Replay found, subst (λ (w : List (List ℕ)). WordsMean w (Replay found)) (sym (append-nil ((verb_text verbs.Replay ∷ whole.read.done) ++ entry ∷ bad.before))) (means_with verbs.Replay whole.read.given whole.read.done (entry ∷ bad.before) (Replay found) whole.read.spelled whole.read.taken whole.read.different asks))
@@ -199,7 +199,7 @@ only_asked verbs.Replay given rest (Replay found) other one asks = only_replay g
 
 pub one_command : (words : List (List ℕ)) (one other : Command) → WordsMean words one → WordsMean words other → other ≡ one
 one_command words one other m n =
-    let cut = cut_off m.given m.others m.behind m.settings in
+    let cut = cut_off m.given m.others m.following m.settings in
     let whole : words ≡ (verb_text m.verb ∷ cut.0) ++ m.others = m.first ∙ ap (λ (w : List (List ℕ)). verb_text m.verb ∷ w) cut.1 in
     let on = goes_on m.verb m.given cut.0 m.others other cut.2 (subst (λ (w : List (List ℕ)). WordsMean w other) whole n) in
     only_asked m.verb m.given m.others one other m.asks (asks_here m.verb m.given m.others other (asks_no_option m.verb m.given m.others one m.asks) on)

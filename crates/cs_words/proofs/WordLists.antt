@@ -19,7 +19,7 @@ use Rattle.cs_words.specs.Meaning.{Word, words_text, Command, BeginsACommand, Ar
 use Rattle.cs_words.specs.Scan.{Settings, is_set, HasValue, IsSetBesides, AreReadTo, AreReadWhole, IsFirstOption, setting_in, text_in, IsRefusal, IsRefusalBefore, IsRefusalFor, IsRight, AreInputsRead}
 use Rattle.cs_words.proofs.EnteredInputs.{AreEnteredTo, no_input}
 use Rattle.cs_words.proofs.SettingWords.{heads}
-use Rattle.cs_words.proofs.Refusals.{unfit, bad_joined, bad_behind, joined_read, behind_read}
+use Rattle.cs_words.proofs.Refusals.{unfit, bad_joined, bad_after, joined_read, after_read}
 use Rattle.cs_words.proofs.WholeWords.{AsksForNoMore, one_more, no_entry, bad_entry, bad_input}
 
 -- ---- lists of words
@@ -46,22 +46,22 @@ refusal_before words rest Memory counts so = absurd counts
 
 -- ---- the first word
 begins_empty : BeginsACommand []
-begins_empty = (codes "analyze" ∷ [], Analyze (record { model = Lp64 }), record { verb = verbs.Analyze; given = []; others = []; behind = []; first = refl; settings = refl; taken = tt; different = tt; asks = (refl, refl) })
+begins_empty = (codes "analyze" ∷ [], Analyze (record { model = Lp64 }), record { verb = verbs.Analyze; given = []; others = []; following = []; first = refl; settings = refl; taken = tt; different = tt; asks = (refl, refl) })
 
-pub no_verb : (words : List (List ℕ)) (first : List ℕ) (behind : List (List ℕ)) → words ≡ first ∷ behind → ((verb : Verb) → verb_text verb ≡ first → ⊥) → AreRefusedAt words 1
-no_verb words first behind whole none = record {
+pub no_verb : (words : List (List ℕ)) (first : List ℕ) (following : List (List ℕ)) → words ≡ first ∷ following → ((verb : Verb) → verb_text verb ≡ first → ⊥) → AreRefusedAt words 1
+no_verb words first following whole none = record {
   before = [];
-  behind = first ∷ behind;
+  following = first ∷ following;
   whole = whole;
   counts = refl;
   begin = begins_empty;
-  end = λ h. none h.2.verb (sym (heads first (verb_text h.2.verb) h.0 h.2.behind h.2.first).0);
+  end = λ h. none h.2.verb (sym (heads first (verb_text h.2.verb) h.0 h.2.following h.2.first).0);
 }
 
 pub no_words : (words : List Word) → length words ≡ 0 → AreRefusedAt (words_text words) 1
 no_words words none = record {
   before = [];
-  behind = [];
+  following = [];
   whole = no_text words none;
   counts = refl;
   begin = begins_empty;
@@ -85,20 +85,20 @@ joined_step verb words rest others settings option text (Ok after) read first is
 joined_step verb words rest others settings option text (Err refusal) read first is taken unset h =
     refusal_before words rest refusal h.1 (λ number c. bad_joined verb (words_text words) settings (words_text rest) (words_text others) number option text read first c is h.0)
 
-pub behind_step : (verb : Verb) (words rest others left : List Word) (settings : Settings) (option : OptionWord) (text : List ℕ) (result : Result Found WordsRefusal) → AreReadTo verb (words_text words) settings (words_text rest) → IsFirstOption option (words_text others) (words_text rest) → text_in option ≡ None → words_text others ≡ text ∷ words_text left → takes verb (setting_in option) ≡ true → is_set (setting_in option) settings ≡ false → IsValueRead words others left (setting_in option) text settings result → IsSettingRead verb words result
-behind_step verb words rest others left settings option text (Ok after) read first is behind taken unset h =
-    subst (λ (w : List Word). AreReadTo verb (words_text words) after.settings (words_text w)) (sym h.1) (behind_read verb (words_text words) settings after.settings (words_text rest) (words_text others) (words_text left) option text read first is behind taken unset h.0)
-behind_step verb words rest others left settings option text (Err refusal) read first is behind taken unset h =
+pub after_step : (verb : Verb) (words rest others left : List Word) (settings : Settings) (option : OptionWord) (text : List ℕ) (result : Result Found WordsRefusal) → AreReadTo verb (words_text words) settings (words_text rest) → IsFirstOption option (words_text others) (words_text rest) → text_in option ≡ None → words_text others ≡ text ∷ words_text left → takes verb (setting_in option) ≡ true → is_set (setting_in option) settings ≡ false → IsValueRead words others left (setting_in option) text settings result → IsSettingRead verb words result
+after_step verb words rest others left settings option text (Ok after) read first is following taken unset h =
+    subst (λ (w : List Word). AreReadTo verb (words_text words) after.settings (words_text w)) (sym h.1) (after_read verb (words_text words) settings after.settings (words_text rest) (words_text others) (words_text left) option text read first is following taken unset h.0)
+after_step verb words rest others left settings option text (Err refusal) read first is following taken unset h =
     refusal_before words others refusal h.1
-    (λ number c. bad_behind verb (words_text words) settings (words_text rest) (words_text others) number option read first c is taken unset
-    (λ told more e value. h.0 (subst (λ (t : List ℕ). HasValue (setting_in option) t) (heads told text more (words_text left) (sym e ∙ behind)).0 value)))
+    (λ number c. bad_after verb (words_text words) settings (words_text rest) (words_text others) number option read first c is taken unset
+    (λ reported more e value. h.0 (subst (λ (t : List ℕ). HasValue (setting_in option) t) (heads reported text more (words_text left) (sym e ∙ following)).0 value)))
 
-pub nothing_behind : (verb : Verb) (words rest others : List Word) (settings : Settings) (option : OptionWord) (refusal : WordsRefusal) → AreReadTo verb (words_text words) settings (words_text rest) → IsFirstOption option (words_text others) (words_text rest) → text_in option ≡ None → length others ≡ 0 → takes verb (setting_in option) ≡ true → is_set (setting_in option) settings ≡ false → IsRefusalBefore (length words) (length others) refusal → IsRefusal (words_text words) refusal
-nothing_behind verb words rest others settings option refusal read first is none taken unset counts =
+pub nothing_after : (verb : Verb) (words rest others : List Word) (settings : Settings) (option : OptionWord) (refusal : WordsRefusal) → AreReadTo verb (words_text words) settings (words_text rest) → IsFirstOption option (words_text others) (words_text rest) → text_in option ≡ None → length others ≡ 0 → takes verb (setting_in option) ≡ true → is_set (setting_in option) settings ≡ false → IsRefusalBefore (length words) (length others) refusal → IsRefusal (words_text words) refusal
+nothing_after verb words rest others settings option refusal read first is none taken unset counts =
     refusal_before words others refusal counts
-    (λ number c. bad_behind verb (words_text words) settings (words_text rest) (words_text others) number option read first c is taken unset (λ told more e value. absurd (let no_more = no_text others none in cc)))
+    (λ number c. bad_after verb (words_text words) settings (words_text rest) (words_text others) number option read first c is taken unset (λ reported more e value. absurd (let no_more = no_text others none in cc)))
 
--- ---- what stands behind the settings
+-- ---- what stands after the settings
 pub extra_word : (verb : Verb) → AsksForNoMore verb → (words rest : List Word) (settings : Settings) (refusal : WordsRefusal) → AreReadWhole verb (words_text words) settings (words_text rest) → 0 < length rest → IsRefusalBefore (length words) (length rest) refusal → IsRefusal (words_text words) refusal
 extra_word verb none words rest settings refusal whole some counts =
     refusal_before words rest refusal counts (λ number c. one_more verb none (words_text words) settings (words_text rest) number whole (some_text rest some) c)
@@ -131,13 +131,13 @@ AcceptsInputs word result = (path : Path) (number : ℤ) → SpellsInput word pa
 not_spelled : (word : List ℕ) (result : Result (Path × ℤ) PathRefusal) (cause : PathRefusal) → result ≡ Err cause → (cause ≡ paths.Memory → ⊥) → AcceptsInputs word result → (path : Path) (number : ℤ) → SpellsInput word path number → ⊥
 not_spelled word result cause is other accepts path number spells = elim (accepts path number spells) [ inl e ↦ absurd (cc) | inr e ↦ other (cc) ]
 
-pub no_input_there : (words behind rest others : List Word) (inputs : List (Path × ℤ)) (word : List ℕ) (result : Result (Path × ℤ) PathRefusal) (cause : PathRefusal) (refusal : WordsRefusal) → AreEnteredTo (words_text behind) inputs (words_text rest) → words_text rest ≡ word ∷ words_text others → result ≡ Err cause → AcceptsInputs word result → IsRefusalFor cause (length words) (length rest) refusal → AreInputsRead (words_text behind) (length words) (Err refusal)
-no_input_there words behind rest others inputs word result cause refusal to first is accepts fault = at cause refusal is fault
+pub no_input_there : (words following rest others : List Word) (inputs : List (Path × ℤ)) (word : List ℕ) (result : Result (Path × ℤ) PathRefusal) (cause : PathRefusal) (refusal : WordsRefusal) → AreEnteredTo (words_text following) inputs (words_text rest) → words_text rest ≡ word ∷ words_text others → result ≡ Err cause → AcceptsInputs word result → IsRefusalFor cause (length words) (length rest) refusal → AreInputsRead (words_text following) (length words) (Err refusal)
+no_input_there words following rest others inputs word result cause refusal to first is accepts fault = at cause refusal is fault
   where
-    so : (number : ℕ) → number + length rest ≡ length words + 1 → (cause : PathRefusal) → result ≡ Err cause → (cause ≡ paths.Memory → ⊥) → AreInputsRead (words_text behind) (length words) (Err (Words number))
-    so number counts cause is other = no_input (words_text behind) inputs (words_text rest) word (words_text others) (length words) number to first (omega (arith, words_length rest)) (not_spelled word result cause is other accepts)
+    so : (number : ℕ) → number + length rest ≡ length words + 1 → (cause : PathRefusal) → result ≡ Err cause → (cause ≡ paths.Memory → ⊥) → AreInputsRead (words_text following) (length words) (Err (Words number))
+    so number counts cause is other = no_input (words_text following) inputs (words_text rest) word (words_text others) (length words) number to first (omega (arith, words_length rest)) (not_spelled word result cause is other accepts)
 
-    at : (cause : PathRefusal) (refusal : WordsRefusal) → result ≡ Err cause → IsRefusalFor cause (length words) (length rest) refusal → AreInputsRead (words_text behind) (length words) (Err refusal)
+    at : (cause : PathRefusal) (refusal : WordsRefusal) → result ≡ Err cause → IsRefusalFor cause (length words) (length rest) refusal → AreInputsRead (words_text following) (length words) (Err refusal)
     at paths.BadPath (Words number) is counts = so number counts paths.BadPath is (λ e. absurd (cc))
     at paths.BadPath Memory is counts = absurd counts
     at paths.BadNumber (Words number) is counts = so number counts paths.BadNumber is (λ e. absurd (cc))

@@ -27,7 +27,7 @@ abbrev pub AreEntered : List (Path × ℤ) → List (List ℕ) → List (Path ×
 AreEntered before [] after = after ≡ before
 AreEntered before (word ∷ words) after = (path : Path) × (number : ℤ) × SpellsInput word path number × AreEntered (insert_entry path_order before path number) words after
 
--- a run of the machine: its settings, and behind them a function's name and any number of inputs
+-- a run of the machine: its settings, and after them a function's name and any number of inputs
 pub record IsReplay (given : List Given) (others : List (List ℕ)) (replay : ReplayWords) : Type 0 where
   pub budgets : AreBudgets given replay.budgets
   pub model : IsDataModel given replay.model
@@ -36,7 +36,7 @@ pub record IsReplay (given : List Given) (others : List (List ℕ)) (replay : Re
   pub whole : others ≡ replay.entry ∷ input_words
   pub inputs : AreEntered [] input_words replay.inputs
 
--- what a command's settings and the words behind them ask for
+-- what a command's settings and the words after them ask for
 abbrev pub AskFor : Verb → List Given → List (List ℕ) → Command → Type 0
 AskFor verbs.Analyze given others (Analyze words) = (others ≡ []) × IsDataModel given words.model
 AskFor verbs.Flow given others (Flow words) = (others ≡ []) × IsDataModel given words.model
@@ -48,14 +48,14 @@ pub record WordsMean (words : List (List ℕ)) (command : Command) : Type 0 wher
   pub verb : Verb
   pub given : List Given
   pub others : List (List ℕ)
-  pub behind : List (List ℕ)
-  pub first : words ≡ verb_text verb ∷ behind
-  pub settings : BeginWithSettings given others behind
+  pub following : List (List ℕ)
+  pub first : words ≡ verb_text verb ∷ following
+  pub settings : BeginWithSettings given others following
   pub taken : AreTaken verb given
   pub different : AreDifferent given
   pub asks : AskFor verb given others command
 
--- words go on to a command: with some more words behind them, or none, they mean one
+-- words go on to a command: with some more words after them, or none, they mean one
 abbrev pub BeginsACommand : List (List ℕ) → Type 0
 BeginsACommand words = (more : List (List ℕ)) × (command : Command) × WordsMean (words ++ more) command
 
@@ -67,8 +67,8 @@ EndBefore before (word ∷ others) = BeginsACommand (before ++ word ∷ []) → 
 -- the first word, by its number from 1, at which no command goes on so; one past the last where words are missing
 pub record AreRefusedAt (words : List (List ℕ)) (number : ℕ) : Type 0 where
   pub before : List (List ℕ)
-  pub behind : List (List ℕ)
-  pub whole : words ≡ before ++ behind
+  pub following : List (List ℕ)
+  pub whole : words ≡ before ++ following
   pub counts : number ≡ length before + 1
   pub begin : BeginsACommand before
-  pub end : EndBefore before behind
+  pub end : EndBefore before following

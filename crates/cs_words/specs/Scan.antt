@@ -37,8 +37,8 @@ pub record IsFirstOption (option : OptionWord) (others words : List (List ℕ)) 
 
 -- a field of the settings found: nothing where the option isn't given, else what the text tells
 abbrev pub IsFound : {X : Type 0} → (List ℕ → X → Type 0) → Option (List ℕ) → Option X → Type 0
-IsFound Tells None found = found ≡ None
-IsFound {X} Tells (Some text) found = (value : X) × (found ≡ Some value) × Tells text value
+IsFound Yields None found = found ≡ None
+IsFound {X} Yields (Some text) found = (value : X) × (found ≡ Some value) × Yields text value
 
 -- an option's field is what its text tells, if it's given
 abbrev pub IsSetTo : Setting → Option (List ℕ) → Settings → Type 0
@@ -64,7 +64,7 @@ HasValue Model text = (value : DataModel) × IsModel text value
 -- settings with one more: the option is set to the text's value, and the others are as before
 pub record IsSetBesides (setting : Setting) (text : List ℕ) (before after : Settings) : Type 0 where
   pub here : IsSetTo setting (Some text) after
-  pub elsewhere : (other : Setting) → is_same other setting ≡ false → (told : Option (List ℕ)) → IsSetTo other told before → IsSetTo other told after
+  pub elsewhere : (other : Setting) → is_same other setting ≡ false → (reported : Option (List ℕ)) → IsSetTo other reported before → IsSetTo other reported after
 
 -- words that are read up to the rest: a command's word, and settings of its options that the fields tell
 pub record AreReadTo (verb : Verb) (words : List (List ℕ)) (settings : Settings) (rest : List (List ℕ)) : Type 0 where
@@ -91,7 +91,7 @@ abbrev pub IsRefusal : List (List ℕ) → WordsRefusal → Type 0
 IsRefusal words (Words number) = AreRefusedAt words number
 IsRefusal words Memory = Unit {0}
 
--- the refusal of a word, by its number from 1, behind which and with which so many of all words are left
+-- the refusal of a word, by its number from 1, after which and with which so many of all words are left
 abbrev pub IsRefusalBefore : ℕ → ℕ → WordsRefusal → Type 0
 IsRefusalBefore total left (Words number) = number + left ≡ total + 1
 IsRefusalBefore total left Memory = ⊥
@@ -108,14 +108,14 @@ abbrev pub IsRight : List (List ℕ) → Result Command WordsRefusal → Type 0
 IsRight words (Ok command) = WordsMean words command × ((other : Command) → WordsMean words other → other ≡ command)
 IsRight words (Err refusal) = IsRefusal words refusal
 
--- the first word that is no input's, of those behind a function's name: the words behind it and it are the number's
+-- the first word that is no input's, of those after a function's name: the words after it and it are the number's
 -- distance from the end
 pub record IsNoInputAt (words : List (List ℕ)) (total number : ℕ) : Type 0 where
   pub before : List (List ℕ)
   pub word : List ℕ
-  pub behind : List (List ℕ)
-  pub whole : words ≡ before ++ word ∷ behind
-  pub counts : number + length (word ∷ behind) ≡ total + 1
+  pub following : List (List ℕ)
+  pub whole : words ≡ before ++ word ∷ following
+  pub counts : number + length (word ∷ following) ≡ total + 1
   pub inputs : List (Path × ℤ)
   pub entered : AreEntered [] before inputs
   pub none : (path : Path) (number : ℤ) → SpellsInput word path number → ⊥

@@ -1,6 +1,6 @@
 -- Settings, each an option and its value's text, and the words that give them.
 use Rattle.std.specs.Prelude.{◌≡◌, ℕ, ◌⊎◌, Bool, nat_eq, IsTrue, List, [], ◌∷◌, ◌++◌, Option, Some, None, codes, if◌then◌else◌}
-use Rattle.cs_runs.specs.declared.outcome.RunBudgets.{RunBudgets}
+use Rattle.cs_events.specs.declared.outcome.RunBudgets.{RunBudgets}
 use Rattle.cs_types.specs.declared.data_model.DataModel.TheVariants.{Lp64}
 use Rattle.cs_words.specs.declared.setting.Setting.TheVariants.{Visits, Depth, Events, Model}
 pub use Rattle.cs_words.specs.Options.{Setting}
@@ -21,10 +21,10 @@ option_text setting (Some text) = codes "--" ++ setting_text setting ++ codes "=
 abbrev pub BeginWithSetting : Given → List (List ℕ) → List (List ℕ) → Type 0
 BeginWithSetting given others words = (words ≡ option_text given.setting None ∷ given.text ∷ others) ⊎ (words ≡ option_text given.setting (Some given.text) ∷ others)
 
--- words are those of settings, in order, and others behind them
+-- words are those of settings, in order, and others after them
 abbrev pub BeginWithSettings : List Given → List (List ℕ) → List (List ℕ) → Type 0
 BeginWithSettings [] others words = words ≡ others
-BeginWithSettings (given ∷ rest) others words = (behind : List (List ℕ)) × BeginWithSetting given behind words × BeginWithSettings rest others behind
+BeginWithSettings (given ∷ rest) others words = (following : List (List ℕ)) × BeginWithSetting given following words × BeginWithSettings rest others following
 
 -- the options' places in their table, which tell them apart
 abbrev pub place_of : Setting → ℕ
@@ -53,8 +53,8 @@ AreDifferent (given ∷ rest) = (text_of given.setting rest ≡ None) × AreDiff
 
 -- a value: what its text tells where it's given, else the default
 abbrev pub IsGivenOr : {X : Type 0} → (List ℕ → X → Type 0) → X → Option (List ℕ) → X → Type 0
-IsGivenOr Tells default None value = value ≡ default
-IsGivenOr Tells default (Some text) value = Tells text value
+IsGivenOr Yields default None value = value ≡ default
+IsGivenOr Yields default (Some text) value = Yields text value
 
 -- the budgets of a run, with their defaults
 pub record AreBudgets (given : List Given) (budgets : RunBudgets) : Type 0 where

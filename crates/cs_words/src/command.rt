@@ -1,8 +1,8 @@
 //! What the words ask for.
 
+use cs_events::RunBudgets;
 use cs_inputs::Inputs;
 use cs_names::Name;
-use cs_runs::RunBudgets;
 use cs_types::DataModel;
 
 /// What the words ask for.

@@ -1,4 +1,4 @@
-//! The inputs behind a function's name.
+//! The inputs after a function's name.
 ghost use Rattle.std.specs.Prelude.{◌≤◌, length};
 ghost use Rattle.cs_words.specs.Meaning.{words_text};
 ghost use Rattle.cs_words.specs.Scan.{AreInputsRead, IsRefusalFor};
@@ -8,13 +8,17 @@ use crate::scan::refused;
 use cs_inputs::{Inputs, PathRefusal, parse};
 use std::alloc::Global;
 
-/// The inputs of the words behind a function's name, the last of all words. The last of one path holds.
-pub fn inputs_of(alloc: Global, words: &[String], behind: &[String]) -> Result<Inputs, WordsRefusal>
-    requires { length behind.now ≤ length words.now }
-    ensures { AreInputsRead (words_text behind.now) (length words.now) result }
+/// The inputs of the words after a function's name, the last of all words. The last of one path holds.
+pub fn inputs_of(
+    alloc: Global,
+    words: &[String],
+    following: &[String],
+) -> Result<Inputs, WordsRefusal>
+    requires { length following.now ≤ length words.now }
+    ensures { AreInputsRead (words_text following.now) (length words.now) result }
 {
     let mut inputs = Inputs::new(alloc);
-    let mut rest = behind;
+    let mut rest = following;
     while let Some((word, others)) = rest.split_first() {
         match parse(alloc, word.as_bytes()) {
             Ok((path, number)) => inputs.set(path, number)?,

@@ -1,4 +1,4 @@
-//! The settings behind a command's word.
+//! The settings after a command's word.
 ghost use Rattle.std.specs.Prelude.{◌≡◌, ◌∷◌, ◌≤◌, IfOk, MatchResult, length};
 ghost use Rattle.cs_words.specs.Meaning.{words_text};
 ghost use Rattle.cs_words.specs.Options.{verb_text};
@@ -10,25 +10,25 @@ use crate::setting::Setting;
 use crate::settings::Settings;
 use crate::verb::{Verb, takes};
 
-/// The settings that are found, and the words that are left behind them.
+/// The settings that are found, and the words that are left after them.
 #[derive(Clone, Copy, Debug)]
 pub struct Found<'a> {
     pub settings: Settings,
     pub rest: &'a [String],
 }
 
-/// The settings of a command, from the words behind its own.
+/// The settings of a command, from the words after its own.
 pub fn settings_of<'a>(
     verb: Verb,
     words: &[String],
-    behind: &'a [String],
+    following: &'a [String],
 ) -> Result<Found<'a>, WordsRefusal>
-    requires { words_text words.now ≡ verb_text verb ∷ words_text behind.now }
+    requires { words_text words.now ≡ verb_text verb ∷ words_text following.now }
     ensures { MatchResult result (λ found. AreReadWhole verb (words_text words.now) found.settings (words_text found.rest.now)) (IsRefusal (words_text words.now)) }
 {
     let mut found = Found {
         settings: Settings::none(),
-        rest: behind,
+        rest: following,
     };
     while let Some((word, others)) = found.rest.split_first() {
         let Some(option) = option_of(word.as_bytes()) else {

@@ -5,7 +5,7 @@ ghost use Rattle.cs_words.specs.Scan.{IsSetTo, IsSetBesides, HasValue};
 
 use crate::setting::Setting;
 use crate::value::{model_named, number_in};
-use cs_runs::RunBudgets;
+use cs_events::RunBudgets;
 use cs_types::DataModel;
 
 /// The values of the options that are found.

@@ -15,7 +15,7 @@ use crate::verb::{Verb, verb_named};
 use cs_names::Name;
 use std::alloc::Global;
 
-/// The command that the words behind the program's name mean.
+/// The command that the words after the program's name mean.
 ///
 /// It is `Words` with the number, from 1, of the first word at which no command goes on so, one past the last where words
 /// are missing.
@@ -26,35 +26,35 @@ pub fn words_of(alloc: Global, words: &[String]) -> Result<Command, WordsRefusal
     ensures refuses { (number : ℕ) → AreRefusedAt (words_text words.now) number → (result ≡ Err (WordsRefusal.Words number)) ⊎ (result ≡ Err WordsRefusal.Memory) }
 {
     match words.split_first() {
-        Some((first, behind)) => command_of(alloc, words, first.as_bytes(), behind),
+        Some((first, following)) => command_of(alloc, words, first.as_bytes(), following),
         None => Err(WordsRefusal::Words(1)),
     }
 }
 
-// The command of words by the first of them and those behind it.
+// The command of words by the first of them and those after it.
 fn command_of(
     alloc: Global,
     words: &[String],
     first: &[u8],
-    behind: &[String],
+    following: &[String],
 ) -> Result<Command, WordsRefusal>
-    requires { words_text words.now ≡ first.now ∷ words_text behind.now }
+    requires { words_text words.now ≡ first.now ∷ words_text following.now }
     ensures { IsRight (words_text words.now) result }
 {
     match verb_named(first) {
-        Some(Verb::Analyze) => analyze_words(words, behind),
-        Some(Verb::Flow) => flow_words(words, behind),
-        Some(Verb::Replay) => replay_words(alloc, words, behind),
+        Some(Verb::Analyze) => analyze_words(words, following),
+        Some(Verb::Flow) => flow_words(words, following),
+        Some(Verb::Replay) => replay_words(alloc, words, following),
         None => Err(WordsRefusal::Words(1)),
     }
 }
 
-// What `analyze` is to do, by the words behind it.
-fn analyze_words(words: &[String], behind: &[String]) -> Result<Command, WordsRefusal>
-    requires { words_text words.now ≡ verb_text verbs.Analyze ∷ words_text behind.now }
+// What `analyze` is to do, by the words after it.
+fn analyze_words(words: &[String], following: &[String]) -> Result<Command, WordsRefusal>
+    requires { words_text words.now ≡ verb_text verbs.Analyze ∷ words_text following.now }
     ensures { IsRight (words_text words.now) result }
 {
-    let found = settings_of(Verb::Analyze, words, behind)?;
+    let found = settings_of(Verb::Analyze, words, following)?;
     if !found.rest.is_empty() {
         return Err(refused(words, found.rest));
     }
@@ -63,12 +63,12 @@ fn analyze_words(words: &[String], behind: &[String]) -> Result<Command, WordsRe
     }))
 }
 
-// What `flow` is to do, by the words behind it.
-fn flow_words(words: &[String], behind: &[String]) -> Result<Command, WordsRefusal>
-    requires { words_text words.now ≡ verb_text verbs.Flow ∷ words_text behind.now }
+// What `flow` is to do, by the words after it.
+fn flow_words(words: &[String], following: &[String]) -> Result<Command, WordsRefusal>
+    requires { words_text words.now ≡ verb_text verbs.Flow ∷ words_text following.now }
     ensures { IsRight (words_text words.now) result }
 {
-    let found = settings_of(Verb::Flow, words, behind)?;
+    let found = settings_of(Verb::Flow, words, following)?;
     if !found.rest.is_empty() {
         return Err(refused(words, found.rest));
     }
@@ -77,12 +77,16 @@ fn flow_words(words: &[String], behind: &[String]) -> Result<Command, WordsRefus
     }))
 }
 
-// What `replay` is to do, by the words behind it.
-fn replay_words(alloc: Global, words: &[String], behind: &[String]) -> Result<Command, WordsRefusal>
-    requires { words_text words.now ≡ verb_text verbs.Replay ∷ words_text behind.now }
+// What `replay` is to do, by the words after it.
+fn replay_words(
+    alloc: Global,
+    words: &[String],
+    following: &[String],
+) -> Result<Command, WordsRefusal>
+    requires { words_text words.now ≡ verb_text verbs.Replay ∷ words_text following.now }
     ensures { IsRight (words_text words.now) result }
 {
-    let found = settings_of(Verb::Replay, words, behind)?;
+    let found = settings_of(Verb::Replay, words, following)?;
     let Some((entry, others)) = found.rest.split_first() else {
         return Err(refused(words, found.rest));
     };

@@ -37,7 +37,7 @@ pub struct RawMember {
     pub declarators: Vec<RawDeclarator>,
 }
 
-/// An enumeration constant, and the expression behind its `=`.
+/// An enumeration constant, and the expression after its `=`.
 #[derive(Drop)]
 pub struct RawEnumerator {
     /// The place of the name.
@@ -46,7 +46,7 @@ pub struct RawEnumerator {
     pub value: Option<RawExpr>,
 }
 
-/// A declared name with the pointers before it and the bounds behind it, of which the first may be empty in C, and any may be here.
+/// A declared name with the pointers before it and the bounds after it, of which the first may be empty in C, and any may be here.
 #[derive(Drop)]
 pub struct RawDeclarator {
     pub pointers: Vec<PointerWord>,
@@ -63,7 +63,7 @@ pub struct RawInit {
     pub initial: Option<RawFirstValue>,
 }
 
-/// What stands behind an `=` of a declaration.
+/// What stands after an `=` of a declaration.
 #[derive(Drop)]
 pub struct RawFirstValue {
     /// The place of the `=`.

@@ -38,7 +38,7 @@ pub enum RawExprKind {
     /// `a -> name`, at its arrow (C11 6.5.2.3).
     Arrow(Box<RawExpr>, RawName),
     /// `a ++` or `a --`.
-    StepBehind(Step, Box<RawExpr>),
+    StepAfter(Step, Box<RawExpr>),
     /// `++ a` or `-- a`.
     StepBefore(Step, Box<RawExpr>),
     /// An operator before one operand.
@@ -51,7 +51,7 @@ pub enum RawExprKind {
     Cast(WrittenType, Vec<RawExpr>, Box<RawExpr>),
     /// An operator between two operands.
     Infix(InfixOp, Box<RawExpr>, Box<RawExpr>),
-    /// `a ? b : c`, at its question mark (C11 6.5.15).
+    /// `a ? b : c`, at its question punctuator (C11 6.5.15).
     Choice(Box<RawExpr>, Box<RawExpr>, Box<RawExpr>),
     /// An operator that stores.
     Assign(AssignOp, Box<RawExpr>, Box<RawExpr>),

@@ -14,7 +14,7 @@ pub struct RawExternal {
 /// What a part of a file is.
 #[derive(Drop)]
 pub enum RawExternalKind {
-    /// A type alone, with `;` behind it.
+    /// A type alone, with `;` after it.
     Type(RawSpecs),
     /// `typedef` and the names that it declares, one at least (C11 6.7.8).
     Typedef(RawSpecs, Vec<RawDeclarator>),

@@ -26,7 +26,7 @@ impl RawExpr {
                 + function.height().max(1 + highest(arguments)),
             RawExprKind::Member(object, _) => 1 + object.height(),
             RawExprKind::Arrow(pointer, _) => 1 + pointer.height(),
-            RawExprKind::StepBehind(_, object) => 1 + object.height(),
+            RawExprKind::StepAfter(_, object) => 1 + object.height(),
             RawExprKind::StepBefore(_, object) => 1 + object.height(),
             RawExprKind::Prefix(_, operand) => 1 + operand.height(),
             RawExprKind::SizeOf(operand) => 1 + operand.height(),

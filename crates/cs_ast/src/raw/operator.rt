@@ -1,6 +1,6 @@
 //! The operators of written expressions (C11 6.5).
 
-/// `++` or `--`, before or behind its operand (C11 6.5.2.4, 6.5.3.1).
+/// `++` or `--`, before or after its operand (C11 6.5.2.4, 6.5.3.1).
 #[derive(Clone, Copy, Debug, PartialEq, Eq)]
 pub enum Step {
     /// `++`

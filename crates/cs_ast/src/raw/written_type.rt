@@ -36,7 +36,7 @@ pub enum IntegerWord {
 pub enum PointerWord {
     /// `*`
     Star,
-    /// `const` behind a star.
+    /// `const` after a star.
     Const,
 }
 

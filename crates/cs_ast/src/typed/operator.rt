@@ -47,7 +47,7 @@ pub enum Direction {
 pub enum Gives {
     /// The value before it.
     Old,
-    /// The value behind it.
+    /// The value after it.
     New,
 }
 

@@ -55,6 +55,6 @@ pub struct Function {
 pub struct Local {
     pub name: Name,
     pub ty: CType,
-    /// For a parameter that was written with a bound, how many elements the block behind it has.
+    /// For a parameter that was written with a bound, how many elements the block after it has.
     pub block: Option<u64>,
 }

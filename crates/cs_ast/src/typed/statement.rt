@@ -51,7 +51,7 @@ pub enum StmtKind {
 pub struct Case {
     /// The number that it stands for; none for `default`.
     pub value: Option<i128>,
-    /// The number of the first statement behind it, from 0, or how many there are where none is behind it.
+    /// The number of the first statement after it, from 0, or how many there are where none is after it.
     pub item: u32,
 }
 

@@ -110,7 +110,7 @@ impl Line {
         }
     }
 
-    /// Where the line comes to `low`; behind `last` where it stays below.
+    /// Where the line comes to `low`; after `last` where it stays below.
     fn first_at_least(&self, low: i128) -> i128
         requires { IsInside low }
         ensures from { self.now.first ≤ℤ result }

@@ -15,15 +15,15 @@ impl RangeSet {
         let mut common = RangeSet::empty(*self.intervals.allocator());
         let mut left = self.intervals.as_slice();
         let mut right = other.intervals.as_slice();
-        while let (Some((a, behind_a)), Some((b, behind_b))) = (
+        while let (Some((a, after_a)), Some((b, after_b))) = (
             left.split_first(),
             right.split_first(),
         ) {
             common.push_common(*a, *b)?;
             if a.high < b.high {
-                left = behind_a;
+                left = after_a;
             } else {
-                right = behind_b;
+                right = after_b;
             }
         }
         Ok(common)
@@ -33,7 +33,7 @@ impl RangeSet {
     fn push_common(&mut self, a: Interval, b: Interval) -> Result<(), AllocError>
         requires a_proper { IsProper a }
         requires b_proper { IsProper b }
-        requires behind { last_low self.old ≤ℤ int_max a.low b.low }
+        requires following { last_low self.old ≤ℤ int_max a.low b.low }
         ensures members { OnOk result ((x : ℤ) → contains self.new x ≡ (contains self.old x || (in_interval a x && in_interval b x))) }
         ensures last { OnOk result (last_low self.new ≤ℤ int_max a.low b.low) }
     {
@@ -52,16 +52,16 @@ impl RangeSet {
         let mut joined = RangeSet::empty(*self.intervals.allocator());
         let mut left = self.intervals.as_slice();
         let mut right = other.intervals.as_slice();
-        while let (Some((a, behind_a)), Some((b, behind_b))) = (
+        while let (Some((a, after_a)), Some((b, after_b))) = (
             left.split_first(),
             right.split_first(),
         ) {
             if a.low < b.low {
                 joined.push(*a)?;
-                left = behind_a;
+                left = after_a;
             } else {
                 joined.push(*b)?;
-                right = behind_b;
+                right = after_b;
             }
         }
         joined.push_all(left)?;
@@ -72,7 +72,7 @@ impl RangeSet {
     /// Adds intervals, of which the first begins no earlier than the last one of the set.
     fn push_all(&mut self, intervals: &[Interval]) -> Result<(), AllocError>
         requires spread { IsSpread intervals.now }
-        requires behind { IsSpreadFrom (last_low self.old) intervals.now }
+        requires following { IsSpreadFrom (last_low self.old) intervals.now }
         ensures members { OnOk result ((x : ℤ) → contains self.new x ≡ (contains self.old x || contains intervals.now x)) }
         ensures none { OnOk result (intervals.now ≡ [] → self.new ≡ self.old) }
     {

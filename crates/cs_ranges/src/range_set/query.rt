@@ -94,8 +94,8 @@ fn nearest_to_zero(interval: Interval) -> i128
 /// The one of two numbers that is nearer to zero, the positive one where both are as near.
 fn nearer(a: i128, b: i128) -> i128
     ensures one { (result ≡ a) ⊎ (result ≡ b) }
-    ensures not_behind_a { IsNearest result a }
-    ensures not_behind_b { IsNearest result b }
+    ensures not_after_a { IsNearest result a }
+    ensures not_after_b { IsNearest result b }
 {
     match a.unsigned_abs().cmp(&b.unsigned_abs()) {
         Ordering::Less => a,

@@ -23,7 +23,7 @@ fn intersects_and_cuts_out(rt: HostRuntime) -> Result<(), Fail> {
 }
 
 #[test]
-fn tells_numbers(rt: HostRuntime) -> Result<(), Fail> {
+fn yields_numbers(rt: HostRuntime) -> Result<(), Fail> {
     let near_zero = RangeSet::of(rt.alloc(), -3, 3)?;
     let two = near_zero.minus(&RangeSet::of(rt.alloc(), -2, 2)?)?;
     assert_eq!(rt; two.least_abs(), Some(3));

@@ -22,13 +22,13 @@ use Rattle.cs_declarations.specs.View.{known_of, mark}
 use Rattle.cs_declarations.proofs.FoldedSoFar.{part_taken, part_stops}
 use Rattle.cs_declarations.proofs.Refusing.{refused_with}
 use Rattle.cs_typing.specs.Objects.{Inside, knowing}
-use Rattle.cs_typing.specs.Statements.{part, past, in_block, meeting, is_first, label_number, nothing_told, no_cases, telling, with_told, goto_typed, while_typed, do_typed, for_typed, block_typed, body_typed, item_typed, label_typed, statement_typed, switch_whole, switch_item_typed, switch_list_typed, wrapped_in}
-use Rattle.cs_typing.specs.View.{inside_of, where_of, told_of, typed_part, optional_part, statement_part, kind_part, switching_of}
+use Rattle.cs_typing.specs.Statements.{part, past, in_block, meeting, is_first, label_number, nothing_reported, no_cases, telling, with_reported, goto_typed, while_typed, do_typed, for_typed, block_typed, body_typed, item_typed, label_typed, statement_typed, switch_whole, switch_item_typed, switch_list_typed, wrapped_in}
+use Rattle.cs_typing.specs.View.{inside_of, where_of, reported_of, typed_part, optional_part, statement_part, kind_part, switching_of}
 use Rattle.cs_typing.proofs.CasesInTurn.{case_refused, case_taken, constant_refused, constant_is, items_over, switch_over}
 use Rattle.cs_typing.proofs.ConstantNumbers.{value_in_c, small_enough, wrapped_in_c}
-use Rattle.cs_typing.proofs.StatementKinds.{told_as, block_refused, block_told, empty_told, run_refused, run_told, return_refused, return_told, if_test_refused, if_body_refused, if_told, else_test_refused, else_body_refused, else_refused, else_told, for_held, switch_held}
+use Rattle.cs_typing.proofs.StatementKinds.{reported_as, block_refused, block_reported, empty_reported, run_refused, run_reported, return_refused, return_reported, if_test_refused, if_body_refused, if_reported, else_test_refused, else_body_refused, else_refused, else_reported, for_held, switch_held}
 use Rattle.cs_typing.proofs.StatementRows.{statement_typed-Switch}
-use Rattle.cs_typing.proofs.StatementsInTurn.{answers_as, answers_with, while_test_stops, while_body_stops, while_taken, do_body_stops, do_test_stops, do_taken, for_first_stops, for_test_stops, for_last_stops, for_body_stops, for_taken, switch_value_stops, switch_items_stop, switch_taken, block_stops, block_taken, label_body_stops, label_taken, told_push, left_is, closed_is, part_inside}
+use Rattle.cs_typing.proofs.StatementsInTurn.{answers_as, answers_with, while_test_stops, while_body_stops, while_taken, do_body_stops, do_test_stops, do_taken, for_first_stops, for_test_stops, for_last_stops, for_body_stops, for_taken, switch_value_stops, switch_items_stop, switch_taken, block_stops, block_taken, label_body_stops, label_taken, reported_push, left_is, closed_is, part_inside}
 use Rattle.cs_typing.proofs.+statements.Goals as goal
 
 pub statements::kind_typed-returns-in_err-block-in-Block : goal.statements::kind_typed-returns-in_err-block-in-Block
@@ -47,15 +47,15 @@ statements::kind_typed-returns-in_ok-block-in-Block t c =
     let i = inside_of c.args.inside.now in
     let at = c.args.place in
     let list = c.in_ok-block-in-Block.field-0 in
-    block_told w i at c.args.tree.now c.in-Block.items c.in-Block.is list c.block.new.inside
-    (subst (λ items. block_typed w i items ≡ Fine (told_of list.items c.block.new.inside)) c.deref.ensures.value c.in_ok-block-in-Block.ensures)
+    block_reported w i at c.args.tree.now c.in-Block.items c.in-Block.is list c.block.new.inside
+    (subst (λ items. block_typed w i items ≡ Fine (reported_of list.items c.block.new.inside)) c.deref.ensures.value c.in_ok-block-in-Block.ensures)
 
 pub statements::kind_typed-returns-in-Empty : goal.statements::kind_typed-returns-in-Empty
 statements::kind_typed-returns-in-Empty t c =
     let w = where_of c.args.at in
     let i = inside_of c.args.inside.now in
     let at = c.args.place in
-    empty_told w i at c.args.tree.now c.new.result c.in-Empty.is c.new.ensures.items
+    empty_reported w i at c.args.tree.now c.new.result c.in-Empty.is c.new.ensures.items
 
 pub statements::kind_typed-returns-in_err-dropped-in-Run : goal.statements::kind_typed-returns-in_err-dropped-in-Run
 statements::kind_typed-returns-in_err-dropped-in-Run t c =
@@ -71,7 +71,7 @@ statements::kind_typed-returns-in_ok-dropped-in-Run t c =
     let w = where_of c.args.at in
     let i = inside_of c.args.inside.now in
     let at = c.args.place in
-    run_told w i at c.args.tree.now c.in-Run.value c.in-Run.is c.in_ok-dropped-in-Run.field-0 c.dropped.new.self c.in_ok-dropped-in-Run.ensures
+    run_reported w i at c.args.tree.now c.in-Run.value c.in-Run.is c.in_ok-dropped-in-Run.field-0 c.dropped.new.self c.in_ok-dropped-in-Run.ensures
 
 pub statements::kind_typed-returns-in_err-returned-in-Return : goal.statements::kind_typed-returns-in_err-returned-in-Return
 statements::kind_typed-returns-in_err-returned-in-Return t c =
@@ -87,7 +87,7 @@ statements::kind_typed-returns-in_ok-returned-in-Return t c =
     let w = where_of c.args.at in
     let i = inside_of c.args.inside.now in
     let at = c.args.place in
-    return_told w i at c.args.tree.now c.in-Return.value c.in-Return.is c.in_ok-returned-in-Return.field-0 c.returned.new.inside c.in_ok-returned-in-Return.ensures
+    return_reported w i at c.args.tree.now c.in-Return.value c.in-Return.is c.in_ok-returned-in-Return.field-0 c.returned.new.inside c.in_ok-returned-in-Return.ensures
 
 pub statements::kind_typed-returns-in_err-test-in-If : goal.statements::kind_typed-returns-in_err-test-in-If
 statements::kind_typed-returns-in_err-test-in-If t c =
@@ -112,7 +112,7 @@ statements::kind_typed-returns-in_ok-new-in-If t c =
     let w = where_of c.args.at in
     let i = inside_of c.args.inside.now in
     let at = c.args.place in
-    if_told w i at c.args.tree.now c.in-If.test c.in-If.body c.in-If.is c.in_ok-test-in-If.test c.tested.new.self c.in_ok-test-in-If.ensures c.deref-in-If.result.now c.deref-in-If.ensures c.in_ok-body-in-If.body c.statement_typed.new.inside c.in_ok-new-in-If.field-0 c.in_ok-body-in-If.ensures c.in_ok-new-in-If.ensures.ok
+    if_reported w i at c.args.tree.now c.in-If.test c.in-If.body c.in-If.is c.in_ok-test-in-If.test c.tested.new.self c.in_ok-test-in-If.ensures c.deref-in-If.result.now c.deref-in-If.ensures c.in_ok-body-in-If.body c.statement_typed.new.inside c.in_ok-new-in-If.field-0 c.in_ok-body-in-If.ensures c.in_ok-new-in-If.ensures.ok
 
 pub statements::kind_typed-returns-in_err-test-in-IfElse : goal.statements::kind_typed-returns-in_err-test-in-IfElse
 statements::kind_typed-returns-in_err-test-in-IfElse t c =
@@ -146,14 +146,14 @@ statements::kind_typed-returns-in_ok-new-in-IfElse-2 t c =
     let w = where_of c.args.at in
     let i = inside_of c.args.inside.now in
     let at = c.args.place in
-    else_told w i at c.args.tree.now c.in-IfElse.test c.in-IfElse.body c.in-IfElse.other c.in-IfElse.is c.in_ok-test-in-IfElse.test c.tested-in-IfElse.new.self c.in_ok-test-in-IfElse.ensures c.deref-in-IfElse.result.now c.deref-in-IfElse.ensures c.in_ok-body-in-IfElse.body c.statement_typed-in-IfElse.new.inside c.in_ok-body-in-IfElse.ensures c.deref-in-IfElse-2.result.now c.deref-in-IfElse-2.ensures c.in_ok-other-in-IfElse.other c.statement_typed-in-IfElse-2.new.inside c.in_ok-new-in-IfElse.field-0 c.in_ok-new-in-IfElse-2.field-0 c.in_ok-other-in-IfElse.ensures c.in_ok-new-in-IfElse.ensures.ok c.in_ok-new-in-IfElse-2.ensures.ok
+    else_reported w i at c.args.tree.now c.in-IfElse.test c.in-IfElse.body c.in-IfElse.other c.in-IfElse.is c.in_ok-test-in-IfElse.test c.tested-in-IfElse.new.self c.in_ok-test-in-IfElse.ensures c.deref-in-IfElse.result.now c.deref-in-IfElse.ensures c.in_ok-body-in-IfElse.body c.statement_typed-in-IfElse.new.inside c.in_ok-body-in-IfElse.ensures c.deref-in-IfElse-2.result.now c.deref-in-IfElse-2.ensures c.in_ok-other-in-IfElse.other c.statement_typed-in-IfElse-2.new.inside c.in_ok-new-in-IfElse.field-0 c.in_ok-new-in-IfElse-2.field-0 c.in_ok-other-in-IfElse.ensures c.in_ok-new-in-IfElse.ensures.ok c.in_ok-new-in-IfElse-2.ensures.ok
 
 pub statements::kind_typed-returns-in-While : goal.statements::kind_typed-returns-in-While
 statements::kind_typed-returns-in-While t c =
     let w = where_of c.args.at in
     let i = inside_of c.args.inside.now in
     let at = c.args.place in
-    told_as w i at c.args.tree.now (raw.While c.in-While.test c.in-While.body) c.while_typed.result c.while_typed.new.inside c.in-While.is
+    reported_as w i at c.args.tree.now (raw.While c.in-While.test c.in-While.body) c.while_typed.result c.while_typed.new.inside c.in-While.is
     (subst (λ (x : RawStmt). AnswersWith (kind_part at) (while_typed w i at c.in-While.test x.place x.kind) c.while_typed.result c.while_typed.new.inside) c.deref-in-While.ensures c.while_typed.ensures)
 
 pub statements::kind_typed-returns-in-Do : goal.statements::kind_typed-returns-in-Do
@@ -161,7 +161,7 @@ statements::kind_typed-returns-in-Do t c =
     let w = where_of c.args.at in
     let i = inside_of c.args.inside.now in
     let at = c.args.place in
-    told_as w i at c.args.tree.now (raw.Do c.in-Do.body c.in-Do.test) c.do_typed.result c.do_typed.new.inside c.in-Do.is
+    reported_as w i at c.args.tree.now (raw.Do c.in-Do.body c.in-Do.test) c.do_typed.result c.do_typed.new.inside c.in-Do.is
     (subst (λ (x : RawStmt). AnswersWith (kind_part at) (do_typed w i at c.in-Do.test x.place x.kind) c.do_typed.result c.do_typed.new.inside) c.deref-in-Do.ensures c.do_typed.ensures)
 
 pub statements::kind_typed-returns-in-For : goal.statements::kind_typed-returns-in-For
@@ -169,7 +169,7 @@ statements::kind_typed-returns-in-For t c =
     let w = where_of c.args.at in
     let i = inside_of c.args.inside.now in
     let at = c.args.place in
-    told_as w i at c.args.tree.now (raw.For c.in-For.first c.in-For.test c.in-For.last c.in-For.body) c.for_typed.result c.for_typed.new.inside c.in-For.is
+    reported_as w i at c.args.tree.now (raw.For c.in-For.first c.in-For.test c.in-For.last c.in-For.body) c.for_typed.result c.for_typed.new.inside c.in-For.is
     (subst (λ (x : RawStmt). AnswersWith (kind_part at) (for_typed w i at c.in-For.first c.in-For.test c.in-For.last x.place x.kind) c.for_typed.result c.for_typed.new.inside) c.deref-in-For.ensures c.for_typed.ensures)
 
 pub statements::kind_typed-returns-in-Switch : goal.statements::kind_typed-returns-in-Switch
@@ -186,7 +186,7 @@ statements::kind_typed-returns-in-Label t c =
     let w = where_of c.args.at in
     let i = inside_of c.args.inside.now in
     let at = c.args.place in
-    told_as w i at c.args.tree.now (raw.Label c.in-Label.name c.in-Label.body) c.labelled.result c.labelled.new.inside c.in-Label.is
+    reported_as w i at c.args.tree.now (raw.Label c.in-Label.name c.in-Label.body) c.labelled.result c.labelled.new.inside c.in-Label.is
     (subst (λ (x : RawStmt). AnswersWith (kind_part at) (label_typed w i at c.in-Label.name x.place x.kind) c.labelled.result c.labelled.new.inside) c.deref-in-Label.ensures c.labelled.ensures)
 
 pub statements::kind_typed-returns-in-Goto : goal.statements::kind_typed-returns-in-Goto
@@ -284,7 +284,7 @@ statements::for_typed-returns-in_err-test t c =
     let enters : inner ≡ in_block i = ap (λ k. knowing k i) c.enter-around.ensures.entered in
     let body = c.args.body.now in
     refused_with (kind_part at) (for_typed w i at c.args.first.now c.args.test.now c.args.last.now body.place body.kind) c.from_residual-in_err-test.result c.tested_if.new.self c.in_err-test.field-0.0 e
-    (for_test_stops w i at c.args.first.now c.args.test.now c.args.last.now body.place body.kind inner enters (told_of c.in_ok-first.first.items c.first_typed.new.inside) c.in_ok-first.ensures c.in_err-test.field-0.0 c.in_err-test.ensures)
+    (for_test_stops w i at c.args.first.now c.args.test.now c.args.last.now body.place body.kind inner enters (reported_of c.in_ok-first.first.items c.first_typed.new.inside) c.in_ok-first.ensures c.in_err-test.field-0.0 c.in_err-test.ensures)
 
 pub statements::for_typed-returns-in_err-last : goal.statements::for_typed-returns-in_err-last
 statements::for_typed-returns-in_err-last t c =
@@ -296,7 +296,7 @@ statements::for_typed-returns-in_err-last t c =
     let enters : inner ≡ in_block i = ap (λ k. knowing k i) c.enter-around.ensures.entered in
     let body = c.args.body.now in
     refused_with (kind_part at) (for_typed w i at c.args.first.now c.args.test.now c.args.last.now body.place body.kind) c.from_residual-in_err-last.result c.dropped_if.new.self c.in_err-last.field-0.0 e
-    (for_last_stops w i at c.args.first.now c.args.test.now c.args.last.now body.place body.kind inner enters (told_of c.in_ok-first.first.items c.first_typed.new.inside) c.in_ok-first.ensures (optional_part c.in_ok-test.test c.tested_if.new.self) c.in_ok-test.ensures c.in_err-last.field-0.0 c.in_err-last.ensures)
+    (for_last_stops w i at c.args.first.now c.args.test.now c.args.last.now body.place body.kind inner enters (reported_of c.in_ok-first.first.items c.first_typed.new.inside) c.in_ok-first.ensures (optional_part c.in_ok-test.test c.tested_if.new.self) c.in_ok-test.ensures c.in_err-last.field-0.0 c.in_err-last.ensures)
 
 pub statements::for_typed-returns-in_err-body : goal.statements::for_typed-returns-in_err-body
 statements::for_typed-returns-in_err-body t c =
@@ -308,7 +308,7 @@ statements::for_typed-returns-in_err-body t c =
     let enters : inner ≡ in_block i = ap (λ k. knowing k i) c.enter-around.ensures.entered in
     let body = c.args.body.now in
     refused_with (kind_part at) (for_typed w i at c.args.first.now c.args.test.now c.args.last.now body.place body.kind) c.from_residual-in_err-body.result c.statement_typed.new.inside c.in_err-body.field-0.0 e
-    (for_body_stops w i at c.args.first.now c.args.test.now c.args.last.now body.place body.kind inner enters (told_of c.in_ok-first.first.items c.first_typed.new.inside) c.in_ok-first.ensures (optional_part c.in_ok-test.test c.tested_if.new.self) c.in_ok-test.ensures (optional_part c.in_ok-last.last c.dropped_if.new.self) c.in_ok-last.ensures (where_of c.in_loop.result) c.in_loop.ensures c.in_err-body.field-0.0 c.in_err-body.ensures)
+    (for_body_stops w i at c.args.first.now c.args.test.now c.args.last.now body.place body.kind inner enters (reported_of c.in_ok-first.first.items c.first_typed.new.inside) c.in_ok-first.ensures (optional_part c.in_ok-test.test c.tested_if.new.self) c.in_ok-test.ensures (optional_part c.in_ok-last.last c.dropped_if.new.self) c.in_ok-last.ensures (where_of c.in_loop.result) c.in_loop.ensures c.in_err-body.field-0.0 c.in_err-body.ensures)
 
 pub statements::for_typed-returns : goal.statements::for_typed-returns
 statements::for_typed-returns t c =
@@ -319,7 +319,7 @@ statements::for_typed-returns t c =
     let enters : inner ≡ in_block i = ap (λ k. knowing k i) c.enter-around.ensures.entered in
     let body = c.args.body.now in
     let now = c.statement_typed.new.inside in
-    for_taken w i at c.args.first.now c.args.test.now c.args.last.now body.place body.kind inner enters (told_of c.in_ok-first.first.items c.first_typed.new.inside) c.in_ok-first.ensures (optional_part c.in_ok-test.test c.tested_if.new.self) c.in_ok-test.ensures (optional_part c.in_ok-last.last c.dropped_if.new.self) c.in_ok-last.ensures (where_of c.in_loop.result) c.in_loop.ensures (statement_part c.in_ok-body.body now) c.in_ok-body.ensures
+    for_taken w i at c.args.first.now c.args.test.now c.args.last.now body.place body.kind inner enters (reported_of c.in_ok-first.first.items c.first_typed.new.inside) c.in_ok-first.ensures (optional_part c.in_ok-test.test c.tested_if.new.self) c.in_ok-test.ensures (optional_part c.in_ok-last.last c.dropped_if.new.self) c.in_ok-last.ensures (where_of c.in_loop.result) c.in_loop.ensures (statement_part c.in_ok-body.body now) c.in_ok-body.ensures
     ∙ for_held at c.in_ok-first.first c.in_ok-test.test c.in_ok-last.last c.in_ok-body.body c.in_ok-new.field-0 (knowing (known_of c.leave.new.self) (inside_of now)) _
     (left_is i now c.leave.new.self (mark c.enter-around.result) c.leave.ensures c.enter-around.ensures.mark) c.in_ok-new.ensures.ok
 
@@ -331,7 +331,7 @@ statements::block-returns-in_err-statements t c =
     let items = c.args.items.now in
     let inner = knowing (known_of c.enter-around.new.self) i in
     let enters : inner ≡ in_block i = ap (λ k. knowing k i) c.enter-around.ensures.entered in
-    refused_with (λ list behind. told_of list.items behind) (block_typed w i items) c.from_residual.result c.items_typed.new.inside c.in_err-statements.field-0.0 e
+    refused_with (λ list following. reported_of list.items following) (block_typed w i items) c.from_residual.result c.items_typed.new.inside c.in_err-statements.field-0.0 e
     (block_stops w i items inner enters c.in_err-statements.field-0.0 c.in_err-statements.ensures)
 
 pub statements::block-returns : goal.statements::block-returns
@@ -343,7 +343,7 @@ statements::block-returns t c =
     let enters : inner ≡ in_block i = ap (λ k. knowing k i) c.enter-around.ensures.entered in
     let now = c.items_typed.new.inside in
     let list = c.in_ok-statements.statements.items in
-    block_taken w i items inner enters (told_of list now) c.in_ok-statements.ensures
+    block_taken w i items inner enters (reported_of list now) c.in_ok-statements.ensures
     ∙ ap Fine (closed_is i list now (knowing (known_of c.leave.new.self) (inside_of now)) (left_is i now c.leave.new.self (mark c.enter-around.result) c.leave.ensures c.enter-around.ensures.mark))
 
 pub statements::items_typed-returns-in_err-statements : goal.statements::items_typed-returns-in_err-statements
@@ -352,38 +352,38 @@ statements::items_typed-returns-in_err-statements t c =
     let w = where_of c.args.at in
     let i = inside_of c.args.inside.now in
     let items = c.args.items.now in
-    let whole = body_typed w items (nothing_told i) in
-    refused_with (λ list behind. told_of list.items behind) whole c.from_residual.result c.item_typed.new.inside c.in_err-statements.field-0.0 e
-    (part_stops (body_typed w) (item_typed w) (items_over w) items c.loop-item.item-index c.item-item.result whole (told_of c.loop-item.statements.items c.loop-item.inside) c.in_err-statements.field-0.0 c.loop-item-test.true c.item-item.is c.loop-item.invariant c.in_err-statements.ensures)
+    let whole = body_typed w items (nothing_reported i) in
+    refused_with (λ list following. reported_of list.items following) whole c.from_residual.result c.item_typed.new.inside c.in_err-statements.field-0.0 e
+    (part_stops (body_typed w) (item_typed w) (items_over w) items c.loop-item.item-index c.item-item.result whole (reported_of c.loop-item.statements.items c.loop-item.inside) c.in_err-statements.field-0.0 c.loop-item-test.true c.item-item.is c.loop-item.invariant c.in_err-statements.ensures)
 
 pub statements::items_typed-loop-item-preserved : goal.statements::items_typed-loop-item-preserved
 statements::items_typed-loop-item-preserved t c =
     let w = where_of c.args.at in
     let i = inside_of c.args.inside.now in
     let items = c.args.items.now in
-    let whole = body_typed w items (nothing_told i) in
-    part_taken (body_typed w) (item_typed w) (items_over w) items c.loop-item.item-index c.item-item.result whole (told_of c.loop-item.statements.items c.loop-item.inside) (told_of c.in_ok-statements.statements.items c.item_typed.new.inside) c.loop-item-test.true c.item-item.is c.loop-item.invariant c.in_ok-statements.ensures
+    let whole = body_typed w items (nothing_reported i) in
+    part_taken (body_typed w) (item_typed w) (items_over w) items c.loop-item.item-index c.item-item.result whole (reported_of c.loop-item.statements.items c.loop-item.inside) (reported_of c.in_ok-statements.statements.items c.item_typed.new.inside) c.loop-item-test.true c.item-item.is c.loop-item.invariant c.in_ok-statements.ensures
 
 pub statements::item_typed-returns-in_err-statement_typed-in-Run : goal.statements::item_typed-returns-in_err-statement_typed-in-Run
 statements::item_typed-returns-in_err-statement_typed-in-Run t c =
     let e : c.from_residual.result ≡ Err c.in_err-statement_typed-in-Run.field-0.0 = search rules in
     let w = where_of c.args.at in
-    let so_far = told_of c.args.before.items c.args.inside.now in
+    let so_far = reported_of c.args.before.items c.args.inside.now in
     let run : RawStmt = c.in-Run.statement in
-    refused_with (λ list behind. told_of list.items behind) (item_typed w c.args.item.now so_far) c.from_residual.result c.statement_typed.new.inside c.in_err-statement_typed-in-Run.field-0.0 e
+    refused_with (λ list following. reported_of list.items following) (item_typed w c.args.item.now so_far) c.from_residual.result c.statement_typed.new.inside c.in_err-statement_typed-in-Run.field-0.0 e
     (refused_as c.in_err-statement_typed-in-Run.field-0.0 (ap (λ x. item_typed w x so_far) c.in-Run.is)
     (lift-refused (telling so_far.statements) (statement_typed w so_far.inside run.place run.kind) c.in_err-statement_typed-in-Run.field-0.0 c.in_err-statement_typed-in-Run.ensures))
 
 pub statements::item_typed-returns-in_ok-push-in-Run : goal.statements::item_typed-returns-in_ok-push-in-Run
 statements::item_typed-returns-in_ok-push-in-Run t c =
     let w = where_of c.args.at in
-    let so_far = told_of c.args.before.items c.args.inside.now in
+    let so_far = reported_of c.args.before.items c.args.inside.now in
     let run : RawStmt = c.in-Run.statement in
     let one = c.in_ok-statement_typed-in-Run.field-0 in
     let now = c.statement_typed.new.inside in
     ap (λ x. item_typed w x so_far) c.in-Run.is
     ∙ lift_is (telling so_far.statements) (statement_typed w so_far.inside run.place run.kind) (statement_part one now) c.in_ok-statement_typed-in-Run.ensures
-    ∙ ap Fine (told_push c.args.before.items c.push.new.self.items one now c.in_ok-push-in-Run.ensures.items)
+    ∙ ap Fine (reported_push c.args.before.items c.push.new.self.items one now c.in_ok-push-in-Run.ensures.items)
 
 pub statements::labelled-returns-in_err-body : goal.statements::labelled-returns-in_err-body
 statements::labelled-returns-in_err-body t c =
@@ -508,7 +508,7 @@ switches::switch_item-returns-in_err-add-in-Case t c =
     let so_far = switching_of c.args.before c.args.inside.now in
     let constant = c.in_ok-constant-in-Case.constant in
     let number = c.wrapped_in-number.result in
-    let item : c.len.result ≡ length so_far.told.statements = c.len.ensures ∙ c.args.before.statements.ok.0 ∙ sym (length-map c.args.before.statements.items (λ s. statement s)) in
+    let item : c.len.result ≡ length so_far.reported.statements = c.len.ensures ∙ c.args.before.statements.ok.0 ∙ sym (length-map c.args.before.statements.items (λ s. statement s)) in
     let small : IsIntegerOfC constant.1 = value_in_c known.context c.in-Case.tree constant.0 constant.1 c.in_ok-constant-in-Case.ensures in
     let fits : FitsSigned w128 constant.1 = fits_in_c constant.1 small in
     let wraps : number ≡ wrapped_in known.context.model ty constant.1 = simp to_z-of_z at c.wrapped_in-number.ensures in
@@ -525,7 +525,7 @@ switches::switch_item-returns-in_ok-add-in-Case t c =
     let so_far = switching_of c.args.before c.args.inside.now in
     let constant = c.in_ok-constant-in-Case.constant in
     let number = c.wrapped_in-number.result in
-    let item : c.len.result ≡ length so_far.told.statements = c.len.ensures ∙ c.args.before.statements.ok.0 ∙ sym (length-map c.args.before.statements.items (λ s. statement s)) in
+    let item : c.len.result ≡ length so_far.reported.statements = c.len.ensures ∙ c.args.before.statements.ok.0 ∙ sym (length-map c.args.before.statements.items (λ s. statement s)) in
     let small : IsIntegerOfC constant.1 = value_in_c known.context c.in-Case.tree constant.0 constant.1 c.in_ok-constant-in-Case.ensures in
     let fits : FitsSigned w128 constant.1 = fits_in_c constant.1 small in
     let wraps : number ≡ wrapped_in known.context.model ty constant.1 = simp to_z-of_z at c.wrapped_in-number.ensures in
@@ -540,7 +540,7 @@ switches::switch_item-returns-in_err-add-in-Default t c =
     let ty = shape_of c.args.ty.now in
     let known = c.args.inside.now.known in
     let so_far = switching_of c.args.before c.args.inside.now in
-    let item : c.len-in-Default.result ≡ length so_far.told.statements = c.len-in-Default.ensures ∙ c.args.before.statements.ok.0 ∙ sym (length-map c.args.before.statements.items (λ s. statement s)) in
+    let item : c.len-in-Default.result ≡ length so_far.reported.statements = c.len-in-Default.ensures ∙ c.args.before.statements.ok.0 ∙ sym (length-map c.args.before.statements.items (λ s. statement s)) in
     let is = ap (λ x. switch_item_typed w ty x so_far) c.in-Default.is in
     refused_with switching_of (switch_item_typed w ty c.args.item.now so_far) c.from_residual-in_err-add-in-Default.result c.args.inside.now c.in_err-add-in-Default.field-0.0 e
     (refused_as c.in_err-add-in-Default.field-0.0 is (case_refused c.in-Default.place so_far None c.len-in-Default.result item c.in_err-add-in-Default.field-0.0 c.in_err-add-in-Default.ensures))
@@ -551,7 +551,7 @@ switches::switch_item-returns-in_ok-add-in-Default t c =
     let ty = shape_of c.args.ty.now in
     let known = c.args.inside.now.known in
     let so_far = switching_of c.args.before c.args.inside.now in
-    let item : c.len-in-Default.result ≡ length so_far.told.statements = c.len-in-Default.ensures ∙ c.args.before.statements.ok.0 ∙ sym (length-map c.args.before.statements.items (λ s. statement s)) in
+    let item : c.len-in-Default.result ≡ length so_far.reported.statements = c.len-in-Default.ensures ∙ c.args.before.statements.ok.0 ∙ sym (length-map c.args.before.statements.items (λ s. statement s)) in
     let is = ap (λ x. switch_item_typed w ty x so_far) c.in-Default.is in
     is ∙ case_taken c.in-Default.place so_far None c.len-in-Default.result item c.add-in-Default.new.self c.in_ok-add-in-Default.ensures
 
@@ -563,7 +563,7 @@ switches::switch_item-returns-in_err-item_typed-in-Item t c =
     let known = c.args.inside.now.known in
     let so_far = switching_of c.args.before c.args.inside.now in
     refused_with switching_of (switch_item_typed w ty c.args.item.now so_far) c.from_residual-in_err-item_typed-in-Item.result c.item_typed.new.inside c.in_err-item_typed-in-Item.field-0.0 e
-    (refused_as c.in_err-item_typed-in-Item.field-0.0 (ap (λ x. switch_item_typed w ty x so_far) c.in-Item.is) (lift-refused (with_told so_far) (item_typed w c.in-Item.item so_far.told) c.in_err-item_typed-in-Item.field-0.0 c.in_err-item_typed-in-Item.ensures))
+    (refused_as c.in_err-item_typed-in-Item.field-0.0 (ap (λ x. switch_item_typed w ty x so_far) c.in-Item.is) (lift-refused (with_reported so_far) (item_typed w c.in-Item.item so_far.reported) c.in_err-item_typed-in-Item.field-0.0 c.in_err-item_typed-in-Item.ensures))
 
 pub switches::switch_item-returns-in_ok-item_typed-in-Item : goal.switches::switch_item-returns-in_ok-item_typed-in-Item
 switches::switch_item-returns-in_ok-item_typed-in-Item t c =
@@ -572,4 +572,4 @@ switches::switch_item-returns-in_ok-item_typed-in-Item t c =
     let known = c.args.inside.now.known in
     let so_far = switching_of c.args.before c.args.inside.now in
     ap (λ x. switch_item_typed w ty x so_far) c.in-Item.is
-    ∙ lift_is (with_told so_far) (item_typed w c.in-Item.item so_far.told) (told_of c.in_ok-item_typed-in-Item.field-0.items c.item_typed.new.inside) c.in_ok-item_typed-in-Item.ensures
+    ∙ lift_is (with_reported so_far) (item_typed w c.in-Item.item so_far.reported) (reported_of c.in_ok-item_typed-in-Item.field-0.items c.item_typed.new.inside) c.in_ok-item_typed-in-Item.ensures

@@ -11,8 +11,8 @@ answer_by_type-requires c =
 
 pub returns-in_ok-answer-in-Ok : goal.returns-in_ok-answer-in-Ok
 returns-in_ok-answer-in-Ok c =
-    let told = rw c.deref.ensures.value at c.in_ok-answer-in-Ok.ensures in
-    λ file short has. told file (record {
+    let reported = rw c.deref.ensures.value at c.in_ok-answer-in-Ok.ensures in
+    λ file short has. reported file (record {
       short = short;
       has_tokens = has;
       is_the_file = rw c.as_slice.ensures.value at c.in-Ok.ensures.taken;

@@ -10,9 +10,9 @@ use Rattle.cs_consts.proofs.calls.converted_list.Given as goal
 
 abbrev pub invariant-loop-value : goal.invariant-loop-value
 invariant-loop-value l = record {
-  behind : List Expr;
-  split : l.initial.left.items ≡ l.left.items ++ behind;
-  so_far : converted_list l.model l.place (map (λ (ty : CType). shape_of ty) (drop (vec_len l.left) l.types)) (typed_list behind) ≡ outcome l.place l.refused (typed_list (reverse l.list.items));
+  following : List Expr;
+  split : l.initial.left.items ≡ l.left.items ++ following;
+  so_far : converted_list l.model l.place (map (λ (ty : CType). shape_of ty) (drop (vec_len l.left) l.types)) (typed_list following) ≡ outcome l.place l.refused (typed_list (reverse l.list.items));
 }
 
 abbrev pub decreases-loop-value : goal.decreases-loop-value

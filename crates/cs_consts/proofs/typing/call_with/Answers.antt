@@ -2,7 +2,7 @@ use Rattle.std.proofs.Common.{◌≡◌, map, Ok, Err, rules, sym, subst}
 use Rattle.cs_types.specs.declared.ctype.CType.{CType}
 use Rattle.cs_types.specs.Shape.{shape_of}
 use Rattle.cs_ast.specs.TypedView.{typed_list}
-use Rattle.cs_consts.specs.Verdicts.{IsRefused, Tells}
+use Rattle.cs_consts.specs.Verdicts.{IsRefused, Yields}
 use Rattle.cs_consts.specs.Meanings.{signature_of}
 use Rattle.cs_consts.specs.Calls.{shape_in, converted_list, call_of}
 use Rattle.cs_consts.specs.Typing.{call_with}
@@ -14,5 +14,5 @@ unfolding call_with
 returns-in_err-list c =
     let e : c.from_residual.result ≡ Err c.in_err-list.field-0.0 = search rules in
     let refused : IsRefused (converted_list c.args.context.now.model c.args.place (map (λ (ty : CType). shape_of ty) c.args.function.now.parameters.items) (typed_list c.args.values.items)) c.in_err-list.field-0.0 = subst (λ l. IsRefused (converted_list c.args.context.now.model c.args.place (map (λ (ty : CType). shape_of ty) l) (typed_list c.args.values.items)) c.in_err-list.field-0.0) c.deref.ensures.value c.in_err-list.ensures in
-    subst (Tells (call_with c.args.context.now c.args.place (shape_in c.args.target) (signature_of c.args.function.now) (typed_list c.args.values.items))) (sym e)
+    subst (Yields (call_with c.args.context.now c.args.place (shape_in c.args.target) (signature_of c.args.function.now) (typed_list c.args.values.items))) (sym e)
     (lift-refused (call_of c.args.place (shape_in c.args.target) (signature_of c.args.function.now)) _ c.in_err-list.field-0.0 refused)

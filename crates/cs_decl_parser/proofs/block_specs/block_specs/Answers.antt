@@ -35,16 +35,16 @@ words-preserved c =
 pub returns-in_err-found-clause-parsed : goal.returns-in_err-found-clause-parsed
 returns-in_err-found-clause-parsed c =
     let e : c.from_residual.result ≡ Err c.in_err-found.field-0.0 = search rules in
-    subst (BlockSpecsAnswer c.args.source.now.names.now c.args.room c.args.source.now.tokens.now c.args.from) (sym e) (word_stops c.args.source.now.names.now c.args.room c.requires.some c.args.source.now.tokens.now c.args.from c.words.next c.words.so_far c.words.words.items c.in_err-found.field-0.0 c.words.invariant.so_far c.in_err-found.ensures.word)
+    subst (BlockSpecsAnswer c.args.source.now.names.now c.args.limit c.args.source.now.tokens.now c.args.from) (sym e) (word_stops c.args.source.now.names.now c.args.limit c.requires.some c.args.source.now.tokens.now c.args.from c.words.next c.words.so_far c.words.words.items c.in_err-found.field-0.0 c.words.invariant.so_far c.in_err-found.ensures.word)
 
 pub returns-then-not-names_type-clause-parsed : goal.returns-then-not-names_type-clause-parsed
 returns-then-not-names_type-clause-parsed c =
-    words_stop c.args.source.now.names.now c.args.room c.requires.some c.args.source.now.tokens.now c.args.from c.words.next c.words.so_far c.words.words.items c.refuse.result c.words.invariant.so_far (sym c.names_type.ensures ∙ c.if-not-names_type.true)
+    words_stop c.args.source.now.names.now c.args.limit c.requires.some c.args.source.now.tokens.now c.args.from c.words.next c.words.so_far c.words.words.items c.refuse.result c.words.invariant.so_far (sym c.names_type.ensures ∙ c.if-not-names_type.true)
     (subst (λ (x : Option NextWord). BlockWordAnswer c.args.source.now.names.now c.args.source.now.tokens.now c.words.next c.words.so_far (Ok x)) c.in_default.is c.in_ok-found.ensures.word) c.refuse.ensures.is
 
 pub returns-clause-parsed : goal.returns-clause-parsed
 returns-clause-parsed c =
-    words_taken c.args.source.now.names.now c.args.room c.requires.some c.args.source.now.tokens.now c.args.from c.words.next c.words.so_far _ c.words.invariant.so_far (sym c.names_type.ensures ∙ c.if-not-names_type.false)
+    words_taken c.args.source.now.names.now c.args.limit c.requires.some c.args.source.now.tokens.now c.args.from c.words.next c.words.so_far _ c.words.invariant.so_far (sym c.names_type.ensures ∙ c.if-not-names_type.false)
     (subst (λ (x : Option NextWord). BlockWordAnswer c.args.source.now.names.now c.args.source.now.tokens.now c.words.next c.words.so_far (Ok x)) c.in_default.is c.in_ok-found.ensures.word) refl refl
 
 pub returns-clause-placed : goal.returns-clause-placed

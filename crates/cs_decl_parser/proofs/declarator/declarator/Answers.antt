@@ -8,13 +8,13 @@ use Rattle.cs_decl_parser.proofs.declarator.declarator.Goals as goal
 pub returns-in_err-pointed-clause-parsed : goal.returns-in_err-pointed-clause-parsed
 returns-in_err-pointed-clause-parsed c =
     let e : c.from_residual.result ≡ Err c.in_err-pointed.field-0.0 = search rules in
-    subst (DeclaratorAnswers c.args.declares c.args.source.now.names.now c.args.room c.args.source.now.tokens.now c.args.from) (sym e)
-    (pointed_stops c.args.declares c.args.source.now.names.now c.args.room c.requires.some c.args.source.now.tokens.now c.args.from c.in_err-pointed.field-0.0 c.in_err-pointed.ensures.parsed)
+    subst (DeclaratorAnswers c.args.declares c.args.source.now.names.now c.args.limit c.args.source.now.tokens.now c.args.from) (sym e)
+    (pointed_stops c.args.declares c.args.source.now.names.now c.args.limit c.requires.some c.args.source.now.tokens.now c.args.from c.in_err-pointed.field-0.0 c.in_err-pointed.ensures.parsed)
 
 pub returns-in_err-taken-clause-parsed : goal.returns-in_err-taken-clause-parsed
 returns-in_err-taken-clause-parsed c =
     let e : c.from_residual-in_err-taken.result ≡ Err c.in_err-taken.field-0.0 = search rules in
-    subst (DeclaratorAnswers c.args.declares c.args.source.now.names.now c.args.room c.args.source.now.tokens.now c.args.from) (sym e)
+    subst (DeclaratorAnswers c.args.declares c.args.source.now.names.now c.args.limit c.args.source.now.tokens.now c.args.from) (sym e)
     (c.in_err-taken.ensures.parsed c.args.from c.in_ok-pointed.ensures.parsed)
 
 pub returns-clause-parsed : goal.returns-clause-parsed

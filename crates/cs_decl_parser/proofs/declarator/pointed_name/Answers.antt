@@ -7,7 +7,7 @@ use Rattle.cs_grammar.specs.Text.{pointers_text}
 use Rattle.cs_grammar.specs.Places.{StandsAt}
 use Rattle.cs_grammar.proofs.Texts.{pointers_append}
 use Rattle.cs_decl_parser.specs.FilePlaces.{IsNamePlaced}
-use Rattle.cs_decl_parser.proofs.Placing.{behind_text}
+use Rattle.cs_decl_parser.proofs.Placing.{after_text}
 use Rattle.cs_decl_parser.proofs.declarator.pointed_name.Goals as goal
 
 pub returns-in_default-clause-parsed : goal.returns-in_default-clause-parsed
@@ -23,5 +23,5 @@ returns-clause-parsed c =
 
 pub returns-clause-placed : goal.returns-clause-placed
 returns-clause-placed c =
-    behind_text (StandsAt c.in-Some.name.place) (pointers_text c.in_ok-pointers.pointers.tree.items) (pointers_append c.in_ok-pointers.pointers.tree.items) c.args.source.now.tokens.now c.args.from c.in_ok-pointers.pointers.next c.in_ok-pointers.ensures.pointers.spelled
+    after_text (StandsAt c.in-Some.name.place) (pointers_text c.in_ok-pointers.pointers.tree.items) (pointers_append c.in_ok-pointers.pointers.tree.items) c.args.source.now.tokens.now c.args.from c.in_ok-pointers.pointers.next c.in_ok-pointers.ensures.pointers.spelled
     (subst (λ (x : Option RawName). IsNamePlaced x (drop c.in_ok-pointers.pointers.next c.args.source.now.tokens.now)) c.in-Some.is c.in_ok-name.ensures.placed)

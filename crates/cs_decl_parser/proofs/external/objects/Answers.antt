@@ -1,4 +1,4 @@
--- Each return is the refusal of a declarator, of a value or of an object behind a comma, or all were taken.
+-- Each return is the refusal of a declarator, of a value or of an object after a comma, or all were taken.
 use Rattle.std.proofs.Common.{◌≡◌, Err, refl, sym, subst, arith, rules}
 use Rattle.cs_ast.specs.RawStatementView.{external_of}
 use Rattle.cs_grammar.specs.DeclarationClasses.{Externals}

@@ -10,9 +10,9 @@ abbrev pub invariant-parameters : goal.invariant-parameters
 invariant-parameters l = record {
   onward : l.from < l.last.next;
   inside : l.last.next ≤ length l.source.tokens.now;
-  low : l.height ≤ l.room;
+  low : l.height ≤ l.limit;
   placed : RowPlaced IsParameterPlaced (λ p. parameter_text (parameter p)) l.source.tokens.now l.from l.list.items l.last.tree l.last.next;
-  so_far : ParametersSoFar l.source.names.now l.room l.source.tokens.now l.from (map parameter l.list.items) (parameter l.last.tree) l.last.next l.height;
+  so_far : ParametersSoFar l.source.names.now l.limit l.source.tokens.now l.from (map parameter l.list.items) (parameter l.last.tree) l.last.next l.height;
 }
 
 abbrev pub decreases-parameters : goal.decreases-parameters

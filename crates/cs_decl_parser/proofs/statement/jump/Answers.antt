@@ -8,13 +8,13 @@ use Rattle.cs_expr_parser.specs.Positions.{kind_or_end}
 use Rattle.cs_decl_parser.proofs.PlacingStatements.{jump_made}
 use Rattle.cs_decl_parser.proofs.statement.jump.Goals as goal
 
-pub returns-then-not-is_mark-clause-parsed : goal.returns-then-not-is_mark-clause-parsed
-returns-then-not-is_mark-clause-parsed c =
-    λ room some. jump_stops c.args.source.now.names.now room c.args.source.now.tokens.now c.args.from (sentence c.args.kind) c.refuse.result some c.requires.stands (λ k. false≢true (sym c.if-not-is_mark.true ∙ c.is_mark.ensures.mark.1 k)) c.refuse.ensures.is
+pub returns-then-not-is_punctuator-clause-parsed : goal.returns-then-not-is_punctuator-clause-parsed
+returns-then-not-is_punctuator-clause-parsed c =
+    λ limit some. jump_stops c.args.source.now.names.now limit c.args.source.now.tokens.now c.args.from (sentence c.args.kind) c.refuse.result some c.requires.stands (λ k. false≢true (sym c.if-not-is_punctuator.true ∙ c.is_punctuator.ensures.punctuator.1 k)) c.refuse.ensures.is
 
 pub returns-clause-parsed : goal.returns-clause-parsed
 returns-clause-parsed c =
-    λ room some. jump_taken c.args.source.now.names.now room c.args.source.now.tokens.now c.args.from (sentence c.args.kind) c.leaf.result some c.requires.stands (c.is_mark.ensures.mark.0 c.if-not-is_mark.false) c.leaf.ensures.node
+    λ limit some. jump_taken c.args.source.now.names.now limit c.args.source.now.tokens.now c.args.from (sentence c.args.kind) c.leaf.result some c.requires.stands (c.is_punctuator.ensures.punctuator.0 c.if-not-is_punctuator.false) c.leaf.ensures.node
 
 pub returns-clause-placed : goal.returns-clause-placed
 returns-clause-placed c =

@@ -13,7 +13,7 @@ use Rattle.cs_declarations.specs.View as view
 use Rattle.cs_declarations.specs.View.{types_of}
 use Rattle.cs_declarations.proofs.PartTypes.{part_is, no_part}
 use Rattle.cs_declarations.proofs.Refusing.{refused}
-use Rattle.cs_declarations.proofs.JudgedSoFar.{joined, judged_refused, judged_is, judged_none, nothing_judged, judged_over, judged_end, judged_fine, judged_wrong, told_wrong, told_fine}
+use Rattle.cs_declarations.proofs.JudgedSoFar.{joined, judged_refused, judged_is, judged_none, nothing_judged, judged_over, judged_end, judged_fine, judged_wrong, reported_wrong, reported_fine}
 use Rattle.cs_declarations.proofs.judging.+judging.Goals as goal
 use Rattle.cs_declarations.proofs.judging.+judging.Goals.{part_judged-in-Some+in_ok-judged-in-Some, part_judged-in-None, parts_judged-in-None, parts_judged-in-Some+in_default}
 
@@ -73,14 +73,14 @@ parts_judged-loop-item-preserved t c =
     let there : into_iter_items c.loop-item.item-iterator ≡ c.in-Some.item ∷ into_iter_items c.next.new.self = c.in-Some.ensures.steps.0 in
     let short : length (into_iter_items c.loop-item.item-iterator) ≡ suc (length (into_iter_items c.next.new.self)) = ap length there in
     let part : slice_get (types_of c.args.parts) c.loop-item.number ≡ Some (shape_of c.in-Some-ty.ty.now) = part_is (λ t. shape_of t.now) (types_of c.args.parts) c.ty.result c.loop-item.number c.loop-item.number c.ty.ensures refl c.in-Some-ty.ty c.in-Some-ty.is in
-    let told : part_judged c.args.context.now (view.storage c.args.storage) c.args.place (shape_of c.in-Some-ty.ty.now) (initial c.in-Some.item) ≡ Fault c.in-Err-Code.code c.in-Err-Code.field-0-1 = rw c.in-Err-Code.field-0-is at c.in-Err-Code.ensures in
+    let reported : part_judged c.args.context.now (view.storage c.args.storage) c.args.place (shape_of c.in-Some-ty.ty.now) (initial c.in-Some.item) ≡ Fault c.in-Err-Code.code c.in-Err-Code.field-0-1 = rw c.in-Err-Code.field-0-is at c.in-Err-Code.ensures in
     record {
       counted = omega (arith, short, c.loop-item.invariant.counted);
       lengths = omega (arith, short, c.loop-item.invariant.lengths, c.in-Some.ensures.steps.1);
       so_far =
           ap (λ k. joined c.args.place (Some c.least.result) c.loop-item.list.items (parts_judged c.args.context.now (view.storage c.args.storage) c.args.place (drop k (types_of c.args.parts)) (initial_list (into_iter_items c.next.new.self)))) (add-one c.loop-item.number)
           ∙ ap (λ code. joined c.args.place (Some code) c.loop-item.list.items (parts_judged c.args.context.now (view.storage c.args.storage) c.args.place (drop (suc c.loop-item.number) (types_of c.args.parts)) (initial_list (into_iter_items c.next.new.self)))) c.least.ensures
-          ∙ judged_wrong c.args.context.now (view.storage c.args.storage) c.args.place (types_of c.args.parts) c.loop-item.number c.loop-item.wrong c.loop-item.list.items (into_iter_items c.loop-item.item-iterator) _ c.loop-item.invariant.so_far c.in-Some.item (into_iter_items c.next.new.self) there (shape_of c.in-Some-ty.ty.now) part c.in-Err-Code.code c.in-Err-Code.field-0-1 told;
+          ∙ judged_wrong c.args.context.now (view.storage c.args.storage) c.args.place (types_of c.args.parts) c.loop-item.number c.loop-item.wrong c.loop-item.list.items (into_iter_items c.loop-item.item-iterator) _ c.loop-item.invariant.so_far c.in-Some.item (into_iter_items c.next.new.self) there (shape_of c.in-Some-ty.ty.now) part c.in-Err-Code.code c.in-Err-Code.field-0-1 reported;
     }
 
 pub parts_judged-returns-in-Some-wrong : goal.parts_judged-returns-in-Some-wrong
@@ -94,7 +94,7 @@ parts_judged-returns-in-Some-wrong t c =
           judged_over c.args.context.now (view.storage c.args.storage) c.args.place (types_of c.args.parts) c.loop-item.number c.loop-item.wrong c.loop-item.list.items (into_iter_items c.loop-item.item-iterator) _ c.loop-item.invariant.so_far
           (no_part (λ t. shape_of t.now) (types_of c.args.parts) w.ty.result c.loop-item.number c.loop-item.number w.ty.ensures refl w.in_default.is)
     ] in
-    told_wrong c.args.place c.loop-item.wrong c.loop-item.list.items _ c.in-Some-wrong.code ended c.in-Some-wrong.is
+    reported_wrong c.args.place c.loop-item.wrong c.loop-item.list.items _ c.in-Some-wrong.code ended c.in-Some-wrong.is
 
 pub parts_judged-returns-in-None-wrong : goal.parts_judged-returns-in-None-wrong
 parts_judged-returns-in-None-wrong t c =
@@ -107,4 +107,4 @@ parts_judged-returns-in-None-wrong t c =
           judged_over c.args.context.now (view.storage c.args.storage) c.args.place (types_of c.args.parts) c.loop-item.number c.loop-item.wrong c.loop-item.list.items (into_iter_items c.loop-item.item-iterator) _ c.loop-item.invariant.so_far
           (no_part (λ t. shape_of t.now) (types_of c.args.parts) w.ty.result c.loop-item.number c.loop-item.number w.ty.ensures refl w.in_default.is)
     ] in
-    told_fine c.args.place c.loop-item.wrong c.loop-item.list.items _ ended c.in-None-wrong.is
+    reported_fine c.args.place c.loop-item.wrong c.loop-item.list.items _ ended c.in-None-wrong.is

@@ -1,5 +1,5 @@
 use Rattle.std.proofs.Common.{sym, subst, drop}
-use Rattle.cs_expr_parser.proofs.SitesOfPlaces.{between_stands, between_behind}
+use Rattle.cs_expr_parser.proofs.SitesOfPlaces.{between_stands, between_after}
 use Rattle.cs_expr_parser.proofs.postfix.selected.Goals as goal
 
 pub returns-clause-placed : goal.returns-clause-placed
@@ -7,4 +7,4 @@ returns-clause-placed c =
     λ from here ends.
     c.in_ok-tree.ensures.placed (drop from c.args.tokens.now) here
     (between_stands c.args.tokens.now from c.args.left.tree c.args.left.next c.place_at-place.result ends c.place_at-place.ensures)
-    (between_behind c.args.tokens.now from c.args.left.tree c.args.left.next c.place_at.result ends c.place_at.ensures)
+    (between_after c.args.tokens.now from c.args.left.tree c.args.left.next c.place_at.result ends c.place_at.ensures)

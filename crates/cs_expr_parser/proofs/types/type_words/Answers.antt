@@ -1,11 +1,11 @@
 use Rattle.std.proofs.Common.{◌≡◌, List, Option, Result, Ok, Err, sym, ap, ◌∙◌, subst, arith, rules}
 use Rattle.cs_ast.specs.declared.raw.written_type.TypeWord.{TypeWord}
-use Rattle.cs_expr_parser.specs.LastTokens.{IsStopTold}
+use Rattle.cs_expr_parser.specs.LastTokens.{IsStopReported}
 use Rattle.cs_expr_parser.specs.Words.{last_tagged, WordsAnswer, JoiningAnswer, IsJoiningAt}
 use Rattle.cs_expr_parser.specs.declared.stop.Stop.{Stop}
 use Rattle.cs_expr_parser.specs.declared.types.TypeWords.{TypeWords}
 use Rattle.cs_expr_parser.specs.declared.types.JoiningWord.{JoiningWord}
-use Rattle.cs_expr_parser.proofs.SitesOfReasons.{told_word, told_no_type}
+use Rattle.cs_expr_parser.proofs.SitesOfReasons.{reported_word, reported_no_type}
 use Rattle.cs_expr_parser.proofs.SitesOfWords.{WordsSoFar, nothing_named, tagged_more, word_stops, words_one_more, words_name_nothing}
 use Rattle.cs_expr_parser.specs.Places.{IsJoiningTagged}
 use Rattle.cs_expr_parser.proofs.TagPlaces.{TagSoFar, one_more_tag}
@@ -41,14 +41,14 @@ returns-then-not-names_type-clause-words c =
     words_name_nothing c.args.names.now c.args.tokens.now c.args.from c.words.next c.words.so_far c.words.words.items c.refuse.result c.words.invariant.so_far (sym c.names_type.ensures ∙ c.if-not-names_type.true)
     (subst (λ (x : Option JoiningWord). JoiningAnswer c.args.names.now c.words.words.items c.args.tokens.now c.words.next (Ok x)) c.in_default.is (c.in_ok-joined.ensures.joining c.words.words.items c.words.invariant.so_far.describes)) c.refuse.ensures
 
-pub returns-in_err-joined-clause-told : goal.returns-in_err-joined-clause-told
-returns-in_err-joined-clause-told c =
+pub returns-in_err-joined-clause-reported : goal.returns-in_err-joined-clause-reported
+returns-in_err-joined-clause-reported c =
     let e : c.from_residual.result ≡ Err c.in_err-joined.field-0.0 = search rules in
-    subst (IsStopTold c.args.names.now c.args.tokens.now c.args.from) (sym e)
-    (told_word c.args.names.now c.args.tokens.now c.args.from c.words.next c.words.words.items c.in_err-joined.field-0.0 c.words.invariant.so_far.spelled
+    subst (IsStopReported c.args.names.now c.args.tokens.now c.args.from) (sym e)
+    (reported_word c.args.names.now c.args.tokens.now c.args.from c.words.next c.words.words.items c.in_err-joined.field-0.0 c.words.invariant.so_far.spelled
     (c.in_err-joined.ensures.joining c.words.words.items c.words.invariant.so_far.describes))
 
-pub returns-then-not-names_type-clause-told : goal.returns-then-not-names_type-clause-told
-returns-then-not-names_type-clause-told c =
-    told_no_type c.args.names.now c.args.tokens.now c.args.from c.words.next c.words.words.items c.refuse.result c.words.invariant.so_far.spelled
+pub returns-then-not-names_type-clause-reported : goal.returns-then-not-names_type-clause-reported
+returns-then-not-names_type-clause-reported c =
+    reported_no_type c.args.names.now c.args.tokens.now c.args.from c.words.next c.words.words.items c.refuse.result c.words.invariant.so_far.spelled
     (nothing_named c.args.names.now c.words.so_far c.words.words.items c.words.invariant.so_far.describes (sym c.names_type.ensures ∙ c.if-not-names_type.true)) c.refuse.ensures

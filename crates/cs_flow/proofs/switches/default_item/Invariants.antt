@@ -1,6 +1,6 @@
 -- There is no `default` before the index.
 use Rattle.std.proofs.Common.{◌≡◌, drop}
-use Rattle.cs_plain.specs.Statements.{default_item}
+use Rattle.cs_meaning.specs.Statements.{default_item}
 use Rattle.cs_flow.proofs.switches.default_item.Given as goal
 
 abbrev pub invariant-loop-case : goal.invariant-loop-case

@@ -5,7 +5,7 @@ use Rattle.cs_lexer.proofs.attributes.without_attributes.Goals as goal
 
 pub loop-token-preserved-then-depth-gt0 : goal.loop-token-preserved-then-depth-gt0
 loop-token-preserved-then-depth-gt0 c =
-    in_group c.args.tokens.items c.loop-token.left.items c.pop.new.self.items c.in_ok-closings.closings.items c.loop-token.depth c.depth_behind-depth.result c.loop-token.kept.items c.in-Some.token c.if-depth-gt0.true c.loop-token.invariant c.in-Some.ensures.items c.depth_behind-depth.ensures
+    in_group c.args.tokens.items c.loop-token.left.items c.pop.new.self.items c.in_ok-closings.closings.items c.loop-token.depth c.depth_after-depth.result c.loop-token.kept.items c.in-Some.token c.if-depth-gt0.true c.loop-token.invariant c.in-Some.ensures.items c.depth_after-depth.ensures
 
 pub loop-token-preserved-then-has_group : goal.loop-token-preserved-then-has_group
 loop-token-preserved-then-has_group c =

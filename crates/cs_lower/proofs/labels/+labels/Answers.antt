@@ -4,10 +4,10 @@ use Rattle.std.specs.BTreeMap.{get}
 use Rattle.std.specs.Ordering.{nat_cmp}
 use Rattle.cs_ast.specs.TypedTree.{Statement, While, Do}
 use Rattle.cs_ast.specs.TypedView.{typed, some_typed, statement, statement_list}
-use Rattle.cs_plain.specs.Marks.{marks, marks_in}
+use Rattle.cs_meaning.specs.Marks.{marks, marks_in}
 use Rattle.cs_lower.specs.Labels.{label_in, label_among}
 use Rattle.cs_lower.proofs.LabelMarks.{label_in-Switch, label_in-While, label_in-Do, label_in-For, labels_added, one_more_labelled, one_more_marked}
-use Rattle.cs_interpreter.proofs.StatementForms.{block_is, for_is, switch_is}
+use Rattle.cs_run_state.proofs.StatementForms.{block_is, for_is, switch_is}
 use Rattle.cs_lower.proofs.labels.+labels.Goals as goal
 
 pub add_labels-returns-in-Block-clause-next : goal.add_labels-returns-in-Block-clause-next

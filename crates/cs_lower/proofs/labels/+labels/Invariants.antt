@@ -4,7 +4,7 @@ use Rattle.std.specs.Option.{option_or}
 use Rattle.std.specs.BTreeMap.{get}
 use Rattle.std.specs.Ordering.{nat_cmp}
 use Rattle.cs_ast.specs.TypedView.{statement_list}
-use Rattle.cs_plain.specs.Marks.{marks_in}
+use Rattle.cs_meaning.specs.Marks.{marks_in}
 use Rattle.cs_lower.specs.Labels.{label_among}
 use Rattle.cs_lower.proofs.labels.+labels.Given as goal
 

@@ -3,19 +3,19 @@ use Rattle.std.specs.Int.{w128}
 use Rattle.std.proofs.lemmas.Int.{to_z-of_z}
 use Rattle.cs_types.specs.Shape.{shape_of}
 use Rattle.cs_ast.specs.TypedProgram.{typed_program}
-use Rattle.cs_runs.specs.Acts.{Act, Goes}
-use Rattle.cs_runs.specs.Objects.{NumberCell}
-use Rattle.cs_runs.specs.Runs.{Continues, perform}
-use Rattle.cs_plain.specs.Initials.{number_in}
-use Rattle.cs_plain.specs.Machine.{Operand, State, cell_of, cell_at, push, push_cell, with_memory}
-use Rattle.cs_plain.specs.Memory.{Memory}
-use Rattle.cs_plain.specs.Operators.{convert_number}
-use Rattle.cs_interpreter.specs.AccessView.{access_of}
-use Rattle.cs_interpreter.specs.View as view
-use Rattle.cs_interpreter.specs.View.{operand_of, setting_of, log_of}
-use Rattle.cs_interpreter.specs.MachineView.{state_of}
-use Rattle.cs_interpreter.proofs.Chains.{ends_behind}
-use Rattle.cs_interpreter.proofs.Performing.{perform-Goes}
+use Rattle.cs_events.specs.Acts.{Act, Goes}
+use Rattle.cs_events.specs.Objects.{NumberCell}
+use Rattle.cs_events.specs.Runs.{Continues, perform}
+use Rattle.cs_meaning.specs.Initials.{number_in}
+use Rattle.cs_meaning.specs.Machine.{Operand, State, cell_of, cell_at, push, push_cell, with_memory}
+use Rattle.cs_meaning.specs.Memory.{Memory}
+use Rattle.cs_meaning.specs.Operators.{convert_number}
+use Rattle.cs_run_state.specs.AccessView.{access_of}
+use Rattle.cs_run_state.specs.View as view
+use Rattle.cs_run_state.specs.View.{operand_of, setting_of, log_of}
+use Rattle.cs_run_state.specs.MachineView.{state_of}
+use Rattle.cs_run_state.proofs.Chains.{ends_following}
+use Rattle.cs_run_state.proofs.Performing.{perform-Goes}
 use Rattle.cs_cfg.specs.GraphView.{access}
 use Rattle.cs_replay.proofs.Loading.{same_load}
 use Rattle.cs_replay.proofs.accesses.fetch_number.Goals as goal
@@ -30,7 +30,7 @@ returns-in_err-number-clause-err c =
     let loaded = ap (λ (act : Act State). perform (setting_of c.args.run.now.setting.now) (log_of c.args.run.now.log) act) (same_load program m.memory m.frame.number (access c.args.object.now) (access_of c.access_to.result) (view.cell_of c.in_ok-target.target) (cell_at m 0) c.access_to.ensures c.in_ok-target.ensures onward) ∙ c.in_ok-operand.ensures.ok onward in
     let cell = c.into_cell-cell.ensures ∙ ap cell_of c.in_ok-copy.ensures in
     let ends = rw cell at c.in_err-number.ensures.err in
-    rw there (ends_behind _ _ loaded (ends (λ number. after number (state_of c.load.new.self).memory (operand_of c.in_ok-operand.operand))))
+    rw there (ends_following _ _ loaded (ends (λ number. after number (state_of c.load.new.self).memory (operand_of c.in_ok-operand.operand))))
 
 pub returns-clause-ok : goal.returns-clause-ok
 returns-clause-ok c =

@@ -1,17 +1,17 @@
 use Rattle.std.proofs.Common.{◌≡◌, Err, sym, ap, ◌∙◌, rules}
 use Rattle.cs_ast.specs.TypedProgram.{typed_program}
-use Rattle.cs_runs.specs.Acts.{Act, Goes}
-use Rattle.cs_runs.specs.Objects.{Cell}
-use Rattle.cs_runs.specs.Runs.{Continues}
-use Rattle.cs_plain.specs.Machine.{State, Scalar, cell_of, push, pop_many, with_memory, operand_at}
-use Rattle.cs_plain.specs.Machine as machine
-use Rattle.cs_plain.specs.Memory.{Memory}
-use Rattle.cs_plain.specs.Expressions.{given, stores_to}
-use Rattle.cs_interpreter.specs.View as view
-use Rattle.cs_interpreter.specs.View.{log_of}
-use Rattle.cs_interpreter.specs.MachineView.{state_of}
-use Rattle.cs_interpreter.proofs.Chains.{ends_behind}
-use Rattle.cs_interpreter.proofs.Performing.{perform-Goes}
+use Rattle.cs_events.specs.Acts.{Act, Goes}
+use Rattle.cs_events.specs.Objects.{Cell}
+use Rattle.cs_events.specs.Runs.{Continues}
+use Rattle.cs_meaning.specs.Machine.{State, Scalar, cell_of, push, pop_many, with_memory, operand_at}
+use Rattle.cs_meaning.specs.Machine as machine
+use Rattle.cs_meaning.specs.Memory.{Memory}
+use Rattle.cs_meaning.specs.Expressions.{given, stores_to}
+use Rattle.cs_run_state.specs.View as view
+use Rattle.cs_run_state.specs.View.{log_of}
+use Rattle.cs_run_state.specs.MachineView.{state_of}
+use Rattle.cs_run_state.proofs.Chains.{ends_following}
+use Rattle.cs_run_state.proofs.Performing.{perform-Goes}
 use Rattle.cs_cfg.specs.GraphView.{access}
 use Rattle.cs_replay.proofs.accesses.move_pointer.Goals as goal
 
@@ -33,7 +33,7 @@ returns-in_err-store-clause-err c =
     let pointer = c.into_cell-pointer.ensures ∙ ap (λ (o : machine.Operand). cell_of o) (c.in_ok-copy.ensures ∙ c.pop_moved-target.ensures.before) in
     let one = rw (pointer, c.in_ok-stride.ensures.amount, c.in_ok-stride.ensures.size, c.pop_moved-target.ensures.amount) at c.in_ok-moved.ensures.ok in
     let two = rw (c.pop_moved-target.ensures.state, c.pop_moved-target.ensures.target) at c.in_err-store.ensures.err in
-    rw there (ends_behind _ _ (one onward) (two last))
+    rw there (ends_following _ _ (one onward) (two last))
 
 pub returns-clause-ok : goal.returns-clause-ok
 returns-clause-ok c =

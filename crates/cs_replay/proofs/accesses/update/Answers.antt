@@ -3,18 +3,18 @@ use Rattle.std.specs.Int.{w128}
 use Rattle.std.proofs.lemmas.Int.{to_z-of_z}
 use Rattle.cs_types.specs.Shape.{shape_of, integer}
 use Rattle.cs_ast.specs.TypedProgram.{typed_program}
-use Rattle.cs_runs.specs.Acts.{Act, Goes}
-use Rattle.cs_runs.specs.Objects.{NumberCell}
-use Rattle.cs_runs.specs.Runs.{Continues}
-use Rattle.cs_plain.specs.Machine.{State, Scalar, push, pop_many, with_memory, operand_at}
-use Rattle.cs_plain.specs.Memory.{Memory}
-use Rattle.cs_plain.specs.Operators.{convert_number}
-use Rattle.cs_plain.specs.Types.{integer_of}
-use Rattle.cs_plain.specs.Expressions.{given, stores_to}
-use Rattle.cs_interpreter.specs.View.{log_of}
-use Rattle.cs_interpreter.specs.MachineView.{state_of}
-use Rattle.cs_interpreter.proofs.Chains.{ends_behind}
-use Rattle.cs_interpreter.proofs.Performing.{perform-Goes}
+use Rattle.cs_events.specs.Acts.{Act, Goes}
+use Rattle.cs_events.specs.Objects.{NumberCell}
+use Rattle.cs_events.specs.Runs.{Continues}
+use Rattle.cs_meaning.specs.Machine.{State, Scalar, push, pop_many, with_memory, operand_at}
+use Rattle.cs_meaning.specs.Memory.{Memory}
+use Rattle.cs_meaning.specs.Operators.{convert_number}
+use Rattle.cs_meaning.specs.Types.{integer_of}
+use Rattle.cs_meaning.specs.Expressions.{given, stores_to}
+use Rattle.cs_run_state.specs.View.{log_of}
+use Rattle.cs_run_state.specs.MachineView.{state_of}
+use Rattle.cs_run_state.proofs.Chains.{ends_following}
+use Rattle.cs_run_state.proofs.Performing.{perform-Goes}
 use Rattle.cs_cfg.specs.GraphView.{access}
 use Rattle.cs_replay.proofs.accesses.update.Goals as goal
 
@@ -29,7 +29,7 @@ returns-in_err-stored-clause-err c =
     let fits : FitsSigned w128 c.in_ok-number.number = search rules in
     let plain = to_z-of_z w128 c.in_ok-number.number fits in
     let two = rw (c.integer_of-to.ensures, plain) at c.in_err-stored.ensures.err in
-    rw there (ends_behind _ _ (one convert) (two update))
+    rw there (ends_following _ _ (one convert) (two update))
 
 pub returns-in_err-store-clause-err : goal.returns-in_err-store-clause-err
 returns-in_err-store-clause-err c =
@@ -46,7 +46,7 @@ returns-in_err-store-clause-err c =
     let same = to_z-of_z w128 c.in_ok-stored.stored within in
     let two = rw (c.integer_of-to.ensures, plain) at c.in_ok-stored.ensures.ok in
     let three = rw (c.pop_updated-target.ensures.state, c.pop_updated-target.ensures.target, same) at c.in_err-store.ensures.err in
-    rw there (ends_behind _ _ (one convert ∙ two update) (three last))
+    rw there (ends_following _ _ (one convert ∙ two update) (three last))
 
 pub returns-clause-ok : goal.returns-clause-ok
 returns-clause-ok c =

@@ -1,8 +1,8 @@
-use Rattle.cs_runs.specs.Objects.{LocalObject}
-use Rattle.cs_plain.specs.Memory.{changed, refill}
-use Rattle.cs_interpreter.specs.MemoryView.{memory_of, fill_of}
-use Rattle.cs_interpreter.specs.MachineView.{state_of}
-use Rattle.cs_steps.proofs.MachineStates.{state_with}
+use Rattle.cs_events.specs.Objects.{LocalObject}
+use Rattle.cs_meaning.specs.Memory.{changed, refill}
+use Rattle.cs_run_state.specs.MemoryView.{memory_of, fill_of}
+use Rattle.cs_run_state.specs.MachineView.{state_of}
+use Rattle.cs_reference.proofs.MachineStates.{state_with}
 use Rattle.cs_replay.proofs.declared.refill.Goals as goal
 
 pub returns : goal.returns

@@ -1,15 +1,15 @@
 use Rattle.std.proofs.Common.{sym, ap, ◌∙◌}
 use Rattle.cs_types.specs.Shape.{shape_of}
 use Rattle.cs_ast.specs.TypedProgram.{typed_program}
-use Rattle.cs_runs.specs.Acts.{Act, Goes}
-use Rattle.cs_runs.specs.Objects.{LocalObject}
-use Rattle.cs_runs.specs.Runs.{Continues}
-use Rattle.cs_plain.specs.Access.{write_operand}
-use Rattle.cs_plain.specs.Machine.{State, pop, with_memory, operand_at}
-use Rattle.cs_plain.specs.Memory.{changed}
-use Rattle.cs_interpreter.specs.View.{log_of}
-use Rattle.cs_interpreter.specs.MachineView.{state_of}
-use Rattle.cs_interpreter.proofs.Performing.{perform-Goes}
+use Rattle.cs_events.specs.Acts.{Act, Goes}
+use Rattle.cs_events.specs.Objects.{LocalObject}
+use Rattle.cs_events.specs.Runs.{Continues}
+use Rattle.cs_meaning.specs.Access.{write_operand}
+use Rattle.cs_meaning.specs.Machine.{State, pop, with_memory, operand_at}
+use Rattle.cs_meaning.specs.Memory.{changed}
+use Rattle.cs_run_state.specs.View.{log_of}
+use Rattle.cs_run_state.specs.MachineView.{state_of}
+use Rattle.cs_run_state.proofs.Performing.{perform-Goes}
 use Rattle.cs_replay.proofs.declared.store_local.Goals as goal
 
 pub returns-clause-ok : goal.returns-clause-ok

@@ -1,13 +1,13 @@
 use Rattle.std.proofs.Common.{ap, ◌∙◌}
 use Rattle.cs_types.specs.Shape.{shape_of}
 use Rattle.cs_ast.specs.TypedProgram.{typed_program}
-use Rattle.cs_runs.specs.Objects.{LocalObject}
-use Rattle.cs_plain.specs.Access.{write_operand}
-use Rattle.cs_plain.specs.Machine.{Operand, State, with_memory, operand_at}
-use Rattle.cs_plain.specs.Memory.{changed}
-use Rattle.cs_interpreter.specs.MemoryView.{memory_of}
-use Rattle.cs_interpreter.specs.MachineView.{state_of}
-use Rattle.cs_steps.proofs.MachineStates.{state_with}
+use Rattle.cs_events.specs.Objects.{LocalObject}
+use Rattle.cs_meaning.specs.Access.{write_operand}
+use Rattle.cs_meaning.specs.Machine.{Operand, State, with_memory, operand_at}
+use Rattle.cs_meaning.specs.Memory.{changed}
+use Rattle.cs_run_state.specs.MemoryView.{memory_of}
+use Rattle.cs_run_state.specs.MachineView.{state_of}
+use Rattle.cs_reference.proofs.MachineStates.{state_with}
 use Rattle.cs_replay.proofs.declared.store_newest.Goals as goal
 
 pub returns : goal.returns

@@ -1,8 +1,8 @@
 use Rattle.std.proofs.Common.{refl}
 use Rattle.cs_ast.specs.TypedProgram.{typed_program}
-use Rattle.cs_plain.specs.Machine.{routine_of}
-use Rattle.cs_interpreter.specs.View.{log_of}
-use Rattle.cs_steps.specs.RunView.{run_of}
+use Rattle.cs_meaning.specs.Machine.{routine_of}
+use Rattle.cs_run_state.specs.View.{log_of}
+use Rattle.cs_reference.specs.RunView.{run_of}
 use Rattle.cs_cfg.specs.Graph.{flow_of}
 use Rattle.cs_cfg.specs.GraphView as view
 use Rattle.cs_replay.proofs.Entering.{no_body}

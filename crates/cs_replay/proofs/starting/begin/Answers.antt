@@ -2,9 +2,9 @@ use Rattle.std.proofs.Common.{◌≡◌, ℕ, List, sym, ap, ◌∙◌}
 use Rattle.std.specs.Prelude.{Option, unwrap_or}
 use Rattle.cs_inputs.specs.Inputs.{number_at}
 use Rattle.cs_ast.specs.TypedProgram.{typed_program}
-use Rattle.cs_plain.specs.Machine.{routine_of}
-use Rattle.cs_interpreter.specs.declared.machine.Machine.{Machine}
-use Rattle.cs_interpreter.specs.MachineView.{frame_of, state_of}
+use Rattle.cs_meaning.specs.Machine.{routine_of}
+use Rattle.cs_run_state.specs.declared.machine.Machine.{Machine}
+use Rattle.cs_run_state.specs.MachineView.{frame_of, state_of}
 use Rattle.cs_cfg.specs.Graph.{Flow, no_flow, flow_of}
 use Rattle.cs_cfg.specs.GraphView as view
 use Rattle.cs_replay.specs.declared.replayer.Caller.{Caller}

@@ -6,17 +6,17 @@ use Rattle.cs_typing.proofs.BodiedFunctions.{with_parts, routine-bodied}
 use Rattle.cs_typing.proofs.bodies.put_body.Goals as goal
 
 pub returns-in-Some : goal.returns-in-Some
-returns-in-Some c = λ told variables row.
+returns-in-Some c = λ reported variables row.
     let all = c.args.functions.now.items in
     let function = c.in-Some.function.now in
     let head = c.args.head.now in
     let body = c.args.body.now in
     let within : c.args.number < length all = search rules in
-    changed_at routine (bodied head body told) all c.args.number function (with_parts function head body c.args.locals c.args.statements) within c.in-Some.ensures.value
-    (routine-bodied function head body c.args.locals c.args.statements told variables row)
+    changed_at routine (bodied head body reported) all c.args.number function (with_parts function head body c.args.locals c.args.statements) within c.in-Some.ensures.value
+    (routine-bodied function head body c.args.locals c.args.statements reported variables row)
 
 pub returns-in_default : goal.returns-in_default
-returns-in_default c = λ told variables row.
+returns-in_default c = λ reported variables row.
     let all = c.args.functions.now.items in
     let past : length all ≤ c.args.number = search rules in
-    changed_past routine (bodied c.args.head.now c.args.body.now told) all c.args.number past
+    changed_past routine (bodied c.args.head.now c.args.body.now reported) all c.args.number past

@@ -7,15 +7,15 @@ use Rattle.cs_consts.proofs.Productions.{refused_as}
 use Rattle.cs_consts.proofs.SingleParts.{lift_is}
 use Rattle.cs_declarations.proofs.Refusing.{refused_with}
 use Rattle.cs_typing.specs.Statements.{dropped_in, ran_first, first_typed}
-use Rattle.cs_typing.specs.View.{inside_of, told_of, typed_part}
-use Rattle.cs_typing.proofs.StatementsInTurn.{told_push}
+use Rattle.cs_typing.specs.View.{inside_of, reported_of, typed_part}
+use Rattle.cs_typing.proofs.StatementsInTurn.{reported_push}
 use Rattle.cs_typing.proofs.statements.first_typed.Goals as goal
 
 pub returns-in_err-dropped-in-Run : goal.returns-in_err-dropped-in-Run
 returns-in_err-dropped-in-Run c =
     let e : c.from_residual.result ≡ Err c.in_err-dropped-in-Run.field-0.0 = search rules in
     let i = inside_of c.args.inside.now in
-    refused_with (λ list behind. told_of list.items behind) (first_typed i c.args.first.now) c.from_residual.result c.dropped.new.self c.in_err-dropped-in-Run.field-0.0 e
+    refused_with (λ list following. reported_of list.items following) (first_typed i c.args.first.now) c.from_residual.result c.dropped.new.self c.in_err-dropped-in-Run.field-0.0 e
     (refused_as c.in_err-dropped-in-Run.field-0.0 (ap (first_typed i) c.in-Run.is)
     (lift-refused (ran_first c.in-Run.value.place) (dropped_in i c.in-Run.value) c.in_err-dropped-in-Run.field-0.0 c.in_err-dropped-in-Run.ensures))
 
@@ -25,4 +25,4 @@ returns-in_ok-push-in-Run c =
     let e = c.in_ok-dropped-in-Run.field-0 in
     let one : Stmt = roll-Stmt (record { place = c.in-Run.value.place; kind = held.Run e }) in
     ap (first_typed i) c.in-Run.is ∙ lift_is (ran_first c.in-Run.value.place) (dropped_in i c.in-Run.value) (typed_part e c.dropped.new.self) c.in_ok-dropped-in-Run.ensures
-    ∙ ap Fine (told_push [] c.push.new.self.items one c.dropped.new.self (c.in_ok-push-in-Run.ensures.items ∙ ap (λ l. l ++ one ∷ []) c.new-statements.ensures.items))
+    ∙ ap Fine (reported_push [] c.push.new.self.items one c.dropped.new.self (c.in_ok-push-in-Run.ensures.items ∙ ap (λ l. l ++ one ∷ []) c.new-statements.ensures.items))

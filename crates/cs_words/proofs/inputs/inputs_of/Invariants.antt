@@ -4,7 +4,7 @@ use Rattle.cs_words.proofs.EnteredInputs.{AreEnteredTo}
 use Rattle.cs_words.proofs.inputs.inputs_of.Given as goal
 
 abbrev pub invariant-loop-word : goal.invariant-loop-word
-invariant-loop-word l = AreEnteredTo (words_text l.behind) l.inputs (words_text l.rest) × (length l.rest ≤ length l.words)
+invariant-loop-word l = AreEnteredTo (words_text l.following) l.inputs (words_text l.rest) × (length l.rest ≤ length l.words)
 
 abbrev pub decreases-loop-word : goal.decreases-loop-word
 decreases-loop-word l = length l.rest

@@ -2,7 +2,7 @@ use Rattle.std.proofs.Common.{◌≡◌, true, false, ap, sym, ◌∙◌, subst,
 use Rattle.std.specs.Prelude.{◌⊎◌}
 use Rattle.cs_words.specs.Options.{Setting, takes}
 use Rattle.cs_words.specs.Scan.{is_set, setting_in, text_in}
-use Rattle.cs_words.proofs.WordLists.{first_text, unfit_option, joined_step, behind_step, nothing_behind, IsValueRead}
+use Rattle.cs_words.proofs.WordLists.{first_text, unfit_option, joined_step, after_step, nothing_after, IsValueRead}
 use Rattle.cs_words.proofs.scan.with_option.Goals as goal
 use Rattle.cs_words.proofs.scan.with_option.Goals.{then-not-takes-via-then-not-takes, then-not-takes-via-else-not-takes+then-has}
 
@@ -26,10 +26,10 @@ pub returns-in-Some-clause-read : goal.returns-in-Some-clause-read
 returns-in-Some-clause-read c =
     let taken : takes c.args.verb (setting_in c.args.option) ≡ true = sym (c.takes.ensures ∙ ap (takes c.args.verb) c.setting-setting.ensures) ∙ c.if-not-takes.false in
     let unset : is_set (setting_in c.args.option) c.args.found.settings ≡ false = sym (c.has.ensures ∙ ap (λ (s : Setting). is_set s c.args.found.settings) c.setting-setting.ensures) ∙ c.if-has.false in
-    behind_step c.args.verb c.args.words.now c.args.found.rest.now c.args.others.now c.in-Some.left.now c.args.found.settings c.args.option c.as_bytes.result.now c.with_value-in-Some.result c.requires.read c.requires.first (ap text_in c.in-Alone.is) (first_text c.args.others.now c.in-Some.text.now c.in-Some.left.now c.as_bytes.result.now c.in-Some.ensures.cases.0 c.as_bytes.ensures.value) taken unset (subst (λ (s : Setting). IsValueRead c.args.words.now c.args.others.now c.in-Some.left.now s c.as_bytes.result.now c.args.found.settings c.with_value-in-Some.result) c.setting-setting.ensures c.with_value-in-Some.ensures)
+    after_step c.args.verb c.args.words.now c.args.found.rest.now c.args.others.now c.in-Some.left.now c.args.found.settings c.args.option c.as_bytes.result.now c.with_value-in-Some.result c.requires.read c.requires.first (ap text_in c.in-Alone.is) (first_text c.args.others.now c.in-Some.text.now c.in-Some.left.now c.as_bytes.result.now c.in-Some.ensures.cases.0 c.as_bytes.ensures.value) taken unset (subst (λ (s : Setting). IsValueRead c.args.words.now c.args.others.now c.in-Some.left.now s c.as_bytes.result.now c.args.found.settings c.with_value-in-Some.result) c.setting-setting.ensures c.with_value-in-Some.ensures)
 
 pub returns-in-None-clause-read : goal.returns-in-None-clause-read
 returns-in-None-clause-read c =
     let taken : takes c.args.verb (setting_in c.args.option) ≡ true = sym (c.takes.ensures ∙ ap (takes c.args.verb) c.setting-setting.ensures) ∙ c.if-not-takes.false in
     let unset : is_set (setting_in c.args.option) c.args.found.settings ≡ false = sym (c.has.ensures ∙ ap (λ (s : Setting). is_set s c.args.found.settings) c.setting-setting.ensures) ∙ c.if-has.false in
-    nothing_behind c.args.verb c.args.words.now c.args.found.rest.now c.args.others.now c.args.found.settings c.args.option c.refused-in-None.result c.requires.read c.requires.first (ap text_in c.in-Alone.is) c.in-None.ensures.cases taken unset c.refused-in-None.ensures
+    nothing_after c.args.verb c.args.words.now c.args.found.rest.now c.args.others.now c.args.found.settings c.args.option c.refused-in-None.result c.requires.read c.requires.first (ap text_in c.in-Alone.is) c.in-None.ensures.cases taken unset c.refused-in-None.ensures

@@ -2,14 +2,14 @@ use Rattle.std.proofs.Common.{◌≡◌, ◌<◌, length, arith}
 use Rattle.std.proofs.lemmas.Bool.Decides.{nat_tests}
 use Rattle.cs_words.specs.declared.verb.Verb.TheVariants as verbs
 use Rattle.cs_words.specs.Meaning.{words_text}
-use Rattle.cs_words.proofs.WholeWords.{flow_right, nothing_told}
+use Rattle.cs_words.proofs.WholeWords.{flow_right, nothing_reported}
 use Rattle.cs_words.proofs.WordLists.{extra_word, no_text}
 use Rattle.cs_words.proofs.words.flow_words.Goals as goal
 
 pub returns-then-not-is_empty : goal.returns-then-not-is_empty
 returns-then-not-is_empty c =
     let some : 0 < length c.in_ok-found.found.rest.now = grind (arith, nat_tests) in
-    extra_word verbs.Flow nothing_told c.args.words.now c.in_ok-found.found.rest.now c.in_ok-found.found.settings c.refused.result c.in_ok-found.ensures some c.refused.ensures
+    extra_word verbs.Flow nothing_reported c.args.words.now c.in_ok-found.found.rest.now c.in_ok-found.found.settings c.refused.result c.in_ok-found.ensures some c.refused.ensures
 
 pub returns : goal.returns
 returns c =

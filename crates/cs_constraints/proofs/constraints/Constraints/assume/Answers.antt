@@ -14,10 +14,10 @@ returns-in_default c =
     let set = c.args.set.now in
     let holds = c.contains.result in
     let value : to_z w128 (of_z w128 term.value) ≡ term.value = search rules in
-    let tells = rw value at c.contains.ensures in
+    let yields = rw value at c.contains.ensures in
     let IsCopy : Option Sets → Type 0 = λ answer. MatchOption answer (holds ≡ false) (λ copy. (holds ≡ true) × (copy ≡ sets) × AreInhabited copy) in
     let IsAnswer : Option Sets → Type 0 = λ answer. MatchOption answer (RulesOut sets term set) (Keeps sets term set) in
-    IfOk-weaker _ IsCopy IsAnswer (λ answer. constant_answer sets term set holds answer c.in_default.is tells) c.copy_if.ensures
+    IfOk-weaker _ IsCopy IsAnswer (λ answer. constant_answer sets term set holds answer c.in_default.is yields) c.copy_if.ensures
 
 pub returns : goal.returns
 returns c =

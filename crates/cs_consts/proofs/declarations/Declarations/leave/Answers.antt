@@ -7,6 +7,6 @@ use Rattle.cs_consts.proofs.declarations.Declarations.leave.Goals as goal
 
 pub returns : goal.returns
 returns c =
-    ap declarations_in c.drop_behind.ensures.left
+    ap declarations_in c.drop_after.ensures.left
     ∙ sym (take-map (λ (e : Entry). declaration_of e.declaration) c.args.outer c.self.inside.list.items)
     ∙ ap (take c.args.outer) c.self.view_is

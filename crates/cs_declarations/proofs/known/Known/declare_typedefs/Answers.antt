@@ -10,8 +10,8 @@ use Rattle.cs_declarations.proofs.known.Known.declare_typedefs.Goals as goal
 typedefs_over : (base : Shape) → GoesOver (typedefs_added base) (typedef_added base)
 typedefs_over base = (λ ds d k. refl, λ k. refl)
 
-pub returns-in_err-declare_typedef-clause-told : goal.returns-in_err-declare_typedef-clause-told
-returns-in_err-declare_typedef-clause-told c =
+pub returns-in_err-declare_typedef-clause-reported : goal.returns-in_err-declare_typedef-clause-reported
+returns-in_err-declare_typedef-clause-reported c =
     let base = shape_of c.args.base.now in
     let whole = typedefs_added base c.args.declarators.now (known_of c.args.self.now) in
     let e : c.from_residual.result ≡ Err c.in_err-declare_typedef.field-0.0 = search rules in
@@ -28,5 +28,5 @@ pub returns-clause-laid_out : goal.returns-clause-laid_out
 returns-clause-laid_out c =
     let base = shape_of c.args.base.now in
     let whole = typedefs_added base c.args.declarators.now (known_of c.args.self.now) in
-    let told = parts_end (typedefs_added base) (typedef_added base) (typedefs_over base) c.args.declarators.now c.loop-declarator.declarator-index whole (known_of c.loop-declarator.self) c.loop-declarator-test.false c.loop-declarator.invariant in
-    λ sound. typedefs_laid (known_of c.args.self.now) (known_of c.loop-declarator.self) base c.args.declarators.now told sound
+    let reported = parts_end (typedefs_added base) (typedef_added base) (typedefs_over base) c.args.declarators.now c.loop-declarator.declarator-index whole (known_of c.loop-declarator.self) c.loop-declarator-test.false c.loop-declarator.invariant in
+    λ sound. typedefs_laid (known_of c.args.self.now) (known_of c.loop-declarator.self) base c.args.declarators.now reported sound

@@ -58,8 +58,8 @@ each_statement-loop-s-preserved t c =
 
 pub switch-returns-clause-points : goal.switch-returns-clause-points
 switch-returns-clause-points t c =
-    let to = in_switch (targets_of c.args.to) (next_of c.args.behind) in
+    let to = in_switch (targets_of c.args.to) (next_of c.args.following) in
     let list = statement_list c.args.list.now in
-    let begun : map next_of c.in_ok-starts.starts.items ≡ all_starts to list (next_of c.args.behind) = rw c.in_switch.ensures at c.in_ok-starts.ensures.starts in
-    let ways : map way_of c.in_ok-ways.ways.items ≡ ways_of_cases (all_starts to list (next_of c.args.behind)) (next_of c.args.behind) c.args.cases.now 0 = rw begun at c.in_ok-ways.ensures in
-    rw (c.in_ok-put.ensures, ways, ways_of_cases-are to list (next_of c.args.behind) c.args.cases.now, c.in_ok-first.ensures.points, c.meets.ensures, c.in_ok-starts.ensures.points, c.in_switch.ensures) (simp append_assoc)
+    let begun : map next_of c.in_ok-starts.starts.items ≡ all_starts to list (next_of c.args.following) = rw c.in_switch.ensures at c.in_ok-starts.ensures.starts in
+    let ways : map way_of c.in_ok-ways.ways.items ≡ ways_of_cases (all_starts to list (next_of c.args.following)) (next_of c.args.following) c.args.cases.now 0 = rw begun at c.in_ok-ways.ensures in
+    rw (c.in_ok-put.ensures, ways, ways_of_cases-are to list (next_of c.args.following) c.args.cases.now, c.in_ok-first.ensures.points, c.meets.ensures, c.in_ok-starts.ensures.points, c.in_switch.ensures) (simp append_assoc)

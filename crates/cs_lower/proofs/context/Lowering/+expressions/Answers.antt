@@ -13,7 +13,7 @@ use Rattle.cs_lower.proofs.Forms.{if_made}
 use Rattle.cs_lower.proofs.context.Lowering.+expressions.Goals as goal
 
 pub lower_used-returns : goal.lower_used-returns
-lower_used-returns t c = uses c.in_ok-behind.ensures c.in_ok-made.ensures
+lower_used-returns t c = uses c.in_ok-following.ensures c.in_ok-made.ensures
 
 pub lower_way-returns : goal.lower_way-returns
 lower_way-returns t c = uses_in c.in_ok-made.ensures c.in_ok-block.ensures
@@ -37,136 +37,136 @@ lower_choice-returns t c =
 pub lower_expression-returns-in-Member : goal.lower_expression-returns-in-Member
 lower_expression-returns-in-Member t c =
     let is : form c.args.e.now.kind ≡ Member (typed c.deref-in-Member.result.now) c.in-Member.field-1 = search rules in
-    if_made c.lower_used-in-Member.result (λ made h. forms.part is (λ flow it. it) (λ args. args) (λ behind. refl) c.in_ok-behind.ensures h) c.lower_used-in-Member.ensures
+    if_made c.lower_used-in-Member.result (λ made h. forms.part is (λ flow it. it) (λ args. args) (λ following. refl) c.in_ok-following.ensures h) c.lower_used-in-Member.ensures
 
 pub lower_expression-returns-in-Arrow : goal.lower_expression-returns-in-Arrow
 lower_expression-returns-in-Arrow t c =
     let is : form c.args.e.now.kind ≡ Arrow (typed c.deref-in-Arrow.result.now) c.in-Arrow.field-1 = search rules in
-    if_made c.lower_used-in-Arrow.result (λ made h. forms.part is (λ flow it. it) (λ args. args) (λ behind. refl) c.in_ok-behind.ensures h) c.lower_used-in-Arrow.ensures
+    if_made c.lower_used-in-Arrow.result (λ made h. forms.part is (λ flow it. it) (λ args. args) (λ following. refl) c.in_ok-following.ensures h) c.lower_used-in-Arrow.ensures
 
 pub lower_expression-returns-in-Load : goal.lower_expression-returns-in-Load
 lower_expression-returns-in-Load t c =
     let is : form c.args.e.now.kind ≡ Load (typed c.deref-in-Load.result.now) = search rules in
-    if_made c.lower_used-in-Load.result (λ made h. forms.part is (λ flow it. it) (λ args. args) (λ behind. refl) c.in_ok-behind.ensures h) c.lower_used-in-Load.ensures
+    if_made c.lower_used-in-Load.result (λ made h. forms.part is (λ flow it. it) (λ args. args) (λ following. refl) c.in_ok-following.ensures h) c.lower_used-in-Load.ensures
 
 pub lower_expression-returns-in-Unary : goal.lower_expression-returns-in-Unary
 lower_expression-returns-in-Unary t c =
     let is : form c.args.e.now.kind ≡ Unary c.in-Unary.field-0 (typed c.deref-in-Unary.result.now) = search rules in
-    if_made c.lower_used-in-Unary.result (λ made h. forms.part is (λ flow it. it) (λ args. args) (λ behind. refl) c.in_ok-behind.ensures h) c.lower_used-in-Unary.ensures
+    if_made c.lower_used-in-Unary.result (λ made h. forms.part is (λ flow it. it) (λ args. args) (λ following. refl) c.in_ok-following.ensures h) c.lower_used-in-Unary.ensures
 
 pub lower_expression-returns-in-Not : goal.lower_expression-returns-in-Not
 lower_expression-returns-in-Not t c =
     let is : form c.args.e.now.kind ≡ Not (typed c.deref-in-Not.result.now) = search rules in
-    if_made c.lower_used-in-Not.result (λ made h. forms.part is (λ flow it. it) (λ args. args) (λ behind. refl) c.in_ok-behind.ensures h) c.lower_used-in-Not.ensures
+    if_made c.lower_used-in-Not.result (λ made h. forms.part is (λ flow it. it) (λ args. args) (λ following. refl) c.in_ok-following.ensures h) c.lower_used-in-Not.ensures
 
 pub lower_expression-returns-in-Free : goal.lower_expression-returns-in-Free
 lower_expression-returns-in-Free t c =
     let is : form c.args.e.now.kind ≡ Free (typed c.deref-in-Free.result.now) = search rules in
-    if_made c.lower_used-in-Free.result (λ made h. forms.part is (λ flow it. it) (λ args. args) (λ behind. refl) c.in_ok-behind.ensures h) c.lower_used-in-Free.ensures
+    if_made c.lower_used-in-Free.result (λ made h. forms.part is (λ flow it. it) (λ args. args) (λ following. refl) c.in_ok-following.ensures h) c.lower_used-in-Free.ensures
 
 pub lower_expression-returns-in-Binary : goal.lower_expression-returns-in-Binary
 lower_expression-returns-in-Binary t c =
     let is : form c.args.e.now.kind ≡ Binary c.in-Binary.field-0 (typed c.deref-in-Binary.result.now) (typed c.deref-in-Binary-2.result.now) = search rules in
-    if_made c.lower_pair-in-Binary.result (λ made h. forms.pair is (λ flow r one other. (r, one, other)) (λ args. (args.0, args.1)) (λ behind. refl) c.in_ok-behind.ensures h) c.lower_pair-in-Binary.ensures
+    if_made c.lower_pair-in-Binary.result (λ made h. forms.pair is (λ flow r one other. (r, one, other)) (λ args. (args.0, args.1)) (λ following. refl) c.in_ok-following.ensures h) c.lower_pair-in-Binary.ensures
 
 pub lower_expression-returns-in-Compare : goal.lower_expression-returns-in-Compare
 lower_expression-returns-in-Compare t c =
     let is : form c.args.e.now.kind ≡ Compare c.in-Compare.field-0 (typed c.deref-in-Compare.result.now) (typed c.deref-in-Compare-2.result.now) = search rules in
-    if_made c.lower_pair-in-Compare.result (λ made h. forms.pair is (λ flow r one other. (r, one, other)) (λ args. (args.0, args.1)) (λ behind. refl) c.in_ok-behind.ensures h) c.lower_pair-in-Compare.ensures
+    if_made c.lower_pair-in-Compare.result (λ made h. forms.pair is (λ flow r one other. (r, one, other)) (λ args. (args.0, args.1)) (λ following. refl) c.in_ok-following.ensures h) c.lower_pair-in-Compare.ensures
 
 pub lower_expression-returns-in-Difference : goal.lower_expression-returns-in-Difference
 lower_expression-returns-in-Difference t c =
     let is : form c.args.e.now.kind ≡ Difference (typed c.deref-in-Difference.result.now) (typed c.deref-in-Difference-2.result.now) = search rules in
-    if_made c.lower_pair-in-Difference.result (λ made h. forms.pair is (λ flow r one other. (r, one, other)) (λ args. (args.0, args.1)) (λ behind. refl) c.in_ok-behind.ensures h) c.lower_pair-in-Difference.ensures
+    if_made c.lower_pair-in-Difference.result (λ made h. forms.pair is (λ flow r one other. (r, one, other)) (λ args. (args.0, args.1)) (λ following. refl) c.in_ok-following.ensures h) c.lower_pair-in-Difference.ensures
 
 pub lower_expression-returns-in-Assign : goal.lower_expression-returns-in-Assign
 lower_expression-returns-in-Assign t c =
     let is : form c.args.e.now.kind ≡ Assign (typed c.deref-in-Assign.result.now) (typed c.deref-in-Assign-2.result.now) = search rules in
-    if_made c.lower_pair-in-Assign.result (λ made h. forms.pair is (λ flow r one other. (r, one, other)) (λ args. (args.0, args.1)) (λ behind. refl) c.in_ok-behind.ensures h) c.lower_pair-in-Assign.ensures
+    if_made c.lower_pair-in-Assign.result (λ made h. forms.pair is (λ flow r one other. (r, one, other)) (λ args. (args.0, args.1)) (λ following. refl) c.in_ok-following.ensures h) c.lower_pair-in-Assign.ensures
 
 pub lower_expression-returns-in-Number : goal.lower_expression-returns-in-Number
 lower_expression-returns-in-Number t c =
     elim c.in-Number.is [
-      | inl h ↦ forms.alone (ap form h.1) (λ flow. refl) (λ behind. refl) c.in_ok-behind.ensures
+      | inl h ↦ forms.alone (ap form h.1) (λ flow. refl) (λ following. refl) c.in_ok-following.ensures
       | inr rest ↦ elim rest [
-        | inl h ↦ forms.alone (ap form h) (λ flow. refl) (λ behind. refl) c.in_ok-behind.ensures
-        | inr h ↦ forms.alone (ap form h.1) (λ flow. refl) (λ behind. refl) c.in_ok-behind.ensures
+        | inl h ↦ forms.alone (ap form h) (λ flow. refl) (λ following. refl) c.in_ok-following.ensures
+        | inr h ↦ forms.alone (ap form h.1) (λ flow. refl) (λ following. refl) c.in_ok-following.ensures
       ]
     ]
 
 pub lower_expression-returns-in-Local : goal.lower_expression-returns-in-Local
 lower_expression-returns-in-Local t c =
     elim c.in-Local.is [
-      | inl h ↦ forms.alone (ap form h.1) (λ flow. refl) (λ behind. refl) c.in_ok-behind.ensures
-      | inr h ↦ forms.alone (ap form h.1) (λ flow. refl) (λ behind. refl) c.in_ok-behind.ensures
+      | inl h ↦ forms.alone (ap form h.1) (λ flow. refl) (λ following. refl) c.in_ok-following.ensures
+      | inr h ↦ forms.alone (ap form h.1) (λ flow. refl) (λ following. refl) c.in_ok-following.ensures
     ]
 
 pub lower_expression-returns-in-Void : goal.lower_expression-returns-in-Void
 lower_expression-returns-in-Void t c =
     let is : form c.args.e.now.kind ≡ Convert (typed c.deref-in-Void.result.now) = search rules in
-    if_made c.lower_expression.result (λ made h. forms.convert_away is (ap shape_of c.in-Void.is) c.in_ok-behind.ensures h) c.lower_expression.ensures
+    if_made c.lower_expression.result (λ made h. forms.convert_away is (ap shape_of c.in-Void.is) c.in_ok-following.ensures h) c.lower_expression.ensures
 
 pub lower_expression-returns-in_default : goal.lower_expression-returns-in_default
 lower_expression-returns-in_default t c =
     let is : form c.args.e.now.kind ≡ Convert (typed c.deref-in_default.result.now) = search rules in
-    if_made c.lower_used-in_default.result (λ made h. forms.convert c.args.e.now.ty c.in_default.not-Void is c.in_ok-behind.ensures h) c.lower_used-in_default.ensures
+    if_made c.lower_used-in_default.result (λ made h. forms.convert c.args.e.now.ty c.in_default.not-Void is c.in_ok-following.ensures h) c.lower_used-in_default.ensures
 
 pub lower_expression-returns-in-PointerFirst : goal.lower_expression-returns-in-PointerFirst
 lower_expression-returns-in-PointerFirst t c =
     let is : form c.args.e.now.kind ≡ Index (typed c.deref-in-PointerFirst.result.now) (typed c.deref-in-PointerFirst-2.result.now) PointerFirst = search rules in
-    if_made c.lower_pair.result (λ made h. forms.pair is (λ flow r one other. (r, one, other)) (λ args. (args.0, args.1)) (λ behind. refl) c.in_ok-behind.ensures h) c.lower_pair.ensures
+    if_made c.lower_pair.result (λ made h. forms.pair is (λ flow r one other. (r, one, other)) (λ args. (args.0, args.1)) (λ following. refl) c.in_ok-following.ensures h) c.lower_pair.ensures
 
 pub lower_expression-returns-in-AmountFirst : goal.lower_expression-returns-in-AmountFirst
 lower_expression-returns-in-AmountFirst t c =
     let is : form c.args.e.now.kind ≡ Index (typed c.deref-in-AmountFirst-2.result.now) (typed c.deref-in-AmountFirst.result.now) AmountFirst = search rules in
-    if_made c.lower_pair-in-AmountFirst.result (λ made h. forms.pair is (λ flow r one other. (r, one, other)) (λ args. (args.1, args.0)) (λ behind. refl) c.in_ok-behind.ensures h) c.lower_pair-in-AmountFirst.ensures
+    if_made c.lower_pair-in-AmountFirst.result (λ made h. forms.pair is (λ flow r one other. (r, one, other)) (λ args. (args.1, args.0)) (λ following. refl) c.in_ok-following.ensures h) c.lower_pair-in-AmountFirst.ensures
 
 pub lower_expression-returns-in-PointerFirst-order : goal.lower_expression-returns-in-PointerFirst-order
 lower_expression-returns-in-PointerFirst-order t c =
     let is : form c.args.e.now.kind ≡ Sum (typed c.deref-in-PointerFirst-order.result.now) (typed c.deref-in-PointerFirst-order-2.result.now) c.in-Sum.field-2 PointerFirst = search rules in
-    if_made c.lower_pair-in-PointerFirst-order.result (λ made h. forms.pair is (λ flow r one other. (r, one, other)) (λ args. (args.0, args.1)) (λ behind. refl) c.in_ok-behind.ensures h) c.lower_pair-in-PointerFirst-order.ensures
+    if_made c.lower_pair-in-PointerFirst-order.result (λ made h. forms.pair is (λ flow r one other. (r, one, other)) (λ args. (args.0, args.1)) (λ following. refl) c.in_ok-following.ensures h) c.lower_pair-in-PointerFirst-order.ensures
 
 pub lower_expression-returns-in-AmountFirst-order : goal.lower_expression-returns-in-AmountFirst-order
 lower_expression-returns-in-AmountFirst-order t c =
     let is : form c.args.e.now.kind ≡ Sum (typed c.deref-in-AmountFirst-order-2.result.now) (typed c.deref-in-AmountFirst-order.result.now) c.in-Sum.field-2 AmountFirst = search rules in
-    if_made c.lower_pair-in-AmountFirst-order.result (λ made h. forms.pair is (λ flow r one other. (r, one, other)) (λ args. (args.1, args.0)) (λ behind. refl) c.in_ok-behind.ensures h) c.lower_pair-in-AmountFirst-order.ensures
+    if_made c.lower_pair-in-AmountFirst-order.result (λ made h. forms.pair is (λ flow r one other. (r, one, other)) (λ args. (args.1, args.0)) (λ following. refl) c.in_ok-following.ensures h) c.lower_pair-in-AmountFirst-order.ensures
 
 pub lower_expression-returns-in-And : goal.lower_expression-returns-in-And
 lower_expression-returns-in-And t c =
     let is : form c.args.e.now.kind ≡ And (typed c.deref-in-And.result.now) (typed c.deref-in-And-2.result.now) = search rules in
-    if_made c.lower_and.result (λ made h. forms.and is c.in_ok-behind.ensures h) c.lower_and.ensures
+    if_made c.lower_and.result (λ made h. forms.and is c.in_ok-following.ensures h) c.lower_and.ensures
 
 pub lower_expression-returns-in-Or : goal.lower_expression-returns-in-Or
 lower_expression-returns-in-Or t c =
     let is : form c.args.e.now.kind ≡ Or (typed c.deref-in-Or.result.now) (typed c.deref-in-Or-2.result.now) = search rules in
-    if_made c.lower_or.result (λ made h. forms.or is c.in_ok-behind.ensures h) c.lower_or.ensures
+    if_made c.lower_or.result (λ made h. forms.or is c.in_ok-following.ensures h) c.lower_or.ensures
 
 pub lower_expression-returns-in-Choice : goal.lower_expression-returns-in-Choice
 lower_expression-returns-in-Choice t c =
     let is : form c.args.e.now.kind ≡ Choice (typed c.deref-in-Choice.result.now) (typed c.deref-in-Choice-2.result.now) (typed c.deref-in-Choice-3.result.now) = search rules in
-    if_made c.lower_choice.result (λ made h. forms.choice is c.in_ok-behind.ensures h) c.lower_choice.ensures
+    if_made c.lower_choice.result (λ made h. forms.choice is c.in_ok-following.ensures h) c.lower_choice.ensures
 
 pub lower_expression-returns-in-Comma : goal.lower_expression-returns-in-Comma
 lower_expression-returns-in-Comma t c =
     let is : form c.args.e.now.kind ≡ Comma (typed c.deref-in-Comma.result.now) (typed c.deref-in-Comma-2.result.now) = search rules in
-    if_made c.lower_comma.result (λ made h. forms.comma is c.in_ok-behind.ensures h) c.lower_comma.ensures
+    if_made c.lower_comma.result (λ made h. forms.comma is c.in_ok-following.ensures h) c.lower_comma.ensures
 
 pub lower_expression-returns-in_ok-fetched-in-Update : goal.lower_expression-returns-in_ok-fetched-in-Update
 lower_expression-returns-in_ok-fetched-in-Update t c =
     let is : form c.args.e.now.kind ≡ Update c.in-Update.field-0 (typed c.deref-in-Update-2.result.now) (typed c.deref-in-Update.result.now) c.in-Update.field-3 c.in-Update.field-4 = search rules in
-    if_made c.lower_used-in-Update-2.result (λ made h. forms.update is c.in_ok-behind.ensures c.in_ok-above-in-Update.ensures c.in_ok-made-in-Update.ensures c.in_ok-fetched-in-Update.ensures h) c.lower_used-in-Update-2.ensures
+    if_made c.lower_used-in-Update-2.result (λ made h. forms.update is c.in_ok-following.ensures c.in_ok-above-in-Update.ensures c.in_ok-made-in-Update.ensures c.in_ok-fetched-in-Update.ensures h) c.lower_used-in-Update-2.ensures
 
 pub lower_expression-returns-in_ok-fetched-in-Move : goal.lower_expression-returns-in_ok-fetched-in-Move
 lower_expression-returns-in_ok-fetched-in-Move t c =
     let is : form c.args.e.now.kind ≡ Move (typed c.deref-in-Move-2.result.now) (typed c.deref-in-Move.result.now) c.in-Move.field-2 c.in-Move.field-3 = search rules in
-    if_made c.lower_used-in-Move-2.result (λ made h. forms.move is c.in_ok-behind.ensures c.in_ok-above-in-Move.ensures c.in_ok-made-in-Move.ensures c.in_ok-fetched-in-Move.ensures h) c.lower_used-in-Move-2.ensures
+    if_made c.lower_used-in-Move-2.result (λ made h. forms.move is c.in_ok-following.ensures c.in_ok-above-in-Move.ensures c.in_ok-made-in-Move.ensures c.in_ok-fetched-in-Move.ensures h) c.lower_used-in-Move-2.ensures
 
 pub lower_expression-returns-in-Call : goal.lower_expression-returns-in-Call
 lower_expression-returns-in-Call t c =
     let f = c.in-Call.field-0 in
     let is : form c.args.e.now.kind ≡ Call f (typed_list c.deref-in-Call.result.now) =
     ap form c.in-Call.is ∙ (form-Call f c.in-Call.arguments ∙ ap (λ l. Call f (typed_list l)) (sym c.deref-in-Call.ensures.value)) in
-    if_made c.lower_row.result (λ made h. forms.call is c.in_ok-behind.ensures h) c.lower_row.ensures
+    if_made c.lower_row.result (λ made h. forms.call is c.in_ok-following.ensures h) c.lower_row.ensures
 
 pub lower_expression-returns-in-Allocate : goal.lower_expression-returns-in-Allocate
 lower_expression-returns-in-Allocate t c =
@@ -174,7 +174,7 @@ lower_expression-returns-in-Allocate t c =
     let ty = c.in-Allocate.field-2 in
     let is : form c.args.e.now.kind ≡ Allocate a (typed_list c.deref-in-Allocate.result.now) (shape_of ty) =
     ap form c.in-Allocate.is ∙ (form-Allocate a c.in-Allocate.arguments ty ∙ ap (λ l. Allocate a (typed_list l) (shape_of ty)) (sym c.deref-in-Allocate.ensures.value)) in
-    if_made c.lower_row-in-Allocate.result (λ made h. forms.allocate is c.in_ok-behind.ensures h) c.lower_row-in-Allocate.ensures
+    if_made c.lower_row-in-Allocate.result (λ made h. forms.allocate is c.in_ok-following.ensures h) c.lower_row-in-Allocate.ensures
 
 pub lower_row-loop-left-preserved : goal.lower_row-loop-left-preserved
 lower_row-loop-left-preserved t c = record {
@@ -185,6 +185,6 @@ lower_row-loop-left-preserved t c = record {
 pub lower_row-returns : goal.lower_row-returns
 lower_row-returns t c =
     let none : c.loop-left.left ≡ 0 = omega arith in
-    let P : ℕ → ℕ → Type 0 = λ left number. UsesAll (typed_program c.args.self.now.program.now) (typed_list (drop left c.args.row.now)) number (built_of c.args.graph.now) (built_of c.loop-left.graph) (point_of c.loop-left.made) (point_of c.args.behind) in
+    let P : ℕ → ℕ → Type 0 = λ left number. UsesAll (typed_program c.args.self.now.program.now) (typed_list (drop left c.args.row.now)) number (built_of c.args.graph.now) (built_of c.loop-left.graph) (point_of c.loop-left.made) (point_of c.args.following) in
     let at : c.loop-left.left + c.args.number ≡ c.args.number = omega arith in
     subst (λ (k : ℕ). P k c.args.number) none (subst (λ (n : ℕ). P c.loop-left.left n) at c.loop-left.invariant.made)

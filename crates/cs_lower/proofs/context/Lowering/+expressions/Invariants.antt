@@ -1,4 +1,4 @@
--- The measures of the lowering of expressions: how deep the expression is, and behind it which function has it.
+-- The measures of the lowering of expressions: how deep the expression is, and after it which function has it.
 use Rattle.std.proofs.Common.{◌+◌, ◌*◌, ◌≤◌, length, max, drop}
 use Rattle.cs_ast.specs.TypedProgram.{typed_program}
 use Rattle.cs_ast.specs.TypedView.{typed_list}
@@ -37,7 +37,7 @@ decreases-lower_comma l = 4 * max (goal.size-lower_comma l) (goal.size-lower_com
 abbrev pub invariant-lower_row-loop-left : goal.invariant-lower_row-loop-left
 invariant-lower_row-loop-left l = record {
   within : l.left ≤ length l.row;
-  made : UsesAll (typed_program l.self.program.now) (typed_list (drop l.left l.row)) (l.left + l.number) (built_of l.initial.graph) (built_of l.graph) (point_of l.made) (point_of l.fn.behind);
+  made : UsesAll (typed_program l.self.program.now) (typed_list (drop l.left l.row)) (l.left + l.number) (built_of l.initial.graph) (built_of l.graph) (point_of l.made) (point_of l.fn.following);
 }
 
 abbrev pub decreases-lower_row-loop-left : goal.decreases-lower_row-loop-left

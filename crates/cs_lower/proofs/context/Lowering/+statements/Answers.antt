@@ -13,7 +13,7 @@ use Rattle.cs_lower.proofs.Executing.{as_statement, executes_none, executes_furt
 use Rattle.cs_lower.proofs.ForLoops.{for_turned, for_made}
 use Rattle.cs_lower.proofs.Forms.{if_made}
 use Rattle.cs_lower.proofs.Leaving as leave
-use Rattle.cs_interpreter.proofs.StatementForms.{block_is, for_is, switch_is}
+use Rattle.cs_run_state.proofs.StatementForms.{block_is, for_is, switch_is}
 use Rattle.cs_lower.proofs.Switching.{enters_none, enters_further, switch_made, dropped}
 use Rattle.cs_lower.proofs.TurningLoops.{while_made, do_made}
 use Rattle.cs_lower.proofs.context.Lowering.+statements.Goals as goal
@@ -30,10 +30,10 @@ lower_statement-returns-in-Declare t c =
     ap (statement_at c.args.s.now.place) c.in-Declare.is ∙ ap (λ o. Declare c.args.s.now.place d (option_map initial o)) (sym c.as_ref.ensures.value) in
     if_made c.lower_declaration.result (λ strip h. as_statement is (made.declare h)) c.lower_declaration.ensures
 
-pub lower_statement-returns-in_ok-behind-in-Run : goal.lower_statement-returns-in_ok-behind-in-Run
-lower_statement-returns-in_ok-behind-in-Run t c =
+pub lower_statement-returns-in_ok-following-in-Run : goal.lower_statement-returns-in_ok-following-in-Run
+lower_statement-returns-in_ok-following-in-Run t c =
     let is : statement c.args.s.now ≡ Run c.args.s.now.place (typed c.in-Run.e) = ap (statement_at c.args.s.now.place) c.in-Run.is in
-    if_made c.lower_expression.result (λ strip h. as_statement is (made.run c.in_ok-behind-in-Run.ensures h)) c.lower_expression.ensures
+    if_made c.lower_expression.result (λ strip h. as_statement is (made.run c.in_ok-following-in-Run.ensures h)) c.lower_expression.ensures
 
 pub lower_statement-returns-in_ok-one-in-If : goal.lower_statement-returns-in_ok-one-in-If
 lower_statement-returns-in_ok-one-in-If t c =
@@ -117,7 +117,7 @@ lower_all-loop-left-preserved t c = record {
 pub lower_all-returns : goal.lower_all-returns
 lower_all-returns t c =
     let none : c.loop-left.left ≡ 0 = omega arith in
-    subst (λ (k : ℕ). ExecutesAll (typed_program c.args.self.now.program.now) (routine c.args.self.now.function.now) (statement_list (drop k c.args.statements.now)) c.args.exits.out c.args.exits.again (built_of c.args.graph.now) (built_of c.loop-left.graph) (point_of c.loop-left.made) (point_of c.args.behind)) none c.loop-left.invariant.made
+    subst (λ (k : ℕ). ExecutesAll (typed_program c.args.self.now.program.now) (routine c.args.self.now.function.now) (statement_list (drop k c.args.statements.now)) c.args.exits.out c.args.exits.again (built_of c.args.graph.now) (built_of c.loop-left.graph) (point_of c.loop-left.made) (point_of c.args.following)) none c.loop-left.invariant.made
 
 pub lower_entries-loop-left-preserved : goal.lower_entries-loop-left-preserved
 lower_entries-loop-left-preserved t c =
@@ -173,8 +173,8 @@ lower_for-returns t c = λ out.
 pub lower_all-loop-left-init : goal.lower_all-loop-left-init
 lower_all-loop-left-init t c = record {
   within = omega arith;
-  made = subst (λ l. ExecutesAll (typed_program c.args.self.now.program.now) (routine c.args.self.now.function.now) (statement_list l) c.args.exits.out c.args.exits.again (built_of c.args.graph.now) (built_of c.args.graph.now) (point_of c.args.behind) (point_of c.args.behind))
-      (sym (dropped c.args.statements.now (length c.args.statements.now) (omega arith))) (executes_none c.args.exits.out c.args.exits.again (built_of c.args.graph.now) (point_of c.args.behind));
+  made = subst (λ l. ExecutesAll (typed_program c.args.self.now.program.now) (routine c.args.self.now.function.now) (statement_list l) c.args.exits.out c.args.exits.again (built_of c.args.graph.now) (built_of c.args.graph.now) (point_of c.args.following) (point_of c.args.following))
+      (sym (dropped c.args.statements.now (length c.args.statements.now) (omega arith))) (executes_none c.args.exits.out c.args.exits.again (built_of c.args.graph.now) (point_of c.args.following));
 }
 
 pub lower_entries-loop-left-init : goal.lower_entries-loop-left-init

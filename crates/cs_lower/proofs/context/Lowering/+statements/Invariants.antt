@@ -10,7 +10,7 @@ use Rattle.cs_lower.proofs.context.Lowering.+statements.Given as goal
 abbrev pub invariant-lower_all-loop-left : goal.invariant-lower_all-loop-left
 invariant-lower_all-loop-left l = record {
   within : l.left ≤ length l.statements;
-  made : ExecutesAll (typed_program l.self.program.now) (routine l.self.function.now) (statement_list (drop l.left l.statements)) l.exits.out l.exits.again (built_of l.initial.graph) (built_of l.graph) (point_of l.made) (point_of l.fn.behind);
+  made : ExecutesAll (typed_program l.self.program.now) (routine l.self.function.now) (statement_list (drop l.left l.statements)) l.exits.out l.exits.again (built_of l.initial.graph) (built_of l.graph) (point_of l.made) (point_of l.fn.following);
 }
 
 abbrev pub decreases-lower_all-loop-left : goal.decreases-lower_all-loop-left
@@ -26,7 +26,7 @@ invariant-lower_entries-loop-left l = record {
 abbrev pub decreases-lower_entries-loop-left : goal.decreases-lower_entries-loop-left
 decreases-lower_entries-loop-left l = l.left
 
--- The measures: how deep the statements are, and behind that which function has them.
+-- The measures: how deep the statements are, and after that which function has them.
 abbrev pub decreases-lower_statement : goal.decreases-lower_statement
 decreases-lower_statement l = 4 * size-Stmt l.s.now
 

@@ -1,6 +1,6 @@
 use Rattle.std.proofs.Common.{◌≡◌, ℕ, drop, map, subst, arith}
 use Rattle.cs_ast.specs.TypedProgram.{typed_program, routine}
-use Rattle.cs_interpreter.specs.MemoryView.{piece_of}
+use Rattle.cs_run_state.specs.MemoryView.{piece_of}
 use Rattle.cs_lower.specs.Building.{built_of, point_of}
 use Rattle.cs_lower.specs.Statements.{StoresPieces}
 use Rattle.cs_lower.proofs.Declaring.{stored_further}
@@ -15,4 +15,4 @@ loop-left-preserved c = record {
 pub returns : goal.returns
 returns c =
     let none : c.loop-left.left ≡ 0 = omega arith in
-    subst (λ (k : ℕ). StoresPieces (typed_program c.args.self.now.program.now) (routine c.args.self.now.function.now) c.args.place c.args.declaration (map piece_of (drop k c.args.pieces.now)) (built_of c.args.graph.now) (built_of c.loop-left.graph) (point_of c.loop-left.made) (point_of c.args.behind)) none c.loop-left.invariant.made
+    subst (λ (k : ℕ). StoresPieces (typed_program c.args.self.now.program.now) (routine c.args.self.now.function.now) c.args.place c.args.declaration (map piece_of (drop k c.args.pieces.now)) (built_of c.args.graph.now) (built_of c.loop-left.graph) (point_of c.loop-left.made) (point_of c.args.following)) none c.loop-left.invariant.made

@@ -5,7 +5,7 @@ use Rattle.std.proofs.lemmas.Int.{ints, to_z-of_z}
 use Rattle.cs_ranges.specs.declared.range_set.Interval.{Interval}
 use Rattle.cs_ranges.specs.Interval.{in_interval}
 use Rattle.cs_ranges.specs.RangeSet.{IsEmpty, IsSpread, IsOnly, HasTwo}
-use Rattle.cs_ranges.proofs.Members.{contains-nil, contains-cons, contains-single, in_interval_tells, in_interval-low, in_interval-high}
+use Rattle.cs_ranges.proofs.Members.{contains-nil, contains-cons, contains-single, in_interval_yields, in_interval-low, in_interval-high}
 use Rattle.cs_ranges.proofs.Spread.{IsSpreadFrom-at}
 use Rattle.cs_ranges.proofs.range_set.RangeSet.is_single.Goals as goal
 
@@ -17,7 +17,7 @@ IsOnly-single (i ∷ []) d len e h = record {
   member = contains-single i i.low ∙ in_interval-low i h.1;
   alone = λ y t.
       let in_i : in_interval i y ≡ true = sym (contains-single i y) ∙ t in
-      grind (arith, ints, in_interval_tells i y);
+      grind (arith, ints, in_interval_yields i y);
 }
 
 -- every other list of intervals has no number or two

@@ -39,7 +39,7 @@ loop-interval-preserved c =
           let better = w.nearer.ensures in
           rw (w.least-is, more, to_z-of_z w128 w.nearer.result nearer_fits)
           (IsLeastAbs-push _ _ _ _ _ (rw w.in-Some.is at c.loop-interval.invariant) near.ensures.member near.ensures.nearest
-          (rw (near_is, found_is) at better.one) (rw found_is at better.not_behind_a) (rw near_is at better.not_behind_b))
+          (rw (near_is, found_is) at better.one) (rw found_is at better.not_after_a) (rw near_is at better.not_after_b))
     ]
 
 pub returns : goal.returns

@@ -1,5 +1,5 @@
 use Rattle.std.proofs.lemmas.List.{nil_from_length}
-use Rattle.cs_ranges.proofs.Negatives.{Mirrors-start, Mirrors-more, Mirrors-end, Mirrors-behind}
+use Rattle.cs_ranges.proofs.Negatives.{Mirrors-start, Mirrors-more, Mirrors-end, Mirrors-following}
 use Rattle.cs_ranges.proofs.Spread.{IsProper-last}
 use Rattle.cs_ranges.proofs.range_set.RangeSet.negated.Goals as goal
 
@@ -10,9 +10,9 @@ loop-last-init c =
 pub negated-requires : goal.negated-requires
 negated-requires c = IsProper-last _ _ (rw c.in-Some.ensures.cases.0 at c.loop-last.invariant).spread
 
-pub push-requires-clause-behind : goal.push-requires-clause-behind
-push-requires-clause-behind c =
-    rw c.negated.ensures.low (Mirrors-behind _ _ _ _ (rw c.in-Some.ensures.cases.0 at c.loop-last.invariant))
+pub push-requires-clause-following : goal.push-requires-clause-following
+push-requires-clause-following c =
+    rw c.negated.ensures.low (Mirrors-following _ _ _ _ (rw c.in-Some.ensures.cases.0 at c.loop-last.invariant))
 
 pub loop-last-preserved : goal.loop-last-preserved
 loop-last-preserved c =

@@ -6,7 +6,7 @@ use Rattle.cs_ranges.specs.declared.range_set.Interval.{Interval}
 use Rattle.cs_ranges.specs.Interval.{in_interval}
 use Rattle.cs_ranges.specs.RangeSet.{contains, IsSpread, last_low}
 use Rattle.cs_ranges.proofs.LastItem.{front_last, front_new}
-use Rattle.cs_ranges.proofs.Members.{contains-push, in_interval_tells}
+use Rattle.cs_ranges.proofs.Members.{contains-push, in_interval_yields}
 use Rattle.cs_ranges.proofs.Spread.{IsSpreadFrom-last, IsSpreadFrom-replace_last, IsSpreadFrom-push, last_low_or-push}
 use Rattle.cs_ranges.proofs.range_set.RangeSet.push.Goals.{then-len-gt0+else-interval-last, else-len-gt0}
 use Rattle.cs_ranges.proofs.range_set.RangeSet.push.Goals as goal
@@ -15,7 +15,7 @@ use Rattle.cs_ranges.proofs.range_set.RangeSet.push.Goals as goal
 hull : (b : Bool) (last i j : Interval) (x : ℤ) → last.low ≤ℤ i.low → last.low ≤ℤ last.high → i.low ≤ℤ (last.high +ℤ pos 1) → j.low ≡ last.low → j.high ≡ int_max last.high i.high → (b || in_interval j x) ≡ ((b || in_interval last x) || in_interval i x)
 hull true last i j x p q r e f = refl
 hull false last i j x p q r e f =
-    grind (arith, ints, clamps, in_interval_tells last x, in_interval_tells i x, in_interval_tells j x)
+    grind (arith, ints, clamps, in_interval_yields last x, in_interval_yields i x, in_interval_yields j x)
 
 -- a push that may fail leaves the intervals spread
 pushed : (b : Bool) (new old : List Interval) (i : Interval) → new ≡ cond b (old ++ i ∷ []) old → IsSpread old → IsSpread (old ++ i ∷ []) → IsSpread new

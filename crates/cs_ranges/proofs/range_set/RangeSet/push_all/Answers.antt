@@ -6,17 +6,17 @@ use Rattle.cs_ranges.proofs.range_set.RangeSet.push_all.Goals as goal
 
 pub loop-interval-init : goal.loop-interval-init
 loop-interval-init c =
-    (record { spread = c.requires.spread; behind = c.requires.behind; members = λ x. refl }, λ _. refl)
+    (record { spread = c.requires.spread; following = c.requires.following; members = λ x. refl }, λ _. refl)
 
 pub push-requires-clause-proper : goal.push-requires-clause-proper
 push-requires-clause-proper c =
     let split = drop_more c.args.intervals.now c.loop-interval.interval-index (record { low = pos 0; high = pos 0 }) c.loop-interval-test.true in
     IsProper-first _ _ (rw split at c.loop-interval.invariant.0).spread
 
-pub push-requires-clause-behind : goal.push-requires-clause-behind
-push-requires-clause-behind c =
+pub push-requires-clause-following : goal.push-requires-clause-following
+push-requires-clause-following c =
     let split = drop_more c.args.intervals.now c.loop-interval.interval-index (record { low = pos 0; high = pos 0 }) c.loop-interval-test.true in
-    (rw split at c.loop-interval.invariant.0).behind.0
+    (rw split at c.loop-interval.invariant.0).following.0
 
 pub loop-interval-preserved : goal.loop-interval-preserved
 loop-interval-preserved c =

@@ -1,7 +1,7 @@
 use Rattle.std.proofs.Common.{inl, inr, arith}
 use Rattle.std.proofs.lemmas.Int.{ints}
 use Rattle.std.proofs.lemmas.List.{nil_from_length}
-use Rattle.cs_ranges.proofs.Joining.{Joins-start, Joins-left, Joins-right, Joins-end, Joins-behind}
+use Rattle.cs_ranges.proofs.Joining.{Joins-start, Joins-left, Joins-right, Joins-end, Joins-following}
 use Rattle.cs_ranges.proofs.Spread.{IsProper-first}
 use Rattle.cs_ranges.proofs.range_set.RangeSet.union.Goals.{in_default, in_default-2}
 use Rattle.cs_ranges.proofs.range_set.RangeSet.union.Goals as goal
@@ -15,17 +15,17 @@ pub push-requires-clause-proper : goal.push-requires-clause-proper
 push-requires-clause-proper c =
     IsProper-first _ _ (rw (c.in-Some-Some.ensures.cases.0, c.in-Some-Some.ensures'.cases.0) at c.loop-a.invariant).left_spread
 
-pub push-requires-clause-behind : goal.push-requires-clause-behind
-push-requires-clause-behind c =
-    (rw (c.in-Some-Some.ensures.cases.0, c.in-Some-Some.ensures'.cases.0) at c.loop-a.invariant).left_behind.0
+pub push-requires-clause-following : goal.push-requires-clause-following
+push-requires-clause-following c =
+    (rw (c.in-Some-Some.ensures.cases.0, c.in-Some-Some.ensures'.cases.0) at c.loop-a.invariant).left_following.0
 
 pub push-requires-else-a-b-clause-proper : goal.push-requires-else-a-b-clause-proper
 push-requires-else-a-b-clause-proper c =
     IsProper-first _ _ (rw (c.in-Some-Some.ensures.cases.0, c.in-Some-Some.ensures'.cases.0) at c.loop-a.invariant).right_spread
 
-pub push-requires-else-a-b-clause-behind : goal.push-requires-else-a-b-clause-behind
-push-requires-else-a-b-clause-behind c =
-    (rw (c.in-Some-Some.ensures.cases.0, c.in-Some-Some.ensures'.cases.0) at c.loop-a.invariant).right_behind.0
+pub push-requires-else-a-b-clause-following : goal.push-requires-else-a-b-clause-following
+push-requires-else-a-b-clause-following c =
+    (rw (c.in-Some-Some.ensures.cases.0, c.in-Some-Some.ensures'.cases.0) at c.loop-a.invariant).right_after.0
 
 pub loop-a-preserved-in_ok-push : goal.loop-a-preserved-in_ok-push
 loop-a-preserved-in_ok-push c =
@@ -46,15 +46,15 @@ loop-a-preserved c =
 pub push_all-requires-clause-spread : goal.push_all-requires-clause-spread
 push_all-requires-clause-spread c = c.loop-a.invariant.left_spread
 
-pub push_all-requires-clause-behind : goal.push_all-requires-clause-behind
-push_all-requires-clause-behind c = c.loop-a.invariant.left_behind
+pub push_all-requires-clause-following : goal.push_all-requires-clause-following
+push_all-requires-clause-following c = c.loop-a.invariant.left_following
 
 pub push_all-requires-2-clause-spread : goal.push_all-requires-2-clause-spread
 push_all-requires-2-clause-spread c = c.loop-a.invariant.right_spread
 
-pub push_all-requires-2-clause-behind : goal.push_all-requires-2-clause-behind
-push_all-requires-2-clause-behind c =
-    Joins-behind _ _ _ _ _ _ c.loop-a.invariant c.in_ok-push_all.ensures.none (elim c.match-split_first.branch [
+pub push_all-requires-2-clause-following : goal.push_all-requires-2-clause-following
+push_all-requires-2-clause-following c =
+    Joins-following _ _ _ _ _ _ c.loop-a.invariant c.in_ok-push_all.ensures.none (elim c.match-split_first.branch [
       | in_default w ↦ inr (nil_from_length _ w.in_default.ensures'.cases)
       | in_default-2 w ↦ inl (nil_from_length _ w.in_default.ensures.cases)
     ])

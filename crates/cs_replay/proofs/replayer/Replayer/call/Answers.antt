@@ -1,9 +1,9 @@
 use Rattle.std.proofs.Common.{◌≡◌, Err, IfErr, map, sym, ap, subst, rules}
-use Rattle.cs_runs.specs.Acts.{Act}
-use Rattle.cs_plain.specs.Calls as calls
-use Rattle.cs_plain.specs.Machine.{State, pop_many, routine_of}
-use Rattle.cs_interpreter.specs.View.{operand_of, setting_of, log_of}
-use Rattle.cs_interpreter.specs.MachineView.{state_of}
+use Rattle.cs_events.specs.Acts.{Act}
+use Rattle.cs_meaning.specs.Calls as calls
+use Rattle.cs_meaning.specs.Machine.{State, pop_many, routine_of}
+use Rattle.cs_run_state.specs.View.{operand_of, setting_of, log_of}
+use Rattle.cs_run_state.specs.MachineView.{state_of}
 use Rattle.cs_cfg.specs.Graph as graph
 use Rattle.cs_cfg.specs.Graph.{flow_of}
 use Rattle.cs_cfg.specs.GraphView as view
@@ -14,7 +14,7 @@ use Rattle.cs_replay.specs.ReplayerView.{program_of, budgets_of, code_of, caller
 use Rattle.cs_replay.proofs.Entering.{enters_is, no_body}
 use Rattle.cs_replay.proofs.Leading.{ends_so}
 use Rattle.cs_replay.proofs.Performs.{leads_so}
-use Rattle.cs_replay.proofs.Told.{call_told}
+use Rattle.cs_replay.proofs.Reported.{call_reported}
 use Rattle.cs_replay.proofs.replayer.Replayer.call.Goals as goal
 
 pub returns-in_ok-arguments-in-Some-clause-err : goal.returns-in_ok-arguments-in-Some-clause-err
@@ -36,9 +36,9 @@ returns-in_err-call-in-None-clause-err c =
     let m = state_of run.runner.machine in
     let stop = c.in_err-call-in-None.field-0.0 in
     let body = no_body (flow_of (code_of run) c.args.function) (routine_of (program_of run) c.args.function).body (c.requires.graphs c.args.function) c.in-None.ensures in
-    let told = call_told points callers (code_of run) (program_of run) (budgets_of run) c.args.place c.args.function c.args.count m c.in-None.ensures body in
+    let reported = call_reported points callers (code_of run) (program_of run) (budgets_of run) c.args.place c.args.function c.args.count m c.in-None.ensures body in
     let there : c.from_residual-in_err-call-in-None.result ≡ Err stop = search rules in
-    rw there (ends_so (setting_of run.runner.setting.now) (log_of run.runner.log) (log_of c.call.new.self.log) (code_state points callers) (calls.call (program_of run) (budgets_of run) c.args.place c.args.function c.args.count m) (do_work (code_of run) (program_of run) (budgets_of run) c.args.place (graph.Call c.args.function c.args.count) (state_in run)) stop told c.in_err-call-in-None.ensures.err)
+    rw there (ends_so (setting_of run.runner.setting.now) (log_of run.runner.log) (log_of c.call.new.self.log) (code_state points callers) (calls.call (program_of run) (budgets_of run) c.args.place c.args.function c.args.count m) (do_work (code_of run) (program_of run) (budgets_of run) c.args.place (graph.Call c.args.function c.args.count) (state_in run)) stop reported c.in_err-call-in-None.ensures.err)
 
 pub returns-in_ok-call-in-None-clause-ok : goal.returns-in_ok-call-in-None-clause-ok
 returns-in_ok-call-in-None-clause-ok c =
@@ -47,5 +47,5 @@ returns-in_ok-call-in-None-clause-ok c =
     let callers = callers_of run.code.now run.callers.items in
     let m = state_of run.runner.machine in
     let body = no_body (flow_of (code_of run) c.args.function) (routine_of (program_of run) c.args.function).body (c.requires.graphs c.args.function) c.in-None.ensures in
-    let told = call_told points callers (code_of run) (program_of run) (budgets_of run) c.args.place c.args.function c.args.count m c.in-None.ensures body in
-    leads_so (code_state points callers) (setting_of run.runner.setting.now) (log_of run.runner.log) (log_of c.call.new.self.log) (calls.call (program_of run) (budgets_of run) c.args.place c.args.function c.args.count m) (do_work (code_of run) (program_of run) (budgets_of run) c.args.place (graph.Call c.args.function c.args.count) (state_in run)) (state_of c.call.new.self.machine) told c.in_ok-call-in-None.ensures.ok
+    let reported = call_reported points callers (code_of run) (program_of run) (budgets_of run) c.args.place c.args.function c.args.count m c.in-None.ensures body in
+    leads_so (code_state points callers) (setting_of run.runner.setting.now) (log_of run.runner.log) (log_of c.call.new.self.log) (calls.call (program_of run) (budgets_of run) c.args.place c.args.function c.args.count m) (do_work (code_of run) (program_of run) (budgets_of run) c.args.place (graph.Call c.args.function c.args.count) (state_in run)) (state_of c.call.new.self.machine) reported c.in_ok-call-in-None.ensures.ok

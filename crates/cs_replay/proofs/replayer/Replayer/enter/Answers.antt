@@ -1,16 +1,16 @@
 use Rattle.std.proofs.Common.{◌≡◌, ◌≤◌, ◌<◌, ℕ, ◌+◌, nat_lt, true, false, Err, length, map, ap, ◌∙◌, rules, arith}
 use Rattle.std.proofs.lemmas.Bool.Decides.{nat_tests}
 use Rattle.std.proofs.lemmas.List.{length-reverse, length-map}
-use Rattle.cs_runs.specs.declared.event.Label.TheVariants as label
-use Rattle.cs_runs.specs.declared.outcome.Outcome.TheVariants.{Over}
-use Rattle.cs_runs.specs.declared.outcome.Budget.TheVariants.{Depth}
-use Rattle.cs_runs.specs.Acts.{Goes}
-use Rattle.cs_plain.specs.Access.{shows_then}
-use Rattle.cs_plain.specs.Calls.{inside}
-use Rattle.cs_plain.specs.Machine.{routine_of}
-use Rattle.cs_interpreter.specs.View.{operand_of, setting_of, log_of}
-use Rattle.cs_interpreter.specs.MemoryView.{block_at}
-use Rattle.cs_interpreter.specs.MachineView.{frame_of, state_of}
+use Rattle.cs_events.specs.declared.event.Label.TheVariants as label
+use Rattle.cs_events.specs.declared.outcome.Outcome.TheVariants.{Over}
+use Rattle.cs_events.specs.declared.outcome.Budget.TheVariants.{Depth}
+use Rattle.cs_events.specs.Acts.{Goes}
+use Rattle.cs_meaning.specs.Access.{shows_then}
+use Rattle.cs_meaning.specs.Calls.{inside}
+use Rattle.cs_meaning.specs.Machine.{routine_of}
+use Rattle.cs_run_state.specs.View.{operand_of, setting_of, log_of}
+use Rattle.cs_run_state.specs.MemoryView.{block_at}
+use Rattle.cs_run_state.specs.MachineView.{frame_of, state_of}
 use Rattle.cs_cfg.specs.GraphView as view
 use Rattle.cs_cfg.specs.Working.{CodeState, code_frame}
 use Rattle.cs_replay.specs.CodeStates.{begun}

@@ -1,9 +1,9 @@
 use Rattle.std.proofs.Common.{◌≡◌, ◌+◌, IfErr, ap, ◌∙◌, subst}
-use Rattle.cs_runs.specs.Acts.{Act}
-use Rattle.cs_plain.specs.Calls.{leave}
-use Rattle.cs_plain.specs.Machine.{Operand, State, operand_at, pop}
-use Rattle.cs_interpreter.specs.View.{operand_of}
-use Rattle.cs_interpreter.specs.MachineView.{state_of}
+use Rattle.cs_events.specs.Acts.{Act}
+use Rattle.cs_meaning.specs.Calls.{leave}
+use Rattle.cs_meaning.specs.Machine.{Operand, State, operand_at, pop}
+use Rattle.cs_run_state.specs.View.{operand_of}
+use Rattle.cs_run_state.specs.MachineView.{state_of}
 use Rattle.cs_cfg.specs.Working as working
 use Rattle.cs_cfg.specs.Working.{CodeState}
 use Rattle.cs_replay.specs.CodeStates.{code_state}

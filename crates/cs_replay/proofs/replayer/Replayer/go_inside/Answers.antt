@@ -1,8 +1,8 @@
 use Rattle.std.proofs.Common.{◌≡◌, List, [], ◌∷◌, ◌++◌, map, reverse, ap, ◌∙◌}
-use Rattle.cs_interpreter.specs.declared.machine.Frame.{Frame}
-use Rattle.cs_interpreter.specs.MemoryView.{block_at}
-use Rattle.cs_interpreter.specs.MachineView.{state_of}
-use Rattle.cs_interpreter.proofs.States.{reverse-map-push}
+use Rattle.cs_run_state.specs.declared.machine.Frame.{Frame}
+use Rattle.cs_run_state.specs.MemoryView.{block_at}
+use Rattle.cs_run_state.specs.MachineView.{state_of}
+use Rattle.cs_run_state.proofs.States.{reverse-map-push}
 use Rattle.cs_replay.specs.declared.positions.Position.{Position}
 use Rattle.cs_replay.specs.declared.replayer.Caller.{Caller}
 use Rattle.cs_replay.specs.ReplayerView.{caller_of, callers_of}

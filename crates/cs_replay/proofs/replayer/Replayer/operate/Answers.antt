@@ -1,7 +1,7 @@
 use Rattle.std.proofs.Common.{◌≡◌, ◌+◌, OnOk, IfErr, ap, subst}
-use Rattle.cs_runs.specs.Acts.{Act}
-use Rattle.cs_plain.specs.Machine.{State}
-use Rattle.cs_interpreter.specs.MachineView.{state_of}
+use Rattle.cs_events.specs.Acts.{Act}
+use Rattle.cs_meaning.specs.Machine.{State}
+use Rattle.cs_run_state.specs.MachineView.{state_of}
 use Rattle.cs_cfg.specs.GraphView as view
 use Rattle.cs_cfg.specs.Working.{CodeState, takes, do_work}
 use Rattle.cs_replay.specs.CodeStates.{code_state}

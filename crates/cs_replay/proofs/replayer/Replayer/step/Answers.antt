@@ -1,7 +1,7 @@
 use Rattle.std.proofs.Common.{OnOk, IfErr, sym, subst}
 use Rattle.std.proofs.lemmas.Result.{IfErr-weaker}
-use Rattle.cs_runs.specs.Acts.{Act}
-use Rattle.cs_interpreter.specs.MachineView.{state_of}
+use Rattle.cs_events.specs.Acts.{Act}
+use Rattle.cs_run_state.specs.MachineView.{state_of}
 use Rattle.cs_cfg.specs.GraphView as view
 use Rattle.cs_cfg.specs.Working.{CodeState}
 use Rattle.cs_replay.specs.Nexts.{reaching}

@@ -1,17 +1,17 @@
 use Rattle.std.proofs.Common.{◌≡◌, ◌+◌, ℕ, Err, FitsSigned, map, ap, ◌∙◌, rules}
 use Rattle.std.specs.Int.{w128}
 use Rattle.std.proofs.lemmas.Int.{to_z-of_z}
-use Rattle.cs_runs.specs.declared.event.Label.TheVariants.{Case}
-use Rattle.cs_runs.specs.declared.point.PointKind.TheVariants.{Switch as AtSwitch}
-use Rattle.cs_runs.specs.Objects.{Cell}
-use Rattle.cs_runs.specs.Touches.{Meets}
-use Rattle.cs_runs.specs.Acts.{Act, Goes}
-use Rattle.cs_plain.specs.Access.{shows_then}
-use Rattle.cs_plain.specs.Initials.{number_in}
-use Rattle.cs_plain.specs.Machine.{State, cell_at, pop}
-use Rattle.cs_interpreter.specs.View.{setting_of, log_of}
-use Rattle.cs_interpreter.specs.MachineView.{state_of}
-use Rattle.cs_interpreter.proofs.Chains.{ends_behind}
+use Rattle.cs_events.specs.declared.event.Label.TheVariants.{Case}
+use Rattle.cs_events.specs.declared.point.PointKind.TheVariants.{Switch as AtSwitch}
+use Rattle.cs_events.specs.Objects.{Cell}
+use Rattle.cs_events.specs.Touches.{Meets}
+use Rattle.cs_events.specs.Acts.{Act, Goes}
+use Rattle.cs_meaning.specs.Access.{shows_then}
+use Rattle.cs_meaning.specs.Initials.{number_in}
+use Rattle.cs_meaning.specs.Machine.{State, cell_at, pop}
+use Rattle.cs_run_state.specs.View.{setting_of, log_of}
+use Rattle.cs_run_state.specs.MachineView.{state_of}
+use Rattle.cs_run_state.proofs.Chains.{ends_following}
 use Rattle.cs_cfg.specs.CodeSteps.{Way, way_of, enters, goes_way}
 use Rattle.cs_cfg.specs.GraphView as view
 use Rattle.cs_cfg.specs.Working as working
@@ -39,7 +39,7 @@ returns-in_err-show-clause-err c =
     let last : Act State = Goes m in
     let one = c.in_ok-touch.ensures run.runner.setting.now (shows_then c.args.place (Case wanted.number) last) in
     let two = rw shown at c.in_err-show.ensures.err in
-    rw there (no_meeting (setting_of run.runner.setting.now) (log_of run.runner.log) (log_of c.show.new.self) (Meets AtSwitch c.args.place) c.args.place (Case wanted.number) m (enters (code_of run) wanted.block (pop (working.cut (c.args.temporary + 1) (state_in run)))) c.in_err-show.field-0.0 (ends_behind _ _ one (two last)))
+    rw there (no_meeting (setting_of run.runner.setting.now) (log_of run.runner.log) (log_of c.show.new.self) (Meets AtSwitch c.args.place) c.args.place (Case wanted.number) m (enters (code_of run) wanted.block (pop (working.cut (c.args.temporary + 1) (state_in run)))) c.in_err-show.field-0.0 (ends_following _ _ one (two last)))
 
 pub returns-clause-ok : goal.returns-clause-ok
 returns-clause-ok c =

@@ -9,7 +9,7 @@ use Rattle.cs_declarations.proofs.Refusing.{refused_with}
 use Rattle.cs_typing.specs.declared.inside.Inside.{Inside as HeldInside}
 use Rattle.cs_typing.specs.Objects.{locals_added}
 use Rattle.cs_typing.specs.Statements.{first_place, declared_in, declaration_typed}
-use Rattle.cs_typing.specs.View.{told_of}
+use Rattle.cs_typing.specs.View.{reported_of}
 use Rattle.cs_typing.proofs.StatementsInTurn.{answers_as}
 use Rattle.cs_typing.proofs.inside.Inside.declare.Goals as goal
 
@@ -20,11 +20,11 @@ returns-in_err-base c =
     let known = known_of now.known in
     let specs = c.args.specs.now in
     let objects = c.args.objects.now in
-    let so_far = told_of c.args.before.items now in
-    let behind : HeldInside = record { known = c.specs_type.new.known; locals = now.locals; met = now.met } in
-    refused_with (λ list behind. told_of list.items behind) (declaration_typed specs objects so_far) c.from_residual.result behind c.in_err-base.field-0.0 e
+    let so_far = reported_of c.args.before.items now in
+    let following : HeldInside = record { known = c.specs_type.new.known; locals = now.locals; met = now.met } in
+    refused_with (λ list following. reported_of list.items following) (declaration_typed specs objects so_far) c.from_residual.result following c.in_err-base.field-0.0 e
     (lift-refused (declared_in specs objects so_far) (specs_type known (first_place objects) specs) c.in_err-base.field-0.0
-    (subst (λ at. IsRefused (specs_type known at specs) c.in_err-base.field-0.0) c.first_place.ensures c.in_err-base.ensures.told))
+    (subst (λ at. IsRefused (specs_type known at specs) c.in_err-base.field-0.0) c.first_place.ensures c.in_err-base.ensures.reported))
 
 pub returns : goal.returns
 returns c =
@@ -32,10 +32,10 @@ returns c =
     let known = known_of now.known in
     let specs = c.args.specs.now in
     let objects = c.args.objects.now in
-    let so_far = told_of c.args.before.items now in
+    let so_far = reported_of c.args.before.items now in
     let base = c.in_ok-base.base in
-    let behind : HeldInside = record { known = c.specs_type.new.known; locals = now.locals; met = now.met } in
-    answers_as (λ list behind. told_of list.items behind) (declaration_typed specs objects so_far) (locals_added (shape_of base) objects (told_of c.args.before.items behind)) c.declare_locals.result c.declare_locals.new.self
+    let following : HeldInside = record { known = c.specs_type.new.known; locals = now.locals; met = now.met } in
+    answers_as (λ list following. reported_of list.items following) (declaration_typed specs objects so_far) (locals_added (shape_of base) objects (reported_of c.args.before.items following)) c.declare_locals.result c.declare_locals.new.self
     (lift_is (declared_in specs objects so_far) (specs_type known (first_place objects) specs) (typing base c.specs_type.new.known)
-    (subst (λ at. specs_type known at specs ≡ Fine (typing base c.specs_type.new.known)) c.first_place.ensures c.in_ok-base.ensures.told))
+    (subst (λ at. specs_type known at specs ≡ Fine (typing base c.specs_type.new.known)) c.first_place.ensures c.in_ok-base.ensures.reported))
     c.declare_locals.ensures

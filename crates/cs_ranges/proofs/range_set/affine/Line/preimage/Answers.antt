@@ -2,7 +2,7 @@ use Rattle.std.proofs.Common.{pos, arith, rules, FitsSigned}
 use Rattle.std.specs.Int.{w128}
 use Rattle.std.proofs.lemmas.Int.{ints}
 use Rattle.std.proofs.lemmas.List.{drop_more, drop_all}
-use Rattle.cs_ranges.proofs.Drawing.{Draws-start, Draws-behind, Draws-more, Draws-skip, Draws-end, IsProper-numbers}
+use Rattle.cs_ranges.proofs.Drawing.{Draws-start, Draws-following, Draws-more, Draws-skip, Draws-end, IsProper-numbers}
 use Rattle.cs_ranges.proofs.Spread.{IsProper-first}
 use Rattle.cs_ranges.proofs.range_set.affine.Line.preimage.Goals.{then-numbers+in_ok-push, else-numbers}
 use Rattle.cs_ranges.proofs.range_set.affine.Line.preimage.Goals as goal
@@ -23,13 +23,13 @@ push-requires-clause-proper c =
     let high : FitsSigned w128 numbers.result.high = search rules in
     IsProper-numbers _ _ _ numbers.ensures (omega (arith, ints))
 
-pub push-requires-clause-behind : goal.push-requires-clause-behind
-push-requires-clause-behind c =
+pub push-requires-clause-following : goal.push-requires-clause-following
+push-requires-clause-following c =
     let split = drop_more c.intervals-interval-items.result.now c.loop-interval.interval-index (record { low = pos 0; high = pos 0 }) c.loop-interval-test.true in
     let numbers = c.numbers_in-numbers in
     let low : FitsSigned w128 numbers.result.low = search rules in
     let high : FitsSigned w128 numbers.result.high = search rules in
-    Draws-behind _ _ _ _ _ _ (rw split at c.loop-interval.invariant) numbers.ensures (omega (arith, ints))
+    Draws-following _ _ _ _ _ _ (rw split at c.loop-interval.invariant) numbers.ensures (omega (arith, ints))
 
 pub loop-interval-preserved : goal.loop-interval-preserved
 loop-interval-preserved c =

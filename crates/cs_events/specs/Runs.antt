@@ -1,0 +1,131 @@
+-- Runs of any machine whose steps are acts.
+use Rattle.std.specs.Prelude.{◌≡◌, ℕ, suc, ◌==◌, Bool, ◌&&◌, nat_lt, int_le, ℤ, List, [], ◌∷◌, ◌++◌, Option, Some, None, length, ◌⊎◌, if◌then◌else◌}
+use Rattle.cs_ast.specs.declared.place.Place.{Place}
+use Rattle.cs_inputs.specs.declared.path.Path.{Path}
+use Rattle.cs_types.specs.declared.data_model.DataModel.{DataModel}
+use Rattle.cs_events.specs.declared.event.Event.{Event}
+use Rattle.cs_events.specs.declared.outcome.Outcome.{Outcome}
+use Rattle.cs_events.specs.declared.outcome.Outcome.TheVariants.{Over}
+use Rattle.cs_events.specs.declared.outcome.Budget.TheVariants.{Events}
+use Rattle.cs_events.specs.declared.outcome.RunBudgets.{RunBudgets}
+use Rattle.cs_events.specs.declared.guess.Guess.{Guess}
+use Rattle.cs_events.specs.declared.event.Label.TheVariants.{Alloc, Offset}
+use Rattle.cs_events.specs.Operations.{result_with, guess_range, shows, is_true, offset_shown}
+use Rattle.cs_events.specs.declared.operation.Operation.{Operation}
+use Rattle.cs_events.specs.Touches.{Touch}
+use Rattle.cs_events.specs.Acts.{Act, Goes, Stops, Reads, Asks, Allocates, Reaches, Touches}
+
+-- what a run goes by
+pub record Setting : Type 0 where
+  pub model : DataModel
+  pub inputs : Path → ℤ
+  pub guesses : List Guess
+  pub budgets : RunBudgets
+
+-- what a run has shown, read and touched so far, each in order
+pub record Log : Type 0 where
+  pub events : List Event
+  pub read : List Path
+  pub touches : List Touch
+
+-- nothing
+abbrev pub empty : Log
+empty = record { events = []; read = []; touches = [] }
+
+-- the number of the first guess that is listed for an event
+abbrev pub guess_at : List Guess → ℕ → Option ℤ
+guess_at [] event = None
+guess_at (guess ∷ guesses) event = if guess.event == event then Some guess.number else guess_at guesses event
+
+-- the number lies in the range
+abbrev pub lies_in : ℤ × ℤ → ℤ → Bool
+lies_in range number = int_le range.0 number && int_le number range.1
+
+-- a guess that is used: one where the operation has a range, and that lies in it
+abbrev pub used : Option (ℤ × ℤ) → Option ℤ → Option ℤ
+used None guess = None
+used (Some range) None = None
+used (Some range) (Some number) = if lies_in range number then Some number else None
+
+-- the guess that a run uses at its next event
+abbrev pub used_guess : Setting → Log → Operation → Option ℤ
+used_guess setting log operation = used (guess_range setting.model operation) (guess_at setting.guesses (suc (length log.events)))
+
+-- the log with one more of each
+abbrev pub with_event : Log → Event → Log
+with_event log event = record log { events = log.events ++ event ∷ [] }
+
+abbrev pub with_read : Log → Path → Log
+with_read log path = record log { read = log.read ++ path ∷ [] }
+
+abbrev pub with_touch : Log → Touch → Log
+with_touch log touch = record log { touches = log.touches ++ touch ∷ [] }
+
+-- whether the budget of events lets one more pass
+abbrev pub has_room : Setting → Log → Bool
+has_room setting log = nat_lt (length log.events) setting.budgets.events
+
+-- the event that an operation is
+abbrev pub operation_event : Setting → Log → Place → Operation → Event
+operation_event setting log at operation = record { place = at; label = shows setting.model operation (used_guess setting log operation) }
+
+-- the number that leads on from an operation
+abbrev pub number_of : Setting → Log → Operation → ℤ
+number_of setting log operation = result_with setting.model operation (used_guess setting log operation)
+
+-- the event that an allocation is
+abbrev pub allocation_event : Setting → Place → Path → Event
+allocation_event setting at path = record { place = at; label = Alloc (is_true (setting.inputs path)) }
+
+-- the event that an access is
+abbrev pub access_event : Place → ℤ → Event
+access_event at offset = record { place = at; label = Offset (offset_shown offset) }
+
+-- what is left of an act once it was performed: a state to go on in, or the end; with the log
+pub data Performed (State : Type 0) : Type 0 where
+  Continues : (next : State) (log : Log) → Performed State
+  Finishes : (outcome : Outcome) (log : Log) → Performed State
+
+module _ {State : Type 0} where
+  -- an act performed: each event counts against the budget of events, and a guess that is used takes the result's place
+  unfoldable pub perform : Setting → Log → Act State → Performed State
+  perform setting log (Goes next) = Continues next log
+  perform setting log (Stops outcome) = Finishes outcome log
+  perform setting log (Reads path onward) = perform setting (with_read log path) (onward (setting.inputs path))
+  perform setting log (Asks at operation onward) =
+      if has_room setting log
+      then perform setting (with_event log (operation_event setting log at operation)) (onward (number_of setting log operation))
+      else Finishes (Over Events at) log
+  perform setting log (Allocates at path onward) =
+      if has_room setting log
+      then perform setting (with_event (with_read log path) (allocation_event setting at path)) (onward (is_true (setting.inputs path)))
+      else Finishes (Over Events at) log
+  perform setting log (Reaches at object offset act) =
+      if has_room setting log
+      then perform setting (with_event log (access_event at offset)) act
+      else Finishes (Over Events at) log
+  perform setting log (Touches touch act) = perform setting (with_touch log touch) act
+
+  -- the run of a machine with this step leads from a state and a log to others
+  pub data Leads (step : State → Act State) (setting : Setting) : State → Log → State → Log → Type 0 where
+    stays : {m last : State} {log end : Log} → m ≡ last → log ≡ end → Leads step setting m log last end
+    goes : {m next last : State} {log later end : Log} → perform setting log (step m) ≡ Continues next later → Leads step setting next later last end → Leads step setting m log last end
+
+  -- the run from a state and a log ends so, with this log; `last` is the state before its last act
+  pub record EndsFrom (step : State → Act State) (setting : Setting) (m : State) (log : Log) (outcome : Outcome) (end : Log) : Type 0 where
+    pub last : State
+    pub before : Log
+    pub leads : Leads step setting m log last before
+    pub finishes : perform setting before (step last) ≡ Finishes outcome end
+
+  -- the run from a state ends so, with this log
+  abbrev pub Ends : (State → Act State) → Setting → State → Outcome → Log → Type 0
+  Ends step setting start outcome log = EndsFrom step setting start empty outcome log
+
+  -- the run from a state comes to this log, on its way or at its end
+  abbrev pub ComesTo : (State → Act State) → Setting → State → Log → Type 0
+  ComesTo step setting start log = ((last : State) × Leads step setting start empty last log) ⊎ ((outcome : Outcome) × Ends step setting start outcome log)
+
+  -- the run from a state passes these events first
+  abbrev pub Passes : (State → Act State) → Setting → State → List Event → Type 0
+  Passes step setting start events = (log : Log) × (more : List Event) × ComesTo step setting start log × (log.events ≡ events ++ more)

@@ -1,0 +1,32 @@
+-- One machine follows another: its acts show, read, touch and end alike, and either may go on silently alone.
+use Rattle.std.specs.Prelude.{◌≡◌, ℤ, Bool}
+use Rattle.cs_ast.specs.declared.place.Place.{Place}
+use Rattle.cs_inputs.specs.declared.path.Path.{Path}
+use Rattle.cs_events.specs.declared.outcome.Outcome.{Outcome}
+use Rattle.cs_events.specs.declared.operation.Operation.{Operation}
+use Rattle.cs_events.specs.Objects.{Object}
+use Rattle.cs_events.specs.Touches.{Touch}
+use Rattle.cs_events.specs.Acts.{Act, Goes, Stops, Reads, Asks, Allocates, Reaches, Touches}
+
+module _ {S T : Type 0} (R : S → T → Type 0) where
+  -- two acts that do the same, and lead to related states
+  pub data Yields : Act S → Act T → Type 0 where
+    both_go : {s : S} {t : T} → R s t → Yields (Goes s) (Goes t)
+    both_stop : {outcome : Outcome} → Yields (Stops outcome) (Stops outcome)
+    both_read : {path : Path} {f : ℤ → Act S} {g : ℤ → Act T} → ((number : ℤ) → Yields (f number) (g number)) → Yields (Reads path f) (Reads path g)
+    both_ask : {at : Place} {operation : Operation} {f : ℤ → Act S} {g : ℤ → Act T} → ((number : ℤ) → Yields (f number) (g number)) → Yields (Asks at operation f) (Asks at operation g)
+    both_allocate : {at : Place} {path : Path} {f : Bool → Act S} {g : Bool → Act T} → ((given : Bool) → Yields (f given) (g given)) → Yields (Allocates at path f) (Allocates at path g)
+    both_reach : {at : Place} {object : Object} {offset : ℤ} {a : Act S} {b : Act T} → Yields a b → Yields (Reaches at object offset a) (Reaches at object offset b)
+    both_touch : {touch : Touch} {a : Act S} {b : Act T} → Yields a b → Yields (Touches touch a) (Touches touch b)
+
+  module _ (step : S → Act S) (step' : T → Act T) where
+    -- a state answers another: the other goes on silently and stays related, or both do the same, the answering one after some
+    -- silent steps of its own
+    pub data Answers : S → T → Type 0 where
+      alone : {s next : S} {t : T} → step s ≡ Goes next → R next t → Answers s t
+      together : {s : S} {t : T} → Yields (step s) (step' t) → Answers s t
+      first : {s : S} {t next : T} → step' t ≡ Goes next → R s next → Answers s next → Answers s t
+
+    -- related states answer one another
+    abbrev pub Simulates : Type 0
+    Simulates = (s : S) (t : T) → R s t → Answers s t

@@ -1,9 +1,0 @@
--- The last token tells.
-use Rattle.std.proofs.Common.{sym, ap, ◌∙◌}
-use Rattle.std.specs.Option.{option_copied}
-use Rattle.cs_left_out.specs.declared.declarators.Joint.TheVariants.{Open}
-use Rattle.cs_left_out.proofs.NewNames.{ending_last}
-use Rattle.cs_left_out.proofs.declarators.last_joint.Goals as goal
-
-pub returns-in-Some : goal.returns-in-Some
-returns-in-Some c = c.joint_behind.ensures ∙ sym (ending_last c.args.tokens.now c.in-Some.token.now Open (sym c.last.ensures.value ∙ ap option_copied c.in-Some.is))

@@ -1,8 +1,0 @@
--- The tokens that are left come to what all of them do.
-use Rattle.std.proofs.Common.{◌≡◌, drop}
-use Rattle.cs_left_out.specs.Sites.{the_first, run}
-use Rattle.cs_left_out.specs.Readings.{kinds, site_of}
-use Rattle.cs_left_out.proofs.inside.read.Given as goal
-
-abbrev pub invariant-tokens : goal.invariant-tokens
-invariant-tokens l = run (kinds (drop l.token-index l.before)) (site_of l.reading) ≡ run (kinds l.before) the_first

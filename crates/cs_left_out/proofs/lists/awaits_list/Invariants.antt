@@ -1,8 +1,0 @@
--- The tokens that are left come to what all of them do.
-use Rattle.std.proofs.Common.{◌≡◌, false, drop}
-use Rattle.cs_left_out.specs.Awaiting.{run}
-use Rattle.cs_left_out.specs.Readings.{kinds}
-use Rattle.cs_left_out.proofs.lists.awaits_list.Given as goal
-
-abbrev pub invariant-tokens : goal.invariant-tokens
-invariant-tokens l = run (kinds (drop l.token-index l.before)) l.awaits ≡ run (kinds l.before) false

@@ -1,8 +1,0 @@
--- The tokens that are left come to what all of them do.
-use Rattle.std.proofs.Common.{◌≡◌, drop}
-use Rattle.cs_left_out.specs.Spots.{the_start, run}
-use Rattle.cs_left_out.specs.Readings.{kinds, spot_of}
-use Rattle.cs_left_out.proofs.members.is_behind_member.Given as goal
-
-abbrev pub invariant-tokens : goal.invariant-tokens
-invariant-tokens l = run (kinds (drop l.token-index l.before)) (spot_of l.reading) ≡ run (kinds l.before) the_start

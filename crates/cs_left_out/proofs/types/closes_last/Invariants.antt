@@ -1,8 +1,0 @@
--- The tokens that are left come to what all of them do.
-use Rattle.std.proofs.Common.{◌≡◌, false, drop}
-use Rattle.cs_left_out.specs.Parentheses.{the_outside, run}
-use Rattle.cs_left_out.specs.Readings.{kinds, parens_of}
-use Rattle.cs_left_out.proofs.types.closes_last.Given as goal
-
-abbrev pub invariant-tokens : goal.invariant-tokens
-invariant-tokens l = run l.names (kinds (drop l.token-index l.part)) (parens_of l.reading) l.reading.closes ≡ run l.names (kinds l.part) the_outside false

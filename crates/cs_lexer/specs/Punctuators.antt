@@ -1,0 +1,33 @@
+-- The longest punctuator at the front of bytes (C11 6.4.6).
+use Rattle.std.specs.Prelude.{◌≡◌, ℕ, ◌≤◌, List, length, take}
+use Rattle.cs_ast.specs.declared.token.Punctuator as punctuators
+use Rattle.cs_ast.specs.declared.token.TokenKind.{TokenKind}
+use Rattle.cs_ast.specs.declared.token.TokenKind.TheVariants.{Punctuator}
+use Rattle.cs_lexer.specs.declared.found.Fault.TheVariants.{BadByte}
+use Rattle.cs_lexer.specs.declared.found.Found.{Found}
+use Rattle.cs_lexer.specs.declared.found.Found.TheVariants.{Token, Refused}
+use Rattle.cs_lexer.specs.Spellings.{punctuator_text}
+
+-- the bytes begin with the punctuator
+abbrev pub BeginsWithPunctuator : List ℕ → punctuators.Punctuator → Type 0
+BeginsWithPunctuator bytes punctuator = take (length (punctuator_text punctuator)) bytes ≡ punctuator_text punctuator
+
+-- no punctuator begins the bytes
+abbrev pub NoPunctuator : List ℕ → Type 0
+NoPunctuator bytes = (other : punctuators.Punctuator) → BeginsWithPunctuator bytes other → ⊥
+
+-- the punctuator begins the bytes, and no longer one does
+pub record IsLongestPunctuator (bytes : List ℕ) (punctuator : punctuators.Punctuator) : Type 0 where
+  pub begins : BeginsWithPunctuator bytes punctuator
+  pub longest : (other : punctuators.Punctuator) → BeginsWithPunctuator bytes other → length (punctuator_text other) ≤ length (punctuator_text punctuator)
+
+-- a punctuator's token
+abbrev pub IsPunctuatorToken : List ℕ → ℕ → TokenKind → Type 0
+IsPunctuatorToken bytes size (Punctuator punctuator) = (size ≡ length (punctuator_text punctuator)) × IsLongestPunctuator bytes punctuator
+IsPunctuatorToken bytes size _ = ⊥
+
+-- the longest punctuator is the token, and a byte that begins none is bad
+abbrev pub PunctuatorGives : List ℕ → Found → Type 0
+PunctuatorGives bytes (Token size kind) = IsPunctuatorToken bytes size kind
+PunctuatorGives bytes (Refused fault size) = (fault ≡ BadByte) × (size ≡ 0) × NoPunctuator bytes
+PunctuatorGives bytes _ = ⊥

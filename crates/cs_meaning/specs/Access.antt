@@ -1,0 +1,183 @@
+-- Loads and stores (C11 6.3.2.1, 6.5.16): what is checked and shown on the way to an object, and what memory gives and keeps.
+use Rattle.std.specs.Prelude.{ℕ, ◌+◌, ℤ, pos, negsuc, ◌-ℤ◌, neg_ℤ, Bool, true, false, List, [], ◌∷◌, Option, Some, None, unwrap_or, if◌then◌else◌}
+use Rattle.cs_types.specs.Shape.{Shape, void, struct}
+use Rattle.cs_ast.specs.declared.place.Place.{Place}
+use Rattle.cs_ast.specs.TypedTree.{Typed, Of, Form, Local, Global, Member}
+use Rattle.cs_ast.specs.TypedProgram.{TypedProgram}
+use Rattle.cs_model.specs.declared.standing.Standing.{Standing}
+use Rattle.cs_model.specs.declared.standing.Standing.TheVariants.{Live, Freed, Ended}
+use Rattle.cs_model.specs.declared.kind.Kind.TheVariants as kind
+use Rattle.cs_events.specs.declared.event.Label.{Label}
+use Rattle.cs_events.specs.declared.event.Label.TheVariants.{Look}
+use Rattle.cs_events.specs.declared.operation.Operation.TheVariants.{Order, Show}
+use Rattle.cs_events.specs.declared.outcome.Outcome.TheVariants.{Fault}
+use Rattle.cs_events.specs.Operations.{is_true}
+use Rattle.cs_events.specs.Objects.{Object, Cell, NumberCell, NullCell, PointerCell, UnsetCell}
+use Rattle.cs_events.specs.Touches.{Touch, Loads, Stores}
+use Rattle.cs_events.specs.Acts.{Act, Stops, Reads, Asks, Reaches, Touches}
+use Rattle.cs_meaning.specs.Types.{size_of, scalar_of, scalar_offsets, type_of, is_scalar}
+use Rattle.cs_meaning.specs.Initials.{byte_cell}
+use Rattle.cs_meaning.specs.Memory.{Block, Memory, changed, write_cell, begins_at, Found, Holds, Unknown, found_in, is_constant}
+use Rattle.cs_meaning.specs.Inputs.{input_cell, opened}
+use Rattle.cs_meaning.specs.Machine.{Operand, Scalar, Whole, Nothing}
+
+-- the place of an expression
+abbrev pub place_of : Typed → Place
+place_of (Of at ty form) = at
+
+abbrev mutual
+  -- whether an expression names a variable, or a member of one: such an object is reached without a check
+  pub is_direct : Typed → Bool
+  is_direct (Of at ty form) = is_direct_form form
+
+  pub is_direct_form : Form → Bool
+  is_direct_form (Local declaration) = true
+  is_direct_form (Global global) = true
+  is_direct_form (Member object offset) = is_direct object
+  is_direct_form other = false
+
+-- the declaration that an expression names, if it is a scalar local of the function
+abbrev pub scalar_local : Typed → Option ℕ
+scalar_local (Of at ty (Local declaration)) = if is_scalar ty then Some declaration else None
+scalar_local other = None
+
+-- what a load or a store needs to know of the expression that names an object: its place and type, whether it is direct, and which
+-- scalar local it names, if it names one
+pub record Access : Type 0 where
+  pub at : Place
+  pub ty : Shape
+  pub direct : Bool
+  pub local : Option ℕ
+
+abbrev pub access_of : Typed → Access
+access_of e = record { at = place_of e; ty = type_of e; direct = is_direct e; local = scalar_local e }
+
+-- a struct's scalars written from an offset on, one at each of the given offsets
+abbrev pub write_cells : ℕ → List ℕ → List Cell → Block → Block
+write_cells from (offset ∷ offsets) (cell ∷ cells) block = write_cells from offsets cells (write_cell (from + offset) cell block)
+write_cells from offsets cells block = block
+
+-- a value of a type written at an offset
+abbrev pub write_operand : TypedProgram → Shape → ℕ → Operand → Block → Block
+write_operand program ty offset (Scalar cell) block = write_cell offset cell block
+write_operand program ty offset (Whole cells) block = write_cells offset (scalar_offsets program ty) cells block
+write_operand program ty offset Nothing block = block
+
+-- bytes of a text written from an offset on, each in the scalar that begins there (C11 6.7.9, paragraph 14)
+abbrev pub write_bytes : TypedProgram → ℕ → List ℕ → Block → Block
+write_bytes program from [] block = block
+write_bytes program from (byte ∷ bytes) block =
+    write_bytes program (from + 1) bytes (write_cell from (byte_cell program.model (unwrap_or (scalar_of program block.shape from) void) byte) block)
+
+-- an offset that isn't below 0
+abbrev pub offset_number : ℤ → ℕ
+offset_number (pos n) = n
+offset_number (negsuc n) = 0
+
+module _ {S : Type 0} where
+  -- a label shows at a place, and then an act follows
+  abbrev pub shows_then : Place → Label → Act S → Act S
+  shows_then at what act = Asks at (Show what) (λ number. act)
+
+  -- a touch, if there is one, and then an act follows
+  abbrev pub touches_then : (ℕ → Touch) → Option ℕ → Act S → Act S
+  touches_then touch None act = act
+  touches_then touch (Some declaration) act = Touches (touch declaration) act
+
+  -- an order test, which is a fault where it doesn't hold
+  abbrev pub ordered : Place → ℤ → ℤ → Act S → Act S
+  ordered at first second act = Asks at (Order first second) (λ number. if is_true number then act else Stops (Fault kind.Bounds at))
+
+  -- an object that is there no more is a fault (C11 6.2.4, paragraph 2)
+  abbrev pub stands : Place → Standing → Act S → Act S
+  stands at Live act = act
+  stands at Freed act = Stops (Fault kind.Freed at)
+  stands at Ended act = Stops (Fault kind.DeadLocal at)
+
+  -- what doesn't fit is a fault
+  abbrev pub fits : Place → Bool → Act S → Act S
+  fits at true act = act
+  fits at false act = Stops (Fault kind.Bounds at)
+
+  -- an object of a type is reached in another: it stands, the type's bytes lie within it, the offset shows, and such an object begins there
+  abbrev pub reach_in : TypedProgram → Place → Shape → Object → ℤ → Option Block → (ℕ → Act S) → Act S
+  reach_in program at ty object offset None onward = Stops (Fault kind.Bounds at)
+  reach_in program at ty object offset (Some block) onward =
+      stands at block.standing
+      (ordered at offset (pos 0)
+      (ordered at (neg_ℤ offset) (pos block.extent -ℤ pos (size_of program ty))
+      (Reaches at object offset
+      (fits at (begins_at program ty object block offset) (onward (offset_number offset))))))
+
+  -- an object of a type is reached through a pointer: it shows whether the pointer is null, which is a fault (C11 6.5.3.2, paragraph 4)
+  abbrev pub reach : TypedProgram → Memory → Place → Shape → Cell → (Object → ℕ → Act S) → Act S
+  reach program memory at ty NullCell onward = shows_then at (Look false) (Stops (Fault kind.Null at))
+  reach program memory at ty (PointerCell object offset) onward = shows_then at (Look true) (reach_in program at ty object offset (memory object) (λ n. onward object n))
+  reach program memory at ty (NumberCell n) onward = Stops (Fault kind.Unset at)
+  reach program memory at ty UnsetCell onward = Stops (Fault kind.Unset at)
+
+  -- a variable, or a member of one
+  abbrev pub direct : Place → Cell → (Object → ℕ → Act S) → Act S
+  direct at (PointerCell object offset) onward = onward object (offset_number offset)
+  direct at other onward = Stops (Fault kind.Unset at)
+
+  -- the object that is accessed, whose place has this value
+  abbrev pub locate_object : TypedProgram → Memory → Access → Cell → (Object → ℕ → Act S) → Act S
+  locate_object program memory access cell onward =
+      if access.direct then direct access.at cell onward else reach program memory access.at access.ty cell onward
+
+  -- the same of the object that an expression names
+  abbrev pub locate : TypedProgram → Memory → Typed → Cell → (Object → ℕ → Act S) → Act S
+  locate program memory e cell onward = locate_object program memory (access_of e) cell onward
+
+  -- what was found in a scalar: an input is looked up
+  abbrev pub receive : TypedProgram → Memory → Found → (Memory → Cell → Act S) → Act S
+  receive program memory (Holds cell) onward = onward memory cell
+  receive program memory (Unknown path scalar) onward =
+      Reads path (λ number. onward (opened program path scalar None number memory) (input_cell program.model path scalar number))
+
+  -- what a scalar of an object holds
+  abbrev pub read : TypedProgram → Memory → Object → ℕ → (Memory → Cell → Act S) → Act S
+  read program memory object offset onward = receive program memory (found_in program object (memory object) offset) onward
+
+  -- what the scalars of an object hold at offsets that are counted from another, in order
+  abbrev pub read_all : TypedProgram → Memory → Object → ℕ → List ℕ → (Memory → List Cell → Act S) → Act S
+  read_all program memory object from [] onward = onward memory []
+  read_all program memory object from (offset ∷ offsets) onward =
+      read program memory object (from + offset) (λ after cell. read_all program after object from offsets (λ end cells. onward end (cell ∷ cells)))
+
+  -- a scalar that is used was set before
+  abbrev pub set_then : Place → Cell → Act S → Act S
+  set_then at UnsetCell act = Stops (Fault kind.Unset at)
+  set_then at other act = act
+
+  -- the value of a type that an object holds at an offset: a scalar that was set, or the scalars of a struct, set or not
+  abbrev pub value_at : TypedProgram → Memory → Place → Shape → Object → ℕ → (Memory → Operand → Act S) → Act S
+  value_at program memory at (struct number) object offset onward =
+      read_all program memory object offset (scalar_offsets program (struct number)) (λ after cells. onward after (Whole cells))
+  value_at program memory at other object offset onward =
+      read program memory object offset (λ after cell. set_then at cell (onward after (Scalar cell)))
+
+  -- a load from an object, in a frame
+  abbrev pub load_object : TypedProgram → Memory → ℕ → Access → Cell → (Memory → Operand → Act S) → Act S
+  load_object program memory frame access cell onward =
+      locate_object program memory access cell (λ object offset.
+      touches_then (λ declaration. Loads frame declaration access.at) access.local
+      (value_at program memory access.at access.ty object offset onward))
+
+  -- the same from the object that an expression names
+  abbrev pub load : TypedProgram → Memory → ℕ → Typed → Cell → (Memory → Operand → Act S) → Act S
+  load program memory frame e cell onward = load_object program memory frame (access_of e) cell onward
+
+  -- a store at a place, in a frame, to an object
+  abbrev pub store_object : TypedProgram → Memory → ℕ → Place → Access → Cell → Operand → (Memory → Act S) → Act S
+  store_object program memory frame at access cell operand onward =
+      locate_object program memory access cell (λ object offset.
+      if is_constant program object
+      then Stops (Fault kind.ConstWrite access.at)
+      else touches_then (λ declaration. Stores frame declaration at) access.local
+      (onward (changed (write_operand program access.ty offset operand) object memory)))
+
+  -- the same to the object that an expression names
+  abbrev pub store : TypedProgram → Memory → ℕ → Place → Typed → Cell → Operand → (Memory → Act S) → Act S
+  store program memory frame at e cell operand onward = store_object program memory frame at (access_of e) cell operand onward

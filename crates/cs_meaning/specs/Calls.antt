@@ -1,0 +1,234 @@
+-- Calls (C11 6.5.2.2, 7.22.3): frames, functions without a body, allocations and releases.
+use Rattle.std.specs.Prelude.{ℕ, ◌+◌, ◌==◌, nat_lt, ℤ, pos, negsuc, Bool, true, false, not, List, [], ◌∷◌, length, replicate, Option, Some, None, option_map, slice_get, if◌then◌else◌}
+use Rattle.std.specs.Ordering.{int_eq}
+use Rattle.cs_types.specs.DataModel.{size_type_of}
+use Rattle.cs_types.specs.Shape.{Shape, void}
+use Rattle.cs_inputs.specs.declared.path.Path.{Path}
+use Rattle.cs_inputs.specs.declared.path.Root.{Root}
+use Rattle.cs_inputs.specs.declared.path.Root.TheVariants as root
+use Rattle.cs_ast.specs.declared.place.Place.{Place}
+use Rattle.cs_ast.specs.declared.typed.operator.BinOp.TheVariants.{Mul}
+use Rattle.cs_ast.specs.declared.typed.operator.Allocator.{Allocator}
+use Rattle.cs_ast.specs.declared.typed.operator.Allocator.TheVariants.{Malloc, Calloc}
+use Rattle.cs_ast.specs.TypedTree.{Statement}
+use Rattle.cs_ast.specs.TypedProgram.{TypedProgram, Routine, Variable}
+use Rattle.cs_model.specs.declared.kind.Kind.TheVariants as kind
+use Rattle.cs_model.specs.declared.standing.Standing.{Standing}
+use Rattle.cs_model.specs.declared.standing.Standing.TheVariants.{Live, Freed, Ended}
+use Rattle.cs_events.specs.declared.event.Label.TheVariants as label
+use Rattle.cs_events.specs.declared.operation.Operation.TheVariants as operation
+use Rattle.cs_events.specs.declared.outcome.Outcome.TheVariants.{Done, Fault, Over}
+use Rattle.cs_events.specs.declared.outcome.Budget.TheVariants.{Depth}
+use Rattle.cs_events.specs.declared.outcome.Returned.{Returned}
+use Rattle.cs_events.specs.declared.outcome.Returned.TheVariants as returned
+use Rattle.cs_events.specs.declared.outcome.RunBudgets.{RunBudgets}
+use Rattle.cs_events.specs.Operations.{is_true}
+use Rattle.cs_events.specs.Objects.{Object, StartBlock, LocalObject, HeapBlock, Cell, NumberCell, NullCell, PointerCell, UnsetCell}
+use Rattle.cs_events.specs.Acts.{Act, Goes, Stops, Asks, Allocates}
+use Rattle.cs_meaning.specs.Types.{size_of, element_of}
+use Rattle.cs_meaning.specs.Initials.{number_in}
+use Rattle.cs_meaning.specs.Memory.{Block, Memory, Fill, UnsetFill, ZeroFill, InputFill, new_block, with_block, changed, refill, stand, is_constant, Unknown}
+use Rattle.cs_meaning.specs.Access.{shows_then, receive}
+use Rattle.cs_meaning.specs.Operators.{operate}
+use Rattle.cs_meaning.specs.Machine.{Operand, Scalar, Whole, Nothing, Execute, Item, Begin, End, CallFrame, Frame, Running, State, push, push_cell, pop, pop_many, with_memory, cell_of, cell_at, newest, routine_of, body_of}
+use Rattle.cs_meaning.specs.Marks.{marks}
+
+-- the path of the result of a call, of what a call wrote through an argument, and of an allocation
+abbrev pub root_path : Root → Path
+root_path root = record { root = root; cells = [] }
+
+abbrev pub result_path : ℕ → Path
+result_path call = root_path (root.Call call)
+
+abbrev pub wrote_path : ℕ → ℕ → Path
+wrote_path call argument = root_path (root.Wrote call argument)
+
+abbrev pub allocation_path : ℕ → Path
+allocation_path allocation = root_path (root.Malloc allocation)
+
+-- what a parameter holds at first: the argument with its number, at the offset 0
+abbrev pub argument_at : Option Operand → ℕ → Option Cell
+argument_at argument offset = if offset == 0 then option_map cell_of argument else None
+
+-- a local of a new frame: nothing of it is set, but a parameter holds its argument (C11 6.2.4, paragraph 6)
+abbrev pub local_block : TypedProgram → Option Operand → Variable → Block
+local_block program argument v = record (new_block v.ty (size_of program v.ty) UnsetFill) { written = argument_at argument }
+
+-- memory with all locals of a new frame
+abbrev pub with_locals : TypedProgram → ℕ → List Variable → List Operand → Memory → Memory
+with_locals program frame variables arguments memory (LocalObject number declaration) =
+    if number == frame
+    then option_map (local_block program (slice_get arguments declaration)) (slice_get variables declaration)
+    else memory (LocalObject number declaration)
+with_locals program frame variables arguments memory other = memory other
+
+-- memory once a frame has ended, and with it its locals
+abbrev pub without_locals : ℕ → Memory → Memory
+without_locals frame memory (LocalObject number declaration) =
+    if number == frame then option_map (stand Ended) (memory (LocalObject number declaration)) else memory (LocalObject number declaration)
+without_locals frame memory other = memory other
+
+-- what a function gives at the end of its body: nothing, or a value that was never set (C11 6.9.1, paragraph 12)
+abbrev pub falls_off : Shape → Operand
+falls_off void = Nothing
+falls_off other = Scalar UnsetCell
+
+-- a frame in which a function is to be executed
+abbrev pub new_frame : ℕ → ℕ → Routine → Frame
+new_frame function number routine = record {
+  function = function;
+  number = number;
+  todo = Begin routine.at ∷ (Execute (body_of routine) 0 ∷ (End routine.closes (falls_off routine.returns) ∷ []));
+  stack = [];
+  visits = replicate (marks (body_of routine)) 0;
+}
+
+-- the machine in a new frame, which has its locals, with these arguments
+abbrev pub inside : {Rest : Type 0} → TypedProgram → CallFrame Rest → Routine → List Operand → Running Rest → Running Rest
+inside program frame routine arguments m = record m {
+  frame = frame;
+  callers = m.frame ∷ m.callers;
+  memory = with_locals program m.frames routine.variables arguments m.memory;
+  frames = m.frames + 1;
+}
+
+-- the machine in a new frame of a function, with these arguments
+abbrev pub entered : TypedProgram → ℕ → Routine → List Operand → State → State
+entered program function routine arguments m = inside program (new_frame function m.frames routine) routine arguments m
+
+-- a call of a function with a body: it shows, unless there are as many frames as there may be
+abbrev pub enter_as : {Rest : Type 0} → TypedProgram → RunBudgets → (ℕ → CallFrame Rest) → Place → ℕ → Routine → List Operand → Running Rest → Act (Running Rest)
+enter_as program budgets begins at function routine arguments m =
+    if nat_lt (length m.callers + 1) budgets.depth
+    then shows_then at (label.Callee function) (Goes (inside program (begins m.frames) routine arguments m))
+    else Stops (Over Depth at)
+
+abbrev pub enter : TypedProgram → RunBudgets → Place → ℕ → Routine → List Operand → State → Act State
+enter program budgets at function routine arguments m = enter_as program budgets (λ number. new_frame function number routine) at function routine arguments m
+
+-- whether what a block holds may be written by a function without a body
+abbrev pub is_writable : TypedProgram → Object → Standing → Bool
+is_writable program object Live = not (is_constant program object)
+is_writable program object Freed = false
+is_writable program object Ended = false
+
+-- an object as such a function leaves it: its scalars are inputs below a path
+abbrev pub overwrite : TypedProgram → Object → Path → Block → Block
+overwrite program object path block = if is_writable program object block.standing then refill (InputFill path) block else block
+
+-- what such a call does to the object that an argument names: it shows whether there is one, and writes all of it
+abbrev pub write_through : {S : Type 0} → TypedProgram → Place → Path → Cell → Memory → (Memory → Act S) → Act S
+write_through program at path NullCell memory onward = shows_then at (label.Look false) (onward memory)
+write_through program at path (PointerCell object offset) memory onward = shows_then at (label.Look true) (onward (changed (overwrite program object path) object memory))
+write_through program at path (NumberCell n) memory onward = onward memory
+write_through program at path UnsetCell memory onward = onward memory
+
+-- the same of each argument whose parameter may be written through, from the argument with a number on
+abbrev pub write_arguments : {S : Type 0} → TypedProgram → Place → ℕ → ℕ → List Bool → List Operand → Memory → (Memory → Act S) → Act S
+write_arguments program at call argument (true ∷ written) (operand ∷ operands) memory onward =
+    write_through program at (wrote_path call argument) (cell_of operand) memory
+    (λ after. write_arguments program at call (argument + 1) written operands after onward)
+write_arguments program at call argument (false ∷ written) (operand ∷ operands) memory onward = write_arguments program at call (argument + 1) written operands memory onward
+write_arguments program at call argument written operands memory onward = onward memory
+
+-- the result of a call of such a function, by the type that it gives: it is looked up, but nothing is where the type is void
+abbrev pub outside_result : {S : Type 0} → TypedProgram → Shape → ℕ → Memory → (Memory → Operand → Act S) → Act S
+outside_result program void call memory onward = onward memory Nothing
+outside_result program ty call memory onward = receive program memory (Unknown (result_path call) ty) (λ after cell. onward after (Scalar cell))
+
+-- a call of a function without a body: it shows, its number is drawn and its result looked up, and it writes
+abbrev pub call_outside : {Rest : Type 0} → TypedProgram → Place → ℕ → Routine → List Operand → Running Rest → Act (Running Rest)
+call_outside program at function routine arguments m =
+    shows_then at (label.Callee function)
+    (outside_result program routine.returns (m.calls + 1) m.memory (λ memory result.
+    write_arguments program at (m.calls + 1) 0 routine.written arguments memory (λ after.
+    Goes (push result (record m { memory = after; calls = m.calls + 1 })))))
+
+-- a call of a function, with a body or without one
+abbrev pub call_routine : TypedProgram → RunBudgets → Place → ℕ → Routine → Option Statement → List Operand → State → Act State
+call_routine program budgets at function routine None arguments m = call_outside program at function routine arguments m
+call_routine program budgets at function routine (Some body) arguments m = enter program budgets at function routine arguments m
+
+-- a call with so many arguments, which are on the stack
+abbrev pub call : TypedProgram → RunBudgets → Place → ℕ → ℕ → State → Act State
+call program budgets at function count m =
+    call_routine program budgets at function (routine_of program function) (routine_of program function).body (newest count m) (pop_many count m)
+
+-- what an entry returned
+abbrev pub returned_cell : Cell → Returned
+returned_cell (NumberCell n) = returned.Number n
+returned_cell NullCell = returned.Null
+returned_cell (PointerCell object offset) = returned.Object
+returned_cell UnsetCell = returned.Unset
+
+abbrev pub returned_of : Operand → Returned
+returned_of (Scalar cell) = returned_cell cell
+returned_of (Whole cells) = returned.Unset
+returned_of Nothing = returned.Nothing
+
+-- the frame that runs ends, and gives a value to the one that called it; the run is done where none did
+abbrev pub leave_to : {Rest : Type 0} → List (CallFrame Rest) → Operand → Running Rest → Act (Running Rest)
+leave_to [] value m = Stops (Done (returned_of value))
+leave_to (caller ∷ callers) value m = Goes (record m {
+  frame = record caller { stack = value ∷ caller.stack };
+  callers = callers;
+  memory = without_locals m.frame.number m.memory;
+})
+
+abbrev pub leave : {Rest : Type 0} → Operand → Running Rest → Act (Running Rest)
+leave value m = leave_to m.callers value m
+
+-- a number of bytes
+abbrev pub bytes_of_number : ℤ → ℕ
+bytes_of_number (pos n) = n
+bytes_of_number (negsuc n) = 0
+
+-- what an allocation gives: a block of so many bytes with this fill, or null
+abbrev pub allocated : {Rest : Type 0} → Shape → ℤ → Fill → Bool → Running Rest → Running Rest
+allocated element bytes fill true m =
+    push_cell (PointerCell (HeapBlock (m.allocations + 1)) (pos 0))
+    (record m { allocations = m.allocations + 1; memory = with_block (HeapBlock (m.allocations + 1)) (new_block (element_of element) (bytes_of_number bytes) fill) m.memory })
+allocated element bytes fill false m = push_cell NullCell (record m { allocations = m.allocations + 1 })
+
+-- an allocation of so many bytes (C11 7.22.3.4)
+abbrev pub allocate_bytes : {Rest : Type 0} → Place → Shape → ℤ → Fill → Running Rest → Act (Running Rest)
+allocate_bytes at element bytes fill m =
+    Allocates at (allocation_path (m.allocations + 1)) (λ given. Goes (allocated element bytes fill given m))
+
+-- an allocation of so many elements of so many bytes: null where these are too many (C11 7.22.3.2)
+abbrev pub allocate_zeros : {Rest : Type 0} → TypedProgram → Place → Shape → ℤ → ℤ → Running Rest → Act (Running Rest)
+allocate_zeros program at element count size m =
+    Asks at (operation.Product count size) (λ holds.
+    if is_true holds
+    then operate program.model at Mul (size_type_of program.model) count size (λ bytes. allocate_bytes at element bytes ZeroFill m)
+    else Goes (allocated element (pos 0) ZeroFill false m))
+
+-- a call of `malloc` or `calloc`, whose arguments are on the stack
+abbrev pub allocate : {Rest : Type 0} → TypedProgram → Place → Allocator → Shape → Running Rest → Act (Running Rest)
+allocate program at Malloc element m = allocate_bytes at element (number_in (cell_at m 0)) UnsetFill (pop m)
+allocate program at Calloc element m = allocate_zeros program at element (number_in (cell_at m 1)) (number_in (cell_at m 0)) (pop_many 2 m)
+
+-- a block that stands can be freed through a pointer to its beginning alone (C11 7.22.3.3)
+abbrev pub release_block : {Rest : Type 0} → Place → Standing → Object → ℤ → Running Rest → Act (Running Rest)
+release_block at Live object offset m =
+    if int_eq offset (pos 0) then Goes (push Nothing (with_memory (changed (stand Freed) object m.memory) m)) else Stops (Fault kind.BadFree at)
+release_block at Freed object offset m = Stops (Fault kind.DoubleFree at)
+release_block at Ended object offset m = Stops (Fault kind.BadFree at)
+
+-- a block whose standing is known
+abbrev pub release_known : {Rest : Type 0} → Place → Option Block → Object → ℤ → Running Rest → Act (Running Rest)
+release_known at None object offset m = Stops (Fault kind.BadFree at)
+release_known at (Some block) object offset m = release_block at block.standing object offset m
+
+-- only start and heap blocks can be freed
+abbrev pub release_object : {Rest : Type 0} → Place → Object → ℤ → Running Rest → Act (Running Rest)
+release_object at (StartBlock path) offset m = release_known at (m.memory (StartBlock path)) (StartBlock path) offset m
+release_object at (HeapBlock allocation) offset m = release_known at (m.memory (HeapBlock allocation)) (HeapBlock allocation) offset m
+release_object at other offset m = Stops (Fault kind.BadFree at)
+
+-- a call of `free`
+abbrev pub release : {Rest : Type 0} → Place → Cell → Running Rest → Act (Running Rest)
+release at NullCell m = shows_then at (label.Look false) (Goes (push Nothing m))
+release at (PointerCell object offset) m = shows_then at (label.Look true) (release_object at object offset m)
+release at (NumberCell n) m = Goes (push Nothing m)
+release at UnsetCell m = Goes (push Nothing m)

@@ -1,0 +1,28 @@
+-- Expressions that have others in a row: for the contract of `act`.
+use Rattle.std.proofs.Common.{◌≡◌, ℕ, Vec, Global, length, sym, ap, ◌∙◌}
+use Rattle.cs_types.specs.declared.ctype.CType.{CType}
+use Rattle.cs_types.specs.Shape.{shape_of}
+use Rattle.cs_ast.specs.declared.typed.expression.Expr.{Expr}
+use Rattle.cs_ast.specs.declared.typed.expression.ExprKind.TheVariants as kind
+use Rattle.cs_ast.specs.declared.typed.operator.Allocator.{Allocator}
+use Rattle.cs_ast.specs.TypedProgram.{TypedProgram}
+use Rattle.cs_ast.specs.TypedTree.{Form}
+use Rattle.cs_ast.specs.TypedView.{form, typed}
+use Rattle.cs_ast.proofs.TypedRows.{form-Call, form-Allocate}
+use Rattle.cs_events.specs.declared.outcome.RunBudgets.{RunBudgets}
+use Rattle.cs_meaning.specs.Calls.{call, allocate}
+use Rattle.cs_meaning.specs.Expressions.{act, act_form}
+use Rattle.cs_meaning.specs.Machine.{State}
+use Rattle.cs_run_state.proofs.StatementForms.{count_all-list}
+
+module _ (program : TypedProgram) (budgets : RunBudgets) (e : Expr) (m : State) where
+  -- a call, with so many arguments
+  pub call_act : (function : ℕ) (arguments : Vec Expr Global) (count : ℕ) → e.kind ≡ kind.Call function arguments → count ≡ length arguments.items → act program budgets (typed e) m ≡ call program budgets e.place function count m
+  call_act function arguments count is counted =
+      ap (λ (f : Form). act_form program budgets e.place (shape_of e.ty) f m) (ap form is ∙ form-Call function arguments)
+      ∙ ap (λ (n : ℕ). call program budgets e.place function n m) (count_all-list arguments.items ∙ sym counted)
+
+  -- a call of `malloc` or `calloc`
+  pub allocate_act : (allocator : Allocator) (arguments : Vec Expr Global) (element : CType) → e.kind ≡ kind.Allocate allocator arguments element → act program budgets (typed e) m ≡ allocate program e.place allocator (shape_of element) m
+  allocate_act allocator arguments element is =
+      ap (λ (f : Form). act_form program budgets e.place (shape_of e.ty) f m) (ap form is ∙ form-Allocate allocator arguments element)

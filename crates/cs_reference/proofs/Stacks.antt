@@ -1,0 +1,64 @@
+-- Lists that are kept with their first element last, without some of their first elements: for the contracts of `pop_newest` and
+-- `drop_first`.
+use Rattle.std.proofs.Common.{◌≡◌, ℕ, zero, suc, ◌-◌, ◌<◌, ◌≤◌, List, [], ◌∷◌, ◌++◌, map, length, take, drop, reverse, refl, sym, ap, ◌∙◌, arith}
+use Rattle.cs_meaning.specs.Machine.{Operand, State, with_stack, pop, pop_many}
+use Rattle.std.proofs.lemmas.List.{reverse-append, reverse-reverse, length-reverse, take-append-drop, length-drop, length-map, take-map, drop-map}
+
+module _ {X : Type 0} where
+  -- what is after so many elements
+  after_are : (front back : List X) (n : ℕ) → length front ≤ n → (length front < n → back ≡ []) → drop n (front ++ back) ≡ back
+  after_are [] back zero h none = refl
+  after_are [] back (suc n) h none = rw (none (omega arith)) refl
+  after_are (x ∷ front) back zero h none = absurd (omega arith)
+  after_are (x ∷ front) back (suc n) h none = after_are front back n (omega arith) (λ less. none (omega arith))
+
+  -- the first ones
+  front_are : (front back : List X) (n : ℕ) → length front ≤ n → (length front < n → back ≡ []) → take n (front ++ back) ≡ front
+  front_are [] back zero h none = refl
+  front_are [] back (suc n) h none = rw (none (omega arith)) refl
+  front_are (x ∷ front) back zero h none = absurd (omega arith)
+  front_are (x ∷ front) back (suc n) h none = ap (λ l. x ∷ l) (front_are front back n (omega arith) (λ less. none (omega arith)))
+
+  -- a list in its two parts, read from the end
+  in_parts : (xs : List X) (k : ℕ) → reverse xs ≡ reverse (drop k xs) ++ reverse (take k xs)
+  in_parts xs k = ap reverse (sym (take-append-drop k xs)) ∙ reverse-append (take k xs) (drop k xs)
+
+  within : (xs : List X) (n : ℕ) → length (reverse (drop (length xs - n) xs)) ≤ n
+  within xs n = omega (arith, length-reverse (drop (length xs - n) xs), length-drop (length xs - n) xs)
+
+  none_left : (xs : List X) (n : ℕ) → length (reverse (drop (length xs - n) xs)) < n → reverse (take (length xs - n) xs) ≡ []
+  none_left xs n less =
+      let none : length xs - n ≡ 0 = omega (arith, length-reverse (drop (length xs - n) xs), length-drop (length xs - n) xs) in
+      ap (λ k. reverse (take k xs)) none
+
+  -- without the first ones
+  pub older_are : (xs : List X) (n : ℕ) → drop n (reverse xs) ≡ reverse (take (length xs - n) xs)
+  older_are xs n =
+      ap (drop n) (in_parts xs (length xs - n)) ∙ after_are (reverse (drop (length xs - n) xs)) (reverse (take (length xs - n) xs)) n (within xs n) (none_left xs n)
+
+  -- the first ones, from the last of them on
+  pub newest_are : (xs : List X) (n : ℕ) → reverse (take n (reverse xs)) ≡ drop (length xs - n) xs
+  newest_are xs n =
+      ap reverse (ap (take n) (in_parts xs (length xs - n)) ∙ front_are (reverse (drop (length xs - n) xs)) (reverse (take (length xs - n) xs)) n (within xs n) (none_left xs n)) ∙ reverse-reverse (drop (length xs - n) xs)
+
+-- the same of a list that is seen as another
+pub newest_of : {X Y : Type 0} (f : X → Y) (xs : List X) (n : ℕ) → reverse (take n (reverse (map f xs))) ≡ map f (drop (length xs - n) xs)
+newest_of f xs n =
+    newest_are (map f xs) n ∙ (ap (λ (k : ℕ). drop (k - n) (map f xs)) (length-map xs f) ∙ drop-map f (length xs - n) xs)
+
+pub older_of : {X Y : Type 0} (f : X → Y) (xs : List X) (n : ℕ) → drop n (reverse (map f xs)) ≡ reverse (map f (take (length xs - n) xs))
+older_of f xs n =
+    older_are (map f xs) n ∙ ap reverse (ap (λ (k : ℕ). take (k - n) (map f xs)) (length-map xs f) ∙ take-map f (length xs - n) xs)
+
+pub ruleset stacks = (newest_of, older_of)
+
+-- the machine without its newest operand, and without so many more
+pub pop-many : (n : ℕ) (m : State) → pop_many n (pop m) ≡ pop_many (suc n) m
+pop-many n m = ap (λ stack. with_stack stack m) (following n m.frame.stack)
+  where
+    following : (k : ℕ) (xs : List Operand) → drop k (drop 1 xs) ≡ drop (suc k) xs
+    following zero [] = refl
+    following (suc k) [] = refl
+    following k (x ∷ xs) = refl
+
+pub ruleset takes = (take-map)

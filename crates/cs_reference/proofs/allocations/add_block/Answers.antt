@@ -1,0 +1,14 @@
+use Rattle.std.proofs.Common.{pos, ◌+◌, length, ap, ◌∙◌}
+use Rattle.cs_events.specs.Objects.{HeapBlock, PointerCell}
+use Rattle.cs_meaning.specs.Machine.{State, push_cell}
+use Rattle.cs_meaning.specs.Memory.{with_block}
+use Rattle.cs_run_state.specs.MemoryView.{memory_of, block_of}
+use Rattle.cs_run_state.specs.MachineView.{state_of}
+use Rattle.cs_reference.proofs.MachineStates.{state_allocated}
+use Rattle.cs_reference.proofs.allocations.add_block.Goals as goal
+
+pub returns : goal.returns
+unfolding state_of
+returns c =
+    let next = length c.args.state.now.memory.heap.items + 1 in
+    rw c.requires ((rw c.requires at c.in_ok-push_cell.ensures) ∙ ap (λ (m : State). push_cell (PointerCell (HeapBlock next) (pos 0)) m) (state_allocated c.args.state.now c.allocate.new.self (with_block (HeapBlock next) (block_of c.args.block) (memory_of c.args.state.now.memory)) c.in_ok-allocate.ensures.memory c.in_ok-allocate.ensures.frames c.in_ok-allocate.ensures.allocations))

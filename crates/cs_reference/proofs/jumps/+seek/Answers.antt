@@ -1,0 +1,24 @@
+use Rattle.std.proofs.Common.{◌≡◌, ◌+◌, arith}
+use Rattle.cs_ast.specs.TypedView.{statement_list}
+use Rattle.cs_meaning.specs.Marks.{marks_in}
+use Rattle.cs_run_state.proofs.StatementForms.{block_is, for_is, switch_is}
+use Rattle.cs_reference.proofs.jumps.+seek.Goals as goal
+
+pub seek-returns-in-Block : goal.seek-returns-in-Block
+seek-returns-in-Block t c =
+    let is = block_is c.args.s.now _ c.in-Block.is in
+    rw is (rw c.deref.ensures.value at c.seek_in.ensures)
+
+pub seek-returns-in_ok-inner-in-For : goal.seek-returns-in_ok-inner-in-For
+seek-returns-in_ok-inner-in-For t c =
+    let is = for_is c.args.s.now _ _ _ _ c.in-For.is in
+    let before : c.in_ok-marks_in-in-For.field-0 ≡ marks_in (statement_list c.in-For.first.items) = rw c.deref-in-For.ensures.value at c.in_ok-marks_in-in-For.ensures in
+    let head : c.in_ok-together-in-For.field-0 ≡ c.args.mark + 1 = c.in_ok-together-in-For.ensures in
+    let both : c.in_ok-inner-in-For.inner ≡ c.in_ok-together-in-For.field-0 + c.in_ok-marks_in-in-For.field-0 = c.in_ok-inner-in-For.ensures in
+    let inner : c.in_ok-inner-in-For.inner ≡ c.args.mark + 1 + marks_in (statement_list c.in-For.first.items) = omega arith in
+    rw is (rw (c.deref-in-For-2.ensures, inner, is) at c.seek_in_loop-in-For.ensures)
+
+pub seek-returns-in-Switch : goal.seek-returns-in-Switch
+seek-returns-in-Switch t c =
+    let is = switch_is c.args.s.now _ _ _ c.in-Switch.is in
+    rw is (rw c.deref-in-Switch.ensures.value at c.seek_in_switch.ensures)

@@ -1,0 +1,88 @@
+-- What an expression of each form does with its parts, which are on the stack, told without those parts.
+use Rattle.std.specs.Prelude.{ℕ, pos, not}
+use Rattle.cs_types.specs.declared.int_type.IntType.{IntType}
+use Rattle.cs_types.specs.Shape.{Shape, integer}
+use Rattle.cs_ast.specs.declared.place.Place.{Place}
+use Rattle.cs_ast.specs.declared.typed.operator.BinOp.{BinOp}
+use Rattle.cs_ast.specs.declared.typed.operator.UnOp.{UnOp}
+use Rattle.cs_ast.specs.declared.typed.operator.CmpOp.{CmpOp}
+use Rattle.cs_ast.specs.declared.typed.operator.Order.{Order}
+use Rattle.cs_ast.specs.declared.typed.operator.Direction.{Direction}
+use Rattle.cs_ast.specs.declared.typed.operator.Gives.{Gives}
+use Rattle.cs_ast.specs.TypedTree.{Typed}
+use Rattle.cs_ast.specs.TypedProgram.{TypedProgram}
+use Rattle.cs_events.specs.declared.event.Label.TheVariants as label
+use Rattle.cs_events.specs.declared.operation.Operation.TheVariants as operation
+use Rattle.cs_events.specs.Objects.{LocalObject, NumberCell, PointerCell}
+use Rattle.cs_events.specs.Acts.{Act, Goes, Asks}
+use Rattle.cs_meaning.specs.Types.{size_of, target_of, integer_of, type_of}
+use Rattle.cs_meaning.specs.Initials.{truth_cell, further, directed}
+use Rattle.cs_meaning.specs.Access.{shows_then, load}
+use Rattle.cs_meaning.specs.Operators.{truth, operate, convert_number, convert, sum, compare, difference, arrow}
+use Rattle.cs_meaning.specs.Calls.{release}
+use Rattle.cs_meaning.specs.Machine.{State, push, push_cell, pop, pop_many, with_memory, operand_at, cell_at}
+use Rattle.cs_meaning.specs.Expressions.{pointer_age, amount_age, number_at, stores, updates, moves}
+
+-- the place of a local of the frame that runs is left
+abbrev pub local_place : ℕ → State → State
+local_place declaration m = push_cell (PointerCell (LocalObject m.frame.number declaration) (pos 0)) m
+
+-- the place of a member is left in place of its object's
+abbrev pub member_place : ℕ → State → State
+member_place offset m = push_cell (further (cell_at m 0) offset) (pop m)
+
+-- the element of an array
+abbrev pub index_act : TypedProgram → Place → Shape → Order → State → Act State
+index_act program at ty order m =
+    sum program.model at (cell_at m (pointer_age order)) (number_at m (amount_age order)) (size_of program ty) (λ cell. Goes (push_cell cell (pop_many 2 m)))
+
+-- the member of what a pointer points to
+abbrev pub arrow_act : Place → ℕ → State → Act State
+arrow_act at offset m = arrow at (cell_at m 0) offset (λ cell. Goes (push_cell cell (pop m)))
+
+-- a load from what an expression names
+abbrev pub load_act : TypedProgram → Typed → State → Act State
+load_act program object m = load program m.memory m.frame.number object (cell_at m 0) (λ memory operand. Goes (push operand (with_memory memory (pop m))))
+
+-- a conversion
+abbrev pub convert_act : TypedProgram → Place → Shape → Shape → State → Act State
+convert_act program at from to m = convert program.model at from to (operand_at m 0) (λ operand. Goes (push operand (pop m)))
+
+-- operators
+abbrev pub unary_act : Place → Shape → UnOp → State → Act State
+unary_act at ty op m = Asks at (operation.Unary op (integer_of ty) (number_at m 0)) (λ number. Goes (push_cell (NumberCell number) (pop m)))
+
+abbrev pub not_act : Place → State → Act State
+not_act at m = truth at (cell_at m 0) (λ holds. shows_then at (label.Truth (not holds)) (Goes (push_cell (truth_cell (not holds)) (pop m))))
+
+abbrev pub binary_act : TypedProgram → Place → Shape → BinOp → State → Act State
+binary_act program at ty op m =
+    operate program.model at op (integer_of ty) (number_at m 1) (number_at m 0) (λ number. Goes (push_cell (NumberCell number) (pop_many 2 m)))
+
+abbrev pub compare_act : Place → CmpOp → State → Act State
+compare_act at op m = compare at op (cell_at m 1) (cell_at m 0) (λ number. Goes (push_cell (NumberCell number) (pop_many 2 m)))
+
+abbrev pub sum_act : TypedProgram → Place → Shape → Direction → Order → State → Act State
+sum_act program at ty direction order m =
+    sum program.model at (cell_at m (pointer_age order)) (directed direction (number_at m (amount_age order))) (size_of program (target_of ty)) (λ cell. Goes (push_cell cell (pop_many 2 m)))
+
+abbrev pub difference_act : TypedProgram → Place → Shape → State → Act State
+difference_act program at ty m =
+    difference at (cell_at m 1) (cell_at m 0) (size_of program (target_of ty)) (λ number. Goes (push_cell (NumberCell number) (pop_many 2 m)))
+
+-- an assignment, an update of a number, and that of a pointer
+abbrev pub assign_act : TypedProgram → Place → Typed → State → Act State
+assign_act program at object m = stores program at object 1 (operand_at m 0) 2 (operand_at m 0) m
+
+abbrev pub update_act : TypedProgram → Place → BinOp → Typed → IntType → Gives → State → Act State
+update_act program at op object works_in gives m =
+    operate program.model at op works_in (number_at m 1) (number_at m 0) (λ number.
+    convert_number program.model at (integer works_in) (integer_of (type_of object)) number (λ stored. updates program at object gives stored m))
+
+abbrev pub move_act : TypedProgram → Place → Typed → Direction → Gives → State → Act State
+move_act program at object direction gives m =
+    sum program.model at (cell_at m 1) (directed direction (number_at m 0)) (size_of program (target_of (type_of object))) (λ cell. moves program at object gives cell m)
+
+-- a call of `free`
+abbrev pub free_act : Place → State → Act State
+free_act at m = release at (cell_at m 0) (pop m)

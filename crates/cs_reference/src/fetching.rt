@@ -1,0 +1,77 @@
+//! The load of an update.
+ghost use Rattle.std.specs.Prelude.{◌≡◌, OnOk, IfErr};
+ghost use Rattle.cs_ast.specs.TypedView.{typed};
+ghost use Rattle.cs_meaning.specs.Expressions as expressions;
+ghost use Rattle.cs_reference.specs.Fetching.{update_fetch, move_fetch};
+ghost use Rattle.cs_reference.specs.RunnerView.{program_of, state_in, IsReady, LeadsOn, Ends};
+
+use crate::runner::Runner;
+use cs_ast::Place;
+use cs_ast::typed::expression::{Expr, ExprKind};
+use cs_run_state::access::access_of;
+use cs_run_state::{Cell, Stop};
+use cs_types::IntType;
+
+impl<'a> Runner<'a> {
+    /// The load of an update, whose place stays below the value. A number is converted to the type in which the operator works.
+    pub fn fetch(&mut self, e: &'a Expr) -> Result<(), Stop>
+        requires { IsReady self.old }
+        ensures ok { OnOk result (LeadsOn self.old self.new (expressions.fetch (program_of self.old) (typed e.now) (state_in self.old))) }
+        ensures err { IfErr result (Ends self.old self.new (expressions.fetch (program_of self.old) (typed e.now) (state_in self.old))) }
+        ensures kept { OnOk result (self.new.setting ≡ self.old.setting) }
+    {
+        match &e.kind {
+            ExprKind::Update(_, object, _, works_in, _) => {
+                self.fetch_number(e.place, object, *works_in)
+            }
+            ExprKind::Move(object, _, _, _) => self.fetch_pointer(object),
+            ExprKind::Number(_) | ExprKind::Null | ExprKind::Text(_) => Ok(()),
+            ExprKind::Local(_) | ExprKind::Global(_) | ExprKind::Through(_) => Ok(()),
+            ExprKind::Index(_, _, _) | ExprKind::Member(_, _) | ExprKind::Arrow(_, _) => Ok(()),
+            ExprKind::Load(_) | ExprKind::Address(_) | ExprKind::Decay(_) => Ok(()),
+            ExprKind::Convert(_) | ExprKind::Unary(_, _) | ExprKind::Not(_) => Ok(()),
+            ExprKind::Binary(_, _, _) | ExprKind::Compare(_, _, _) => Ok(()),
+            ExprKind::Sum(_, _, _, _) | ExprKind::Difference(_, _) => Ok(()),
+            ExprKind::And(_, _) | ExprKind::Or(_, _) | ExprKind::Choice(_, _, _) => Ok(()),
+            ExprKind::Comma(_, _) | ExprKind::Assign(_, _) => Ok(()),
+            ExprKind::Call(_, _) | ExprKind::Allocate(_, _, _) | ExprKind::Free(_) => Ok(()),
+        }
+    }
+
+    // The load of an update of a number.
+    fn fetch_number(&mut self, place: Place, object: &Expr, works_in: IntType) -> Result<(), Stop>
+        requires { IsReady self.old }
+        ensures ok { OnOk result (LeadsOn self.old self.new (update_fetch (program_of self.old) place (typed object.now) works_in (state_in self.old))) }
+        ensures err { IfErr result (Ends self.old self.new (update_fetch (program_of self.old) place (typed object.now) works_in (state_in self.old))) }
+        ensures kept { OnOk result (self.new.setting ≡ self.old.setting) }
+    {
+        let target = self.machine.top_cell()?;
+        let access = access_of(object);
+        let operand = self
+            .machine
+            .load(&mut self.log, self.setting, access, target)?;
+        let cell = operand.copy()?.into_cell();
+        let number = self
+            .log
+            .convert_number(self.setting, place, &object.ty, works_in, &cell)?;
+        self.machine.push(operand)?;
+        self.machine.push_cell(Cell::Number(number))?;
+        Ok(())
+    }
+
+    // The load of an update of a pointer.
+    fn fetch_pointer(&mut self, object: &Expr) -> Result<(), Stop>
+        requires { IsReady self.old }
+        ensures ok { OnOk result (LeadsOn self.old self.new (move_fetch (program_of self.old) (typed object.now) (state_in self.old))) }
+        ensures err { IfErr result (Ends self.old self.new (move_fetch (program_of self.old) (typed object.now) (state_in self.old))) }
+        ensures kept { OnOk result (self.new.setting ≡ self.old.setting) }
+    {
+        let target = self.machine.top_cell()?;
+        let access = access_of(object);
+        let operand = self
+            .machine
+            .load(&mut self.log, self.setting, access, target)?;
+        self.machine.push(operand)?;
+        Ok(())
+    }
+}

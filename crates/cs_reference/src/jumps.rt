@@ -1,0 +1,207 @@
+//! Jumps (C11 6.8.6): what is still to be done where `break`, `continue` and `goto` lead.
+ghost use Rattle.std.specs.Prelude.{◌≡◌, ◌∷◌, OnOk, IfOk, IfErr};
+ghost use Rattle.cs_ast.specs.TypedProgram.{routine};
+ghost use Rattle.cs_ast.specs.TypedView.{statement, statement_list};
+ghost use Rattle.cs_meaning.specs.Machine as machine;
+ghost use Rattle.cs_meaning.specs.Jumps as jumps;
+ghost use Rattle.cs_meaning.specs.Statements as statements;
+ghost use Rattle.cs_meaning.specs.Steps as steps;
+ghost use Rattle.cs_run_state.specs.MachineView.{state_of, todo_of};
+ghost use Rattle.cs_reference.specs.Jumping.{lands_at};
+ghost use Rattle.cs_reference.specs.RunnerView.{program_of, budgets_of, state_in, LeadsOn, Ends};
+
+use crate::lists::{drop_first, drop_past_out, drop_to_again, put_first, put_statements};
+use crate::runner::Runner;
+use cs_ast::Place;
+use cs_ast::typed::program::Function;
+use cs_ast::typed::statement::{Stmt, StmtKind};
+use cs_events::PointKind;
+use cs_run_state::Stop;
+use cs_run_state::blocks::BlockType;
+use cs_run_state::items::{Item, StmtStep};
+use cs_run_state::machine::Machine;
+use cs_run_state::marks::{marks, marks_in, together};
+use std::alloc::AllocError;
+
+/// Where a label stands: its mark and its place.
+#[derive(Clone, Copy, Debug, PartialEq, Eq)]
+pub struct Landing {
+    pub mark: u64,
+    pub place: Place,
+}
+
+/// Leaves the nearest loop or `switch`.
+#[tactic(auto, unfolding(cs_run_state::specs::MachineView::state_of))]
+pub fn break_out(state: &mut Machine)
+    ensures { state_of state.new ≡ machine.to_do (jumps.broken_out (state_of state.old).frame.todo) (state_of state.old) }
+{
+    drop_past_out(&mut state.frame.todo);
+}
+
+/// Leaves the body of the nearest loop.
+#[tactic(auto, unfolding(cs_run_state::specs::MachineView::state_of))]
+pub fn go_on(state: &mut Machine)
+    ensures { state_of state.new ≡ machine.to_do (jumps.continued (state_of state.old).frame.todo) (state_of state.old) }
+{
+    drop_to_again(&mut state.frame.todo);
+}
+
+impl<'a> Runner<'a> {
+    /// Goes to a label of the function that runs, which is reached; one that isn't there leads on.
+    pub fn go_to(&mut self, label: u32) -> Result<(), Stop>
+        ensures ok { OnOk result (LeadsOn self.old self.new (statements.go_to (program_of self.old) (budgets_of self.old) label (steps.at_end (machine.routine_of (program_of self.old) (state_in self.old).frame.function)) (state_in self.old))) }
+        ensures err { IfErr result (Ends self.old self.new (statements.go_to (program_of self.old) (budgets_of self.old) label (steps.at_end (machine.routine_of (program_of self.old) (state_in self.old).frame.function)) (state_in self.old))) }
+        ensures kept { OnOk result (self.new.setting ≡ self.old.setting) }
+    {
+        let number = function_of(&self.machine) as usize;
+        match self.setting.program.functions.get(number) {
+            Some(function) => match &function.body {
+                Some(body) => self.go_to_in(label, function, body),
+                None => Ok(()),
+            },
+            None => Ok(()),
+        }
+    }
+
+    // The same in the body of the function that runs.
+    fn go_to_in(&mut self, label: u32, function: &'a Function, body: &'a Stmt) -> Result<(), Stop>
+        ensures ok { OnOk result (LeadsOn self.old self.new (statements.lands (budgets_of self.old) (jumps.landing label (statement body.now) 0 (steps.at_end (routine function.now))) (state_in self.old))) }
+        ensures err { IfErr result (Ends self.old self.new (statements.lands (budgets_of self.old) (jumps.landing label (statement body.now) 0 (steps.at_end (routine function.now))) (state_in self.old))) }
+        ensures kept { OnOk result (self.new.setting ≡ self.old.setting) }
+    {
+        let mut todo = Vec::new(*self.machine.frame.todo.allocator());
+        put_first(
+            &mut todo,
+            Item::End(function.end, BlockType::Of(&function.result)),
+        )?;
+        match seek(label, body, 0, &mut todo)? {
+            Some(landing) => {
+                set_todo(&mut self.machine, todo);
+                self.reach_mark(landing.place, PointKind::Label, landing.mark)
+            }
+            None => Ok(()),
+        }
+    }
+}
+
+// The number of the function that runs.
+#[tactic(auto, unfolding(cs_run_state::specs::MachineView::state_of))]
+fn function_of(state: &Machine) -> u32
+    ensures { result ≡ (state_of state.now).frame.function }
+{
+    state.frame.function
+}
+
+// This is to be done.
+#[tactic(auto, unfolding(cs_run_state::specs::MachineView::state_of))]
+fn set_todo<'a>(state: &mut Machine<'a>, todo: Vec<Item<'a>>)
+    ensures { state_of state.new ≡ machine.to_do (todo_of todo.entry.items) (state_of state.old) }
+{
+    state.frame.todo = todo;
+}
+
+// Where a label stands in a statement, the first mark of which has a number. What is to be done once it is reached is then put before
+// what is to be done after the statement; else nothing is put there.
+#[cycle(seek)]
+fn seek<'a>(
+    label: u32,
+    s: &'a Stmt,
+    mark: u64,
+    todo: &mut Vec<Item<'a>>,
+) -> Result<Option<Landing>, AllocError>
+    ensures { IfOk result (lands_at (jumps.landing label (statement s.now) mark (todo_of todo.old.items)) todo.old todo.new) }
+{
+    match &s.kind {
+        StmtKind::Block(statements) => seek_in(label, statements, mark, todo),
+        StmtKind::If(_, body) => seek(label, body, mark, todo),
+        StmtKind::IfElse(_, body, other) => match seek(label, body, mark, todo)? {
+            Some(found) => Ok(Some(found)),
+            None => seek(label, other, together(mark, marks(body)?)?, todo),
+        },
+        StmtKind::While(_, body) => seek_in_loop(label, body, together(mark, 1)?, s, mark, todo),
+        StmtKind::Do(body, _) => seek_in_loop(label, body, together(mark, 1)?, s, mark, todo),
+        StmtKind::For(first, _, _, body) => {
+            let inner = together(together(mark, 1)?, marks_in(first)?)?;
+            seek_in_loop(label, body, inner, s, mark, todo)
+        }
+        StmtKind::Switch(_, _, statements) => seek_in_switch(label, statements, mark, todo),
+        StmtKind::Label(number, body) => {
+            let inner = together(mark, 1)?;
+            if *number == label {
+                put_first(todo, Item::Statement(StmtStep::Execute, body, inner))?;
+                let place = s.place;
+                Ok(Some(Landing { mark, place }))
+            } else {
+                seek(label, body, inner, todo)
+            }
+        }
+        StmtKind::Declare(_, _) | StmtKind::Run(_) | StmtKind::Goto(_) => Ok(None),
+        StmtKind::Break | StmtKind::Continue | StmtKind::Return(_) => Ok(None),
+    }
+}
+
+// The same in the body of a loop, the first mark of which has a number of its own.
+#[cycle(seek)]
+fn seek_in_loop<'a>(
+    label: u32,
+    body: &'a Stmt,
+    inner: u64,
+    s: &'a Stmt,
+    mark: u64,
+    todo: &mut Vec<Item<'a>>,
+) -> Result<Option<Landing>, AllocError>
+    ensures { IfOk result (lands_at (jumps.landing label (statement body.now) inner (machine.Again (statement s.now) mark ∷ (machine.Out ∷ todo_of todo.old.items))) todo.old todo.new) }
+{
+    put_first(todo, Item::Out)?;
+    put_first(todo, Item::Statement(StmtStep::Again, s, mark))?;
+    match seek(label, body, inner, todo)? {
+        Some(found) => Ok(Some(found)),
+        None => {
+            drop_first(todo);
+            drop_first(todo);
+            Ok(None)
+        }
+    }
+}
+
+// The same in the statements of a `switch`.
+#[cycle(seek)]
+fn seek_in_switch<'a>(
+    label: u32,
+    statements: &'a [Stmt],
+    mark: u64,
+    todo: &mut Vec<Item<'a>>,
+) -> Result<Option<Landing>, AllocError>
+    ensures { IfOk result (lands_at (jumps.landing_in label (statement_list statements.now) mark (machine.Out ∷ todo_of todo.old.items)) todo.old todo.new) }
+{
+    put_first(todo, Item::Out)?;
+    match seek_in(label, statements, mark, todo)? {
+        Some(found) => Ok(Some(found)),
+        None => {
+            drop_first(todo);
+            Ok(None)
+        }
+    }
+}
+
+// The same in statements one after another.
+#[cycle(seek)]
+fn seek_in<'a>(
+    label: u32,
+    statements: &'a [Stmt],
+    mark: u64,
+    todo: &mut Vec<Item<'a>>,
+) -> Result<Option<Landing>, AllocError>
+    ensures { IfOk result (lands_at (jumps.landing_in label (statement_list statements.now) mark (todo_of todo.old.items)) todo.old todo.new) }
+{
+    put_statements(todo, statements, mark)?;
+    let mut at = mark;
+    for s in statements {
+        drop_first(todo);
+        if let Some(found) = seek(label, s, at, todo)? {
+            return Ok(Some(found));
+        }
+        at = together(at, marks(s)?)?;
+    }
+    Ok(None)
+}

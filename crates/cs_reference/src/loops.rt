@@ -1,0 +1,191 @@
+//! The ways that tests and loops take (C11 6.8.4, 6.8.5).
+ghost use Rattle.std.specs.Prelude.{◌≡◌, ◌+◌, ◌∷◌, OnOk, IfErr, option_map, option_copied};
+ghost use Rattle.cs_ast.specs.TypedView.{typed, statement};
+ghost use Rattle.cs_meaning.specs.Machine as machine;
+ghost use Rattle.cs_meaning.specs.Marks as meaning_marks;
+ghost use Rattle.cs_meaning.specs.Statements as meaning;
+ghost use Rattle.cs_run_state.specs.MachineView.{state_of};
+ghost use Rattle.cs_reference.specs.Deciding.{decides, turns};
+ghost use Rattle.cs_reference.specs.RunnerView.{budgets_of, state_in, LeadsOn, Ends};
+
+use crate::putting::{put_body, put_stmt, put_test};
+use crate::runner::Runner;
+use cs_ast::Place;
+use cs_ast::typed::expression::Expr;
+use cs_ast::typed::statement::{Stmt, StmtKind};
+use cs_events::PointKind;
+use cs_run_state::Stop;
+use cs_run_state::items::{ExprStep, Item, StmtStep};
+use cs_run_state::machine::Machine;
+use cs_run_state::marks::{marks, marks_in, together};
+use std::alloc::AllocError;
+
+impl<'a> Runner<'a> {
+    /// The newest value, which is a test's or a `switch`'s, says the way.
+    pub fn decide(&mut self, s: &'a Stmt, mark: u64) -> Result<(), Stop>
+        ensures ok { OnOk result (LeadsOn self.old self.new (meaning.decide (statement s.now) mark (state_in self.old))) }
+        ensures err { IfErr result (Ends self.old self.new (meaning.decide (statement s.now) mark (state_in self.old))) }
+        ensures kept { OnOk result (self.new.setting ≡ self.old.setting) }
+    {
+        match &s.kind {
+            StmtKind::If(_, body) => self.decide_if(s.place, body, mark),
+            StmtKind::IfElse(_, body, other) => self.decide_either(s.place, body, other, mark),
+            StmtKind::While(_, body) => self.decide_body(s, mark, body, together(mark, 1)?),
+            StmtKind::Do(_, _) => self.decide_turn(s, mark),
+            StmtKind::For(first, _, _, body) => {
+                let inner = together(together(mark, 1)?, marks_in(first)?)?;
+                self.decide_body(s, mark, body, inner)
+            }
+            StmtKind::Switch(_, cases, statements) => {
+                self.decide_switch(s.place, cases, statements, mark)
+            }
+            StmtKind::Block(_) | StmtKind::Declare(_, _) | StmtKind::Run(_) => Ok(()),
+            StmtKind::Goto(_) | StmtKind::Label(_, _) | StmtKind::Break => Ok(()),
+            StmtKind::Continue | StmtKind::Return(_) => Ok(()),
+        }
+    }
+
+    // A statement is executed where the newest value holds.
+    fn decide_if(&mut self, place: Place, body: &'a Stmt, mark: u64) -> Result<(), Stop>
+        ensures ok { OnOk result (LeadsOn self.old self.new (decides place (machine.Execute (statement body.now) mark ∷ (state_in self.old).frame.todo) (state_in self.old).frame.todo (state_in self.old))) }
+        ensures err { IfErr result (Ends self.old self.new (decides place (machine.Execute (statement body.now) mark ∷ (state_in self.old).frame.todo) (state_in self.old).frame.todo (state_in self.old))) }
+        ensures kept { OnOk result (self.new.setting ≡ self.old.setting) }
+    {
+        if self.machine.test(&mut self.log, self.setting, place)? {
+            put_stmt(&mut self.machine, StmtStep::Execute, body, mark)?;
+        }
+        Ok(())
+    }
+
+    // One statement or another is executed.
+    fn decide_either(
+        &mut self,
+        place: Place,
+        body: &'a Stmt,
+        other: &'a Stmt,
+        mark: u64,
+    ) -> Result<(), Stop>
+        ensures ok { OnOk result (LeadsOn self.old self.new (decides place (machine.Execute (statement body.now) mark ∷ (state_in self.old).frame.todo) (machine.Execute (statement other.now) (mark + meaning_marks.marks (statement body.now)) ∷ (state_in self.old).frame.todo) (state_in self.old))) }
+        ensures err { IfErr result (Ends self.old self.new (decides place (machine.Execute (statement body.now) mark ∷ (state_in self.old).frame.todo) (machine.Execute (statement other.now) (mark + meaning_marks.marks (statement body.now)) ∷ (state_in self.old).frame.todo) (state_in self.old))) }
+        ensures kept { OnOk result (self.new.setting ≡ self.old.setting) }
+    {
+        if self.machine.test(&mut self.log, self.setting, place)? {
+            put_stmt(&mut self.machine, StmtStep::Execute, body, mark)?;
+        } else {
+            let following = together(mark, marks(body)?)?;
+            put_stmt(&mut self.machine, StmtStep::Execute, other, following)?;
+        }
+        Ok(())
+    }
+
+    // The body of a loop is executed where the newest value holds.
+    fn decide_body(
+        &mut self,
+        s: &'a Stmt,
+        mark: u64,
+        body: &'a Stmt,
+        inner: u64,
+    ) -> Result<(), Stop>
+        ensures ok { OnOk result (LeadsOn self.old self.new (decides s.now.place (machine.Execute (statement body.now) inner ∷ (machine.Again (statement s.now) mark ∷ (state_in self.old).frame.todo)) (state_in self.old).frame.todo (state_in self.old))) }
+        ensures err { IfErr result (Ends self.old self.new (decides s.now.place (machine.Execute (statement body.now) inner ∷ (machine.Again (statement s.now) mark ∷ (state_in self.old).frame.todo)) (state_in self.old).frame.todo (state_in self.old))) }
+        ensures kept { OnOk result (self.new.setting ≡ self.old.setting) }
+    {
+        if self.machine.test(&mut self.log, self.setting, s.place)? {
+            put_body(&mut self.machine, s, mark, body, inner)?;
+        }
+        Ok(())
+    }
+
+    // A loop turns where the newest value holds.
+    fn decide_turn(&mut self, s: &'a Stmt, mark: u64) -> Result<(), Stop>
+        ensures ok { OnOk result (LeadsOn self.old self.new (decides s.now.place (machine.Turn (statement s.now) mark ∷ (state_in self.old).frame.todo) (state_in self.old).frame.todo (state_in self.old))) }
+        ensures err { IfErr result (Ends self.old self.new (decides s.now.place (machine.Turn (statement s.now) mark ∷ (state_in self.old).frame.todo) (state_in self.old).frame.todo (state_in self.old))) }
+        ensures kept { OnOk result (self.new.setting ≡ self.old.setting) }
+    {
+        if self.machine.test(&mut self.log, self.setting, s.place)? {
+            put_stmt(&mut self.machine, StmtStep::Turn, s, mark)?;
+        }
+        Ok(())
+    }
+
+    /// The head of a loop is reached; any other statement has none.
+    pub fn turn(&mut self, s: &'a Stmt, mark: u64) -> Result<(), Stop>
+        ensures ok { OnOk result (LeadsOn self.old self.new (meaning.turn (budgets_of self.old) (statement s.now) mark (state_in self.old))) }
+        ensures err { IfErr result (Ends self.old self.new (meaning.turn (budgets_of self.old) (statement s.now) mark (state_in self.old))) }
+        ensures kept { OnOk result (self.new.setting ≡ self.old.setting) }
+    {
+        match &s.kind {
+            StmtKind::While(test, _) => self.turn_to_test(s, mark, test),
+            StmtKind::Do(body, _) => self.turn_to_body(s, mark, body, together(mark, 1)?),
+            StmtKind::For(first, test, _, body) => match test {
+                Some(test) => self.turn_to_test(s, mark, test),
+                None => {
+                    let inner = together(together(mark, 1)?, marks_in(first)?)?;
+                    self.turn_to_body(s, mark, body, inner)
+                }
+            },
+            StmtKind::Block(_) | StmtKind::Declare(_, _) | StmtKind::Run(_) => Ok(()),
+            StmtKind::If(_, _) | StmtKind::IfElse(_, _, _) | StmtKind::Switch(_, _, _) => Ok(()),
+            StmtKind::Goto(_) | StmtKind::Label(_, _) | StmtKind::Break => Ok(()),
+            StmtKind::Continue | StmtKind::Return(_) => Ok(()),
+        }
+    }
+
+    // The head of a loop is reached, and then its test is evaluated.
+    fn turn_to_test(&mut self, s: &'a Stmt, mark: u64, test: &'a Expr) -> Result<(), Stop>
+        ensures ok { OnOk result (LeadsOn self.old self.new (turns (budgets_of self.old) s.now.place mark (machine.Evaluate (typed test.now) ∷ (machine.Decide (statement s.now) mark ∷ (state_in self.old).frame.todo)) (state_in self.old))) }
+        ensures err { IfErr result (Ends self.old self.new (turns (budgets_of self.old) s.now.place mark (machine.Evaluate (typed test.now) ∷ (machine.Decide (statement s.now) mark ∷ (state_in self.old).frame.todo)) (state_in self.old))) }
+        ensures kept { OnOk result (self.new.setting ≡ self.old.setting) }
+    {
+        put_test(&mut self.machine, test, s, mark)?;
+        self.reach_mark(s.place, PointKind::Head, mark)
+    }
+
+    // The head of a loop is reached, and then its body is executed.
+    fn turn_to_body(
+        &mut self,
+        s: &'a Stmt,
+        mark: u64,
+        body: &'a Stmt,
+        inner: u64,
+    ) -> Result<(), Stop>
+        ensures ok { OnOk result (LeadsOn self.old self.new (turns (budgets_of self.old) s.now.place mark (machine.Execute (statement body.now) inner ∷ (machine.Again (statement s.now) mark ∷ (state_in self.old).frame.todo)) (state_in self.old))) }
+        ensures err { IfErr result (Ends self.old self.new (turns (budgets_of self.old) s.now.place mark (machine.Execute (statement body.now) inner ∷ (machine.Again (statement s.now) mark ∷ (state_in self.old).frame.todo)) (state_in self.old))) }
+        ensures kept { OnOk result (self.new.setting ≡ self.old.setting) }
+    {
+        put_body(&mut self.machine, s, mark, body, inner)?;
+        self.reach_mark(s.place, PointKind::Head, mark)
+    }
+}
+
+/// What comes after the body of a loop.
+pub fn go_again<'a>(state: &mut Machine<'a>, s: &'a Stmt, mark: u64) -> Result<(), AllocError>
+    ensures { OnOk result (state_of state.new ≡ machine.to_do (meaning.again (statement s.now) mark (state_of state.old).frame.todo) (state_of state.old)) }
+{
+    match &s.kind {
+        StmtKind::While(_, _) => put_stmt(state, StmtStep::Turn, s, mark),
+        StmtKind::Do(_, test) => put_test(state, test, s, mark),
+        StmtKind::For(_, _, last, _) => {
+            put_stmt(state, StmtStep::Turn, s, mark)?;
+            put_last(state, last.as_ref())
+        }
+        StmtKind::Block(_) | StmtKind::Declare(_, _) | StmtKind::Run(_) => Ok(()),
+        StmtKind::If(_, _) | StmtKind::IfElse(_, _, _) | StmtKind::Switch(_, _, _) => Ok(()),
+        StmtKind::Goto(_) | StmtKind::Label(_, _) | StmtKind::Break => Ok(()),
+        StmtKind::Continue | StmtKind::Return(_) => Ok(()),
+    }
+}
+
+// The last part of a `for`, whose value is dropped.
+fn put_last<'a>(state: &mut Machine<'a>, last: Option<&'a Expr>) -> Result<(), AllocError>
+    ensures { OnOk result (state_of state.new ≡ machine.to_do (meaning.last_part (option_map typed (option_copied last.entry)) (state_of state.old).frame.todo) (state_of state.old)) }
+{
+    match last {
+        Some(last) => {
+            state.put(Item::Discard)?;
+            state.put_expr(ExprStep::Evaluate, last)?;
+            Ok(())
+        }
+        None => Ok(()),
+    }
+}

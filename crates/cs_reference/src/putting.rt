@@ -1,0 +1,77 @@
+//! Statements that are put before what is to be done.
+ghost use Rattle.std.specs.Prelude.{◌≡◌, ◌∷◌, OnOk};
+ghost use Rattle.cs_ast.specs.TypedView.{typed, statement, statement_list};
+ghost use Rattle.cs_meaning.specs.Jumps as jumps;
+ghost use Rattle.cs_meaning.specs.Machine as machine;
+ghost use Rattle.cs_run_state.specs.MachineView.{state_of, statement_item};
+
+use crate::lists::put_statements;
+use cs_ast::typed::expression::Expr;
+use cs_ast::typed::statement::Stmt;
+use cs_run_state::items::{ExprStep, Item, StmtStep};
+use cs_run_state::machine::Machine;
+use std::alloc::AllocError;
+
+/// Puts a step of a statement, the first mark of which has a number, before what is to be done.
+pub fn put_stmt<'a>(
+    state: &mut Machine<'a>,
+    step: StmtStep,
+    s: &'a Stmt,
+    mark: u64,
+) -> Result<(), AllocError>
+    ensures { OnOk result (state_of state.new ≡ machine.to_do (statement_item step (statement s.now) mark ∷ (state_of state.old).frame.todo) (state_of state.old)) }
+{
+    state.put(Item::Statement(step, s, mark))?;
+    Ok(())
+}
+
+/// Puts statements in their order before what is to be done.
+#[tactic(auto, unfolding(cs_run_state::specs::MachineView::state_of))]
+pub fn put_all<'a>(
+    state: &mut Machine<'a>,
+    statements: &'a [Stmt],
+    mark: u64,
+) -> Result<(), AllocError>
+    ensures { OnOk result (state_of state.new ≡ machine.to_do (jumps.executes (statement_list statements.now) mark (state_of state.old).frame.todo) (state_of state.old)) }
+{
+    put_statements(&mut state.frame.todo, statements, mark)?;
+    Ok(())
+}
+
+/// A test, or the value of a `switch`, is evaluated, and then decides.
+pub fn put_test<'a>(
+    state: &mut Machine<'a>,
+    test: &'a Expr,
+    s: &'a Stmt,
+    mark: u64,
+) -> Result<(), AllocError>
+    ensures { OnOk result (state_of state.new ≡ machine.to_do (machine.Evaluate (typed test.now) ∷ (machine.Decide (statement s.now) mark ∷ (state_of state.old).frame.todo)) (state_of state.old)) }
+{
+    put_stmt(state, StmtStep::Decide, s, mark)?;
+    state.put_expr(ExprStep::Evaluate, test)?;
+    Ok(())
+}
+
+/// A loop turns, and after it is where `break` leads.
+pub fn put_loop<'a>(state: &mut Machine<'a>, s: &'a Stmt, mark: u64) -> Result<(), AllocError>
+    ensures { OnOk result (state_of state.new ≡ machine.to_do (machine.Turn (statement s.now) mark ∷ (machine.Out ∷ (state_of state.old).frame.todo)) (state_of state.old)) }
+{
+    state.put(Item::Out)?;
+    put_stmt(state, StmtStep::Turn, s, mark)?;
+    Ok(())
+}
+
+/// The body of a loop is executed, and then what comes after it.
+pub fn put_body<'a>(
+    state: &mut Machine<'a>,
+    s: &'a Stmt,
+    mark: u64,
+    body: &'a Stmt,
+    inner: u64,
+) -> Result<(), AllocError>
+    ensures { OnOk result (state_of state.new ≡ machine.to_do (machine.Execute (statement body.now) inner ∷ (machine.Again (statement s.now) mark ∷ (state_of state.old).frame.todo)) (state_of state.old)) }
+{
+    put_stmt(state, StmtStep::Again, s, mark)?;
+    put_stmt(state, StmtStep::Execute, body, inner)?;
+    Ok(())
+}

@@ -1,0 +1,12 @@
+//! A run on its way.
+
+use cs_run_state::machine::Machine;
+use cs_run_state::{Log, Setting};
+
+/// A run on its way: its state, what it has shown, and what it goes by.
+#[derive(Drop)]
+pub struct Runner<'a> {
+    pub machine: Machine<'a>,
+    pub log: Log,
+    pub setting: &'a Setting<'a>,
+}

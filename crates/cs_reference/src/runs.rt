@@ -1,0 +1,42 @@
+//! Whole runs.
+ghost use Rattle.std.specs.Prelude.{IfOk};
+ghost use Rattle.cs_types.specs.Layout.{IsLaidOut};
+ghost use Rattle.cs_ast.specs.TypedProgram.{typed_program};
+ghost use Rattle.cs_meaning.specs.PlainRuns.{RunGives};
+ghost use Rattle.cs_run_state.specs.View.{log_of};
+ghost use Rattle.cs_reference.specs.RunView.{run_of};
+
+use crate::runner::Runner;
+use crate::starting::start;
+use cs_events::Outcome;
+use cs_run_state::{Log, Setting, Stop};
+use std::alloc::{AllocError, Global};
+
+/// A run that has ended: how, and what it has shown, read and touched.
+#[derive(Debug, Drop)]
+pub struct Ended {
+    pub outcome: Outcome,
+    pub log: Log,
+}
+
+/// Runs a function of a program as the reference machine does, until the run ends.
+pub fn run(alloc: Global, setting: &Setting, entry: u32) -> Result<Ended, AllocError>
+    requires { IsLaidOut setting.now.program.now.model setting.now.program.now.table.list }
+    ensures { IfOk result (λ ended. RunGives (typed_program setting.now.program.now) entry (run_of setting.now) setting.now.budgets ended.outcome (log_of ended.log)) }
+{
+    let mut runner = Runner {
+        machine: start(alloc, setting, entry)?,
+        log: Log::new(alloc),
+        setting,
+    };
+    loop {
+        match runner.step() {
+            Ok(()) => {}
+            Err(Stop::Outcome(outcome)) => {
+                let log = runner.log;
+                return Ok(Ended { outcome, log });
+            }
+            Err(Stop::Memory) => return Err(AllocError),
+        }
+    }
+}

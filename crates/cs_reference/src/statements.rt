@@ -1,0 +1,117 @@
+//! What executing a statement does (C11 6.8).
+ghost use Rattle.std.specs.Prelude.{◌≡◌, ◌+◌, ◌∷◌, OnOk, IfErr, option_map, option_copied};
+ghost use Rattle.cs_ast.specs.TypedView.{typed, statement, statement_list};
+ghost use Rattle.cs_meaning.specs.Jumps as jumps;
+ghost use Rattle.cs_meaning.specs.Machine as machine;
+ghost use Rattle.cs_meaning.specs.Statements as meaning;
+ghost use Rattle.cs_meaning.specs.Steps as steps;
+ghost use Rattle.cs_run_state.specs.MachineView.{state_of};
+ghost use Rattle.cs_reference.specs.RunnerView.{program_of, budgets_of, state_in, IsReady, LeadsOn, Ends};
+
+use crate::jumps::{break_out, go_on};
+use crate::putting::{put_all, put_loop, put_stmt, put_test};
+use crate::runner::Runner;
+use cs_ast::Place;
+use cs_ast::typed::expression::Expr;
+use cs_ast::typed::statement::{Stmt, StmtKind};
+use cs_events::PointKind;
+use cs_run_state::items::{ExprStep, Item, StmtStep};
+use cs_run_state::machine::Machine;
+use cs_run_state::marks::together;
+use cs_run_state::{Operand, Stop};
+use std::alloc::AllocError;
+
+impl<'a> Runner<'a> {
+    /// A statement begins, the first mark of which has a number.
+    pub fn execute(&mut self, s: &'a Stmt, mark: u64) -> Result<(), Stop>
+        requires { IsReady self.old }
+        ensures ok { OnOk result (LeadsOn self.old self.new (meaning.execute (program_of self.old) (budgets_of self.old) (steps.at_end (machine.routine_of (program_of self.old) (state_in self.old).frame.function)) (statement s.now) mark (state_in self.old))) }
+        ensures err { IfErr result (Ends self.old self.new (meaning.execute (program_of self.old) (budgets_of self.old) (steps.at_end (machine.routine_of (program_of self.old) (state_in self.old).frame.function)) (statement s.now) mark (state_in self.old))) }
+        ensures kept { OnOk result (self.new.setting ≡ self.old.setting) }
+    {
+        match &s.kind {
+            StmtKind::Block(statements) => Ok(put_all(&mut self.machine, statements, mark)?),
+            StmtKind::Declare(declaration, first) => {
+                self.declare(s.place, *declaration, first.as_ref())
+            }
+            StmtKind::Run(e) => Ok(put_run(&mut self.machine, e)?),
+            StmtKind::If(test, _) => Ok(put_test(&mut self.machine, test, s, mark)?),
+            StmtKind::IfElse(test, _, _) => Ok(put_test(&mut self.machine, test, s, mark)?),
+            StmtKind::While(_, _) => Ok(put_loop(&mut self.machine, s, mark)?),
+            StmtKind::Do(_, _) => Ok(put_loop(&mut self.machine, s, mark)?),
+            StmtKind::For(first, _, _, _) => Ok(put_for(&mut self.machine, s, mark, first)?),
+            StmtKind::Switch(value, _, _) => Ok(put_switch(&mut self.machine, s, mark, value)?),
+            StmtKind::Goto(label) => self.go_to(*label),
+            StmtKind::Label(_, body) => {
+                put_stmt(
+                    &mut self.machine,
+                    StmtStep::Execute,
+                    body,
+                    together(mark, 1)?,
+                )?;
+                self.reach_mark(s.place, PointKind::Label, mark)
+            }
+            StmtKind::Break => {
+                break_out(&mut self.machine);
+                Ok(())
+            }
+            StmtKind::Continue => {
+                go_on(&mut self.machine);
+                Ok(())
+            }
+            StmtKind::Return(value) => Ok(put_return(&mut self.machine, s.place, value.as_ref())?),
+        }
+    }
+}
+
+// A `for`: its first part is executed, and then it turns.
+fn put_for<'a>(
+    state: &mut Machine<'a>,
+    s: &'a Stmt,
+    mark: u64,
+    first: &'a [Stmt],
+) -> Result<(), AllocError>
+    ensures { OnOk result (state_of state.new ≡ machine.to_do (jumps.executes (statement_list first.now) (mark + 1) (machine.Turn (statement s.now) mark ∷ (machine.Out ∷ (state_of state.old).frame.todo))) (state_of state.old)) }
+{
+    put_loop(state, s, mark)?;
+    put_all(state, first, together(mark, 1)?)?;
+    Ok(())
+}
+
+// A `switch`: its value is evaluated, and then decides.
+fn put_switch<'a>(
+    state: &mut Machine<'a>,
+    s: &'a Stmt,
+    mark: u64,
+    value: &'a Expr,
+) -> Result<(), AllocError>
+    ensures { OnOk result (state_of state.new ≡ machine.to_do (machine.Evaluate (typed value.now) ∷ (machine.Decide (statement s.now) mark ∷ (machine.Out ∷ (state_of state.old).frame.todo))) (state_of state.old)) }
+{
+    state.put(Item::Out)?;
+    put_test(state, value, s, mark)?;
+    Ok(())
+}
+
+// An expression is evaluated, and its value dropped.
+fn put_run<'a>(state: &mut Machine<'a>, e: &'a Expr) -> Result<(), AllocError>
+    ensures { OnOk result (state_of state.new ≡ machine.to_do (machine.EvaluateUnused (typed e.now) ∷ (machine.Drop ∷ (state_of state.old).frame.todo)) (state_of state.old)) }
+{
+    state.put(Item::Discard)?;
+    state.put_expr(ExprStep::EvaluateUnused, e)?;
+    Ok(())
+}
+
+// A `return`: the frame is left with a value, if there is one.
+fn put_return<'a>(
+    state: &mut Machine<'a>,
+    place: Place,
+    value: Option<&'a Expr>,
+) -> Result<(), AllocError>
+    ensures { OnOk result (state_of state.new ≡ meaning.returns place (option_map typed (option_copied value.entry)) (state_of state.old)) }
+{
+    state.put(Item::Give(place))?;
+    match value {
+        Some(value) => state.put_expr(ExprStep::Evaluate, value),
+        None => state.push(Operand::Nothing),
+    }
+}

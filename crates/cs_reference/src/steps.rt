@@ -1,0 +1,160 @@
+//! The steps of a run.
+ghost use Rattle.std.specs.Prelude.{◌≡◌, [], ◌∷◌, OnOk, IfErr};
+ghost use Rattle.cs_ast.specs.TypedView.{typed, statement};
+ghost use Rattle.cs_meaning.specs.Calls as calls;
+ghost use Rattle.cs_meaning.specs.Machine as machine;
+ghost use Rattle.cs_meaning.specs.Steps as steps;
+ghost use Rattle.cs_run_state.specs.View.{operand_of};
+ghost use Rattle.cs_run_state.specs.MemoryView.{type_of};
+ghost use Rattle.cs_run_state.specs.MachineView.{state_of, item_of, expression_item, statement_item};
+ghost use Rattle.cs_reference.specs.RunnerView.{program_of, budgets_of, state_in, IsReady, LeadsOn, Ends};
+
+use crate::declarations::spell_local;
+use crate::loops::go_again;
+use crate::runner::Runner;
+use cs_ast::Place;
+use cs_ast::typed::expression::Expr;
+use cs_ast::typed::statement::Stmt;
+use cs_events::PointKind;
+use cs_run_state::blocks::BlockType;
+use cs_run_state::items::{ExprStep, Item, StmtStep};
+use cs_run_state::machine::Machine;
+use cs_run_state::{Cell, Operand, Stop, Touch};
+use cs_types::CType;
+use std::alloc::AllocError;
+
+impl<'a> Runner<'a> {
+    /// One step.
+    pub fn step(&mut self) -> Result<(), Stop>
+        requires { IsReady self.old }
+        ensures ok { OnOk result (LeadsOn self.old self.new (steps.step (program_of self.old) (budgets_of self.old) (state_in self.old))) }
+        ensures err { IfErr result (Ends self.old self.new (steps.step (program_of self.old) (budgets_of self.old) (state_in self.old))) }
+        ensures kept { OnOk result (self.new.setting ≡ self.old.setting) }
+    {
+        match self.machine.next() {
+            Some(item) => self.perform(item),
+            None => self.leave(Operand::Scalar(Cell::Unset)),
+        }
+    }
+
+    // What a thing to do does, with the other things left to be done.
+    fn perform(&mut self, item: Item<'a>) -> Result<(), Stop>
+        requires { IsReady self.old }
+        ensures ok { OnOk result (LeadsOn self.old self.new (steps.do_item (program_of self.old) (budgets_of self.old) (item_of item.entry) (state_in self.old))) }
+        ensures err { IfErr result (Ends self.old self.new (steps.do_item (program_of self.old) (budgets_of self.old) (item_of item.entry) (state_in self.old))) }
+        ensures kept { OnOk result (self.new.setting ≡ self.old.setting) }
+    {
+        match item {
+            Item::Expression(step, e) => self.perform_expr(step, e),
+            Item::Statement(step, s, mark) => self.perform_stmt(step, s, mark),
+            Item::Judge(place) => self.machine.judge(&mut self.log, self.setting, place),
+            Item::Use(place) => self.machine.use_result(&self.log, self.setting, place),
+            Item::Discard => {
+                self.machine.pop();
+                Ok(())
+            }
+            Item::Store(place, declaration, offset, ty) => {
+                self.store_local(place, declaration, offset, ty)
+            }
+            Item::Spell(declaration, offset, bytes) => {
+                let program = self.setting.program;
+                spell_local(&mut self.machine, program, declaration, offset, bytes)?;
+                Ok(())
+            }
+            Item::Pass(_) => Ok(()),
+            Item::Out => Ok(()),
+            Item::Begin(place) => {
+                self.log.touch(Touch::Meets(PointKind::Enter, place))?;
+                Ok(())
+            }
+            Item::End(place, ty) => self.come_to_end(place, ty),
+            Item::Give(place) => {
+                self.log.touch(Touch::Meets(PointKind::Return, place))?;
+                leave_next(&mut self.machine)?;
+                Ok(())
+            }
+            Item::Leave => {
+                let value = self.machine.pop();
+                self.leave(value)
+            }
+        }
+    }
+
+    // A step of an expression.
+    fn perform_expr(&mut self, step: ExprStep, e: &'a Expr) -> Result<(), Stop>
+        requires { IsReady self.old }
+        ensures ok { OnOk result (LeadsOn self.old self.new (steps.do_item (program_of self.old) (budgets_of self.old) (expression_item step (typed e.now)) (state_in self.old))) }
+        ensures err { IfErr result (Ends self.old self.new (steps.do_item (program_of self.old) (budgets_of self.old) (expression_item step (typed e.now)) (state_in self.old))) }
+        ensures kept { OnOk result (self.new.setting ≡ self.old.setting) }
+    {
+        match step {
+            ExprStep::Evaluate => {
+                self.machine.evaluate(e)?;
+                Ok(())
+            }
+            ExprStep::EvaluateUnused => {
+                self.machine.evaluate_parts(e)?;
+                Ok(())
+            }
+            ExprStep::Act => self.act(e),
+            ExprStep::Fetch => self.fetch(e),
+            ExprStep::Choose => self.machine.choose(&mut self.log, self.setting, e),
+        }
+    }
+
+    // A step of a statement.
+    fn perform_stmt(&mut self, step: StmtStep, s: &'a Stmt, mark: u64) -> Result<(), Stop>
+        requires { IsReady self.old }
+        ensures ok { OnOk result (LeadsOn self.old self.new (steps.do_item (program_of self.old) (budgets_of self.old) (statement_item step (statement s.now) mark) (state_in self.old))) }
+        ensures err { IfErr result (Ends self.old self.new (steps.do_item (program_of self.old) (budgets_of self.old) (statement_item step (statement s.now) mark) (state_in self.old))) }
+        ensures kept { OnOk result (self.new.setting ≡ self.old.setting) }
+    {
+        match step {
+            StmtStep::Execute => self.execute(s, mark),
+            StmtStep::Decide => self.decide(s, mark),
+            StmtStep::Turn => self.turn(s, mark),
+            StmtStep::Again => {
+                go_again(&mut self.machine, s, mark)?;
+                Ok(())
+            }
+        }
+    }
+
+    // The end of a function's body is reached.
+    fn come_to_end(&mut self, place: Place, ty: BlockType) -> Result<(), Stop>
+        ensures ok { OnOk result (LeadsOn self.old self.new (steps.do_item (program_of self.old) (budgets_of self.old) (machine.End place (calls.falls_off (type_of ty.entry))) (state_in self.old))) }
+        ensures err { IfErr result (Ends self.old self.new (steps.do_item (program_of self.old) (budgets_of self.old) (machine.End place (calls.falls_off (type_of ty.entry))) (state_in self.old))) }
+        ensures kept { OnOk result (self.new.setting ≡ self.old.setting) }
+    {
+        self.log.touch(Touch::Meets(PointKind::End, place))?;
+        self.machine.push(falls_off(ty))?;
+        leave_next(&mut self.machine)?;
+        Ok(())
+    }
+}
+
+// Nothing is left to be done but to leave the frame.
+#[tactic(auto, using(cs_run_state::proofs::States::states), unfolding(cs_run_state::specs::MachineView::state_of))]
+fn leave_next(state: &mut Machine) -> Result<(), AllocError>
+    ensures { OnOk result (state_of state.new ≡ machine.to_do (machine.Leave ∷ []) (state_of state.old)) }
+{
+    state.frame.todo.clear();
+    state.frame.todo.push(Item::Leave)?;
+    Ok(())
+}
+
+// What a function gives at the end of its body: nothing, or a value that was never set (C11 6.9.1, paragraph 12).
+fn falls_off(ty: BlockType) -> Operand
+    ensures { operand_of result ≡ calls.falls_off (type_of ty.entry) }
+{
+    match ty {
+        BlockType::Of(CType::Void) => Operand::Nothing,
+        BlockType::Of(CType::Int(_)) => Operand::Scalar(Cell::Unset),
+        BlockType::Of(CType::Pointer(_)) => Operand::Scalar(Cell::Unset),
+        BlockType::Of(CType::Array(_, _)) => Operand::Scalar(Cell::Unset),
+        BlockType::Of(CType::Struct(_)) => Operand::Scalar(Cell::Unset),
+        BlockType::Integer(_) => Operand::Scalar(Cell::Unset),
+        BlockType::Text(_) => Operand::Scalar(Cell::Unset),
+        BlockType::Void => Operand::Nothing,
+    }
+}

@@ -1,0 +1,27 @@
+-- Lists that are kept with their first element last: for the contracts of `Machine`.
+use Rattle.std.proofs.Common.{◌≡◌, ℕ, zero, suc, ◌+◌, List, [], ◌∷◌, ◌++◌, map, drop, reverse, refl, ap, ◌∙◌, arith}
+use Rattle.std.specs.Prelude.{slice_get}
+use Rattle.std.proofs.lemmas.List.{reverse-append}
+use Rattle.cs_meaning.specs.Machine.{Operand, State, with_stack, pop, pop_many}
+use Rattle.cs_run_state.proofs.Performing.{map-push}
+
+-- one more at the end is one more at the beginning of what is read from the end
+pub reverse-map-push : {A B : Type 0} (f : A → B) (xs : List A) (x : A) → reverse (map f (xs ++ x ∷ [])) ≡ f x ∷ reverse (map f xs)
+reverse-map-push f xs x = ap reverse (map-push f xs x) ∙ reverse-append (map f xs) (f x ∷ [])
+
+-- what is after the first elements of a list
+pub slice_get-drop : {A : Type 0} (xs : List A) (n k : ℕ) → slice_get (drop n xs) k ≡ slice_get xs (n + k)
+slice_get-drop [] zero k = grind arith
+slice_get-drop [] (suc n) k = refl
+slice_get-drop (x ∷ xs) zero k = grind arith
+slice_get-drop (x ∷ xs) (suc n) k = grind (arith, slice_get-drop xs n k)
+
+-- the machine without its two newest operands
+pub pop-pop : (m : State) → pop (pop m) ≡ pop_many 2 m
+pop-pop m = ap (λ stack. with_stack stack m) (twice m.frame.stack)
+  where
+    twice : (xs : List Operand) → drop 1 (drop 1 xs) ≡ drop 2 xs
+    twice [] = refl
+    twice (x ∷ xs) = refl
+
+pub ruleset states = (reverse-map-push, slice_get-drop)

@@ -1,0 +1,104 @@
+-- The interpreter's memory, seen as that of the reference machine.
+use Rattle.std.specs.Prelude.{◌≡◌, ℕ, zero, suc, List, map, length, Option, None, option_map, slice_get, ◌==◌, if◌then◌else◌, Vec}
+use Rattle.std.specs.declared.alloc.Global.{Global}
+use Rattle.std.specs.Option.{option_and_then}
+use Rattle.std.specs.Map.{lookup}
+use Rattle.std.specs.BTreeMap.{BTreeMap, get, is_at}
+use Rattle.std.specs.Ordering.{nat_cmp}
+use Rattle.cs_types.specs.declared.int_type.IntType.TheVariants.{Char}
+use Rattle.cs_types.specs.Shape.{Shape, void, integer, array, shape_of}
+use Rattle.cs_inputs.specs.declared.path.Path.{Path}
+use Rattle.cs_inputs.specs.PathOrder.{path_order}
+use Rattle.cs_ast.specs.TypedView.{typed}
+use Rattle.cs_events.specs.Objects.{StartBlock, GlobalObject, LiteralObject, LocalObject, HeapBlock, Cell}
+use Rattle.cs_meaning.specs.Initials as initials
+use Rattle.cs_meaning.specs.Memory as meaning
+use Rattle.cs_run_state.specs.declared.blocks.BlockType.{BlockType}
+use Rattle.cs_run_state.specs.declared.blocks.BlockType.TheVariants.{Of, Integer, Text, Void}
+use Rattle.cs_run_state.specs.declared.blocks.Piece.{Piece}
+use Rattle.cs_run_state.specs.declared.blocks.Piece.TheVariants as piece
+use Rattle.cs_run_state.specs.declared.blocks.Fill.{Fill}
+use Rattle.cs_run_state.specs.declared.blocks.Fill.TheVariants as fill
+use Rattle.cs_run_state.specs.declared.blocks.Block.{Block}
+use Rattle.cs_run_state.specs.declared.blocks.Change.{Change}
+use Rattle.cs_run_state.specs.declared.blocks.Change.TheVariants as change
+use Rattle.cs_run_state.specs.declared.memory.Memory.{Memory}
+use Rattle.cs_run_state.specs.View.{cell_of}
+
+-- the type of an object
+abbrev pub type_of : BlockType → Shape
+type_of (Of ty) = shape_of ty.now
+type_of (Integer ty) = integer ty
+type_of (Text count) = array (integer Char) count
+type_of Void = void
+
+-- a piece of an initializer
+abbrev pub piece_of : Piece → initials.Piece
+piece_of (piece.Value offset e) = initials.Evaluated offset (typed e.now)
+piece_of (piece.Text offset bytes) = initials.Spelled offset bytes.now
+
+-- what scalars hold that were not written
+abbrev pub fill_of : Fill → meaning.Fill
+fill_of fill.Unset = meaning.UnsetFill
+fill_of fill.Zero = meaning.ZeroFill
+fill_of (fill.Initial pieces) = meaning.InitialFill (map piece_of pieces.items)
+fill_of (fill.Input path) = meaning.InputFill path
+
+-- what was written at an offset
+abbrev pub written_at : Block → ℕ → Option Cell
+written_at block offset = option_map cell_of (get nat_cmp block.written offset)
+
+-- an object
+abbrev pub block_of : Block → meaning.Block
+block_of block = record {
+  shape = type_of block.ty;
+  extent = block.extent;
+  standing = block.standing;
+  fill = fill_of block.fill;
+  written = written_at block;
+}
+
+-- what happens to an object
+abbrev pub change_of : Change → meaning.Block → meaning.Block
+change_of (change.Write offset cell) block = meaning.write_cell offset (cell_of cell) block
+change_of (change.Refill fill) block = meaning.refill (fill_of fill) block
+change_of (change.Stand standing) block = meaning.stand standing block
+
+-- the block after an unknown pointer with a path
+abbrev pub start_in : BTreeMap Path Block → Path → Option plain.Block
+start_in starts path = option_map block_of (lookup (is_at (path_order path)) starts.entries)
+
+-- an object of a row
+abbrev pub block_at : List Block → ℕ → Option plain.Block
+block_at row at = option_map block_of (slice_get row at)
+
+-- a local of a frame
+abbrev pub local_in : List (Vec Block Global) → ℕ → ℕ → Option plain.Block
+local_in frames frame declaration = option_and_then (λ (locals : Vec Block Global). block_at locals.items declaration) (slice_get frames frame)
+
+-- the block of an allocation, of those from the first one on
+abbrev pub given_in : List (Option Block) → ℕ → Option plain.Block
+given_in heap zero = None
+given_in heap (suc before) = option_and_then (λ (given : Option Block). option_map block_of given) (slice_get heap before)
+
+-- memory
+abbrev pub memory_of : Memory → meaning.Memory
+memory_of memory (StartBlock path) = start_in memory.starts path
+memory_of memory (GlobalObject global) = block_at memory.globals.items global
+memory_of memory (LiteralObject literal) = block_at memory.literals.items literal
+memory_of memory (LocalObject frame declaration) = local_in memory.frames.items frame declaration
+memory_of memory (HeapBlock allocation) = given_in memory.heap.items allocation
+
+-- a row with the object at a place changed, if it is there
+abbrev pub changed_at : (meaning.Block → meaning.Block) → ℕ → (ℕ → Option plain.Block) → ℕ → Option plain.Block
+changed_at change at row n = if at == n then option_map change (row n) else row n
+
+-- there are as many frames and allocations as there were
+pub record KeepsCounts (old new : Memory) : Type 0 where
+  pub frames : length new.frames.items ≡ length old.frames.items
+  pub allocations : length new.heap.items ≡ length old.heap.items
+
+-- memory with these locals in a frame
+abbrev pub with_frame : ℕ → (ℕ → Option plain.Block) → meaning.Memory → meaning.Memory
+with_frame frame locals memory (LocalObject n declaration) = if n == frame then locals declaration else memory (LocalObject n declaration)
+with_frame frame locals memory other = memory other

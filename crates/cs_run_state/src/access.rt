@@ -1,0 +1,491 @@
+//! Loads and stores (C11 6.3.2.1, 6.5.16): what is checked and shown on the way to an object, and what memory gives and keeps.
+ghost use Rattle.std.specs.Prelude.{◌≡◌, pos, neg_ℤ, ◌-ℤ◌, IfOk, OnOk, IfErr, Some, map};
+ghost use Rattle.cs_types.specs.Shape.{shape_of};
+ghost use Rattle.cs_types.specs.Layout.{IsLaidOut};
+ghost use Rattle.cs_ast.specs.TypedProgram.{typed_program};
+ghost use Rattle.cs_ast.specs.TypedView.{typed};
+ghost use Rattle.cs_events.specs.Acts.{Act};
+ghost use Rattle.cs_meaning.specs.Machine.{State};
+ghost use Rattle.cs_meaning.specs.Memory as meaning;
+ghost use Rattle.cs_meaning.specs.Types as types;
+ghost use Rattle.cs_meaning.specs.Access as loads;
+ghost use Rattle.cs_run_state.specs.View.{cell_of, object_of, operand_of};
+ghost use Rattle.cs_run_state.specs.MemoryView.{block_of, memory_of, KeepsCounts};
+ghost use Rattle.cs_run_state.specs.AccessView.{access_of, load_touch, store_touch, reach_standing, scalar_value, struct_value};
+ghost use Rattle.cs_run_state.specs.declared.settings.Setting.{Setting as SettingOfRun};
+ghost use Rattle.cs_run_state.specs.Pieces.{GoesOn, EndsIn, Gives, StopsIn, GivesBoth, StopsInBoth, or_fault};
+
+use crate::blocks::Block;
+use crate::found::position;
+use crate::logs::{Log, Stop, Touch};
+use crate::memory::Memory;
+use crate::objects::{Cell, Object, Operand};
+use crate::offsets::scalar_offsets;
+use crate::operators::fault;
+use crate::settings::Setting;
+use crate::types::size_of;
+use cs_ast::Place;
+use cs_ast::typed::expression::{Expr, ExprKind};
+use cs_ast::typed::program::Program;
+use cs_events::{Label, Operation};
+use cs_model::{Kind, Standing};
+use cs_types::CType;
+use std::alloc::AllocError;
+
+/// What a load or a store needs to know of the expression that names an object.
+#[derive(Clone, Copy)]
+pub struct Access<'a> {
+    pub place: Place,
+    pub ty: &'a CType,
+    /// Whether the expression names a variable, or a member of one: such an object is reached without a check.
+    pub direct: bool,
+    /// The scalar local that it names, if it names one.
+    pub local: Option<u32>,
+}
+
+/// The access to the object that an expression names.
+pub fn access_of(e: &Expr) -> Access<'_>
+    ensures { access_of result ≡ loads.access_of (typed e.now) }
+{
+    Access {
+        place: e.place,
+        ty: &e.ty,
+        direct: is_direct(e),
+        local: scalar_local(e),
+    }
+}
+
+// Whether an expression names a variable, or a member of one.
+fn is_direct(e: &Expr) -> bool
+    ensures { result ≡ loads.is_direct (typed e.now) }
+{
+    match &e.kind {
+        ExprKind::Local(_) => true,
+        ExprKind::Global(_) => true,
+        ExprKind::Member(object, _) => is_direct(object),
+        ExprKind::Number(_) | ExprKind::Null | ExprKind::Text(_) => false,
+        ExprKind::Through(_) | ExprKind::Index(_, _, _) | ExprKind::Arrow(_, _) => false,
+        ExprKind::Load(_) | ExprKind::Address(_) | ExprKind::Decay(_) => false,
+        ExprKind::Convert(_) | ExprKind::Unary(_, _) | ExprKind::Not(_) => false,
+        ExprKind::Binary(_, _, _) | ExprKind::Compare(_, _, _) => false,
+        ExprKind::Sum(_, _, _, _) | ExprKind::Difference(_, _) => false,
+        ExprKind::And(_, _) | ExprKind::Or(_, _) | ExprKind::Choice(_, _, _) => false,
+        ExprKind::Comma(_, _) | ExprKind::Assign(_, _) => false,
+        ExprKind::Update(_, _, _, _, _) | ExprKind::Move(_, _, _, _) => false,
+        ExprKind::Call(_, _) | ExprKind::Allocate(_, _, _) | ExprKind::Free(_) => false,
+    }
+}
+
+/// Whether a type is a scalar (C11 6.2.5, paragraph 21).
+pub fn is_scalar(ty: &CType) -> bool
+    ensures { result ≡ types.is_scalar (shape_of ty.now) }
+{
+    match ty {
+        CType::Int(_) | CType::Pointer(_) => true,
+        CType::Void | CType::Array(_, _) | CType::Struct(_) => false,
+    }
+}
+
+// The declaration that an expression names, if it is a scalar local of the function.
+fn scalar_local(e: &Expr) -> Option<u32>
+    ensures { result ≡ loads.scalar_local (typed e.now) }
+{
+    match &e.kind {
+        ExprKind::Local(declaration) => {
+            if is_scalar(&e.ty) {
+                Some(*declaration)
+            } else {
+                None
+            }
+        }
+        ExprKind::Number(_) | ExprKind::Null | ExprKind::Text(_) | ExprKind::Global(_) => None,
+        ExprKind::Through(_) | ExprKind::Index(_, _, _) | ExprKind::Member(_, _) => None,
+        ExprKind::Arrow(_, _) | ExprKind::Load(_) | ExprKind::Address(_) => None,
+        ExprKind::Decay(_) | ExprKind::Convert(_) | ExprKind::Unary(_, _) => None,
+        ExprKind::Not(_) | ExprKind::Binary(_, _, _) | ExprKind::Compare(_, _, _) => None,
+        ExprKind::Sum(_, _, _, _) | ExprKind::Difference(_, _) | ExprKind::And(_, _) => None,
+        ExprKind::Or(_, _) | ExprKind::Choice(_, _, _) | ExprKind::Comma(_, _) => None,
+        ExprKind::Assign(_, _) | ExprKind::Update(_, _, _, _, _) => None,
+        ExprKind::Move(_, _, _, _) | ExprKind::Call(_, _) => None,
+        ExprKind::Allocate(_, _, _) | ExprKind::Free(_) => None,
+    }
+}
+
+// An offset that isn't below 0.
+fn offset_number(offset: i128) -> Result<u64, AllocError>
+    ensures { IfOk result (λ number. number ≡ loads.offset_number offset) }
+{
+    if offset < 0 {
+        return Ok(0);
+    }
+    match u64::try_from(offset) {
+        Ok(number) => Ok(number),
+        Err(_) => Err(AllocError),
+    }
+}
+
+// The fault by which an object that is there no more refuses an access, if it does (C11 6.2.4, paragraph 2).
+fn refused(standing: Standing) -> Option<Kind>
+    ensures { (place : Place) (act : Act State) → loads.stands place standing act ≡ or_fault place result act }
+{
+    match standing {
+        Standing::Live => None,
+        Standing::Freed => Some(Kind::Freed),
+        Standing::Ended => Some(Kind::DeadLocal),
+    }
+}
+
+// Whether an object of a type begins at an offset of an object.
+fn begins_at(
+    program: &Program,
+    ty: &CType,
+    object: &Object,
+    block: &Block,
+    offset: i128,
+) -> Result<bool, AllocError>
+    requires { IsLaidOut program.now.model program.now.table.list }
+    ensures { IfOk result (λ holds. holds ≡ meaning.begins_at (typed_program program.now) (shape_of ty.now) (object_of object.now) (block_of block.now) offset) }
+{
+    if offset < 0 {
+        return Ok(false);
+    }
+    let number = offset_number(offset)?;
+    let at = position(program, object, block, number)?;
+    block.ty.begins(program, ty, at)
+}
+
+// How far an object's last byte lies after those of a type at its beginning, and whether an offset lies that far or less.
+fn ends_within(offset: i128, extent: u64, size: u64) -> Result<Operation, AllocError>
+    ensures { IfOk result (λ test. test ≡ Operation.Order (neg_ℤ offset) (pos extent -ℤ pos size)) }
+{
+    let back = offset.checked_neg().ok_or(AllocError)?;
+    Ok(Operation::Order(back, i128::from(extent) - i128::from(size)))
+}
+
+// The test whether an offset isn't below 0.
+fn begins_within(offset: i128) -> Operation
+    ensures { result ≡ Operation.Order offset (pos 0) }
+{
+    Operation::Order(offset, 0)
+}
+
+// An object that is there is reached in another type: it stands, the type's bytes lie within it, the offset shows, and such an
+// object begins there.
+fn reach_block(
+    log: &mut Log,
+    setting: &Setting,
+    access: Access,
+    object: &Object,
+    block: &Block,
+    offset: i128,
+) -> Result<u64, Stop>
+    requires { IsLaidOut setting.now.program.now.model setting.now.program.now.table.list }
+    ensures ok { IfOk result (Gives setting.now log.old log.new (loads.reach_in (typed_program setting.now.program.now) access.entry.place (shape_of access.entry.ty.now) (object_of object.now) offset (Some (block_of block.now)))) }
+    ensures err { IfErr result (StopsIn setting.now log.old log.new (loads.reach_in (typed_program setting.now.program.now) access.entry.place (shape_of access.entry.ty.now) (object_of object.now) offset (Some (block_of block.now)))) }
+{
+    match refused(block.standing) {
+        Some(kind) => Err(fault(kind, access.place)),
+        None => {
+            let number = reach_standing(log, setting, access, object, block, offset)?;
+            Ok(number)
+        }
+    }
+}
+
+// The same of one that stands.
+fn reach_standing(
+    log: &mut Log,
+    setting: &Setting,
+    access: Access,
+    object: &Object,
+    block: &Block,
+    offset: i128,
+) -> Result<u64, Stop>
+    requires { IsLaidOut setting.now.program.now.model setting.now.program.now.table.list }
+    ensures ok { IfOk result (Gives setting.now log.old log.new (reach_standing (typed_program setting.now.program.now) access.entry.place (shape_of access.entry.ty.now) (object_of object.now) offset (block_of block.now))) }
+    ensures err { IfErr result (StopsIn setting.now log.old log.new (reach_standing (typed_program setting.now.program.now) access.entry.place (shape_of access.entry.ty.now) (object_of object.now) offset (block_of block.now))) }
+{
+    let size = size_of(setting.program, access.ty)?;
+    let ends = ends_within(offset, block.extent, size)?;
+    let begins = begins_at(setting.program, access.ty, object, block, offset)?;
+    let number = offset_number(offset)?;
+    log.order(setting, access.place, begins_within(offset))?;
+    log.order(setting, access.place, ends)?;
+    log.show_offset(setting, access.place, object, offset)?;
+    if begins {
+        Ok(number)
+    } else {
+        Err(fault(Kind::Bounds, access.place))
+    }
+}
+
+// A load of a scalar local is a touch.
+fn touch_load(log: &mut Log, frame: u64, access: Access) -> Result<(), AllocError>
+    ensures { OnOk result ((setting : SettingOfRun) → GoesOn setting log.old log.new (loads.touches_then (load_touch frame access.entry.place) access.entry.local)) }
+{
+    if let Some(declaration) = access.local {
+        log.touch(Touch::Loads(frame, declaration, access.place))?;
+    }
+    Ok(())
+}
+
+/// A store at a place to a scalar local is a touch.
+pub fn touch_store(
+    log: &mut Log,
+    frame: u64,
+    place: Place,
+    local: Option<u32>,
+) -> Result<(), AllocError>
+    ensures { OnOk result ((setting : SettingOfRun) → GoesOn setting log.old log.new (loads.touches_then (store_touch frame place) local)) }
+{
+    if let Some(declaration) = local {
+        log.touch(Touch::Stores(frame, declaration, place))?;
+    }
+    Ok(())
+}
+
+/// Whether a store to an object is a fault, whatever it holds: a const file-scope object or a string literal (C11 6.4.5, 6.7.3).
+pub fn is_constant(program: &Program, object: &Object) -> bool
+    ensures { result ≡ meaning.is_constant (typed_program program.now) (object_of object.now) }
+{
+    match object {
+        Object::Global(global) => match program.globals.get(*global as usize) {
+            Some(global) => global.constant,
+            None => false,
+        },
+        Object::Literal(_) => true,
+        Object::Start(_) | Object::Local(_, _) | Object::Heap(_) => false,
+    }
+}
+
+impl<'a> Memory<'a> {
+    // An object that a pointer names is reached in another type, if it is there.
+    fn reach_in(
+        &self,
+        log: &mut Log,
+        setting: &Setting,
+        access: Access,
+        object: &Object,
+        offset: i128,
+    ) -> Result<u64, Stop>
+        requires { IsLaidOut setting.now.program.now.model setting.now.program.now.table.list }
+        ensures ok { IfOk result (Gives setting.now log.old log.new (loads.reach_in (typed_program setting.now.program.now) access.entry.place (shape_of access.entry.ty.now) (object_of object.now) offset (memory_of self.now (object_of object.now)))) }
+        ensures err { IfErr result (StopsIn setting.now log.old log.new (loads.reach_in (typed_program setting.now.program.now) access.entry.place (shape_of access.entry.ty.now) (object_of object.now) offset (memory_of self.now (object_of object.now)))) }
+    {
+        match self.block(object) {
+            Some(block) => {
+                let number = reach_block(log, setting, access, object, block, offset)?;
+                Ok(number)
+            }
+            None => Err(fault(Kind::Bounds, access.place)),
+        }
+    }
+
+    // An object is reached through a pointer: it shows whether the pointer is null, which is a fault (C11 6.5.3.2, paragraph 4).
+    fn reach(
+        &self,
+        log: &mut Log,
+        setting: &Setting,
+        access: Access,
+        place: Cell,
+    ) -> Result<(Object, u64), Stop>
+        requires { IsLaidOut setting.now.program.now.model setting.now.program.now.table.list }
+        ensures ok { IfOk result (λ found. GivesBoth setting.now log.old log.new (loads.reach (typed_program setting.now.program.now) (memory_of self.now) access.entry.place (shape_of access.entry.ty.now) (cell_of place)) (object_of found.0) found.1) }
+        ensures err { IfErr result (StopsInBoth setting.now log.old log.new (loads.reach (typed_program setting.now.program.now) (memory_of self.now) access.entry.place (shape_of access.entry.ty.now) (cell_of place))) }
+    {
+        match place {
+            Cell::Null => {
+                log.show(setting, access.place, Label::Look(false))?;
+                Err(fault(Kind::Null, access.place))
+            }
+            Cell::Pointer(object, offset) => {
+                log.show(setting, access.place, Label::Look(true))?;
+                let number = self.reach_in(log, setting, access, &object, offset)?;
+                Ok((object, number))
+            }
+            Cell::Number(_) => Err(fault(Kind::Unset, access.place)),
+            Cell::Unset => Err(fault(Kind::Unset, access.place)),
+        }
+    }
+
+    // The object that is accessed, whose place has this value, and the offset there.
+    fn locate(
+        &self,
+        log: &mut Log,
+        setting: &Setting,
+        access: Access,
+        place: Cell,
+    ) -> Result<(Object, u64), Stop>
+        requires { IsLaidOut setting.now.program.now.model setting.now.program.now.table.list }
+        ensures ok { IfOk result (λ found. GivesBoth setting.now log.old log.new (loads.locate_object (typed_program setting.now.program.now) (memory_of self.now) (access_of access.entry) (cell_of place)) (object_of found.0) found.1) }
+        ensures err { IfErr result (StopsInBoth setting.now log.old log.new (loads.locate_object (typed_program setting.now.program.now) (memory_of self.now) (access_of access.entry) (cell_of place))) }
+    {
+        if access.direct {
+            let found = direct(log, setting, access.place, place)?;
+            Ok(found)
+        } else {
+            let found = self.reach(log, setting, access, place)?;
+            Ok(found)
+        }
+    }
+
+    // The value of a type that an object holds at an offset: a scalar that was set, or the scalars of a struct, set or not.
+    fn value_at(
+        &mut self,
+        log: &mut Log,
+        setting: &Setting<'a>,
+        access: Access,
+        object: &Object,
+        offset: u64,
+    ) -> Result<Operand, Stop>
+        requires { IsLaidOut setting.now.program.now.model setting.now.program.now.table.list }
+        ensures ok { IfOk result (λ operand. GivesBoth setting.now log.old log.new (loads.value_at (typed_program setting.now.program.now) (memory_of self.old) access.entry.place (shape_of access.entry.ty.now) (object_of object.now) offset) (memory_of self.new) (operand_of operand)) }
+        ensures err { IfErr result (StopsInBoth setting.now log.old log.new (loads.value_at (typed_program setting.now.program.now) (memory_of self.old) access.entry.place (shape_of access.entry.ty.now) (object_of object.now) offset)) }
+        ensures counts { IfOk result (λ _. KeepsCounts self.old self.new) }
+    {
+        match access.ty {
+            CType::Struct(_) => {
+                let operand = self.struct_value(log, setting, access.ty, object, offset)?;
+                Ok(operand)
+            }
+            CType::Void => self.scalar_value(log, setting, access.place, object, offset),
+            CType::Int(_) => self.scalar_value(log, setting, access.place, object, offset),
+            CType::Pointer(_) => self.scalar_value(log, setting, access.place, object, offset),
+            CType::Array(_, _) => self.scalar_value(log, setting, access.place, object, offset),
+        }
+    }
+
+    // The scalars of a struct, set or not.
+    fn struct_value(
+        &mut self,
+        log: &mut Log,
+        setting: &Setting<'a>,
+        ty: &CType,
+        object: &Object,
+        offset: u64,
+    ) -> Result<Operand, Stop>
+        requires { IsLaidOut setting.now.program.now.model setting.now.program.now.table.list }
+        ensures ok { IfOk result (λ operand. GivesBoth setting.now log.old log.new (struct_value (typed_program setting.now.program.now) (memory_of self.old) (shape_of ty.now) (object_of object.now) offset) (memory_of self.new) (operand_of operand)) }
+        ensures err { IfErr result (StopsInBoth setting.now log.old log.new (struct_value (typed_program setting.now.program.now) (memory_of self.old) (shape_of ty.now) (object_of object.now) offset)) }
+        ensures counts { IfOk result (λ _. KeepsCounts self.old self.new) }
+    {
+        let offsets = scalar_offsets(setting.program, ty)?;
+        let cells = self.read_all(log, setting, object, offset, &offsets)?;
+        Ok(Operand::Whole(cells))
+    }
+
+    // The value of a scalar, which was set.
+    fn scalar_value(
+        &mut self,
+        log: &mut Log,
+        setting: &Setting<'a>,
+        place: Place,
+        object: &Object,
+        offset: u64,
+    ) -> Result<Operand, Stop>
+        requires { IsLaidOut setting.now.program.now.model setting.now.program.now.table.list }
+        ensures ok { IfOk result (λ operand. GivesBoth setting.now log.old log.new (scalar_value (typed_program setting.now.program.now) (memory_of self.old) place (object_of object.now) offset) (memory_of self.new) (operand_of operand)) }
+        ensures err { IfErr result (StopsInBoth setting.now log.old log.new (scalar_value (typed_program setting.now.program.now) (memory_of self.old) place (object_of object.now) offset)) }
+        ensures counts { IfOk result (λ _. KeepsCounts self.old self.new) }
+    {
+        let cell = self.read(log, setting, object, offset)?;
+        if let Some(kind) = refused_use(&cell) {
+            return Err(fault(kind, place));
+        }
+        Ok(Operand::Scalar(cell))
+    }
+
+    // What the scalars of an object hold at offsets that are counted from another, in order.
+    fn read_all(
+        &mut self,
+        log: &mut Log,
+        setting: &Setting<'a>,
+        object: &Object,
+        from: u64,
+        offsets: &[u64],
+    ) -> Result<Vec<Cell>, Stop>
+        requires { IsLaidOut setting.now.program.now.model setting.now.program.now.table.list }
+        ensures ok { IfOk result (λ cells. GivesBoth setting.now log.old log.new (loads.read_all (typed_program setting.now.program.now) (memory_of self.old) (object_of object.now) from offsets.now) (memory_of self.new) (map cell_of cells.items)) }
+        ensures err { IfErr result (StopsInBoth setting.now log.old log.new (loads.read_all (typed_program setting.now.program.now) (memory_of self.old) (object_of object.now) from offsets.now)) }
+        ensures counts { IfOk result (λ _. KeepsCounts self.old self.new) }
+    {
+        let mut cells = Vec::new(*self.heap.allocator());
+        for offset in offsets {
+            let at = from.checked_add(*offset).ok_or(AllocError)?;
+            let cell = self.read(log, setting, object, at)?;
+            cells.push(cell)?;
+        }
+        Ok(cells)
+    }
+
+    /// A load, in a frame, from the object whose place has this value.
+    pub fn load(
+        &mut self,
+        log: &mut Log,
+        setting: &Setting<'a>,
+        frame: u64,
+        access: Access,
+        place: Cell,
+    ) -> Result<Operand, Stop>
+        requires { IsLaidOut setting.now.program.now.model setting.now.program.now.table.list }
+        ensures ok { IfOk result (λ operand. GivesBoth setting.now log.old log.new (loads.load_object (typed_program setting.now.program.now) (memory_of self.old) frame (access_of access.entry) (cell_of place)) (memory_of self.new) (operand_of operand)) }
+        ensures err { IfErr result (StopsInBoth setting.now log.old log.new (loads.load_object (typed_program setting.now.program.now) (memory_of self.old) frame (access_of access.entry) (cell_of place))) }
+        ensures counts { IfOk result (λ _. KeepsCounts self.old self.new) }
+    {
+        let found = self.locate(log, setting, access, place)?;
+        touch_load(log, frame, access)?;
+        let operand = self.value_at(log, setting, access, &found.0, found.1)?;
+        Ok(operand)
+    }
+
+    /// A store at a place, in a frame, to the object whose place has this value.
+    pub fn store(
+        &mut self,
+        log: &mut Log,
+        setting: &Setting<'a>,
+        frame: u64,
+        at: Place,
+        access: Access,
+        place: Cell,
+        operand: Operand,
+    ) -> Result<(), Stop>
+        requires { IsLaidOut setting.now.program.now.model setting.now.program.now.table.list }
+        ensures ok { OnOk result (Gives setting.now log.old log.new (loads.store_object (typed_program setting.now.program.now) (memory_of self.old) frame at (access_of access.entry) (cell_of place) (operand_of operand)) (memory_of self.new)) }
+        ensures err { IfErr result (StopsIn setting.now log.old log.new (loads.store_object (typed_program setting.now.program.now) (memory_of self.old) frame at (access_of access.entry) (cell_of place) (operand_of operand))) }
+        ensures counts { OnOk result (KeepsCounts self.old self.new) }
+    {
+        let found = self.locate(log, setting, access, place)?;
+        if is_constant(setting.program, &found.0) {
+            return Err(fault(Kind::ConstWrite, access.place));
+        }
+        touch_store(log, frame, at, access.local)?;
+        self.write_operand(setting.program, access.ty, &found.0, found.1, operand)?;
+        Ok(())
+    }
+}
+
+// A variable, or a member of one.
+fn direct(log: &Log, setting: &Setting, place: Place, cell: Cell) -> Result<(Object, u64), Stop>
+    ensures ok { IfOk result (λ found. GivesBoth setting.now log.now log.now (loads.direct place (cell_of cell)) (object_of found.0) found.1) }
+    ensures err { IfErr result (StopsInBoth setting.now log.now log.now (loads.direct place (cell_of cell))) }
+{
+    match cell {
+        Cell::Pointer(object, offset) => {
+            let number = offset_number(offset)?;
+            Ok((object, number))
+        }
+        Cell::Number(_) => Err(fault(Kind::Unset, place)),
+        Cell::Null => Err(fault(Kind::Unset, place)),
+        Cell::Unset => Err(fault(Kind::Unset, place)),
+    }
+}
+
+/// The fault by which a scalar that was never set refuses a use, if it does.
+pub fn refused_use(cell: &Cell) -> Option<Kind>
+    ensures { (place : Place) (act : Act State) → loads.set_then place (cell_of cell.now) act ≡ or_fault place result act }
+{
+    match cell {
+        Cell::Unset => Some(Kind::Unset),
+        Cell::Number(_) | Cell::Null | Cell::Pointer(_, _) => None,
+    }
+}

@@ -1,0 +1,31 @@
+//! A reference interpreter: it runs a typed program as the reference machine does, step by step.
+#![tactic(auto, using(crate::proofs::Performing::silent))]
+
+pub mod access;
+pub mod arithmetic;
+pub mod blocks;
+mod choosing;
+pub mod constants;
+mod evaluating;
+pub mod found;
+mod guessing;
+pub mod inputs;
+pub mod items;
+mod logs;
+pub mod machine;
+pub mod marks;
+pub mod memory;
+mod objects;
+mod offsets;
+mod operations;
+pub mod operators;
+pub mod pieces;
+mod scalars;
+mod settings;
+pub mod types;
+mod writes;
+
+pub use logs::{Log, Stop, Touch};
+pub use objects::{Cell, Object, Operand};
+pub use operations::{Stride, stride_of};
+pub use settings::Setting;

@@ -1,0 +1,183 @@
+//! The state of the interpreter: frames with what is to be done in them, operands, visits, and memory.
+#![tactic(auto, using(crate::proofs::States::states), unfolding(crate::specs::MachineView::state_of))]
+
+ghost use Rattle.std.specs.Prelude.{◌≡◌, [], ◌∷◌, OnOk, IfOk, IfErr, IfSome, IfNone};
+ghost use Rattle.cs_types.specs.Layout.{IsLaidOut};
+ghost use Rattle.cs_ast.specs.TypedProgram.{typed_program};
+ghost use Rattle.cs_meaning.specs.Access as loads;
+ghost use Rattle.cs_meaning.specs.Expressions as expressions;
+ghost use Rattle.cs_meaning.specs.Machine as machine;
+ghost use Rattle.cs_run_state.specs.View.{cell_of, operand_of};
+ghost use Rattle.cs_run_state.specs.AccessView.{access_of};
+ghost use Rattle.cs_run_state.specs.MachineView.{item_of, state_of};
+ghost use Rattle.cs_run_state.specs.Pieces.{Gives, StopsIn, GivesBoth, StopsInBoth};
+
+use crate::access::Access;
+use crate::items::Item;
+use crate::logs::{Log, Stop};
+use crate::memory::Memory;
+use crate::objects::{Cell, Operand};
+use crate::settings::Setting;
+use cs_ast::Place;
+use cs_ast::typed::operator::Order;
+use std::alloc::AllocError;
+
+/// A call of a function that has not ended.
+#[derive(Drop)]
+pub struct Frame<'a> {
+    /// The function's number in the program.
+    pub function: u32,
+    /// The frame's number in the run.
+    pub number: u64,
+    /// What is to be done, the first thing last.
+    pub todo: Vec<Item<'a>>,
+    /// Values and places, the newest last.
+    pub stack: Vec<Operand>,
+    /// How often each mark of the body was reached.
+    pub visits: Vec<u32>,
+}
+
+/// A state of a run.
+#[derive(Drop)]
+pub struct Machine<'a> {
+    /// The frame that runs.
+    pub frame: Frame<'a>,
+    /// The frames that called it, the nearest last.
+    pub callers: Vec<Frame<'a>>,
+    pub memory: Memory<'a>,
+    /// How many calls of functions without a body there were.
+    pub calls: u64,
+}
+
+impl<'a> Machine<'a> {
+    /// Puts a thing before what is to be done.
+    pub fn put(&mut self, item: Item<'a>) -> Result<(), AllocError>
+        ensures { OnOk result (state_of self.new ≡ machine.to_do (item_of item.entry ∷ (state_of self.old).frame.todo) (state_of self.old)) }
+    {
+        self.frame.todo.push(item)?;
+        Ok(())
+    }
+
+    /// Takes the first thing that is to be done.
+    pub fn next(&mut self) -> Option<Item<'a>>
+        ensures some { IfSome result (λ item. state_of self.old ≡ machine.to_do (item_of item ∷ (state_of self.new).frame.todo) (state_of self.new)) }
+        ensures none { IfNone result ((state_of self.old).frame.todo ≡ []) }
+        ensures same { IfNone result (state_of self.new ≡ state_of self.old) }
+    {
+        match self.frame.todo.pop() {
+            Some(item) => Some(item),
+            None => None,
+        }
+    }
+
+    /// Leaves one more operand.
+    pub fn push(&mut self, operand: Operand) -> Result<(), AllocError>
+        ensures { OnOk result (state_of self.new ≡ machine.push (operand_of operand) (state_of self.old)) }
+    {
+        self.frame.stack.push(operand)?;
+        Ok(())
+    }
+
+    /// Leaves one more scalar.
+    pub fn push_cell(&mut self, cell: Cell) -> Result<(), AllocError>
+        ensures { OnOk result (state_of self.new ≡ machine.push_cell (cell_of cell) (state_of self.old)) }
+    {
+        self.push(Operand::Scalar(cell))?;
+        Ok(())
+    }
+
+    /// Takes the newest operand.
+    pub fn pop(&mut self) -> Operand
+        ensures operand { operand_of result ≡ machine.operand_at (state_of self.old) 0 }
+        ensures state { state_of self.new ≡ machine.pop (state_of self.old) }
+    {
+        self.frame
+            .stack
+            .pop()
+            .unwrap_or(Operand::Scalar(Cell::Unset))
+    }
+
+    /// Takes the newest operand as a scalar.
+    pub fn pop_cell(&mut self) -> Cell
+        ensures cell { cell_of result ≡ machine.cell_at (state_of self.old) 0 }
+        ensures state { state_of self.new ≡ machine.pop (state_of self.old) }
+    {
+        self.pop().into_cell()
+    }
+
+    /// Takes the two newest operands as scalars, the older one first.
+    pub fn pop_two(&mut self) -> (Cell, Cell)
+        ensures older { cell_of result.0 ≡ machine.cell_at (state_of self.old) 1 }
+        ensures newer { cell_of result.1 ≡ machine.cell_at (state_of self.old) 0 }
+        ensures state { state_of self.new ≡ machine.pop_many 2 (state_of self.old) }
+    {
+        let newer = self.pop_cell();
+        let older = self.pop_cell();
+        (older, newer)
+    }
+
+    /// Takes a pointer and an amount, of which one was evaluated after the other.
+    pub fn pop_both(&mut self, order: Order) -> (Cell, Cell)
+        ensures pointer { cell_of result.0 ≡ machine.cell_at (state_of self.old) (expressions.pointer_age order) }
+        ensures amount { cell_of result.1 ≡ machine.cell_at (state_of self.old) (expressions.amount_age order) }
+        ensures state { state_of self.new ≡ machine.pop_many 2 (state_of self.old) }
+    {
+        let (older, newer) = self.pop_two();
+        match order {
+            Order::PointerFirst => (older, newer),
+            Order::AmountFirst => (newer, older),
+        }
+    }
+
+    /// A copy of the newest operand as a scalar.
+    pub fn top_cell(&self) -> Result<Cell, AllocError>
+        ensures { IfOk result (λ cell. cell_of cell ≡ machine.cell_at (state_of self.now) 0) }
+    {
+        match self.frame.stack.last() {
+            Some(operand) => {
+                let copy = operand.copy()?;
+                Ok(copy.into_cell())
+            }
+            None => Ok(Cell::Unset),
+        }
+    }
+
+    /// A load, in the frame that runs.
+    pub fn load(
+        &mut self,
+        log: &mut Log,
+        setting: &Setting<'a>,
+        access: Access,
+        place: Cell,
+    ) -> Result<Operand, Stop>
+        requires { IsLaidOut setting.now.program.now.model setting.now.program.now.table.list }
+        ensures ok { IfOk result (λ operand. GivesBoth setting.now log.old log.new (loads.load_object (typed_program setting.now.program.now) (state_of self.old).memory (state_of self.old).frame.number (access_of access.entry) (cell_of place)) (state_of self.new).memory (operand_of operand)) }
+        ensures err { IfErr result (StopsInBoth setting.now log.old log.new (loads.load_object (typed_program setting.now.program.now) (state_of self.old).memory (state_of self.old).frame.number (access_of access.entry) (cell_of place))) }
+        ensures state { IfOk result (λ _. state_of self.new ≡ machine.with_memory (state_of self.new).memory (state_of self.old)) }
+    {
+        let frame = self.frame.number;
+        let operand = self.memory.load(log, setting, frame, access, place)?;
+        Ok(operand)
+    }
+
+    /// A store at a place, in the frame that runs.
+    pub fn store(
+        &mut self,
+        log: &mut Log,
+        setting: &Setting<'a>,
+        at: Place,
+        access: Access,
+        place: Cell,
+        operand: Operand,
+    ) -> Result<(), Stop>
+        requires { IsLaidOut setting.now.program.now.model setting.now.program.now.table.list }
+        ensures ok { OnOk result (Gives setting.now log.old log.new (loads.store_object (typed_program setting.now.program.now) (state_of self.old).memory (state_of self.old).frame.number at (access_of access.entry) (cell_of place) (operand_of operand)) (state_of self.new).memory) }
+        ensures err { IfErr result (StopsIn setting.now log.old log.new (loads.store_object (typed_program setting.now.program.now) (state_of self.old).memory (state_of self.old).frame.number at (access_of access.entry) (cell_of place) (operand_of operand))) }
+        ensures state { OnOk result (state_of self.new ≡ machine.with_memory (state_of self.new).memory (state_of self.old)) }
+    {
+        let frame = self.frame.number;
+        self.memory
+            .store(log, setting, frame, at, access, place, operand)?;
+        Ok(())
+    }
+}

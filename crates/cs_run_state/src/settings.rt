@@ -1,0 +1,15 @@
+//! What a run goes by.
+
+use cs_ast::typed::program::Program;
+use cs_events::{Guess, RunBudgets};
+use cs_inputs::Inputs;
+
+/// A program with what its run begins with and how far it goes. Nothing of it changes in the run.
+#[derive(Drop)]
+pub struct Setting<'a> {
+    pub program: &'a Program,
+    pub inputs: &'a Inputs,
+    /// Numbers in place of the results at some events. The first one listed for an event counts.
+    pub guesses: &'a [Guess],
+    pub budgets: RunBudgets,
+}

@@ -1,0 +1,122 @@
+//! Values and texts written to objects of memory.
+ghost use Rattle.std.specs.Prelude.{◌≡◌, IfOk, OnOk, map, unwrap_or};
+ghost use Rattle.cs_types.specs.Shape.{shape_of, void};
+ghost use Rattle.cs_types.specs.Layout.{IsLaidOut};
+ghost use Rattle.cs_ast.specs.TypedProgram.{typed_program};
+ghost use Rattle.cs_meaning.specs.Memory as meaning;
+ghost use Rattle.cs_meaning.specs.Access as access;
+ghost use Rattle.cs_meaning.specs.Initials.{byte_cell};
+ghost use Rattle.cs_meaning.specs.Types.{scalar_of};
+ghost use Rattle.cs_run_state.specs.View.{cell_of, object_of, operand_of};
+ghost use Rattle.cs_run_state.specs.AccessView.{spells};
+ghost use Rattle.cs_run_state.specs.MemoryView.{memory_of, type_of, KeepsCounts};
+
+use crate::blocks::{BlockType, Change};
+use crate::memory::Memory;
+use crate::objects::{Cell, Object, Operand};
+use crate::offsets::scalar_offsets;
+use crate::pieces::byte_cell;
+use cs_ast::typed::program::Program;
+use cs_types::CType;
+use std::alloc::AllocError;
+
+impl<'a> Memory<'a> {
+    /// Writes a value of a type at an offset of an object.
+    pub fn write_operand(
+        &mut self,
+        program: &Program,
+        ty: &CType,
+        object: &Object,
+        offset: u64,
+        operand: Operand,
+    ) -> Result<(), AllocError>
+        requires { IsLaidOut program.now.model program.now.table.list }
+        ensures memory { OnOk result (memory_of self.new ≡ meaning.changed (access.write_operand (typed_program program.now) (shape_of ty.now) offset (operand_of operand)) (object_of object.now) (memory_of self.old)) }
+        ensures counts { OnOk result (KeepsCounts self.old self.new) }
+    {
+        match operand {
+            Operand::Scalar(cell) => self.change(object, Change::Write(offset, cell)),
+            Operand::Whole(cells) => {
+                let offsets = scalar_offsets(program, ty)?;
+                self.write_cells(object, offset, &offsets, &cells)
+            }
+            Operand::Nothing => Ok(()),
+        }
+    }
+
+    // Writes the scalars of a struct from an offset on, one at each of the given offsets.
+    fn write_cells(
+        &mut self,
+        object: &Object,
+        from: u64,
+        offsets: &[u64],
+        cells: &[Cell],
+    ) -> Result<(), AllocError>
+        ensures memory { OnOk result (memory_of self.new ≡ meaning.changed (access.write_cells from offsets.now (map cell_of cells.now)) (object_of object.now) (memory_of self.old)) }
+        ensures counts { OnOk result (KeepsCounts self.old self.new) }
+    {
+        let mut index = 0;
+        while index < offsets.len() && index < cells.len() {
+            let at = from.checked_add(offsets[index]).ok_or(AllocError)?;
+            let cell = cells[index].copy()?;
+            self.change(object, Change::Write(at, cell))?;
+            index += 1;
+        }
+        Ok(())
+    }
+
+    /// Writes bytes of a text from an offset on, each in the scalar that begins there (C11 6.7.9, paragraph 14).
+    pub fn write_bytes(
+        &mut self,
+        program: &'a Program,
+        object: &Object,
+        from: u64,
+        bytes: &[u8],
+    ) -> Result<(), AllocError>
+        requires { IsLaidOut program.now.model program.now.table.list }
+        ensures memory { OnOk result (memory_of self.new ≡ meaning.changed (access.write_bytes (typed_program program.now) from bytes.now) (object_of object.now) (memory_of self.old)) }
+        ensures counts { OnOk result (KeepsCounts self.old self.new) }
+    {
+        match self.block(object) {
+            Some(block) => {
+                let ty = block.ty;
+                self.spell(program, ty, object, from, bytes)
+            }
+            None => Ok(()),
+        }
+    }
+
+    // The same to an object of a type.
+    fn spell(
+        &mut self,
+        program: &'a Program,
+        ty: BlockType<'a>,
+        object: &Object,
+        from: u64,
+        bytes: &[u8],
+    ) -> Result<(), AllocError>
+        requires { IsLaidOut program.now.model program.now.table.list }
+        ensures memory { OnOk result (memory_of self.new ≡ meaning.changed (spells (typed_program program.now) (type_of ty.entry) from bytes.now) (object_of object.now) (memory_of self.old)) }
+        ensures counts { OnOk result (KeepsCounts self.old self.new) }
+    {
+        let mut index = 0;
+        while index < bytes.len() {
+            let at = from.checked_add(index as u64).ok_or(AllocError)?;
+            let cell = spelled(program, ty, at, bytes[index])?;
+            self.change(object, Change::Write(at, cell))?;
+            index += 1;
+        }
+        Ok(())
+    }
+}
+
+// The cell of a byte of a text, in the scalar that begins at an offset of a type.
+fn spelled(program: &Program, ty: BlockType, at: u64, byte: u8) -> Result<Cell, AllocError>
+    requires { IsLaidOut program.now.model program.now.table.list }
+    ensures { IfOk result (λ cell. cell_of cell ≡ byte_cell program.now.model (unwrap_or (scalar_of (typed_program program.now) (type_of ty.entry) at) void) byte) }
+{
+    match ty.scalar(program, at)? {
+        Some(scalar) => Ok(byte_cell(program.model, scalar, byte)),
+        None => Ok(byte_cell(program.model, BlockType::Void, byte)),
+    }
+}

@@ -1,0 +1,95 @@
+//! The run of a program's code beside the run of the reference machine.
+ghost use Rattle.cs_ast.specs.TypedProgram.{typed_program};
+ghost use Rattle.cs_well_formed.specs.Programs.{IsWellFormed};
+
+use cs_ast::typed::program::Program;
+use cs_lower::lower;
+use cs_names::Name;
+use cs_reference::run;
+use cs_replay::{Replayed, replay};
+use cs_run_state::{Log, Setting};
+use cs_words::{Command, ReplayWords, words_of};
+use std::alloc::{AllocError, Global};
+use tests_csa::asked;
+use tests_csa::front::program;
+
+/// The run of a function's code, if it has a body and memory is found.
+fn coded(alloc: Global, setting: &Setting, entry: u32) -> Option<Replayed>
+    requires { IsWellFormed (typed_program setting.now.program.now) }
+{
+    match lower(alloc, setting.program) {
+        Ok(code) => replay(alloc, setting, &code, entry).ok(),
+        Err(_) => None,
+    }
+}
+
+/// The number of the first function with this name and a body, if there is one.
+fn entry_of(program: &Program, name: &Name) -> Option<u32> {
+    let mut number: u32 = 0;
+    for function in &program.functions {
+        if function.name == *name && function.body.is_some() {
+            return Some(number);
+        }
+        number = number.checked_add(1)?;
+    }
+    None
+}
+
+/// Whether two runs have shown, read and touched the same.
+fn same_logs(one: &Log, other: &Log) -> bool {
+    one.events == other.events && one.read == other.read && one.touches == other.touches
+}
+
+/// Whether the run of a function's code ends as the reference machine's run, and shows, reads and touches the same. Nothing where memory is
+/// short.
+fn runs_agree(alloc: Global, setting: &Setting, entry: u32) -> Option<bool>
+    requires { IsWellFormed (typed_program setting.now.program.now) }
+{
+    let plain = run(alloc, setting, entry).ok()?;
+    let coded = coded(alloc, setting, entry)?;
+    Some(plain.outcome == coded.outcome && same_logs(&plain.log, &coded.log))
+}
+
+/// The same of the run that the words ask for. Nothing where the program has no such function.
+fn agree(alloc: Global, words: &ReplayWords, program: &Program) -> Option<bool>
+    requires { IsWellFormed (typed_program program.now) }
+{
+    let entry = entry_of(program, &words.entry)?;
+    let guesses = Vec::new(alloc);
+    let setting = Setting {
+        program,
+        inputs: &words.inputs,
+        guesses: &guesses,
+        budgets: words.budgets,
+    };
+    runs_agree(alloc, &setting, entry)
+}
+
+/// Whether both machines agree on the run that these words ask for of a file; nothing where they ask for none.
+fn row_agrees(alloc: Global, line: &str, file: &str) -> Option<bool> {
+    let words = asked::words_of(alloc, line).ok()?;
+    let Ok(Command::Replay(words)) = words_of(alloc, &words) else {
+        return None;
+    };
+    let program = program(alloc, words.model, file)?;
+    agree(alloc, &words, &program)
+}
+
+/// What is to be said of a row with this answer: both agree, unless the answer is that there is no run.
+fn expected(line: &str) -> Option<bool> {
+    if line.starts_with("refused entry") {
+        return None;
+    }
+    Some(true)
+}
+
+/// Of a table of words, files and answers, the files on which both machines don't agree.
+pub fn disagreeing(alloc: Global, table: &[(&str, &str, &str)]) -> Result<String, AllocError> {
+    let mut found = String::new(alloc);
+    for (words, file, line) in table {
+        if row_agrees(alloc, words, file) != expected(line) {
+            found.push_str(file)?;
+        }
+    }
+    Ok(found)
+}

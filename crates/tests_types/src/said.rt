@@ -1,0 +1,101 @@
+//! What is said of an expression's text, in words.
+
+use crate::scene::scene;
+use crate::words::{integer, words};
+use cs_ast::raw::expression::RawExpr;
+use cs_consts::{TypeRefusal, discarded, value};
+use cs_expr_parser::{ExprLevel, expression};
+use cs_grammar::TypedefNames;
+use cs_lexer::tokens;
+use cs_names::Name;
+use cs_types::DataModel;
+use std::alloc::{AllocError, Global};
+
+// The tree of a whole text that is one expression.
+fn tree(alloc: Global, text: &str) -> Result<Option<RawExpr>, AllocError> {
+    let bytes = text.as_bytes();
+    if bytes.len() > 4_194_304 {
+        return Ok(None);
+    }
+    let Ok(lexed) = tokens(alloc, bytes) else {
+        return Ok(None);
+    };
+    let list = lexed.list.as_slice();
+    if list.len() > 400_000 {
+        return Ok(None);
+    }
+    let mut names = TypedefNames::new(alloc);
+    names.add(Name::from_slice(alloc, b"T")?)?;
+    match expression(alloc, list, lexed.end, 0, &names, 200, ExprLevel::Expr) {
+        Ok(phrase) if phrase.next == list.len() => Ok(Some(phrase.tree)),
+        _ => Ok(None),
+    }
+}
+
+fn refusal(alloc: Global, refusal: &TypeRefusal) -> Result<String, AllocError> {
+    match refusal {
+        TypeRefusal::Code(code, at) => {
+            let number = code.number();
+            format!(in alloc; "code {number} at {}", at.column)
+        }
+        TypeRefusal::Memory => Err(AllocError),
+    }
+}
+
+// The type and the value of a constant, or its refusal.
+fn constant(alloc: Global, model: DataModel, text: &str) -> Result<String, AllocError> {
+    let Some(tree) = tree(alloc, text)? else {
+        return String::from_str(alloc, "no expression");
+    };
+    let context = scene(alloc, model)?;
+    match value(alloc, &context, &tree) {
+        Ok((ty, number)) => {
+            let ty = integer(ty);
+            format!(in alloc; "{ty} {number}")
+        }
+        Err(error) => refusal(alloc, &error),
+    }
+}
+
+// The type of an expression's value, or its refusal.
+fn type_of(alloc: Global, model: DataModel, text: &str) -> Result<String, AllocError> {
+    let Some(tree) = tree(alloc, text)? else {
+        return String::from_str(alloc, "no expression");
+    };
+    let context = scene(alloc, model)?;
+    let mut literals = Vec::new(alloc);
+    match discarded(alloc, &context, &mut literals, &tree) {
+        Ok(typed) => words(alloc, &context.table, &typed.ty, ""),
+        Err(error) => refusal(alloc, &error),
+    }
+}
+
+/// What is asked of an expression.
+#[derive(Clone, Copy)]
+pub enum Question {
+    /// The type and the value of a constant.
+    Constant,
+    /// The type of its value.
+    Type,
+}
+
+/// Of a table of expressions and what is said of them, those of which something else is said, with that.
+pub fn said_otherwise(
+    alloc: Global,
+    model: DataModel,
+    question: Question,
+    table: &[(&str, &str)],
+) -> Result<String, AllocError> {
+    let mut found = String::new(alloc);
+    for (text, expected) in table {
+        let said = match question {
+            Question::Constant => constant(alloc, model, text)?,
+            Question::Type => type_of(alloc, model, text)?,
+        };
+        if said.as_str() != *expected {
+            let reported = format!(in alloc; "{text} gives {said}")?;
+            found.push_str(reported.as_str())?;
+        }
+    }
+    Ok(found)
+}
