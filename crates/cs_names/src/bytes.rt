@@ -1,4 +1,4 @@
-//! Text as its bytes.
+//! Names and texts as their bytes.
 ghost use Rattle.std.specs.Prelude.{◌≡◌, nat_eq, IfOk};
 ghost use Rattle.std.specs.Hash as fed;
 ghost use Rattle.std.specs.Cmp.{partial_equiv_from_equiv};
@@ -12,13 +12,16 @@ use std::cmp::Ordering;
 use std::hash::{Hash, Hasher};
 use std::marker::Model;
 
-/// The bytes of a text, such as a literal of C or an output. A contract sees it as its bytes.
+/// The bytes of a name or of a text, such as a literal of C or an output. A contract sees it as its bytes.
 ///
-/// Texts are equal where their bytes are, and are ordered as their bytes, a prefix first.
+/// Two are equal where their bytes are, and are ordered as their bytes, a prefix first.
 #[derive(Debug, Drop)]
 pub struct Bytes {
     bytes: Vec<u8>,
 }
+
+/// The bytes of an identifier of C, of a tag or of a file's name.
+pub type Name = Bytes;
 
 impl Model for Bytes {
     ghost use Rattle.std.specs.Prelude.{ℕ, List};

@@ -2,9 +2,7 @@
 #![tactic(auto)]
 
 mod bytes;
-mod name;
 #[cfg(test)]
 mod tests;
 
-pub use bytes::Bytes;
-pub use name::Name;
+pub use bytes::{Bytes, Name};
