@@ -1,5 +1,5 @@
 -- The heights of the nodes that hold a list, read at the list: for the contracts of `height`.
-use Rattle.std.proofs.Common.{◌≡◌, Bool, ◌+◌, max, ap, ◌∙◌, Box, Vec, Global}
+use Rattle.std.proofs.Common.{◌≡◌, Bool, ◌+◌, max, ap, ◌∙◌, Vec, Global}
 use Rattle.cs_ast.specs.declared.raw.written_type.WrittenType.{WrittenType}
 use Rattle.cs_ast.specs.declared.raw.expression.RawExpr.{RawExpr}
 use Rattle.cs_ast.specs.declared.raw.expression.RawExprKind.{RawExprKind}
@@ -22,13 +22,13 @@ use Rattle.cs_ast.proofs.RawRows.{written_kind-Call, written_kind-SizeOfType, wr
 use Rattle.cs_ast.proofs.RawDeclarationRows.{spec-Struct, initial-List}
 use Rattle.cs_ast.proofs.RawStatementRows.{sentence-Block, sentence-Switch}
 
-pub height-Call : {k : RawExprKind} (function : Box RawExpr Global) (arguments : Vec RawExpr Global) → k ≡ kind.Call function arguments → height (written_kind k) ≡ 1 + max (height (written function.value)) (1 + highest (written_list arguments.items))
+pub height-Call : {k : RawExprKind} (function : RawExpr) (arguments : Vec RawExpr Global) → k ≡ kind.Call function arguments → height (written_kind k) ≡ 1 + max (height (written function)) (1 + highest (written_list arguments.items))
 height-Call function arguments is = ap (λ k. height (written_kind k)) is ∙ ap height (written_kind-Call function arguments)
 
 pub height-SizeOfType : {k : RawExprKind} (ty : WrittenType) (bounds : Vec RawExpr Global) → k ≡ kind.SizeOfType ty bounds → height (written_kind k) ≡ 1 + max 1 (highest (written_list bounds.items))
 height-SizeOfType ty bounds is = ap (λ k. height (written_kind k)) is ∙ ap height (written_kind-SizeOfType ty bounds)
 
-pub height-Cast : {k : RawExprKind} (ty : WrittenType) (bounds : Vec RawExpr Global) (operand : Box RawExpr Global) → k ≡ kind.Cast ty bounds operand → height (written_kind k) ≡ 1 + max (highest (written_list bounds.items)) (height (written operand.value))
+pub height-Cast : {k : RawExprKind} (ty : WrittenType) (bounds : Vec RawExpr Global) (operand : RawExpr) → k ≡ kind.Cast ty bounds operand → height (written_kind k) ≡ 1 + max (highest (written_list bounds.items)) (height (written operand))
 height-Cast ty bounds operand is = ap (λ k. height (written_kind k)) is ∙ ap height (written_kind-Cast ty bounds operand)
 
 pub spec_height-Struct : {w : SpecWord} (tag : _) (list : Vec RawMember Global) → w ≡ words.Struct tag list → spec_height (spec w) ≡ 1 + members_height (members_list list.items)

@@ -1,5 +1,5 @@
 -- The arguments, initializers and statements within typed trees as lists: for every crate that goes over typed trees.
-use Rattle.std.proofs.Common.{◌≡◌, Option, refl, sym, ap, ◌∙◌, Box, Vec, Global}
+use Rattle.std.proofs.Common.{◌≡◌, Option, refl, sym, ap, ◌∙◌, Vec, Global}
 use mathlib.Core.Former.{Count}
 use Rattle.cs_types.specs.declared.ctype.CType.{CType}
 use Rattle.cs_types.specs.Shape.{shape_of}
@@ -20,7 +20,7 @@ use Rattle.cs_ast.specs.TypedView.{form, typed, typed_row, typed_list, some_type
 
 pub typed-row : (n : _) (row : exprs.Row_of-Expr n) → typed_list (exprs.items-the_row-Expr n row) ≡ typed_row row
 typed-row n exprs.end_of-Expr = refl
-typed-row n (exprs.more_of-Expr at ty k others) = ap (Further (Of at (shape_of ty) (form k))) (typed-row _ others)
+typed-row n (exprs.more_of-Expr at ty p k others) = ap (Further (Of at (shape_of ty) (form k))) (typed-row _ others)
 
 pub initial-row : (n : _) (row : initials.Row_of-Initial n) → initial_list (initials.items-the_row-Initial n row) ≡ initial_row row
 initial-row n initials.end_of-Initial = refl
@@ -28,7 +28,7 @@ initial-row n (initials.more_of-Initial first others) = ap (Part (initial first)
 
 pub statements-row : (n : _) (row : stmts.Row_of-Stmt n) → statement_list (stmts.items-the_row-Stmt n row) ≡ statements_row row
 statements-row n stmts.end_of-Stmt = refl
-statements-row n (stmts.more_of-Stmt place k others) = ap (Then (statement_at place k)) (statements-row _ others)
+statements-row n (stmts.more_of-Stmt place p k others) = ap (Then (statement_at place k)) (statements-row _ others)
 
 -- the row of a call's arguments
 abbrev arguments_of : ExprKind → (n : Count) × exprs.Row_of-Expr n
@@ -44,7 +44,7 @@ parts_of _ = (_, initials.end_of-Initial)
 -- the row of the statements of a block, of a `switch`, or of the first part of a `for`
 abbrev statements_of : StmtKind → (n : Count) × stmts.Row_of-Stmt n
 statements_of (statement_kind.Block' shape row) = (_, row)
-statements_of (statement_kind.For' shape row test last p place body) = (_, row)
+statements_of (statement_kind.For' shape row test last place p body) = (_, row)
 statements_of (statement_kind.Switch' value cases shape row) = (_, row)
 statements_of _ = (_, stmts.end_of-Stmt)
 
@@ -68,10 +68,10 @@ statement_at-Block at body =
     let row = statements_of (statement_kind.Block body) in
     ap (Block at) (sym (statements-row row.0 row.1) ∙ ap statement_list (stmts.items_hidden-the_row-Stmt-0 body))
 
-pub statement_at-For : (at : Place) (first : Vec Stmt Global) (test last : Option Expr) (body : Box Stmt Global) → statement_at at (statement_kind.For first test last body) ≡ For at (statement_list first.items) (some_typed test) (some_typed last) (statement body.value)
+pub statement_at-For : (at : Place) (first : Vec Stmt Global) (test last : Option Expr) (body : Stmt) → statement_at at (statement_kind.For first test last body) ≡ For at (statement_list first.items) (some_typed test) (some_typed last) (statement body)
 statement_at-For at first test last body =
     let row = statements_of (statement_kind.For first test last body) in
-    ap (λ all. For at all (some_typed test) (some_typed last) (statement body.value)) (sym (statements-row row.0 row.1) ∙ ap statement_list (stmts.items_hidden-the_row-Stmt-0 first))
+    ap (λ all. For at all (some_typed test) (some_typed last) (statement body)) (sym (statements-row row.0 row.1) ∙ ap statement_list (stmts.items_hidden-the_row-Stmt-0 first))
 
 pub statement_at-Switch : (at : Place) (value : Expr) (cases : Vec Case Global) (body : Vec Stmt Global) → statement_at at (statement_kind.Switch value cases body) ≡ Switch at (typed value) cases.items (statement_list body.items)
 statement_at-Switch at value cases body =

@@ -28,22 +28,22 @@ abbrev mutual
   sentence (kind.Block' shape row) = Block (items_row row)
   sentence kind.Empty = Nothing
   sentence (kind.Run e) = Runs (written e)
-  sentence (kind.If' test p place body) = If (written test) (sentence body)
-  sentence (kind.IfElse' test p place body q place' other) = IfElse (written test) (sentence body) (sentence other)
-  sentence (kind.While' test p place body) = While (written test) (sentence body)
-  sentence (kind.Do' p place body test) = Do (sentence body) (written test)
-  sentence (kind.For' first test last p place body) = For (first_of first) (option_map written test) (option_map written last) (sentence body)
+  sentence (kind.If' test place p body) = If (written test) (sentence body)
+  sentence (kind.IfElse' test place p body place' q other) = IfElse (written test) (sentence body) (sentence other)
+  sentence (kind.While' test place p body) = While (written test) (sentence body)
+  sentence (kind.Do' place p body test) = Do (sentence body) (written test)
+  sentence (kind.For' first test last place p body) = For (first_of first) (option_map written test) (option_map written last) (sentence body)
   sentence (kind.Switch' value shape row) = Switch (written value) (switch_row row)
   sentence (kind.Goto label) = Goto label
   sentence kind.Continue = Continue
   sentence kind.Break = Break
   sentence (kind.Return value) = Return (option_map written value)
-  sentence (kind.Label' name p place body) = Label name (sentence body)
+  sentence (kind.Label' name place p body) = Label name (sentence body)
 
   -- what stands in a block
   pub item : RawItem → Item
   item (items.TheVariants.Declare s objects) = Declares (specs s) (map declared objects.items)
-  item (items.TheVariants.Run' place body) = Does (sentence body)
+  item (items.TheVariants.Run' place p body) = Does (sentence body)
 
   -- the same in a row
   pub items_row : {n : _} → kinds.Row_of-RawItem n → Items
@@ -62,7 +62,7 @@ abbrev mutual
   switch_item (switches.TheVariants.Item i) = Inside (item i)
 
 abbrev pub statement_of : RawStmt → Sentence
-statement_of s = sentence s.kind
+statement_of s = sentence s.kind.value
 
 -- the items of a list
 abbrev pub items_list : List RawItem → Items

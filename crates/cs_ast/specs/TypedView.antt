@@ -20,38 +20,38 @@ abbrev mutual
   form (kind.Text n) = Text n
   form (kind.Local n) = Local n
   form (kind.Global n) = Global n
-  form (kind.Through' p at ty e) = Through (Of at (shape_of ty) (form e))
-  form (kind.Index' p at ty a q at' ty' n order) = Index (Of at (shape_of ty) (form a)) (Of at' (shape_of ty') (form n)) order
-  form (kind.Member' p at ty e offset) = Member (Of at (shape_of ty) (form e)) offset
-  form (kind.Arrow' p at ty e offset) = Arrow (Of at (shape_of ty) (form e)) offset
-  form (kind.Load' p at ty e) = Load (Of at (shape_of ty) (form e))
-  form (kind.Address' p at ty e) = Address (Of at (shape_of ty) (form e))
-  form (kind.Decay' p at ty e) = Decay (Of at (shape_of ty) (form e))
-  form (kind.Convert' p at ty e) = Convert (Of at (shape_of ty) (form e))
-  form (kind.Unary' op p at ty e) = Unary op (Of at (shape_of ty) (form e))
-  form (kind.Not' p at ty e) = Not (Of at (shape_of ty) (form e))
-  form (kind.Binary' op p at ty a q at' ty' b) = Binary op (Of at (shape_of ty) (form a)) (Of at' (shape_of ty') (form b))
-  form (kind.Compare' op p at ty a q at' ty' b) = Compare op (Of at (shape_of ty) (form a)) (Of at' (shape_of ty') (form b))
-  form (kind.Sum' p at ty a q at' ty' b direction order) = Sum (Of at (shape_of ty) (form a)) (Of at' (shape_of ty') (form b)) direction order
-  form (kind.Difference' p at ty a q at' ty' b) = Difference (Of at (shape_of ty) (form a)) (Of at' (shape_of ty') (form b))
-  form (kind.And' p at ty a q at' ty' b) = And (Of at (shape_of ty) (form a)) (Of at' (shape_of ty') (form b))
-  form (kind.Or' p at ty a q at' ty' b) = Or (Of at (shape_of ty) (form a)) (Of at' (shape_of ty') (form b))
-  form (kind.Choice' p at ty a q at' ty' b r at'' ty'' c) = Choice (Of at (shape_of ty) (form a)) (Of at' (shape_of ty') (form b)) (Of at'' (shape_of ty'') (form c))
-  form (kind.Comma' p at ty a q at' ty' b) = Comma (Of at (shape_of ty) (form a)) (Of at' (shape_of ty') (form b))
-  form (kind.Assign' p at ty a q at' ty' b) = Assign (Of at (shape_of ty) (form a)) (Of at' (shape_of ty') (form b))
-  form (kind.Update' op p at ty a q at' ty' b works_in gives) = Update op (Of at (shape_of ty) (form a)) (Of at' (shape_of ty') (form b)) works_in gives
-  form (kind.Move' p at ty a q at' ty' b direction gives) = Move (Of at (shape_of ty) (form a)) (Of at' (shape_of ty') (form b)) direction gives
+  form (kind.Through' at ty p e) = Through (Of at (shape_of ty) (form e))
+  form (kind.Index' at ty p a at' ty' q n order) = Index (Of at (shape_of ty) (form a)) (Of at' (shape_of ty') (form n)) order
+  form (kind.Member' at ty p e offset) = Member (Of at (shape_of ty) (form e)) offset
+  form (kind.Arrow' at ty p e offset) = Arrow (Of at (shape_of ty) (form e)) offset
+  form (kind.Load' at ty p e) = Load (Of at (shape_of ty) (form e))
+  form (kind.Address' at ty p e) = Address (Of at (shape_of ty) (form e))
+  form (kind.Decay' at ty p e) = Decay (Of at (shape_of ty) (form e))
+  form (kind.Convert' at ty p e) = Convert (Of at (shape_of ty) (form e))
+  form (kind.Unary' op at ty p e) = Unary op (Of at (shape_of ty) (form e))
+  form (kind.Not' at ty p e) = Not (Of at (shape_of ty) (form e))
+  form (kind.Binary' op at ty p a at' ty' q b) = Binary op (Of at (shape_of ty) (form a)) (Of at' (shape_of ty') (form b))
+  form (kind.Compare' op at ty p a at' ty' q b) = Compare op (Of at (shape_of ty) (form a)) (Of at' (shape_of ty') (form b))
+  form (kind.Sum' at ty p a at' ty' q b direction order) = Sum (Of at (shape_of ty) (form a)) (Of at' (shape_of ty') (form b)) direction order
+  form (kind.Difference' at ty p a at' ty' q b) = Difference (Of at (shape_of ty) (form a)) (Of at' (shape_of ty') (form b))
+  form (kind.And' at ty p a at' ty' q b) = And (Of at (shape_of ty) (form a)) (Of at' (shape_of ty') (form b))
+  form (kind.Or' at ty p a at' ty' q b) = Or (Of at (shape_of ty) (form a)) (Of at' (shape_of ty') (form b))
+  form (kind.Choice' at ty p a at' ty' q b at'' ty'' r c) = Choice (Of at (shape_of ty) (form a)) (Of at' (shape_of ty') (form b)) (Of at'' (shape_of ty'') (form c))
+  form (kind.Comma' at ty p a at' ty' q b) = Comma (Of at (shape_of ty) (form a)) (Of at' (shape_of ty') (form b))
+  form (kind.Assign' at ty p a at' ty' q b) = Assign (Of at (shape_of ty) (form a)) (Of at' (shape_of ty') (form b))
+  form (kind.Update' op at ty p a at' ty' q b works_in gives) = Update op (Of at (shape_of ty) (form a)) (Of at' (shape_of ty') (form b)) works_in gives
+  form (kind.Move' at ty p a at' ty' q b direction gives) = Move (Of at (shape_of ty) (form a)) (Of at' (shape_of ty') (form b)) direction gives
   form (kind.Call' function shape row) = Call function (typed_row row)
   form (kind.Allocate' allocator shape row element) = Allocate allocator (typed_row row) (shape_of element)
-  form (kind.Free' p at ty e) = Free (Of at (shape_of ty) (form e))
+  form (kind.Free' at ty p e) = Free (Of at (shape_of ty) (form e))
 
   -- expressions in a row
   pub typed_row : {n : _} → Row_of-Expr n → TypedList
   typed_row end_of-Expr = NoMore
-  typed_row (more_of-Expr at ty k others) = Further (Of at (shape_of ty) (form k)) (typed_row others)
+  typed_row (more_of-Expr at ty p k others) = Further (Of at (shape_of ty) (form k)) (typed_row others)
 
 abbrev pub typed : Expr → Typed
-typed e = Of e.place (shape_of e.ty) (form e.kind)
+typed e = Of e.place (shape_of e.ty) (form e.kind.value)
 
 abbrev pub some_typed : Option Expr → Option Typed
 some_typed e = option_map typed e
@@ -74,14 +74,14 @@ abbrev mutual
   statement_at at (statement_kind.Block' shape row) = Block at (statements_row row)
   statement_at at (statement_kind.Declare declaration first) = Declare at declaration (option_map initial first)
   statement_at at (statement_kind.Run e) = Run at (typed e)
-  statement_at at (statement_kind.If' test p place body) = If at (typed test) (statement_at place body)
-  statement_at at (statement_kind.IfElse' test p place body q place' other) = IfElse at (typed test) (statement_at place body) (statement_at place' other)
-  statement_at at (statement_kind.While' test p place body) = While at (typed test) (statement_at place body)
-  statement_at at (statement_kind.Do' p place body test) = Do at (statement_at place body) (typed test)
-  statement_at at (statement_kind.For' shape row test last p place body) = For at (statements_row row) (some_typed test) (some_typed last) (statement_at place body)
+  statement_at at (statement_kind.If' test place p body) = If at (typed test) (statement_at place body)
+  statement_at at (statement_kind.IfElse' test place p body place' q other) = IfElse at (typed test) (statement_at place body) (statement_at place' other)
+  statement_at at (statement_kind.While' test place p body) = While at (typed test) (statement_at place body)
+  statement_at at (statement_kind.Do' place p body test) = Do at (statement_at place body) (typed test)
+  statement_at at (statement_kind.For' shape row test last place p body) = For at (statements_row row) (some_typed test) (some_typed last) (statement_at place body)
   statement_at at (statement_kind.Switch' value cases shape row) = Switch at (typed value) cases.items (statements_row row)
   statement_at at (statement_kind.Goto label) = Goto at label
-  statement_at at (statement_kind.Label' label p place body) = Label at label (statement_at place body)
+  statement_at at (statement_kind.Label' label place p body) = Label at label (statement_at place body)
   statement_at at statement_kind.Break = Break at
   statement_at at statement_kind.Continue = Continue at
   statement_at at (statement_kind.Return value) = Return at (some_typed value)
@@ -89,10 +89,10 @@ abbrev mutual
   -- statements in a row
   pub statements_row : {n : _} → Row_of-Stmt n → Statements
   statements_row end_of-Stmt = Empty
-  statements_row (more_of-Stmt place k others) = Then (statement_at place k) (statements_row others)
+  statements_row (more_of-Stmt place p k others) = Then (statement_at place k) (statements_row others)
 
 abbrev pub statement : Stmt → Statement
-statement s = statement_at s.place s.kind
+statement s = statement_at s.place s.kind.value
 
 -- the expressions, initializers and statements of a list
 abbrev pub typed_list : List Expr → TypedList

@@ -12,7 +12,7 @@ use cs_names::{Bytes, Name};
 #[derive(Drop)]
 pub struct RawExpr {
     pub place: Place,
-    pub kind: RawExprKind,
+    pub kind: Box<RawExprKind>,
 }
 
 /// What a written expression is.
@@ -28,33 +28,33 @@ pub enum RawExprKind {
     /// A string literal.
     Text(Bytes),
     /// `( a )`, at its opening parenthesis.
-    Parenthesis(Box<RawExpr>),
+    Parenthesis(RawExpr),
     /// `a [ b ]`, at its bracket (C11 6.5.2.1).
-    Index(Box<RawExpr>, Box<RawExpr>),
+    Index(RawExpr, RawExpr),
     /// `a ( b , .. )`, at its parenthesis (C11 6.5.2.2).
-    Call(Box<RawExpr>, Vec<RawExpr>),
+    Call(RawExpr, Vec<RawExpr>),
     /// `a . name`, at its dot (C11 6.5.2.3).
-    Member(Box<RawExpr>, RawName),
+    Member(RawExpr, RawName),
     /// `a -> name`, at its arrow (C11 6.5.2.3).
-    Arrow(Box<RawExpr>, RawName),
+    Arrow(RawExpr, RawName),
     /// `a ++` or `a --`.
-    StepAfter(Step, Box<RawExpr>),
+    StepAfter(Step, RawExpr),
     /// `++ a` or `-- a`.
-    StepBefore(Step, Box<RawExpr>),
+    StepBefore(Step, RawExpr),
     /// An operator before one operand.
-    Prefix(PrefixOp, Box<RawExpr>),
+    Prefix(PrefixOp, RawExpr),
     /// `sizeof a` (C11 6.5.3.4).
-    SizeOf(Box<RawExpr>),
+    SizeOf(RawExpr),
     /// `sizeof ( type )` (C11 6.5.3.4), with the bounds of the type's arrays, the outermost first.
     SizeOfType(WrittenType, Vec<RawExpr>),
     /// `( type ) a`, at its opening parenthesis (C11 6.5.4), with the bounds of the type's arrays.
-    Cast(WrittenType, Vec<RawExpr>, Box<RawExpr>),
+    Cast(WrittenType, Vec<RawExpr>, RawExpr),
     /// An operator between two operands.
-    Infix(InfixOp, Box<RawExpr>, Box<RawExpr>),
+    Infix(InfixOp, RawExpr, RawExpr),
     /// `a ? b : c`, at its question punctuator (C11 6.5.15).
-    Choice(Box<RawExpr>, Box<RawExpr>, Box<RawExpr>),
+    Choice(RawExpr, RawExpr, RawExpr),
     /// An operator that stores.
-    Assign(AssignOp, Box<RawExpr>, Box<RawExpr>),
+    Assign(AssignOp, RawExpr, RawExpr),
     /// `a , b` (C11 6.5.17).
-    Comma(Box<RawExpr>, Box<RawExpr>),
+    Comma(RawExpr, RawExpr),
 }

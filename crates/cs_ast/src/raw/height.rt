@@ -15,7 +15,7 @@ impl RawExpr {
         requires { tree.height (written self.now) < 2 ^ 32 }
         ensures { result ≡ tree.height (written self.now) }
     {
-        match &self.kind {
+        match &*self.kind {
             RawExprKind::Name(_)
             | RawExprKind::Number(_)
             | RawExprKind::Character(_)

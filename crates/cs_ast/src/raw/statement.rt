@@ -10,7 +10,7 @@ use cs_names::Name;
 #[derive(Drop)]
 pub struct RawStmt {
     pub place: Place,
-    pub kind: RawStmtKind,
+    pub kind: Box<RawStmtKind>,
 }
 
 /// What a written statement is.
@@ -24,15 +24,15 @@ pub enum RawStmtKind {
     /// `a ;` (C11 6.8.3).
     Run(RawExpr),
     /// `if ( a ) s` (C11 6.8.4.1).
-    If(RawExpr, Box<RawStmt>),
+    If(RawExpr, RawStmt),
     /// `if ( a ) s else t`.
-    IfElse(RawExpr, Box<RawStmt>, Box<RawStmt>),
+    IfElse(RawExpr, RawStmt, RawStmt),
     /// `while ( a ) s` (C11 6.8.5.1).
-    While(RawExpr, Box<RawStmt>),
+    While(RawExpr, RawStmt),
     /// `do s while ( a ) ;` (C11 6.8.5.2).
-    Do(Box<RawStmt>, RawExpr),
+    Do(RawStmt, RawExpr),
     /// `for ( f ; a ; b ) s` (C11 6.8.5.3).
-    For(RawFirst, Option<RawExpr>, Option<RawExpr>, Box<RawStmt>),
+    For(RawFirst, Option<RawExpr>, Option<RawExpr>, RawStmt),
     /// `switch ( a ) { .. }` (C11 6.8.4.2).
     Switch(RawExpr, Vec<RawSwitchItem>),
     /// `goto name ;` (C11 6.8.6.1).
@@ -44,7 +44,7 @@ pub enum RawStmtKind {
     /// `return ;` or `return a ;`
     Return(Option<RawExpr>),
     /// `name : s` (C11 6.8.1), at the name.
-    Label(Name, Box<RawStmt>),
+    Label(Name, RawStmt),
 }
 
 /// What stands in a block: a declaration or a statement.

@@ -29,7 +29,7 @@ impl RawStmt {
         requires { file.sentence_height (statement_of self.now) < 2 ^ 32 }
         ensures { result ≡ file.sentence_height (statement_of self.now) }
     {
-        match &self.kind {
+        match &*self.kind {
             RawStmtKind::Block(items) => 1 + highest_item(items),
             RawStmtKind::Empty
             | RawStmtKind::Goto(_)

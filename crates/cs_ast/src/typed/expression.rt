@@ -11,7 +11,7 @@ use cs_types::{CType, IntType};
 pub struct Expr {
     pub place: Place,
     pub ty: CType,
-    pub kind: ExprKind,
+    pub kind: Box<ExprKind>,
 }
 
 /// What an expression is. Those up to `Decay`'s operand that name an object are lvalues: their value is a place.
@@ -29,51 +29,51 @@ pub enum ExprKind {
     /// The object that a file-scope declaration names, by its number in the program.
     Global(u32),
     /// The object that a pointer points to (C11 6.5.3.2).
-    Through(Box<Expr>),
+    Through(Expr),
     /// The element of an array, from a pointer to its first element and a number (C11 6.5.2.1).
-    Index(Box<Expr>, Box<Expr>, Order),
+    Index(Expr, Expr, Order),
     /// The member of an object at an offset of so many bytes (C11 6.5.2.3).
-    Member(Box<Expr>, u64),
+    Member(Expr, u64),
     /// The same of the object that a pointer points to.
-    Arrow(Box<Expr>, u64),
+    Arrow(Expr, u64),
     /// The value that an object holds (C11 6.3.2.1, paragraph 2).
-    Load(Box<Expr>),
+    Load(Expr),
     /// The pointer to an object (C11 6.5.3.2).
-    Address(Box<Expr>),
+    Address(Expr),
     /// The pointer to the first element of an array (C11 6.3.2.1, paragraph 3).
-    Decay(Box<Expr>),
+    Decay(Expr),
     /// A conversion to the expression's type (C11 6.3).
-    Convert(Box<Expr>),
+    Convert(Expr),
     /// An arithmetic operator on one integer.
-    Unary(UnOp, Box<Expr>),
+    Unary(UnOp, Expr),
     /// 1 where the operand is 0 or null, else 0 (C11 6.5.3.3, paragraph 5).
-    Not(Box<Expr>),
+    Not(Expr),
     /// An arithmetic operator on two integers.
-    Binary(BinOp, Box<Expr>, Box<Expr>),
+    Binary(BinOp, Expr, Expr),
     /// A comparison of two integers or two pointers, which gives 1 or 0.
-    Compare(CmpOp, Box<Expr>, Box<Expr>),
+    Compare(CmpOp, Expr, Expr),
     /// A pointer moved by a number of elements (C11 6.5.6, paragraph 8).
-    Sum(Box<Expr>, Box<Expr>, Direction, Order),
+    Sum(Expr, Expr, Direction, Order),
     /// How many elements lie between two pointers (C11 6.5.6, paragraph 9).
-    Difference(Box<Expr>, Box<Expr>),
+    Difference(Expr, Expr),
     /// `&&` (C11 6.5.13).
-    And(Box<Expr>, Box<Expr>),
+    And(Expr, Expr),
     /// `||` (C11 6.5.14).
-    Or(Box<Expr>, Box<Expr>),
+    Or(Expr, Expr),
     /// `?:` (C11 6.5.15).
-    Choice(Box<Expr>, Box<Expr>, Box<Expr>),
+    Choice(Expr, Expr, Expr),
     /// The comma (C11 6.5.17).
-    Comma(Box<Expr>, Box<Expr>),
+    Comma(Expr, Expr),
     /// `=`: the object and its new value (C11 6.5.16.1).
-    Assign(Box<Expr>, Box<Expr>),
+    Assign(Expr, Expr),
     /// A compound assignment or a step of an integer: the operator works in the type that is given (C11 6.5.16.2, 6.5.2.4).
-    Update(BinOp, Box<Expr>, Box<Expr>, IntType, Gives),
+    Update(BinOp, Expr, Expr, IntType, Gives),
     /// The same of a pointer, which moves by a number of elements.
-    Move(Box<Expr>, Box<Expr>, Direction, Gives),
+    Move(Expr, Expr, Direction, Gives),
     /// A call of a function, by its number in the program (C11 6.5.2.2).
     Call(u32, Vec<Expr>),
     /// A call of `malloc` or `calloc` for elements of a type.
     Allocate(Allocator, Vec<Expr>, CType),
     /// A call of `free`.
-    Free(Box<Expr>),
+    Free(Expr),
 }

@@ -9,7 +9,7 @@ use cs_names::Bytes;
 #[derive(Drop)]
 pub struct Stmt {
     pub place: Place,
-    pub kind: StmtKind,
+    pub kind: Box<StmtKind>,
 }
 
 /// What a statement is.
@@ -23,21 +23,21 @@ pub enum StmtKind {
     /// An expression whose value is dropped (C11 6.8.3).
     Run(Expr),
     /// `if` without `else` (C11 6.8.4.1).
-    If(Expr, Box<Stmt>),
+    If(Expr, Stmt),
     /// `if` with `else`.
-    IfElse(Expr, Box<Stmt>, Box<Stmt>),
+    IfElse(Expr, Stmt, Stmt),
     /// `while` (C11 6.8.5.1).
-    While(Expr, Box<Stmt>),
+    While(Expr, Stmt),
     /// `do` (C11 6.8.5.2).
-    Do(Box<Stmt>, Expr),
+    Do(Stmt, Expr),
     /// `for`: its first part, its test, its last part and its body (C11 6.8.5.3).
-    For(Vec<Stmt>, Option<Expr>, Option<Expr>, Box<Stmt>),
+    For(Vec<Stmt>, Option<Expr>, Option<Expr>, Stmt),
     /// `switch`: its value, its cases, and the statements between its braces (C11 6.8.4.2).
     Switch(Expr, Vec<Case>, Vec<Stmt>),
     /// `goto`, by the number of the label in the function (C11 6.8.6.1).
     Goto(u32),
     /// A label with its number (C11 6.8.1).
-    Label(u32, Box<Stmt>),
+    Label(u32, Stmt),
     /// `break` (C11 6.8.6.3).
     Break,
     /// `continue` (C11 6.8.6.2).
