@@ -39,14 +39,14 @@ module _ (program : TypedProgram) (flow : Flow) where
 
   module _ (routine : Routine) (labels : ℕ → Point) where
     -- the way of a test, or of a `switch`
-    after_decision : (s : Statement) (mark : ℕ) (out again : Point) (following : Following) (p : Point) → decides_at program flow routine labels s mark out again following p → Somewhere following
-    after_decision (If at test body) mark out again following p it = (_, (it.5.0, it.5.3))
-    after_decision (IfElse at test body other) mark out again following p it = (_, (it.5.0, it.5.3))
-    after_decision (While at test body) mark out again following p it = (_, (out, it.2))
-    after_decision (Do at body test) mark out again following p it = (_, (out, it.3))
-    after_decision (For at first test last body) mark out again following p it = (_, (out, it.3))
-    after_decision (Switch at value cases statements) mark out again following p it = (_, (out, it.7))
-    after_decision other mark out again following p it = absurd it
+    after_decision : (s : Statement) (counted_point : ℕ) (out again : Point) (following : Following) (p : Point) → decides_at program flow routine labels s counted_point out again following p → Somewhere following
+    after_decision (If at test body) counted_point out again following p it = (_, (it.5.0, it.5.3))
+    after_decision (IfElse at test body other) counted_point out again following p it = (_, (it.5.0, it.5.3))
+    after_decision (While at test body) counted_point out again following p it = (_, (out, it.2))
+    after_decision (Do at body test) counted_point out again following p it = (_, (out, it.3))
+    after_decision (For at first test last body) counted_point out again following p it = (_, (out, it.3))
+    after_decision (Switch at value cases statements) counted_point out again following p it = (_, (out, it.7))
+    after_decision other counted_point out again following p it = absurd it
 
     -- after the first thing to do
     after_item : (item : Item) (out again : Point) (following : Following) (depth : ℕ) (p : Point) → item_at program flow routine labels item out again following depth p → Somewhere following
@@ -60,10 +60,10 @@ module _ (program : TypedProgram) (flow : Flow) where
     after_item Drop out again following depth p it = after_work _ _ _ following depth p it.1
     after_item (Store at declaration offset ty) out again following depth p it = after_work _ _ _ following 1 p it.1
     after_item (Spell declaration offset bytes) out again following depth p it = after_work _ _ _ following 0 p it.1.1
-    after_item (Execute s mark) out again following depth p it = (_, (it.1.0, it.1.2))
-    after_item (Decide s mark) out again following depth p it = after_decision s mark out again following p it.1
-    after_item (Turn s mark) out again following depth p it = (_, (out, it.1.2))
-    after_item (Again s mark) out again following depth p it = (_, (out, it.2.2))
+    after_item (Execute s counted_point) out again following depth p it = (_, (it.1.0, it.1.2))
+    after_item (Decide s counted_point) out again following depth p it = after_decision s counted_point out again following p it.1
+    after_item (Turn s counted_point) out again following depth p it = (_, (out, it.1.2))
+    after_item (Again s counted_point) out again following depth p it = (_, (out, it.2.2))
     after_item Out out again following depth p it = (_, (p, it.2))
     after_item (Begin at) out again following depth p it = after_work _ _ _ following 0 p it.1
     after_item (End at value) out again following depth p it = (_, (finishing, it.2))
@@ -111,7 +111,7 @@ module _ (program : TypedProgram) (flow : Flow) where
           continued_again = rest.continued_again;
           continues = rest.continues;
         }
-    escapes (Again s mark ∷ items) out again depth p it =
+    escapes (Again s counted_point ∷ items) out again depth p it =
         let rest = escapes items out it.2.2.0 0 it.2.2.1.0 it.2.2.1.2 in
         record {
           broken_outer = rest.broken_outer;
@@ -119,7 +119,7 @@ module _ (program : TypedProgram) (flow : Flow) where
           broken = rest.broken;
           continued_out = out;
           continued_again = again;
-          continues = (again, there, (refl, refl, (it.2.0, subst (λ x. loops_at program flow routine labels s mark it.2.0 x out) (sym it.1) it.2.1, it.2.2)));
+          continues = (again, there, (refl, refl, (it.2.0, subst (λ x. loops_at program flow routine labels s counted_point it.2.0 x out) (sym it.1) it.2.1, it.2.2)));
         }
     escapes ((Evaluate e) ∷ items) out again depth p it =
         let rest = after_item (Evaluate e) out again (Arrives program flow routine labels items out again) depth p it in
@@ -151,15 +151,15 @@ module _ (program : TypedProgram) (flow : Flow) where
     escapes ((Spell declaration offset bytes) ∷ items) out again depth p it =
         let rest = after_item (Spell declaration offset bytes) out again (Arrives program flow routine labels items out again) depth p it in
         passes (Spell declaration offset bytes) items out again refl refl (escapes items out again rest.0 rest.1.1.0 rest.1.1.2)
-    escapes ((Execute s mark) ∷ items) out again depth p it =
-        let rest = after_item (Execute s mark) out again (Arrives program flow routine labels items out again) depth p it in
-        passes (Execute s mark) items out again refl refl (escapes items out again rest.0 rest.1.1.0 rest.1.1.2)
-    escapes ((Decide s mark) ∷ items) out again depth p it =
-        let rest = after_item (Decide s mark) out again (Arrives program flow routine labels items out again) depth p it in
-        passes (Decide s mark) items out again refl refl (escapes items out again rest.0 rest.1.1.0 rest.1.1.2)
-    escapes ((Turn s mark) ∷ items) out again depth p it =
-        let rest = after_item (Turn s mark) out again (Arrives program flow routine labels items out again) depth p it in
-        passes (Turn s mark) items out again refl refl (escapes items out again rest.0 rest.1.1.0 rest.1.1.2)
+    escapes ((Execute s counted_point) ∷ items) out again depth p it =
+        let rest = after_item (Execute s counted_point) out again (Arrives program flow routine labels items out again) depth p it in
+        passes (Execute s counted_point) items out again refl refl (escapes items out again rest.0 rest.1.1.0 rest.1.1.2)
+    escapes ((Decide s counted_point) ∷ items) out again depth p it =
+        let rest = after_item (Decide s counted_point) out again (Arrives program flow routine labels items out again) depth p it in
+        passes (Decide s counted_point) items out again refl refl (escapes items out again rest.0 rest.1.1.0 rest.1.1.2)
+    escapes ((Turn s counted_point) ∷ items) out again depth p it =
+        let rest = after_item (Turn s counted_point) out again (Arrives program flow routine labels items out again) depth p it in
+        passes (Turn s counted_point) items out again refl refl (escapes items out again rest.0 rest.1.1.0 rest.1.1.2)
     escapes ((Begin at) ∷ items) out again depth p it =
         let rest = after_item (Begin at) out again (Arrives program flow routine labels items out again) depth p it in
         passes (Begin at) items out again refl refl (escapes items out again rest.0 rest.1.1.0 rest.1.1.2)

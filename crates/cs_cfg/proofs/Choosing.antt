@@ -11,11 +11,11 @@ use Rattle.cs_cfg.specs.Graph as graph
 use Rattle.cs_cfg.specs.Graph.{Work, Point, Flow}
 use Rattle.cs_cfg.specs.ControlPoints.{Next, met, first, tested, ControlPoint, points, points_of}
 use Rattle.cs_cfg.specs.GraphPoints.{met_in, MeetsNext}
-use Rattle.cs_cfg.specs.Fitting.{Brings}
+use Rattle.cs_cfg.specs.Fitting.{AddsPoints}
 use Rattle.cs_cfg.specs.Placing.{does, split, used_then, evaluates_form}
 use Rattle.cs_cfg.specs.Standing.{work_of}
 use Rattle.cs_cfg.proofs.Meeting.{judged_meets, known_meets, joined_meets}
-use Rattle.cs_cfg.proofs.Fitting.{includes_none, jump_to, fit_jump, fit_silent, includes_first, includes_second, includes_one, includes_others, fit_split, brings_past}
+use Rattle.cs_cfg.proofs.Fitting.{includes_none, jump_to, fit_jump, fit_silent, includes_first, includes_second, includes_one, includes_others, fit_split, adds_past}
 
 -- an operation that may be there is no control point
 abbrev pub IsSilent : Place → Option Work → Type 0
@@ -49,16 +49,16 @@ acts_silently program at ty (Free a) = refl
 acts_silently program at ty other = tt
 
 -- the use of a value, before further code
-pub brings_use : {flow : Flow} {some : List ControlPoint} {old new : List Point} (e : Typed) (number : ℕ) (q : Point) → Brings flow some (used_then e number q ∷ old) new → Brings flow some (q ∷ old) new
-brings_use (Of at ty (Call function arguments)) number q rest = brings_past at number graph.Use q refl rest
-brings_use (Of at ty other) number q rest = rest
+pub adds_use : {flow : Flow} {some : List ControlPoint} {old new : List Point} (e : Typed) (number : ℕ) (q : Point) → AddsPoints flow some (used_then e number q ∷ old) new → AddsPoints flow some (q ∷ old) new
+adds_use (Of at ty (Call function arguments)) number q rest = adds_past at number graph.Use q refl rest
+adds_use (Of at ty other) number q rest = rest
 
 module _ (program : TypedProgram) (flow : Flow) (at : Place) (ty : Shape) (number block : ℕ) (following : Next) (p q : Point) (m : MeetsNext flow q following) {old sealed with_way with_both new : List Point} where
   -- the point after is made a block, to which both ways jump; then comes the right part, then the truth that is known, then the left part
-  pub and_brings : (a b : Typed) (it : evaluates_form program flow at ty (And a b) number p q) → Brings flow [] (q ∷ old) sealed →
-      Brings flow (points b following) (does at number graph.Judge (jump_to block) ∷ sealed) with_way → Brings flow [] (does at number (graph.Number (pos 0)) (jump_to block) ∷ with_way) with_both →
-      Brings flow (points a (met point.Branch at)) (split at number it.0 it.1 ∷ with_both) (p ∷ new) → Brings flow (points_of at (And a b) following) (q ∷ old) (p ∷ new)
-  and_brings a b it end right other left = record {
+  pub and_adds : (a b : Typed) (it : evaluates_form program flow at ty (And a b) number p q) → AddsPoints flow [] (q ∷ old) sealed →
+      AddsPoints flow (points b following) (does at number graph.Judge (jump_to block) ∷ sealed) with_way → AddsPoints flow [] (does at number (graph.Number (pos 0)) (jump_to block) ∷ with_way) with_both →
+      AddsPoints flow (points a (met point.Branch at)) (split at number it.0 it.1 ∷ with_both) (p ∷ new) → AddsPoints flow (points_of at (And a b) following) (q ∷ old) (p ∷ new)
+  and_adds a b it end right other left = record {
     keeps = λ all includes fit.
         let before = points a (met point.Branch at) in
         let own = tested at (first b following) following ∷ points b following in
@@ -69,10 +69,10 @@ module _ (program : TypedProgram) (flow : Flow) (at : Place) (ty : Shape) (numbe
         (fit_split at number it.0 it.1 (includes_one has) (judged_meets program flow at b number _ q it.3 m) (known_meets program flow at (pos 0) number _ q it.4 m) both);
   }
 
-  pub or_brings : (a b : Typed) (it : evaluates_form program flow at ty (Or a b) number p q) → Brings flow [] (q ∷ old) sealed →
-      Brings flow (points b following) (does at number graph.Judge (jump_to block) ∷ sealed) with_way → Brings flow [] (does at number (graph.Number (pos 1)) (jump_to block) ∷ with_way) with_both →
-      Brings flow (points a (met point.Branch at)) (split at number it.0 it.1 ∷ with_both) (p ∷ new) → Brings flow (points_of at (Or a b) following) (q ∷ old) (p ∷ new)
-  or_brings a b it end right other left = record {
+  pub or_adds : (a b : Typed) (it : evaluates_form program flow at ty (Or a b) number p q) → AddsPoints flow [] (q ∷ old) sealed →
+      AddsPoints flow (points b following) (does at number graph.Judge (jump_to block) ∷ sealed) with_way → AddsPoints flow [] (does at number (graph.Number (pos 1)) (jump_to block) ∷ with_way) with_both →
+      AddsPoints flow (points a (met point.Branch at)) (split at number it.0 it.1 ∷ with_both) (p ∷ new) → AddsPoints flow (points_of at (Or a b) following) (q ∷ old) (p ∷ new)
+  or_adds a b it end right other left = record {
     keeps = λ all includes fit.
         let before = points a (met point.Branch at) in
         let own = tested at following (first b following) ∷ points b following in
@@ -84,10 +84,10 @@ module _ (program : TypedProgram) (flow : Flow) (at : Place) (ty : Shape) (numbe
   }
 
   -- one of the two parts first, and then the other
-  pub choice_brings : (a b c : Typed) (it : evaluates_form program flow at ty (Choice a b c) number p q) → Brings flow [] (q ∷ old) sealed →
-      Brings flow (points b following) (jump_to block ∷ sealed) with_way → Brings flow (points c following) (jump_to block ∷ with_way) with_both →
-      Brings flow (points a (met point.Branch at)) (split at number it.0 it.1 ∷ with_both) (p ∷ new) → Brings flow (points_of at (Choice a b c) following) (q ∷ old) (p ∷ new)
-  choice_brings a b c it end one two left = record {
+  pub choice_adds : (a b c : Typed) (it : evaluates_form program flow at ty (Choice a b c) number p q) → AddsPoints flow [] (q ∷ old) sealed →
+      AddsPoints flow (points b following) (jump_to block ∷ sealed) with_way → AddsPoints flow (points c following) (jump_to block ∷ with_way) with_both →
+      AddsPoints flow (points a (met point.Branch at)) (split at number it.0 it.1 ∷ with_both) (p ∷ new) → AddsPoints flow (points_of at (Choice a b c) following) (q ∷ old) (p ∷ new)
+  choice_adds a b c it end one two left = record {
     keeps = λ all includes fit.
         let before = points a (met point.Branch at) in
         let own = tested at (first b following) (first c following) ∷ (points b following ++ points c following) in

@@ -3,7 +3,7 @@ use Rattle.std.proofs.Common.{◌≡◌, ℕ, Some, unwrap_or, replicate, refl, 
 use Rattle.cs_ast.specs.TypedTree.{Statement, Block, Empty}
 use Rattle.cs_ast.specs.TypedProgram.{TypedProgram, Routine}
 use Rattle.cs_meaning.specs.Machine.{routine_of, body_of}
-use Rattle.cs_meaning.specs.Marks.{marks}
+use Rattle.cs_meaning.specs.CountedPoints.{counted_points}
 use Rattle.cs_meaning.specs.Calls.{new_frame}
 use Rattle.cs_cfg.specs.Graph.{Flow, Code, block_of, flow_of}
 use Rattle.cs_cfg.specs.Working.{code_frame}
@@ -29,7 +29,7 @@ module _ (code : Code) (program : TypedProgram) where
         function = refl;
         number = refl;
         stack = refl;
-        visits = ap (λ count. replicate count 0) (lowers.counts ∙ ap marks (sym same));
+        visits = ap (λ count. replicate count 0) (lowers.counts ∙ ap counted_points (sym same));
         body = body;
         has_body = has_body;
         flow = flow;

@@ -10,7 +10,7 @@ use Rattle.cs_events.specs.declared.point.PointKind.TheVariants as point
 use Rattle.cs_cfg.specs.Graph.{Work, Operation, SwitchCase, BlockEnd, Jump, Branch, Switch, Point, Flow, block_of}
 use Rattle.cs_cfg.specs.ControlPoints.{Met, Next, the_point, Exit, Onward, TruthOf, CaseOf, way, ControlPoint, passed, tested, last_point}
 use Rattle.cs_cfg.specs.GraphPoints.{met_in, goes_on, IsMet, by_operation, by_branch, Leads, onward, on_truth, on_case, on_no_case, MeetsNext, IsRest}
-use Rattle.cs_cfg.specs.Fitting.{Fits, FitsSome, BlockFits, AllFit, Includes, Brings}
+use Rattle.cs_cfg.specs.Fitting.{Fits, FitsSome, BlockFits, AllFit, Includes, AddsPoints}
 use Rattle.cs_cfg.specs.Placing.{does, split}
 use Rattle.cs_cfg.proofs.Keeping.{met_at, met_of, is_met}
 
@@ -201,37 +201,37 @@ module _ {flow : Flow} where
   fit_split at number one other among m m' fit = fit_more (block_choice (Branch at number one other) among (fits_tested at number one other m m')) fit
 
   -- the same blocks, some of them, or the same in another order
-  pub brings_among : (old new : List Point) → All (Contains old) new → Brings flow [] old new
-  brings_among old new among = record { keeps = λ points includes fit. fit_among new old among fit }
+  pub adds_among : (old new : List Point) → All (Contains old) new → AddsPoints flow [] old new
+  adds_among old new among = record { keeps = λ points includes fit. fit_among new old among fit }
 
   -- a jump, with which other code begins
-  pub brings_jump : {blocks : List Point} (block : ℕ) → Brings flow [] blocks (jump_to block ∷ blocks)
-  brings_jump block = record { keeps = λ points includes fit. fit_jump block fit }
+  pub adds_jump : {blocks : List Point} (block : ℕ) → AddsPoints flow [] blocks (jump_to block ∷ blocks)
+  adds_jump block = record { keeps = λ points includes fit. fit_jump block fit }
 
   -- an operation before the first of the blocks
-  pub brings_silent : {blocks : List Point} (at : Place) (number : ℕ) (work : Work) (q : Point) → met_in at work ≡ None → Brings flow [] (q ∷ blocks) (does at number work q ∷ blocks)
-  brings_silent at number work q silent = record { keeps = λ points includes fit. fit_silent at number work q silent fit }
+  pub adds_silent : {blocks : List Point} (at : Place) (number : ℕ) (work : Work) (q : Point) → met_in at work ≡ None → AddsPoints flow [] (q ∷ blocks) (does at number work q ∷ blocks)
+  adds_silent at number work q silent = record { keeps = λ points includes fit. fit_silent at number work q silent fit }
 
-  pub brings_point : {one : ControlPoint} {blocks : List Point} (at : Place) (number : ℕ) (work : Work) (q : Point) → Fits flow one (does at number work q) →
-      Brings flow (one ∷ []) (q ∷ blocks) (does at number work q ∷ blocks)
-  brings_point at number work q fits = record { keeps = λ points includes fit. fit_point at number work q (includes_one includes) fits fit }
+  pub adds_point : {one : ControlPoint} {blocks : List Point} (at : Place) (number : ℕ) (work : Work) (q : Point) → Fits flow one (does at number work q) →
+      AddsPoints flow (one ∷ []) (q ∷ blocks) (does at number work q ∷ blocks)
+  adds_point at number work q fits = record { keeps = λ points includes fit. fit_point at number work q (includes_one includes) fits fit }
 
   -- one after another: what is done first is met last, since code is put together from its end
-  pub brings_both : {xs ys : List ControlPoint} {old between new : List Point} → Brings flow ys old between → Brings flow xs between new → Brings flow (xs ++ ys) old new
-  brings_both {xs = xs} {ys = ys} later sooner = record { keeps = λ points includes fit. sooner.keeps points (includes_first xs ys includes) (later.keeps points (includes_second xs ys includes) fit) }
+  pub adds_both : {xs ys : List ControlPoint} {old between new : List Point} → AddsPoints flow ys old between → AddsPoints flow xs between new → AddsPoints flow (xs ++ ys) old new
+  adds_both {xs = xs} {ys = ys} later sooner = record { keeps = λ points includes fit. sooner.keeps points (includes_first xs ys includes) (later.keeps points (includes_second xs ys includes) fit) }
 
   -- the same where one of them brings in nothing
-  pub nothing_then : {some : List ControlPoint} {old between new : List Point} → Brings flow [] old between → Brings flow some between new → Brings flow some old new
+  pub nothing_then : {some : List ControlPoint} {old between new : List Point} → AddsPoints flow [] old between → AddsPoints flow some between new → AddsPoints flow some old new
   nothing_then first rest = record { keeps = λ points includes fit. rest.keeps points includes (first.keeps points includes_none fit) }
 
-  pub then_nothing : {some : List ControlPoint} {old between new : List Point} → Brings flow some old between → Brings flow [] between new → Brings flow some old new
+  pub then_nothing : {some : List ControlPoint} {old between new : List Point} → AddsPoints flow some old between → AddsPoints flow [] between new → AddsPoints flow some old new
   then_nothing first rest = record { keeps = λ points includes fit. rest.keeps points includes_none (first.keeps points includes fit) }
 
   -- an operation that is no control point, before further code
-  pub brings_past : {some : List ControlPoint} {old new : List Point} (at : Place) (number : ℕ) (work : Work) (q : Point) → met_in at work ≡ None →
-      Brings flow some (does at number work q ∷ old) new → Brings flow some (q ∷ old) new
-  brings_past at number work q silent rest = nothing_then (brings_silent at number work q silent) rest
+  pub adds_past : {some : List ControlPoint} {old new : List Point} (at : Place) (number : ℕ) (work : Work) (q : Point) → met_in at work ≡ None →
+      AddsPoints flow some (does at number work q ∷ old) new → AddsPoints flow some (q ∷ old) new
+  adds_past at number work q silent rest = nothing_then (adds_silent at number work q silent) rest
 
   -- more is allowed
-  pub brings_wider : {some more : List ControlPoint} {old new : List Point} → All (Contains more) some → Brings flow some old new → Brings flow more old new
-  brings_wider wider brings = record { keeps = λ points includes fit. brings.keeps points (includes_part includes wider) fit }
+  pub adds_wider : {some more : List ControlPoint} {old new : List Point} → All (Contains more) some → AddsPoints flow some old new → AddsPoints flow more old new
+  adds_wider wider adds = record { keeps = λ points includes fit. adds.keeps points (includes_part includes wider) fit }

@@ -35,7 +35,7 @@ pub mod ShownStatements
 pub mod ReadOff
 pub mod Fitting
 pub mod Choosing
-pub mod Bringing
+pub mod AddedPoints
 pub mod Pieces
 mod Unreached
 mod Reported

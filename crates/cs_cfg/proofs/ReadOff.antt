@@ -49,7 +49,7 @@ module _ (program : TypedProgram) (flow : Flow) (routine : Routine) (body : Stat
   label_met label l (Some l') e same =
       let land = goto_lands program flow routine lowers.labels label (at_end routine) l' finishing finishing lowers.inside lowers.following executes_body ends_arrive e in
       let place : l'.at ≡ l.at = cc in
-      subst (λ at. MeetsNext flow (lowers.labels label) (met point.Label at)) place (same_meets land.reaches (point_meets l'.at 0 (graph.Reach point.Label l'.mark) land.inside refl))
+      subst (λ at. MeetsNext flow (lowers.labels label) (met point.Label at)) place (same_meets land.reaches (point_meets l'.at 0 (graph.Reach point.Label l'.counted_point) land.inside refl))
 
   goto_meets : (label : ℕ) (found : Option Landing) → landing label (body_of routine) 0 [] ≡ found → (p q : Point) (following : Next) → goes_to program flow routine lowers.labels found (lowers.labels label) p q →
       MeetsNext flow q following → MeetsNext flow p (at_label (landed found) following)

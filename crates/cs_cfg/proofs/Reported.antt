@@ -6,9 +6,9 @@ use Rattle.std.proofs.lemmas.List.{length-map}
 use Rattle.std.proofs.lemmas.Option.{slice_get-get_or, slice_get-map}
 use Rattle.cs_cfg.specs.declared.operation.Operation as o
 use Rattle.cs_cfg.specs.declared.code.Block.{Block}
-use Rattle.cs_cfg.specs.declared.code.Mark.{Mark}
+use Rattle.cs_cfg.specs.declared.code.CountedPoint.{CountedPoint}
 use Rattle.cs_cfg.specs.Graph.{Operation, BlockEnd}
-use Rattle.cs_cfg.specs.GraphView.{operation, marked, block, block_end}
+use Rattle.cs_cfg.specs.GraphView.{operation, with_counted_point, block, block_end}
 use Rattle.cs_cfg.specs.Touching.{touch_of, touch_of_end, touch_in}
 
 -- one of its operations
@@ -52,17 +52,17 @@ module _ (operations : List o.Operation) (end : BlockEnd) (number : ℕ) where
       let same = length-map operations operation in
       sym (nowhere (map operation operations) end number (omega arith))
 
--- a mark is the first thing in a block
-reported_after_mark : (operations : List o.Operation) (end : BlockEnd) (mark : Mark) (number : ℕ) → (number ≡ 0 → ⊥) →
-    touch_in (record { operations = map operation operations; end = end }) (number - 1) ≡ touch_in (record { operations = marked (Some mark) (map operation operations); end = end }) number
-reported_after_mark operations end mark zero above = absurd (above refl)
-reported_after_mark operations end mark (suc number) above =
+-- a counted point is the first thing in a block
+reported_after_counted_point : (operations : List o.Operation) (end : BlockEnd) (counted_point : CountedPoint) (number : ℕ) → (number ≡ 0 → ⊥) →
+    touch_in (record { operations = map operation operations; end = end }) (number - 1) ≡ touch_in (record { operations = with_counted_point (Some counted_point) (map operation operations); end = end }) number
+reported_after_counted_point operations end counted_point zero above = absurd (above refl)
+reported_after_counted_point operations end counted_point (suc number) above =
     let less : suc number - 1 ≡ number = omega arith in
     ap (touch_in (record { operations = map operation operations; end = end })) less
 
-pub reported_marked : (one : Block) (mark : Mark) (operations : List o.Operation) (number : ℕ) → one.mark ≡ Some mark → operations ≡ one.operations.items → (number ≡ 0 → ⊥) →
+pub reported_with_counted_point : (one : Block) (counted_point : CountedPoint) (operations : List o.Operation) (number : ℕ) → one.counted_point ≡ Some counted_point → operations ≡ one.operations.items → (number ≡ 0 → ⊥) →
     touch_in (record { operations = map operation operations; end = block_end one.end }) (number - 1) ≡ touch_in (block one) number
-reported_marked one mark operations number marks same above =
+reported_with_counted_point one counted_point operations number counted_points same above =
     ap (λ all. touch_in (record { operations = map operation all; end = block_end one.end }) (number - 1)) same
-    ∙ reported_after_mark one.operations.items (block_end one.end) mark number above
-    ∙ ap (λ m. touch_in (record { operations = marked m (map operation one.operations.items); end = block_end one.end }) number) (sym marks)
+    ∙ reported_after_counted_point one.operations.items (block_end one.end) counted_point number above
+    ∙ ap (λ m. touch_in (record { operations = with_counted_point m (map operation one.operations.items); end = block_end one.end }) number) (sym counted_points)

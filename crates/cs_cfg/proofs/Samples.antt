@@ -61,7 +61,7 @@ fills_flow_graph = record {
       ∷ (record { operations = does 59 0 (Local 1) ∷ (does 61 1 (Number (pos 0)) ∷ (does 60 0 (Sum 4 Forward PointerFirst) ∷ (does 60 0 (Load (pointed 60 int)) ∷ (does 52 1 (Meet point.Return) ∷ [])))); end = Return 0 }
       ∷ (record { operations = does 64 0 (Close false) ∷ []; end = Return 0 } ∷ []))));
   entry = 0;
-  marks = 1;
+  counted_points = 1;
 }
 
 abbrev fills_code : Code

@@ -8,7 +8,7 @@ use Rattle.cs_events.specs.declared.point.PointKind.TheVariants as point
 use Rattle.cs_meaning.specs.Initials.{Piece, Evaluated, Spelled, pieces}
 use Rattle.cs_meaning.specs.Machine.{body_of}
 use Rattle.cs_meaning.specs.Jumps.{Landing, landing}
-use Rattle.cs_meaning.specs.Marks.{marks, marks_in}
+use Rattle.cs_meaning.specs.CountedPoints.{counted_points, counted_points_in}
 use Rattle.cs_meaning.specs.Statements.{default_item}
 use Rattle.cs_cfg.specs.Graph as graph
 use Rattle.cs_cfg.specs.Graph.{Work, Point, Flow, block_of}
@@ -102,64 +102,64 @@ module _ (program : TypedProgram) (flow : Flow) where
 
     mutual
       -- a statement
-      pub executed : (s : Statement) {to : Targets} (mark : ℕ) (out again p q : Point) {next : Next} → Aims program flow routine labels to out again → executes_at program flow routine labels s mark out again p q →
+      pub executed : (s : Statement) {to : Targets} (counted_point : ℕ) (out again p q : Point) {next : Next} → Aims program flow routine labels to out again → executes_at program flow routine labels s counted_point out again p q →
           MeetsNext flow q next → Kept program flow p → Walked program flow q (flows to s next)
-      executed (Block at statements) mark out again p q aims it m kept = all_executed statements mark out again p q aims it m kept
-      executed (Declare at declaration None) mark out again p q aims it m kept = walked_none (kept_past at 0 _ q (kept_same it kept))
-      executed (Declare at declaration (Some initial)) mark out again p q aims it m kept = declares_walk at declaration initial p q it m kept
-      executed (Run at e) mark out again p q aims it m kept = walked_past at 0 graph.Drop q (walks program flow e 0 p _ it (does_meets at 0 graph.Drop q refl m) kept)
-      executed (If at test body) mark out again p q aims it m kept =
+      executed (Block at statements) counted_point out again p q aims it m kept = all_executed statements counted_point out again p q aims it m kept
+      executed (Declare at declaration None) counted_point out again p q aims it m kept = walked_none (kept_past at 0 _ q (kept_same it kept))
+      executed (Declare at declaration (Some initial)) counted_point out again p q aims it m kept = declares_walk at declaration initial p q it m kept
+      executed (Run at e) counted_point out again p q aims it m kept = walked_past at 0 graph.Drop q (walks program flow e 0 p _ it (does_meets at 0 graph.Drop q refl m) kept)
+      executed (If at test body) counted_point out again p q aims it m kept =
           let way = it.3.0 in
           let following = joins_meet way.2 m in
-          let shown = test_shown at test p it.0 it.1 it.2 kept (starts_meet program flow routine labels body mark out again _ way.0 aims way.1 following) (joins_meet it.3.1 m) in
-          let inside = executed body mark out again _ way.0 aims way.1 following (kept_block it.0) in
+          let shown = test_shown at test p it.0 it.1 it.2 kept (starts_meet program flow routine labels body counted_point out again _ way.0 aims way.1 following) (joins_meet it.3.1 m) in
+          let inside = executed body counted_point out again _ way.0 aims way.1 following (kept_block it.0) in
           also shown.itself (record { kept = kept_joins way.2 inside.kept; shown = shown_both shown.inside inside.shown })
-      executed (IfElse at test body other) mark out again p q aims it m kept =
+      executed (IfElse at test body other) counted_point out again p q aims it m kept =
           let one = it.3.0 in
           let two = it.3.1 in
-          let shown = test_shown at test p it.0 it.1 it.2 kept (starts_meet program flow routine labels body mark out again _ one.0 aims one.1 (joins_meet one.2 m))
-          (starts_meet program flow routine labels other (mark + marks body) out again _ two.0 aims two.1 (joins_meet two.2 m)) in
-          let inside = executed body mark out again _ one.0 aims one.1 (joins_meet one.2 m) (kept_block it.0) in
-          let others = executed other (mark + marks body) out again _ two.0 aims two.1 (joins_meet two.2 m) (kept_block it.1) in
+          let shown = test_shown at test p it.0 it.1 it.2 kept (starts_meet program flow routine labels body counted_point out again _ one.0 aims one.1 (joins_meet one.2 m))
+          (starts_meet program flow routine labels other (counted_point + counted_points body) out again _ two.0 aims two.1 (joins_meet two.2 m)) in
+          let inside = executed body counted_point out again _ one.0 aims one.1 (joins_meet one.2 m) (kept_block it.0) in
+          let others = executed other (counted_point + counted_points body) out again _ two.0 aims two.1 (joins_meet two.2 m) (kept_block it.1) in
           also shown.itself (record { kept = kept_joins one.2 inside.kept; shown = shown_both (shown_both shown.inside inside.shown) others.shown })
-      executed (While at test body) mark out again p q aims it m kept =
+      executed (While at test body) counted_point out again p q aims it m kept =
           let head = it.0 in
           let loop = it.2 in
           let way = loop.2.3.0 in
-          let work = graph.Reach point.Head mark in
+          let work = graph.Reach point.Head counted_point in
           let at_head = kept_same loop.1 (kept_joins it.1 kept) in
           let turns = same_meets loop.1 (point_meets at 0 work loop.0 refl) in
           let aims' = aims_in_loop program flow routine labels q head aims m turns in
           let shown = test_shown at test loop.0 loop.2.0 loop.2.1 loop.2.2 (kept_past at 0 work loop.0 at_head)
-          (starts_meet program flow routine labels body (mark + 1) q head _ way.0 aims' way.1 (joins_meet way.2 turns)) (joins_meet loop.2.3.1 m) in
-          let inside = executed body (mark + 1) q head _ way.0 aims' way.1 (joins_meet way.2 turns) (kept_block loop.2.0) in
+          (starts_meet program flow routine labels body (counted_point + 1) q head _ way.0 aims' way.1 (joins_meet way.2 turns)) (joins_meet loop.2.3.1 m) in
+          let inside = executed body (counted_point + 1) q head _ way.0 aims' way.1 (joins_meet way.2 turns) (kept_block loop.2.0) in
           also (shows_passed 0 work loop.0 at_head refl refl (used_meets program flow test 0 loop.0 _ loop.2.2 (split_meets at 0 loop.2.0 loop.2.1)))
           (also shown.itself (record { kept = kept_joins loop.2.3.1 (kept_block loop.2.1); shown = shown_both shown.inside inside.shown }))
-      executed (Do at body test) mark out again p q aims it m kept =
+      executed (Do at body test) counted_point out again p q aims it m kept =
           let head = it.0 in
           let test_at = it.1 in
           let loop = it.3 in
           let way = loop.2 in
           let one = loop.3.0 in
           let other = loop.3.1 in
-          let work = graph.Reach point.Head mark in
+          let work = graph.Reach point.Head counted_point in
           let at_head = kept_same loop.1 (kept_joins it.2 kept) in
           let turns = same_meets loop.1 (point_meets at 0 work loop.0 refl) in
           let tests = used_meets program flow test 0 test_at _ loop.3.2 (split_meets at 0 one other) in
           let aims' = aims_in_loop program flow routine labels q test_at aims m tests in
-          let inside = executed body (mark + 1) q test_at loop.0 way.0 aims' way.1 (joins_meet way.2 tests) (kept_past at 0 work loop.0 at_head) in
+          let inside = executed body (counted_point + 1) q test_at loop.0 way.0 aims' way.1 (joins_meet way.2 tests) (kept_past at 0 work loop.0 at_head) in
           let shown = test_shown at test test_at one other loop.3.2 (kept_joins way.2 inside.kept) (joins_meet loop.3.3.0 turns) (joins_meet loop.3.3.1 m) in
-          also (shows_passed 0 work loop.0 at_head refl refl (starts_meet program flow routine labels body (mark + 1) q test_at loop.0 way.0 aims' way.1 (joins_meet way.2 tests)))
+          also (shows_passed 0 work loop.0 at_head refl refl (starts_meet program flow routine labels body (counted_point + 1) q test_at loop.0 way.0 aims' way.1 (joins_meet way.2 tests)))
           (also shown.itself (record { kept = kept_joins loop.3.3.1 (kept_block other); shown = shown_both inside.shown shown.inside }))
-      executed (For at beginning test last body) mark out again p q aims it m kept =
+      executed (For at beginning test last body) counted_point out again p q aims it m kept =
           let head = it.0 in
           let last_part = it.1 in
           let loop = it.3 in
           let way = loop.4 in
-          let number = mark + 1 + marks_in beginning in
-          let work = graph.Reach point.Head mark in
+          let number = counted_point + 1 + counted_points_in beginning in
+          let work = graph.Reach point.Head counted_point in
           let turns = same_meets loop.2 (point_meets at 0 work loop.0 refl) in
-          let first_part = all_executed beginning (mark + 1) q again p head (aims_in_switch program flow routine labels q aims m) it.2 turns kept in
+          let first_part = all_executed beginning (counted_point + 1) q again p head (aims_in_switch program flow routine labels q aims m) it.2 turns kept in
           let at_head = kept_same loop.2 first_part.kept in
           let ends = last_meets program flow routine labels last last_part head loop.5 turns in
           let aims' = aims_in_loop program flow routine labels q last_part aims m ends in
@@ -169,30 +169,30 @@ module _ (program : TypedProgram) (flow : Flow) where
           let end = last_walks last last_part head loop.5 turns (kept_joins way.2 inside.kept) in
           also (shows_passed 0 work loop.0 at_head refl refl (for_test_meets program flow routine labels at test loop.0 loop.1 q loop.3 body_meets))
           (record { kept = shown.following; shown = shown_both (shown_both (shown_both (shown_both shown.itself first_part.shown) shown.points_in_it) end.shown) inside.shown })
-      executed (Switch at value cases statements) {to = to} mark out again p q {next = next} aims it m kept =
+      executed (Switch at value cases statements) {to = to} counted_point out again p q {next = next} aims it m kept =
           let entries = it.2 in
           let aims' = aims_in_switch program flow routine labels q aims m in
           let value_shown = used_walks program flow value 0 p _ it.3 (switch_meets at it.0 it.1) kept in
-          let enters = λ (item : ℕ). from_start program flow routine labels item statements mark q again (entries item) q aims' (it.4 item) m in
-          let inside = all_executed statements mark q again (entries 0) q aims' (from_first program flow routine labels statements mark q again (entries 0) q (it.4 0)) m (kept_is it.7) in
+          let enters = λ (item : ℕ). from_start program flow routine labels item statements counted_point q again (entries item) q aims' (it.4 item) m in
+          let inside = all_executed statements counted_point q again (entries 0) q aims' (from_first program flow routine labels statements counted_point q again (entries 0) q (it.4 0)) m (kept_is it.7) in
           also (shows_switched program flow routine labels entries (in_switch to next) statements next enters at it.0 it.1 _ (same_meets it.6 (enters (default_item cases (count_of statements)))) cases value_shown.kept it.5)
           (record { kept = inside.kept; shown = shown_both value_shown.shown inside.shown })
-      executed (Goto at label) mark out again p q aims it m kept = walked_none (after_goto (landing label (body_of routine) 0 []) (labels label) p q it kept)
-      executed (Label at label body) mark out again p q aims it m kept =
-          let work = graph.Reach point.Label mark in
+      executed (Goto at label) counted_point out again p q aims it m kept = walked_none (after_goto (landing label (body_of routine) 0 []) (labels label) p q it kept)
+      executed (Label at label body) counted_point out again p q aims it m kept =
+          let work = graph.Reach point.Label counted_point in
           let at_label = kept_same it.3 (kept_joins it.2 kept) in
-          also (shows_passed 0 work it.1 at_label refl refl (starts_meet program flow routine labels body (mark + 1) out again it.1 q aims it.5 m))
-          (executed body (mark + 1) out again it.1 q aims it.5 m (kept_past at 0 work it.1 at_label))
-      executed (Break at) mark out again p q aims it m kept = walked_none (kept_is it.1)
-      executed (Continue at) mark out again p q aims it m kept = walked_none (kept_is it.1)
-      executed (Return at value) mark out again p q aims it m kept =
+          also (shows_passed 0 work it.1 at_label refl refl (starts_meet program flow routine labels body (counted_point + 1) out again it.1 q aims it.5 m))
+          (executed body (counted_point + 1) out again it.1 q aims it.5 m (kept_past at 0 work it.1 at_label))
+      executed (Break at) counted_point out again p q aims it m kept = walked_none (kept_is it.1)
+      executed (Continue at) counted_point out again p q aims it m kept = walked_none (kept_is it.1)
+      executed (Return at value) counted_point out again p q aims it m kept =
           let walked = returns_shown at value p it.0 kept in
           also (shows_last 1 (graph.Meet point.Return) leaving walked.kept refl) (record { kept = kept_is it.1; shown = walked.shown })
 
       -- statements one after another
-      pub all_executed : (statements : Statements) {to : Targets} (mark : ℕ) (out again p q : Point) {next : Next} → Aims program flow routine labels to out again → all_at program flow routine labels statements mark out again p q →
+      pub all_executed : (statements : Statements) {to : Targets} (counted_point : ℕ) (out again p q : Point) {next : Next} → Aims program flow routine labels to out again → all_at program flow routine labels statements counted_point out again p q →
           MeetsNext flow q next → Kept program flow p → Walked program flow q (flows_in to statements next)
-      all_executed Empty mark out again p q aims it m kept = walked_none (kept_joins it kept)
-      all_executed (Then one others) mark out again p q aims it m kept =
-          let later = all_start program flow routine labels others (mark + marks one) out again it.0 q aims it.2 m in
-          walked_then (walked_joins it.1.2 (executed one mark out again p it.1.0 aims it.1.1 (joins_meet it.1.2 later) kept)) (λ k. all_executed others (mark + marks one) out again it.0 q aims it.2 m k)
+      all_executed Empty counted_point out again p q aims it m kept = walked_none (kept_joins it kept)
+      all_executed (Then one others) counted_point out again p q aims it m kept =
+          let later = all_start program flow routine labels others (counted_point + counted_points one) out again it.0 q aims it.2 m in
+          walked_then (walked_joins it.1.2 (executed one counted_point out again p it.1.0 aims it.1.1 (joins_meet it.1.2 later) kept)) (λ k. all_executed others (counted_point + counted_points one) out again it.0 q aims it.2 m k)

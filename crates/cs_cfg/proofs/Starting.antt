@@ -6,7 +6,7 @@ use Rattle.cs_ast.specs.TypedProgram.{TypedProgram, Routine}
 use Rattle.cs_events.specs.declared.point.PointKind.TheVariants as point
 use Rattle.cs_meaning.specs.Initials.{Piece, Evaluated, Spelled, pieces}
 use Rattle.cs_meaning.specs.Machine.{body_of}
-use Rattle.cs_meaning.specs.Marks.{marks}
+use Rattle.cs_meaning.specs.CountedPoints.{counted_points}
 use Rattle.cs_meaning.specs.Jumps.{landing}
 use Rattle.cs_cfg.specs.Graph as graph
 use Rattle.cs_cfg.specs.Graph.{Work, Point, Flow, block_of}
@@ -71,35 +71,35 @@ module _ (program : TypedProgram) (flow : Flow) (routine : Routine) (labels : �
 
   mutual
     -- a statement
-    pub starts_meet : (s : Statement) {to : Targets} (mark : ℕ) (out again p q : Point) {next : Next} → Aims to out again → executes_at program flow routine labels s mark out again p q →
+    pub starts_meet : (s : Statement) {to : Targets} (counted_point : ℕ) (out again p q : Point) {next : Next} → Aims to out again → executes_at program flow routine labels s counted_point out again p q →
         MeetsNext flow q next → MeetsNext flow p (starts to s next)
-    starts_meet (Block at statements) mark out again p q aims it m = all_start statements mark out again p q aims it m
-    starts_meet (Declare at declaration None) mark out again p q aims it m = same_meets it (does_meets at 0 _ q refl m)
-    starts_meet (Declare at declaration (Some initial)) mark out again p q aims it m = declares_meet at declaration initial p q it m
-    starts_meet (Run at e) mark out again p q aims it m = meets program flow e 0 p _ it (does_meets at 0 graph.Drop q refl m)
-    starts_meet (If at test body) mark out again p q aims it m = used_meets program flow test 0 p _ it.2 (split_meets at 0 it.0 it.1)
-    starts_meet (IfElse at test body other) mark out again p q aims it m = used_meets program flow test 0 p _ it.2 (split_meets at 0 it.0 it.1)
-    starts_meet (While at test body) mark out again p q aims it m = joins_meet it.1 (same_meets it.2.1 (point_meets at 0 (graph.Reach point.Head mark) it.2.0 refl))
-    starts_meet (Do at body test) mark out again p q aims it m = joins_meet it.2 (same_meets it.3.1 (point_meets at 0 (graph.Reach point.Head mark) it.3.0 refl))
-    starts_meet (For at beginning test last body) mark out again p q aims it m =
-        all_start beginning (mark + 1) q again p it.0 (aims_in_switch q aims m) it.2 (same_meets it.3.2 (point_meets at 0 (graph.Reach point.Head mark) it.3.0 refl))
-    starts_meet (Switch at value cases statements) mark out again p q aims it m = used_meets program flow value 0 p _ it.3 (switch_meets at it.0 it.1)
-    starts_meet (Goto at label) mark out again p q {next = next} aims it m = aims.labels_meet label p q next it m
-    starts_meet (Label at label body) mark out again p q aims it m = joins_meet it.2 (same_meets it.3 (point_meets at 0 (graph.Reach point.Label mark) it.1 refl))
-    starts_meet (Break at) mark out again p q aims it m = joins_meet it.0 aims.out_meets
-    starts_meet (Continue at) mark out again p q aims it m = joins_meet it.0 aims.again_meets
-    starts_meet (Return at value) mark out again p q aims it m = returns_meet at value p it.0
+    starts_meet (Block at statements) counted_point out again p q aims it m = all_start statements counted_point out again p q aims it m
+    starts_meet (Declare at declaration None) counted_point out again p q aims it m = same_meets it (does_meets at 0 _ q refl m)
+    starts_meet (Declare at declaration (Some initial)) counted_point out again p q aims it m = declares_meet at declaration initial p q it m
+    starts_meet (Run at e) counted_point out again p q aims it m = meets program flow e 0 p _ it (does_meets at 0 graph.Drop q refl m)
+    starts_meet (If at test body) counted_point out again p q aims it m = used_meets program flow test 0 p _ it.2 (split_meets at 0 it.0 it.1)
+    starts_meet (IfElse at test body other) counted_point out again p q aims it m = used_meets program flow test 0 p _ it.2 (split_meets at 0 it.0 it.1)
+    starts_meet (While at test body) counted_point out again p q aims it m = joins_meet it.1 (same_meets it.2.1 (point_meets at 0 (graph.Reach point.Head counted_point) it.2.0 refl))
+    starts_meet (Do at body test) counted_point out again p q aims it m = joins_meet it.2 (same_meets it.3.1 (point_meets at 0 (graph.Reach point.Head counted_point) it.3.0 refl))
+    starts_meet (For at beginning test last body) counted_point out again p q aims it m =
+        all_start beginning (counted_point + 1) q again p it.0 (aims_in_switch q aims m) it.2 (same_meets it.3.2 (point_meets at 0 (graph.Reach point.Head counted_point) it.3.0 refl))
+    starts_meet (Switch at value cases statements) counted_point out again p q aims it m = used_meets program flow value 0 p _ it.3 (switch_meets at it.0 it.1)
+    starts_meet (Goto at label) counted_point out again p q {next = next} aims it m = aims.labels_meet label p q next it m
+    starts_meet (Label at label body) counted_point out again p q aims it m = joins_meet it.2 (same_meets it.3 (point_meets at 0 (graph.Reach point.Label counted_point) it.1 refl))
+    starts_meet (Break at) counted_point out again p q aims it m = joins_meet it.0 aims.out_meets
+    starts_meet (Continue at) counted_point out again p q aims it m = joins_meet it.0 aims.again_meets
+    starts_meet (Return at value) counted_point out again p q aims it m = returns_meet at value p it.0
 
     -- statements one after another
-    pub all_start : (statements : Statements) {to : Targets} (mark : ℕ) (out again p q : Point) {next : Next} → Aims to out again → all_at program flow routine labels statements mark out again p q →
+    pub all_start : (statements : Statements) {to : Targets} (counted_point : ℕ) (out again p q : Point) {next : Next} → Aims to out again → all_at program flow routine labels statements counted_point out again p q →
         MeetsNext flow q next → MeetsNext flow p (starts_in to statements next)
-    all_start Empty mark out again p q aims it m = joins_meet it m
-    all_start (Then one others) mark out again p q aims it m =
-        starts_meet one mark out again p it.1.0 aims it.1.1 (joins_meet it.1.2 (all_start others (mark + marks one) out again it.0 q aims it.2 m))
+    all_start Empty counted_point out again p q aims it m = joins_meet it m
+    all_start (Then one others) counted_point out again p q aims it m =
+        starts_meet one counted_point out again p it.1.0 aims it.1.1 (joins_meet it.1.2 (all_start others (counted_point + counted_points one) out again it.0 q aims it.2 m))
 
   -- from the statement with a number on
-  pub from_start : (number : ℕ) (statements : Statements) {to : Targets} (mark : ℕ) (out again p q : Point) {next : Next} → Aims to out again → from_at program flow routine labels number statements mark out again p q →
+  pub from_start : (number : ℕ) (statements : Statements) {to : Targets} (counted_point : ℕ) (out again p q : Point) {next : Next} → Aims to out again → from_at program flow routine labels number statements counted_point out again p q →
       MeetsNext flow q next → MeetsNext flow p (starts_from to number statements next)
-  from_start number Empty mark out again p q aims it m = joins_meet it m
-  from_start zero (Then one others) mark out again p q aims it m = all_start (Then one others) mark out again p q aims it m
-  from_start (suc number) (Then one others) mark out again p q aims it m = from_start number others (mark + marks one) out again p q aims it m
+  from_start number Empty counted_point out again p q aims it m = joins_meet it m
+  from_start zero (Then one others) counted_point out again p q aims it m = all_start (Then one others) counted_point out again p q aims it m
+  from_start (suc number) (Then one others) counted_point out again p q aims it m = from_start number others (counted_point + counted_points one) out again p q aims it m

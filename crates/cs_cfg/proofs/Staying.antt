@@ -16,7 +16,7 @@ use Rattle.cs_meaning.specs.Initials.{number_in, directed}
 use Rattle.cs_meaning.specs.Access.{access_of}
 use Rattle.cs_meaning.specs.Operators.{branch}
 use Rattle.cs_meaning.specs.Machine.{Operand, Scalar, Item, Evaluate, EvaluateUnused, Act as Acting, Fetch, Choose, Judge, Use, Drop, Store, Spell, Execute, Decide, Turn, Again, Out, Begin, End, Give, Leave, State, push, push_cell, with_memory, operand_at, cell_at, cell_of, newest, pop_many, routine_of, body_of}
-use Rattle.cs_meaning.specs.Marks.{reached_again}
+use Rattle.cs_meaning.specs.CountedPoints.{reached_again}
 use Rattle.cs_meaning.specs.Jumps.{Landing, landing}
 use Rattle.cs_meaning.specs.Calls.{call_routine}
 use Rattle.cs_meaning.specs.Expressions.{pointer_age, amount_age, given, number_at, stores, act_form, fetch_form, choose_form}
@@ -30,9 +30,9 @@ use Rattle.cs_cfg.proofs.Returning.{NeverReturns, goes, stops, asks, touches, ne
 stays_branch : (at : Place) (cell : Cell) (next : Bool → State) → NeverReturns (branch at cell (λ holds. Goes (next holds)))
 stays_branch at cell next = keeps_truth never at cell (λ holds. touches (keeps_shows never at _ goes))
 
-stays_mark : (budgets : RunBudgets) (at : Place) (kind : PointKind) (mark : ℕ) (count : Option ℕ) (m : State) → NeverReturns (reached_again budgets at kind mark count m)
-stays_mark budgets at kind mark None m = stops tt
-stays_mark budgets at kind mark (Some count) m = keeps_if never (nat_lt count budgets.visits) (touches goes) (stops tt)
+stays_counted_point : (budgets : RunBudgets) (at : Place) (kind : PointKind) (counted_point : ℕ) (count : Option ℕ) (m : State) → NeverReturns (reached_again budgets at kind counted_point count m)
+stays_counted_point budgets at kind counted_point None m = stops tt
+stays_counted_point budgets at kind counted_point (Some count) m = keeps_if never (nat_lt count budgets.visits) (touches goes) (stops tt)
 
 module _ (program : TypedProgram) where
   stays_call : (budgets : RunBudgets) (at : Place) (callee : ℕ) (routine : Routine) (body : Option Statement) (operands : List Operand) (m : State) → NeverReturns (call_routine program budgets at callee routine body operands m)
@@ -92,28 +92,28 @@ module _ (program : TypedProgram) where
 
   stays_lands : (budgets : RunBudgets) (found : Option Landing) (m : State) → NeverReturns (lands budgets found m)
   stays_lands budgets None m = goes
-  stays_lands budgets (Some l) m = stays_mark budgets l.at point.Label l.mark (slice_get m.frame.visits l.mark) _
+  stays_lands budgets (Some l) m = stays_counted_point budgets l.at point.Label l.counted_point (slice_get m.frame.visits l.counted_point) _
 
-  stays_execute : (budgets : RunBudgets) (end : List Item) (s : Statement) (mark : ℕ) (m : State) → NeverReturns (execute program budgets end s mark m)
-  stays_execute budgets end (Declare at declaration initial) mark m = stays_declare at declaration initial m
-  stays_execute budgets end (Goto at wanted) mark m = stays_lands budgets (landing wanted (body_of (routine_of program m.frame.function)) 0 end) m
-  stays_execute budgets end (Label at label body) mark m = stays_mark budgets at point.Label mark (slice_get m.frame.visits mark) _
-  stays_execute budgets end other mark m = goes
+  stays_execute : (budgets : RunBudgets) (end : List Item) (s : Statement) (counted_point : ℕ) (m : State) → NeverReturns (execute program budgets end s counted_point m)
+  stays_execute budgets end (Declare at declaration initial) counted_point m = stays_declare at declaration initial m
+  stays_execute budgets end (Goto at wanted) counted_point m = stays_lands budgets (landing wanted (body_of (routine_of program m.frame.function)) 0 end) m
+  stays_execute budgets end (Label at label body) counted_point m = stays_counted_point budgets at point.Label counted_point (slice_get m.frame.visits counted_point) _
+  stays_execute budgets end other counted_point m = goes
 
-  stays_decide : (s : Statement) (mark : ℕ) (m : State) → NeverReturns (decide s mark m)
-  stays_decide (If at test body) mark m = stays_branch at (cell_at m 0) _
-  stays_decide (IfElse at test body other) mark m = stays_branch at (cell_at m 0) _
-  stays_decide (While at test body) mark m = stays_branch at (cell_at m 0) _
-  stays_decide (Do at body test) mark m = stays_branch at (cell_at m 0) _
-  stays_decide (For at first test last body) mark m = stays_branch at (cell_at m 0) _
-  stays_decide (Switch at value cases statements) mark m = touches (keeps_shows never at _ goes)
-  stays_decide other mark m = goes
+  stays_decide : (s : Statement) (counted_point : ℕ) (m : State) → NeverReturns (decide s counted_point m)
+  stays_decide (If at test body) counted_point m = stays_branch at (cell_at m 0) _
+  stays_decide (IfElse at test body other) counted_point m = stays_branch at (cell_at m 0) _
+  stays_decide (While at test body) counted_point m = stays_branch at (cell_at m 0) _
+  stays_decide (Do at body test) counted_point m = stays_branch at (cell_at m 0) _
+  stays_decide (For at first test last body) counted_point m = stays_branch at (cell_at m 0) _
+  stays_decide (Switch at value cases statements) counted_point m = touches (keeps_shows never at _ goes)
+  stays_decide other counted_point m = goes
 
-  stays_turn : (budgets : RunBudgets) (s : Statement) (mark : ℕ) (m : State) → NeverReturns (turn budgets s mark m)
-  stays_turn budgets (While at test body) mark m = stays_mark budgets at point.Head mark (slice_get m.frame.visits mark) _
-  stays_turn budgets (Do at body test) mark m = stays_mark budgets at point.Head mark (slice_get m.frame.visits mark) _
-  stays_turn budgets (For at first test last body) mark m = stays_mark budgets at point.Head mark (slice_get m.frame.visits mark) _
-  stays_turn budgets other mark m = goes
+  stays_turn : (budgets : RunBudgets) (s : Statement) (counted_point : ℕ) (m : State) → NeverReturns (turn budgets s counted_point m)
+  stays_turn budgets (While at test body) counted_point m = stays_counted_point budgets at point.Head counted_point (slice_get m.frame.visits counted_point) _
+  stays_turn budgets (Do at body test) counted_point m = stays_counted_point budgets at point.Head counted_point (slice_get m.frame.visits counted_point) _
+  stays_turn budgets (For at first test last body) counted_point m = stays_counted_point budgets at point.Head counted_point (slice_get m.frame.visits counted_point) _
+  stays_turn budgets other counted_point m = goes
 
   -- the thing to do leaves the frame
   abbrev pub IsLeave : Item → Type 0
@@ -132,10 +132,10 @@ module _ (program : TypedProgram) where
   stays_or_leaves budgets Drop m = inr goes
   stays_or_leaves budgets (Store at declaration offset ty) m = inr (stays_touches (λ local. Stores m.frame.number local at) (if_scalar (local_type program declaration m) declaration) goes)
   stays_or_leaves budgets (Spell declaration offset bytes) m = inr goes
-  stays_or_leaves budgets (Execute s mark) m = inr (stays_execute budgets (at_end (routine_of program m.frame.function)) s mark m)
-  stays_or_leaves budgets (Decide s mark) m = inr (stays_decide s mark m)
-  stays_or_leaves budgets (Turn s mark) m = inr (stays_turn budgets s mark m)
-  stays_or_leaves budgets (Again s mark) m = inr goes
+  stays_or_leaves budgets (Execute s counted_point) m = inr (stays_execute budgets (at_end (routine_of program m.frame.function)) s counted_point m)
+  stays_or_leaves budgets (Decide s counted_point) m = inr (stays_decide s counted_point m)
+  stays_or_leaves budgets (Turn s counted_point) m = inr (stays_turn budgets s counted_point m)
+  stays_or_leaves budgets (Again s counted_point) m = inr goes
   stays_or_leaves budgets Out m = inr goes
   stays_or_leaves budgets (Begin at) m = inr (touches goes)
   stays_or_leaves budgets (End at value) m = inr (touches goes)

@@ -73,10 +73,10 @@ module _ (code : Code) (program : TypedProgram) (budgets : RunBudgets) (m : Stat
       ap (λ t. goes_way code at (way_of ways otherwise (number_in (cell_at t 0)) 0) (pop t)) (uncut 1 p callers m deep)
       ∙ ap (λ t. Touches (Meets point.Switch at) (shows_then at (label.Case way.number) (Goes t))) (enters_block code program way.block p callers (pop m) home)
 
-  pub switch_decides : (mark : ℕ) (items : List Item) (p : Point) → length m.frame.stack ≡ 1 → (at : Place) (value : Typed) (cases : List Case) (statements : Statements) →
-      decides_at program home.flow (routine_of program m.frame.function) home.lowers.labels (Switch at value cases statements) mark home.out home.again (λ d q. onward code program home items d q) p →
-      Answer code program budgets (to_do (Decide (Switch at value cases statements) mark ∷ items) m) (as_code p callers m)
-  switch_decides mark items p single at value cases statements it =
+  pub switch_decides : (counted_point : ℕ) (items : List Item) (p : Point) → length m.frame.stack ≡ 1 → (at : Place) (value : Typed) (cases : List Case) (statements : Statements) →
+      decides_at program home.flow (routine_of program m.frame.function) home.lowers.labels (Switch at value cases statements) counted_point home.out home.again (λ d q. onward code program home items d q) p →
+      Answer code program budgets (to_do (Decide (Switch at value cases statements) counted_point ∷ items) m) (as_code p callers m)
+  switch_decides counted_point items p single at value cases statements it =
       let routine = routine_of program m.frame.function in
       let here : Point = record { operations = []; end = graph.Switch at 0 it.0 it.1 } in
       let number = number_in (cell_at m 0) in
@@ -85,13 +85,13 @@ module _ (code : Code) (program : TypedProgram) (budgets : RunBudgets) (m : Stat
       let way = way_of it.0 it.1 number 0 in
       let pick = picks program home.flow routine home.lowers.labels it.2 it.1 number default it.6 cases it.0 0 it.5 (omega arith) in
       let left : 0 ≡ length (drop 1 m.frame.stack) = sym (dropped 1 0 m.frame.stack single) in
-      let rest = executes_from chosen.item statements mark items in
-      let s = rest_arrives program home.flow routine home.lowers.labels chosen.item statements mark items home.out home.again (it.2 chosen.item) home.out (it.4 chosen.item) it.7 in
+      let rest = executes_from chosen.item statements counted_point items in
+      let s = rest_arrives program home.flow routine home.lowers.labels chosen.item statements counted_point items home.out home.again (it.2 chosen.item) home.out (it.4 chosen.item) it.7 in
       let acts = λ (number : ℕ) (q : Point). Touches (Meets point.Switch at) (shows_then at (label.Case number) (Goes (as_code q callers (pop m)))) in
-      let reported : Yields (Related code program budgets) (switch_to at statements mark chosen (pop (to_do items m))) (acts chosen.number (it.2 chosen.item))
+      let reported : Yields (Related code program budgets) (switch_to at statements counted_point chosen (pop (to_do items m))) (acts chosen.number (it.2 chosen.item))
       = both_touch (yields_shows (Related code program budgets) at (label.Case chosen.number)
       (both_go (now (aligned code program (to_do rest (pop m)) home (it.2 chosen.item) callers (with_depth code program home rest (it.2 chosen.item) left s) waiting)))) in
       let same : acts way.number (block_of home.flow way.block) ≡ acts chosen.number (it.2 chosen.item) = ap (λ k. acts k (block_of home.flow way.block)) pick.number ∙ ap (acts chosen.number) pick.leads in
-      let code_acts = subst (Yields (Related code program budgets) (switch_to at statements mark chosen (pop (to_do items m)))) (sym (switches_so at it.0 it.1 single ∙ same)) reported in
-      subst (λ x. Answer code program budgets (to_do (Decide (Switch at value cases statements) mark ∷ items) m) (as_code x callers m)) (sym it.3)
-      (together (subst (λ c. Yields (Related code program budgets) (switch_to at statements mark c (pop (to_do items m))) (code_step code program budgets (as_code here callers m))) (sym (chosen_else cases statements (case_of cases number 0))) code_acts))
+      let code_acts = subst (Yields (Related code program budgets) (switch_to at statements counted_point chosen (pop (to_do items m)))) (sym (switches_so at it.0 it.1 single ∙ same)) reported in
+      subst (λ x. Answer code program budgets (to_do (Decide (Switch at value cases statements) counted_point ∷ items) m) (as_code x callers m)) (sym it.3)
+      (together (subst (λ c. Yields (Related code program budgets) (switch_to at statements counted_point c (pop (to_do items m))) (code_step code program budgets (as_code here callers m))) (sym (chosen_else cases statements (case_of cases number 0))) code_acts))

@@ -23,7 +23,7 @@ use Rattle.cs_meaning.specs.Types.{integer_of}
 use Rattle.cs_meaning.specs.Memory.{Memory, is_constant}
 use Rattle.cs_meaning.specs.Access.{Access, touches_then, load_object, store_object}
 use Rattle.cs_meaning.specs.Machine.{Operand, Scalar, CallFrame, to_do, push, push_cell, pop_many, with_memory, operand_at, cell_of, cell_at, newest, routine_of}
-use Rattle.cs_meaning.specs.Marks.{reached_again}
+use Rattle.cs_meaning.specs.CountedPoints.{reached_again}
 use Rattle.cs_meaning.specs.Calls.{leave_to}
 use Rattle.cs_meaning.specs.Expressions.{pointer_age, amount_age, given, number_at, stores_to}
 use Rattle.cs_cfg.specs.declared.code.Spot.{Spot}
@@ -93,11 +93,11 @@ module _ {S : Type 0} where
   touches_store program memory frame at access cell operand h =
       keeps_locate (inherited _) program memory access cell (λ object offset. keeps_if (inherited _) (is_constant program object) stops (touches_local frame (λ declaration. touch.Store declaration at) access.local (h _)))
 
--- a mark is reached
-touches_mark : (budgets : RunBudgets) (at : Place) (kind : PointKind) (mark : ℕ) (count : Option ℕ) (m : CodeState) →
-    TouchesJust (option_map (in_frame m.frame.number) (Some (touch.Point kind at))) (reached_again budgets at kind mark count m)
-touches_mark budgets at kind mark None m = stops
-touches_mark budgets at kind mark (Some count) m = keeps_if (inherited _) (nat_lt count budgets.visits) (touches goes) stops
+-- a counted point is reached
+touches_counted_point : (budgets : RunBudgets) (at : Place) (kind : PointKind) (counted_point : ℕ) (count : Option ℕ) (m : CodeState) →
+    TouchesJust (option_map (in_frame m.frame.number) (Some (touch.Point kind at))) (reached_again budgets at kind counted_point count m)
+touches_counted_point budgets at kind counted_point None m = stops
+touches_counted_point budgets at kind counted_point (Some count) m = keeps_if (inherited _) (nat_lt count budgets.visits) (touches goes) stops
 
 -- the frame is left
 touches_leave : (callers : List (CallFrame Point)) (value : Operand) (m : CodeState) → TouchesJust None (leave_to callers value m)
@@ -161,7 +161,7 @@ module _ (code : Code) (program : TypedProgram) (budgets : RunBudgets) where
   work_touches at (StoreLocal declaration offset ty true) m = touches goes
   work_touches at (StoreLocal declaration offset ty false) m = goes
   work_touches at (Spell declaration offset bytes) m = goes
-  work_touches at (Reach kind mark) m = touches_mark budgets at kind mark (slice_get m.frame.visits mark) m
+  work_touches at (Reach kind counted_point) m = touches_counted_point budgets at kind counted_point (slice_get m.frame.visits counted_point) m
   work_touches at (Meet kind) m = touches goes
   work_touches at (Close nothing) m = touches goes
 

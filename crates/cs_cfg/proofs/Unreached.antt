@@ -52,7 +52,7 @@ abbrev begins : Point
 begins = does (at 6) 0 (graph.Meet point.Enter) returns
 
 abbrev flow : Flow
-flow = record { blocks = labelled ∷ (begins ∷ []); entry = 1; marks = 1 }
+flow = record { blocks = labelled ∷ (begins ∷ []); entry = 1; counted_points = 1 }
 
 abbrev code : Code
 code = record { flows = Some flow ∷ [] }

@@ -9,7 +9,7 @@ use Rattle.cs_events.specs.declared.point.PointKind.TheVariants as point
 use Rattle.cs_meaning.specs.Types.{type_of, is_scalar}
 use Rattle.cs_meaning.specs.Initials.{Piece, Evaluated, Spelled, pieces}
 use Rattle.cs_meaning.specs.Machine.{body_of}
-use Rattle.cs_meaning.specs.Marks.{marks, marks_in}
+use Rattle.cs_meaning.specs.CountedPoints.{counted_points, counted_points_in}
 use Rattle.cs_meaning.specs.Jumps.{Landing, landing}
 use Rattle.cs_meaning.specs.Statements.{default_item}
 use Rattle.cs_cfg.specs.Graph as graph
@@ -51,14 +51,14 @@ module _ (program : TypedProgram) (flow : Flow) where
 
   -- a `while` with this head, after which stands a point (C11 6.8.5.1)
   abbrev pub while_loop : Place → Typed → ℕ → Part → Point → Point → Type 0
-  while_loop at test mark body head q =
-      (r : Point) × (head ≡ does at 0 (graph.Reach point.Head mark) r)
+  while_loop at test counted_point body head q =
+      (r : Point) × (head ≡ does at 0 (graph.Reach point.Head counted_point) r)
       × tests_at at test r (λ one other. part_to body q head one head × Joins program flow other q)
 
   -- a `do` with this head, and with this point after its body (C11 6.8.5.2)
   abbrev pub do_loop : Place → Typed → ℕ → Part → Point → Point → Point → Type 0
-  do_loop at test mark body head again q =
-      (r : Point) × (head ≡ does at 0 (graph.Reach point.Head mark) r) × part_to body q again r again
+  do_loop at test counted_point body head again q =
+      (r : Point) × (head ≡ does at 0 (graph.Reach point.Head counted_point) r) × part_to body q again r again
       × tests_at at test again (λ one other. Joins program flow one head × Joins program flow other q)
 
   -- the last part of a `for`, which leads back to its head
@@ -73,8 +73,8 @@ module _ (program : TypedProgram) (flow : Flow) where
 
   -- a `for` with this head, and with this point after its body (C11 6.8.5.3)
   abbrev pub for_loop : Place → Option Typed → Option Typed → ℕ → Part → Point → Point → Point → Type 0
-  for_loop at test last mark body head again q =
-      (r inside : Point) × (head ≡ does at 0 (graph.Reach point.Head mark) r) × for_test_at at test r inside q
+  for_loop at test last counted_point body head again q =
+      (r inside : Point) × (head ≡ does at 0 (graph.Reach point.Head counted_point) r) × for_test_at at test r inside q
       × part_to body q again inside again × last_at last again head
 
   module _ (routine : Routine) (labels : ℕ → Point) where
@@ -114,52 +114,52 @@ module _ (program : TypedProgram) (flow : Flow) where
     goes_to None label p q = Joins program flow p q
     goes_to (Some landing) label p q = Joins program flow p label × IsKept q
 
-    -- a label with a mark is the point to which its `goto`s lead, where it is the first of its name
+    -- a label with a counted point is the point to which its `goto`s lead, where it is the first of its name
     abbrev pub is_led_to : Option Landing → ℕ → Point → Point → Type 0
-    is_led_to None mark label head = ⊤
-    is_led_to (Some landing) mark label head = landing.mark ≡ mark → label ≡ head
+    is_led_to None counted_point label head = ⊤
+    is_led_to (Some landing) counted_point label head = landing.counted_point ≡ counted_point → label ≡ head
 
     abbrev mutual
-      -- the point executes a statement, the first mark of which has this number, and then the graph goes on at a point; `break` and
+      -- the point executes a statement, the first counted point of which has this number, and then the graph goes on at a point; `break` and
       -- `continue` lead to two others. The first part of a `for` stands in the loop for `break`, and outside of it for `continue`
       pub executes_at : Statement → ℕ → Point → Point → Point → Point → Type 0
-      executes_at (Block at statements) mark out again p q = all_at statements mark out again p q
-      executes_at (Declare at declaration initial) mark out again p q = declares_at at declaration initial p q
-      executes_at (Run at e) mark out again p q = evaluates program flow e 0 p (does at 0 graph.Drop q)
-      executes_at (If at test body) mark out again p q =
-          tests_at at test p (λ one other. part_to (λ o a x y. executes_at body mark o a x y) out again one q × Joins program flow other q)
-      executes_at (IfElse at test body following) mark out again p q =
-          tests_at at test p (λ one other. part_to (λ o a x y. executes_at body mark o a x y) out again one q × part_to (λ o a x y. executes_at following (mark + marks body) o a x y) out again other q)
-      executes_at (While at test body) mark out again p q =
-          (head : Point) × Joins program flow p head × while_loop at test mark (λ o a x y. executes_at body (mark + 1) o a x y) head q
-      executes_at (Do at body test) mark out again p q =
-          (head test_at : Point) × Joins program flow p head × do_loop at test mark (λ o a x y. executes_at body (mark + 1) o a x y) head test_at q
-      executes_at (For at first test last body) mark out again p q =
-          (head last_part : Point) × all_at first (mark + 1) q again p head
-          × for_loop at test last mark (λ o a x y. executes_at body (mark + 1 + marks_in first) o a x y) head last_part q
-      executes_at (Switch at value cases statements) mark out again p q =
+      executes_at (Block at statements) counted_point out again p q = all_at statements counted_point out again p q
+      executes_at (Declare at declaration initial) counted_point out again p q = declares_at at declaration initial p q
+      executes_at (Run at e) counted_point out again p q = evaluates program flow e 0 p (does at 0 graph.Drop q)
+      executes_at (If at test body) counted_point out again p q =
+          tests_at at test p (λ one other. part_to (λ o a x y. executes_at body counted_point o a x y) out again one q × Joins program flow other q)
+      executes_at (IfElse at test body following) counted_point out again p q =
+          tests_at at test p (λ one other. part_to (λ o a x y. executes_at body counted_point o a x y) out again one q × part_to (λ o a x y. executes_at following (counted_point + counted_points body) o a x y) out again other q)
+      executes_at (While at test body) counted_point out again p q =
+          (head : Point) × Joins program flow p head × while_loop at test counted_point (λ o a x y. executes_at body (counted_point + 1) o a x y) head q
+      executes_at (Do at body test) counted_point out again p q =
+          (head test_at : Point) × Joins program flow p head × do_loop at test counted_point (λ o a x y. executes_at body (counted_point + 1) o a x y) head test_at q
+      executes_at (For at first test last body) counted_point out again p q =
+          (head last_part : Point) × all_at first (counted_point + 1) q again p head
+          × for_loop at test last counted_point (λ o a x y. executes_at body (counted_point + 1 + counted_points_in first) o a x y) head last_part q
+      executes_at (Switch at value cases statements) counted_point out again p q =
           (ways : List SwitchCase) × (otherwise : ℕ) × (entries : ℕ → Point)
           × used program flow value 0 p (record { operations = []; end = graph.Switch at 0 ways otherwise })
-          × ((item : ℕ) → from_at item statements mark q again (entries item) q) × cases_lead entries cases ways
+          × ((item : ℕ) → from_at item statements counted_point q again (entries item) q) × cases_lead entries cases ways
           × (block_of flow otherwise ≡ entries (default_item cases (count_of statements)))
           × IsKept (entries 0)
-      executes_at (Goto at label) mark out again p q = goes_to (landing label (body_of routine) 0 []) (labels label) p q
-      executes_at (Label at label body) mark out again p q =
-          (head r : Point) × Joins program flow p head × (head ≡ does at 0 (graph.Reach point.Label mark) r)
-          × is_led_to (landing label (body_of routine) 0 []) mark (labels label) head × executes_at body (mark + 1) out again r q
-      executes_at (Break at) mark out again p q = Joins program flow p out × IsKept q
-      executes_at (Continue at) mark out again p q = Joins program flow p again × IsKept q
-      executes_at (Return at value) mark out again p q = returns_at at value p × IsKept q
+      executes_at (Goto at label) counted_point out again p q = goes_to (landing label (body_of routine) 0 []) (labels label) p q
+      executes_at (Label at label body) counted_point out again p q =
+          (head r : Point) × Joins program flow p head × (head ≡ does at 0 (graph.Reach point.Label counted_point) r)
+          × is_led_to (landing label (body_of routine) 0 []) counted_point (labels label) head × executes_at body (counted_point + 1) out again r q
+      executes_at (Break at) counted_point out again p q = Joins program flow p out × IsKept q
+      executes_at (Continue at) counted_point out again p q = Joins program flow p again × IsKept q
+      executes_at (Return at value) counted_point out again p q = returns_at at value p × IsKept q
 
       -- statements one after another
       pub all_at : Statements → ℕ → Point → Point → Point → Point → Type 0
-      all_at Empty mark out again p q = Joins program flow p q
-      all_at (Then first others) mark out again p q =
-          (r : Point) × part_to (λ o a x y. executes_at first mark o a x y) out again p r × all_at others (mark + marks first) out again r q
+      all_at Empty counted_point out again p q = Joins program flow p q
+      all_at (Then first others) counted_point out again p q =
+          (r : Point) × part_to (λ o a x y. executes_at first counted_point o a x y) out again p r × all_at others (counted_point + counted_points first) out again r q
 
       -- the same from the statement with a number on
       pub from_at : ℕ → Statements → ℕ → Point → Point → Point → Point → Type 0
-      from_at number Empty mark out again p q = Joins program flow p q
-      from_at zero (Then first others) mark out again p q =
-          (r : Point) × part_to (λ o a x y. executes_at first mark o a x y) out again p r × all_at others (mark + marks first) out again r q
-      from_at (suc number) (Then first others) mark out again p q = from_at number others (mark + marks first) out again p q
+      from_at number Empty counted_point out again p q = Joins program flow p q
+      from_at zero (Then first others) counted_point out again p q =
+          (r : Point) × part_to (λ o a x y. executes_at first counted_point o a x y) out again p r × all_at others (counted_point + counted_points first) out again r q
+      from_at (suc number) (Then first others) counted_point out again p q = from_at number others (counted_point + counted_points first) out again p q

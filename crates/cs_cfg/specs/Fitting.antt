@@ -39,5 +39,5 @@ pub record Includes (points some : List ControlPoint) : Type 0 where
   pub all : All (Contains points) some
 
 -- of some blocks others were made, as by code put before the first of them, which brings in no control points but these
-pub record Brings (flow : Flow) (some : List ControlPoint) (old new : List Point) : Type 0 where
+pub record AddsPoints (flow : Flow) (some : List ControlPoint) (old new : List Point) : Type 0 where
   pub keeps : (points : List ControlPoint) → Includes points some → AllFit flow points old → AllFit flow points new

@@ -46,8 +46,8 @@ pub data Work : Type 0 where
   Zero : (declaration : ℕ) → Work
   StoreLocal : (declaration offset : ℕ) (ty : Shape) (scalar : Bool) → Work
   Spell : (declaration offset : ℕ) (bytes : List ℕ) → Work
-  -- the head of a loop or a label is reached, which is the mark with a number
-  Reach : (kind : PointKind) (mark : ℕ) → Work
+  -- the head of a loop or a label is reached, which is the counted point with a number
+  Reach : (kind : PointKind) (counted_point : ℕ) → Work
   Meet : (kind : PointKind) → Work
   Close : (nothing : Bool) → Work
 
@@ -75,11 +75,11 @@ pub record Point : Type 0 where
   pub operations : List Operation
   pub end : BlockEnd
 
--- the flow graph of a function: its blocks, the one in which a call begins, and how many marks there are
+-- the flow graph of a function: its blocks, the one in which a call begins, and how many counted points there are
 pub record Flow : Type 0 where
   pub blocks : List Point
   pub entry : ℕ
-  pub marks : ℕ
+  pub counted_points : ℕ
 
 -- the code of a program: the graph of each function that has a body
 pub record Code : Type 0 where
@@ -99,7 +99,7 @@ block_of flow block = unwrap_or (slice_get flow.blocks block) no_point
 
 -- a graph without blocks
 abbrev pub no_flow : Flow
-no_flow = record { blocks = []; entry = 0; marks = 0 }
+no_flow = record { blocks = []; entry = 0; counted_points = 0 }
 
 -- the graph of a function, if it has one
 abbrev pub flow_of : Code → ℕ → Option Flow

@@ -8,7 +8,7 @@ use Rattle.cs_cfg.specs.ControlPoints.{Met, Next, the_point, met, Exit, Onward, 
 
 -- the control point that an operation is, if it is one
 abbrev pub met_in : Place → Work → Option Met
-met_in at (Reach kind mark) = met kind at
+met_in at (Reach kind counted_point) = met kind at
 met_in at (Meet kind) = met kind at
 met_in at (Close nothing) = met point.End at
 met_in at other = None

@@ -8,7 +8,7 @@ use Rattle.cs_cfg.specs.declared.operation.Access as a
 use Rattle.cs_cfg.specs.declared.code.Code as c
 use Rattle.cs_cfg.specs.declared.code.Flow as f
 use Rattle.cs_cfg.specs.declared.code.Block as b
-use Rattle.cs_cfg.specs.declared.code.Mark.{Mark}
+use Rattle.cs_cfg.specs.declared.code.CountedPoint.{CountedPoint}
 use Rattle.cs_cfg.specs.declared.code.BlockEnd as e
 use Rattle.cs_cfg.specs.declared.code.BlockEnd.TheVariants as ends
 use Rattle.cs_cfg.specs.declared.code.SwitchCase as s
@@ -66,16 +66,16 @@ block_end (ends.Switch at temporary cases otherwise) = Switch at temporary (map 
 block_end (ends.Return temporary) = Return temporary
 block_end ends.Finish = Finish
 
--- the mark of a block is the first thing that the block does
-abbrev pub marked : Option Mark → List Operation → List Operation
-marked None operations = operations
-marked (Some mark) operations = record { at = mark.place; temporary = 0; work = Reach mark.kind mark.number } ∷ operations
+-- the counted point of a block is the first thing that the block does
+abbrev pub with_counted_point : Option CountedPoint → List Operation → List Operation
+with_counted_point None operations = operations
+with_counted_point (Some counted_point) operations = record { at = counted_point.place; temporary = 0; work = Reach counted_point.kind counted_point.number } ∷ operations
 
 abbrev pub block : b.Block → Point
-block one = record { operations = marked one.mark (map operation one.operations.items); end = block_end one.end }
+block one = record { operations = with_counted_point one.counted_point (map operation one.operations.items); end = block_end one.end }
 
 abbrev pub flow : f.Flow → Flow
-flow graph = record { blocks = map block graph.blocks.items; entry = graph.entry; marks = graph.marks }
+flow graph = record { blocks = map block graph.blocks.items; entry = graph.entry; counted_points = graph.counted_points }
 
 abbrev pub code : c.Code → Code
 code graphs = record { flows = map (option_map flow) graphs.flows.items }

@@ -4,7 +4,7 @@ use Rattle.cs_ast.specs.TypedTree.{Statement}
 use Rattle.cs_ast.specs.TypedProgram.{TypedProgram, Routine}
 use Rattle.cs_events.specs.declared.point.PointKind.TheVariants as point
 use Rattle.cs_meaning.specs.Machine.{routine_of}
-use Rattle.cs_meaning.specs.Marks.{marks}
+use Rattle.cs_meaning.specs.CountedPoints.{counted_points}
 use Rattle.cs_meaning.specs.Calls.{falls_off}
 use Rattle.cs_cfg.specs.Graph as graph
 use Rattle.cs_cfg.specs.Graph.{Point, Flow, Code, block_of, flow_of}
@@ -25,7 +25,7 @@ pub record LowersBody (program : TypedProgram) (routine : Routine) (body : State
   pub executes : executes_at program flow routine labels body 0 finishing finishing inside following
   pub ends : Joins program flow following (does routine.closes 0 (graph.Close nothing) leaving)
   pub gives : closed_with nothing ≡ falls_off routine.returns
-  pub counts : flow.marks ≡ marks body
+  pub counts : flow.counted_points ≡ counted_points body
 
 -- each function with a body has a graph that executes it, and no other function has one
 pub record IsPlaced (code : Code) (program : TypedProgram) : Type 0 where

@@ -10,7 +10,7 @@ use Rattle.cs_events.specs.declared.point.PointKind.TheVariants as point
 use Rattle.cs_meaning.specs.Types.{size_of, type_of, integer_of, is_scalar}
 use Rattle.cs_meaning.specs.Access.{access_of}
 use Rattle.cs_meaning.specs.Machine.{Item, Evaluate, EvaluateUnused, Act, Fetch, Choose, Judge, Use, Drop, Store, Spell, Execute, Decide, Turn, Again, Out, Begin, End, Give, Leave}
-use Rattle.cs_meaning.specs.Marks.{marks, marks_in}
+use Rattle.cs_meaning.specs.CountedPoints.{counted_points, counted_points_in}
 use Rattle.cs_meaning.specs.Expressions.{count_all}
 use Rattle.cs_meaning.specs.Statements.{default_item}
 use Rattle.cs_cfg.specs.Graph as graph
@@ -92,36 +92,36 @@ module _ (program : TypedProgram) (flow : Flow) where
   module _ (routine : Routine) (labels : ℕ → Point) where
     -- a statement as a part of another
     abbrev pub part_of : Statement → ℕ → Part
-    part_of s mark out again p q = executes_at program flow routine labels s mark out again p q
+    part_of s counted_point out again p q = executes_at program flow routine labels s counted_point out again p q
 
     -- a loop with a head, with a point after its body, and with a point after the loop
     abbrev pub loops_at : Statement → ℕ → Point → Point → Point → Type 0
-    loops_at (While at test body) mark head again q = (again ≡ head) × while_loop program flow at test mark (part_of body (mark + 1)) head q
-    loops_at (Do at body test) mark head again q = do_loop program flow at test mark (part_of body (mark + 1)) head again q
-    loops_at (For at first test last body) mark head again q = for_loop program flow at test last mark (part_of body (mark + 1 + marks_in first)) head again q
-    loops_at other mark head again q = ⊥
+    loops_at (While at test body) counted_point head again q = (again ≡ head) × while_loop program flow at test counted_point (part_of body (counted_point + 1)) head q
+    loops_at (Do at body test) counted_point head again q = do_loop program flow at test counted_point (part_of body (counted_point + 1)) head again q
+    loops_at (For at first test last body) counted_point head again q = for_loop program flow at test last counted_point (part_of body (counted_point + 1 + counted_points_in first)) head again q
+    loops_at other counted_point head again q = ⊥
 
     -- the way that the test of a statement, or the value of a `switch`, says; `out` is where `break` leads in it, which is after a loop
     abbrev pub decides_at : Statement → ℕ → Point → Point → Following → Point → Type 0
-    decides_at (If at test body) mark out again following p =
-        splits at (λ number one other. (q : Point) × part_to program flow (part_of body mark) out again one q × Joins program flow other q × following 0 q) 1 p
-    decides_at (IfElse at test body else_body) mark out again following p =
-        splits at (λ number one other. (q : Point) × part_to program flow (part_of body mark) out again one q × part_to program flow (part_of else_body (mark + marks body)) out again other q × following 0 q) 1 p
-    decides_at (While at test body) mark out again following p =
-        (head : Point) × while_loop program flow at test mark (part_of body (mark + 1)) head out × following 0 out
-        × splits at (λ number one other. part_to program flow (part_of body (mark + 1)) out head one head × Joins program flow other out) 1 p
-    decides_at (Do at body test) mark out again following p =
-        (head test_at : Point) × do_loop program flow at test mark (part_of body (mark + 1)) head test_at out × following 0 out
+    decides_at (If at test body) counted_point out again following p =
+        splits at (λ number one other. (q : Point) × part_to program flow (part_of body counted_point) out again one q × Joins program flow other q × following 0 q) 1 p
+    decides_at (IfElse at test body else_body) counted_point out again following p =
+        splits at (λ number one other. (q : Point) × part_to program flow (part_of body counted_point) out again one q × part_to program flow (part_of else_body (counted_point + counted_points body)) out again other q × following 0 q) 1 p
+    decides_at (While at test body) counted_point out again following p =
+        (head : Point) × while_loop program flow at test counted_point (part_of body (counted_point + 1)) head out × following 0 out
+        × splits at (λ number one other. part_to program flow (part_of body (counted_point + 1)) out head one head × Joins program flow other out) 1 p
+    decides_at (Do at body test) counted_point out again following p =
+        (head test_at : Point) × do_loop program flow at test counted_point (part_of body (counted_point + 1)) head test_at out × following 0 out
         × splits at (λ number one other. Joins program flow one head × Joins program flow other out) 1 p
-    decides_at (For at first test last body) mark out again following p =
-        (head last_part : Point) × for_loop program flow at test last mark (part_of body (mark + 1 + marks_in first)) head last_part out × following 0 out
-        × splits at (λ number one other. part_to program flow (part_of body (mark + 1 + marks_in first)) out last_part one last_part × Joins program flow other out) 1 p
-    decides_at (Switch at value cases statements) mark out again following p =
+    decides_at (For at first test last body) counted_point out again following p =
+        (head last_part : Point) × for_loop program flow at test last counted_point (part_of body (counted_point + 1 + counted_points_in first)) head last_part out × following 0 out
+        × splits at (λ number one other. part_to program flow (part_of body (counted_point + 1 + counted_points_in first)) out last_part one last_part × Joins program flow other out) 1 p
+    decides_at (Switch at value cases statements) counted_point out again following p =
         (ways : List SwitchCase) × (otherwise : ℕ) × (entries : ℕ → Point)
         × (p ≡ record { operations = []; end = graph.Switch at 0 ways otherwise })
-        × ((item : ℕ) → from_at program flow routine labels item statements mark out again (entries item) out)
+        × ((item : ℕ) → from_at program flow routine labels item statements counted_point out again (entries item) out)
         × cases_lead program flow routine labels entries cases ways × (block_of flow otherwise ≡ entries (default_item cases (count_of statements))) × following 0 out
-    decides_at other mark out again following p = ⊥
+    decides_at other counted_point out again following p = ⊥
 
     -- the point does the first thing to do, with as many temporaries in use as the depth says, and what is after stands after it
     abbrev pub item_at : Item → Point → Point → Following → Following
@@ -136,10 +136,10 @@ module _ (program : TypedProgram) (flow : Flow) where
     item_at (Store at declaration offset ty) out again following depth p =
         (depth ≡ 1) × worked at (graph.StoreLocal declaration offset ty (is_scalar (type_in routine declaration))) 0 following 1 p
     item_at (Spell declaration offset bytes) out again following depth p = (depth ≡ 0) × ((at : Place) × worked at (graph.Spell declaration offset bytes) 0 following 0 p)
-    item_at (Execute s mark) out again following depth p = (depth ≡ 0) × ((q : Point) × part_of s mark out again p q × following 0 q)
-    item_at (Decide s mark) out again following depth p = (depth ≡ 1) × decides_at s mark out again following p
-    item_at (Turn s mark) out again following depth p = (depth ≡ 0) × ((after_body : Point) × loops_at s mark p after_body out × following 0 out)
-    item_at (Again s mark) out again following depth p = (depth ≡ 0) × (again ≡ p) × ((head : Point) × loops_at s mark head p out × following 0 out)
+    item_at (Execute s counted_point) out again following depth p = (depth ≡ 0) × ((q : Point) × part_of s counted_point out again p q × following 0 q)
+    item_at (Decide s counted_point) out again following depth p = (depth ≡ 1) × decides_at s counted_point out again following p
+    item_at (Turn s counted_point) out again following depth p = (depth ≡ 0) × ((after_body : Point) × loops_at s counted_point p after_body out × following 0 out)
+    item_at (Again s counted_point) out again following depth p = (depth ≡ 0) × (again ≡ p) × ((head : Point) × loops_at s counted_point head p out × following 0 out)
     item_at Out out again following depth p = (depth ≡ 0) × (p ≡ out) × following 0 p
     item_at (Begin at) out again following depth p = (depth ≡ 0) × worked at (graph.Meet point.Enter) 0 following 0 p
     item_at (End at value) out again following depth p =
@@ -151,5 +151,5 @@ module _ (program : TypedProgram) (flow : Flow) where
     abbrev pub stands_at : List Item → Point → Point → Following
     stands_at [] out again depth p = (p ≡ finishing) × Joins program flow out finishing × Joins program flow again finishing
     stands_at (Out ∷ items) out again depth p = item_at Out out again (λ d q. (outer : Point) × ((r : Point) × Joins program flow q r × stands_at items outer again d r)) depth p
-    stands_at (Again s mark ∷ items) out again depth p = item_at (Again s mark) out again (λ d q. (outer : Point) × ((r : Point) × Joins program flow q r × stands_at items out outer d r)) depth p
+    stands_at (Again s counted_point ∷ items) out again depth p = item_at (Again s counted_point) out again (λ d q. (outer : Point) × ((r : Point) × Joins program flow q r × stands_at items out outer d r)) depth p
     stands_at (item ∷ items) out again depth p = item_at item out again (λ d q. (r : Point) × Joins program flow q r × stands_at items out again d r) depth p

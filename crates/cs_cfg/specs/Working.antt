@@ -18,7 +18,7 @@ use Rattle.cs_meaning.specs.Memory.{UnsetFill, ZeroFill, changed}
 use Rattle.cs_meaning.specs.Access.{shows_then, touches_then, load_object, write_operand}
 use Rattle.cs_meaning.specs.Operators.{truth, operate, convert_number, convert, sum, compare, difference, arrow}
 use Rattle.cs_meaning.specs.Machine.{Operand, Scalar, Nothing as NoOperand, CallFrame, Running, push, push_cell, pop, pop_many, with_stack, with_memory, operand_at, cell_of, cell_at, newest, routine_of}
-use Rattle.cs_meaning.specs.Marks.{reach_mark}
+use Rattle.cs_meaning.specs.CountedPoints.{reach_counted_point}
 use Rattle.cs_meaning.specs.Calls.{enter_as, call_outside, allocate, release}
 use Rattle.cs_meaning.specs.Expressions.{pointer_age, amount_age, given, number_at, stores_to, judge, use_result}
 use Rattle.cs_meaning.specs.Statements.{refilled, spell_local}
@@ -65,7 +65,7 @@ takes (Clear declaration scalar) = 0
 takes (Zero declaration) = 0
 takes (StoreLocal declaration offset ty scalar) = 1
 takes (Spell declaration offset bytes) = 0
-takes (Reach kind mark) = 0
+takes (Reach kind counted_point) = 0
 takes (Meet kind) = 0
 takes (Close nothing) = 0
 
@@ -84,7 +84,7 @@ code_frame function flow number = record {
   number = number;
   todo = block_of flow flow.entry;
   stack = [];
-  visits = replicate flow.marks 0;
+  visits = replicate flow.counted_points 0;
 }
 
 -- a call of a function, which has a graph or is one without a body
@@ -150,6 +150,6 @@ do_work code program budgets at (StoreLocal declaration offset ty scalar) m =
     touches_then (λ local. Stores m.frame.number local at) (if_local scalar declaration)
     (Goes (with_memory (changed (write_operand program ty offset (operand_at m 0)) (LocalObject m.frame.number declaration) m.memory) (pop m)))
 do_work code program budgets at (Spell declaration offset bytes) m = spell_local program declaration offset bytes m
-do_work code program budgets at (Reach kind mark) m = reach_mark budgets at kind mark m
+do_work code program budgets at (Reach kind counted_point) m = reach_counted_point budgets at kind counted_point m
 do_work code program budgets at (Meet kind) m = Touches (Meets kind at) (Goes m)
 do_work code program budgets at (Close nothing) m = Touches (Meets point.End at) (Goes (push (closed_with nothing) m))

@@ -17,21 +17,21 @@ pub struct Flow {
     /// The block in which a call begins.
     pub entry: u32,
     /// How many loop heads and labels there are.
-    pub marks: u32,
+    pub counted_points: u32,
 }
 
 /// Operations one after another, and how they end.
 #[derive(Drop)]
 pub struct Block {
     /// Whether the block is the head of a loop or a label.
-    pub mark: Option<Mark>,
+    pub counted_point: Option<CountedPoint>,
     pub operations: Vec<Operation>,
     pub end: BlockEnd,
 }
 
 /// A loop head or a label: its place, and its number among those of its function.
 #[derive(Clone, Copy, Debug, PartialEq, Eq)]
-pub struct Mark {
+pub struct CountedPoint {
     pub kind: PointKind,
     pub place: Place,
     pub number: u32,
@@ -59,7 +59,7 @@ pub struct SwitchCase {
     pub block: u32,
 }
 
-/// A place in the code: what a block of a function does, counted from 0; the mark comes first where the block has one, then the
+/// A place in the code: what a block of a function does, counted from 0; the counted point comes first where the block has one, then the
 /// operations, then the end.
 #[derive(Clone, Copy, Debug, PartialEq, Eq)]
 pub struct Spot {

@@ -8,6 +8,6 @@ pub mod laws;
 pub mod operation;
 pub mod touch;
 
-pub use code::{Block, BlockEnd, Code, Flow, Mark, Spot, SwitchCase};
+pub use code::{Block, BlockEnd, Code, CountedPoint, Flow, Spot, SwitchCase};
 pub use operation::{Access, Operation, Work};
 pub use touch::Touch;

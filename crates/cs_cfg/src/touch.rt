@@ -29,20 +29,23 @@ impl Code {
 }
 
 impl Block {
-    // What stands at a number in the block touches: its mark, an operation or its end.
+    // What stands at a number in the block touches: its counted point, an operation or its end.
     fn touch(&self, number: usize) -> Option<Touch>
         ensures reported { result ≡ touch_in (block self.now) number }
     {
-        match self.mark {
-            Some(mark) if number == 0 => Some(Touch::Point(mark.kind, mark.place)),
-            Some(_) => unmarked_touch(&self.operations, &self.end, number - 1),
-            None => unmarked_touch(&self.operations, &self.end, number),
+        match self.counted_point {
+            Some(counted_point) if number == 0 => Some(Touch::Point(
+                counted_point.kind,
+                counted_point.place,
+            )),
+            Some(_) => touch_of_operations(&self.operations, &self.end, number - 1),
+            None => touch_of_operations(&self.operations, &self.end, number),
         }
     }
 }
 
-// The same in a block without a mark.
-fn unmarked_touch(operations: &[Operation], end: &BlockEnd, number: usize) -> Option<Touch>
+// The same in a block without a counted point.
+fn touch_of_operations(operations: &[Operation], end: &BlockEnd, number: usize) -> Option<Touch>
     ensures reported { result ≡ touch_in (record { operations = map operation operations.now; end = block_end end.now }) number }
 {
     match operations.get(number) {

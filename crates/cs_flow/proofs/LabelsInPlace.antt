@@ -5,7 +5,7 @@ use Rattle.cs_ast.specs.declared.typed.statement.Case.{Case}
 use Rattle.cs_ast.specs.TypedTree.{Typed, Statement, Block, Declare, Run, If, IfElse, While, Do, For, Switch, Goto, Label, Break, Continue, Return, Statements, Empty, Then}
 use Rattle.cs_meaning.specs.Jumps.{Landing, landing, landing_in, first_of_two, executes}
 use Rattle.cs_meaning.specs.Machine.{Item, Again, Out}
-use Rattle.cs_meaning.specs.Marks.{marks, marks_in}
+use Rattle.cs_meaning.specs.CountedPoints.{counted_points, counted_points_in}
 use Rattle.cs_cfg.specs.ControlPoints.{Next, at_label, landed}
 use Rattle.cs_flow.specs.LabelView.{label_in, label_in_list, one_label}
 
@@ -27,23 +27,23 @@ landed-here true one other a b at same = ap (λ (p : Place). landed (Some (recor
 landed-here false one other a b at same = same
 
 mutual
-  -- neither the marks nor what is to be done after a statement says where a label stands
+  -- neither the counted points nor what is to be done after a statement says where a label stands
   pub landed-anywhere : (wanted : ℕ) (s : Statement) (m n : ℕ) (a b : List Item) → landed (landing wanted s m a) ≡ landed (landing wanted s n b)
   landed-anywhere wanted (Block at statements) m n a b = landed_in-anywhere wanted statements m n a b
   landed-anywhere wanted (Declare at declaration initial) m n a b = refl
   landed-anywhere wanted (Run at e) m n a b = refl
   landed-anywhere wanted (If at test body) m n a b = landed-anywhere wanted body m n a b
   landed-anywhere wanted (IfElse at test body other) m n a b =
-      landed-two (landing wanted body m a) (landing wanted other (m + marks body) a)
-      ∙ (ap (λ (next : Next). at_label next (landed (landing wanted other (m + marks body) a))) (landed-anywhere wanted body m n a b)
-      ∙ (ap (at_label (landed (landing wanted body n b))) (landed-anywhere wanted other (m + marks body) (n + marks body) a b)
-      ∙ sym (landed-two (landing wanted body n b) (landing wanted other (n + marks body) b))))
+      landed-two (landing wanted body m a) (landing wanted other (m + counted_points body) a)
+      ∙ (ap (λ (next : Next). at_label next (landed (landing wanted other (m + counted_points body) a))) (landed-anywhere wanted body m n a b)
+      ∙ (ap (at_label (landed (landing wanted body n b))) (landed-anywhere wanted other (m + counted_points body) (n + counted_points body) a b)
+      ∙ sym (landed-two (landing wanted body n b) (landing wanted other (n + counted_points body) b))))
   landed-anywhere wanted (While at test body) m n a b =
       landed-anywhere wanted body (m + 1) (n + 1) (Again (While at test body) m ∷ (Out ∷ a)) (Again (While at test body) n ∷ (Out ∷ b))
   landed-anywhere wanted (Do at body test) m n a b =
       landed-anywhere wanted body (m + 1) (n + 1) (Again (Do at body test) m ∷ (Out ∷ a)) (Again (Do at body test) n ∷ (Out ∷ b))
   landed-anywhere wanted (For at first test last body) m n a b =
-      landed-anywhere wanted body (m + 1 + marks_in first) (n + 1 + marks_in first) (Again (For at first test last body) m ∷ (Out ∷ a)) (Again (For at first test last body) n ∷ (Out ∷ b))
+      landed-anywhere wanted body (m + 1 + counted_points_in first) (n + 1 + counted_points_in first) (Again (For at first test last body) m ∷ (Out ∷ a)) (Again (For at first test last body) n ∷ (Out ∷ b))
   landed-anywhere wanted (Switch at value cases statements) m n a b = landed_in-anywhere wanted statements m n (Out ∷ a) (Out ∷ b)
   landed-anywhere wanted (Goto at label) m n a b = refl
   landed-anywhere wanted (Label at label body) m n a b =
@@ -55,16 +55,16 @@ mutual
   pub landed_in-anywhere : (wanted : ℕ) (statements : Statements) (m n : ℕ) (a b : List Item) → landed (landing_in wanted statements m a) ≡ landed (landing_in wanted statements n b)
   landed_in-anywhere wanted Empty m n a b = refl
   landed_in-anywhere wanted (Then first others) m n a b =
-      landed-two (landing wanted first m (executes others (m + marks first) a)) (landing_in wanted others (m + marks first) a)
-      ∙ (ap (λ (next : Next). at_label next (landed (landing_in wanted others (m + marks first) a))) (landed-anywhere wanted first m n (executes others (m + marks first) a) (executes others (n + marks first) b))
-      ∙ (ap (at_label (landed (landing wanted first n (executes others (n + marks first) b)))) (landed_in-anywhere wanted others (m + marks first) (n + marks first) a b)
-      ∙ sym (landed-two (landing wanted first n (executes others (n + marks first) b)) (landing_in wanted others (n + marks first) b))))
+      landed-two (landing wanted first m (executes others (m + counted_points first) a)) (landing_in wanted others (m + counted_points first) a)
+      ∙ (ap (λ (next : Next). at_label next (landed (landing_in wanted others (m + counted_points first) a))) (landed-anywhere wanted first m n (executes others (m + counted_points first) a) (executes others (n + counted_points first) b))
+      ∙ (ap (at_label (landed (landing wanted first n (executes others (n + counted_points first) b)))) (landed_in-anywhere wanted others (m + counted_points first) (n + counted_points first) a b)
+      ∙ sym (landed-two (landing wanted first n (executes others (n + counted_points first) b)) (landing_in wanted others (n + counted_points first) b))))
 
 -- the label of each form of statement that holds others
 pub label_in-IfElse : (label : ℕ) (at : Place) (test : Typed) (body other : Statement) → at_label (label_in label body) (label_in label other) ≡ label_in label (IfElse at test body other)
 label_in-IfElse label at test body other =
-    ap (at_label (label_in label body)) (landed-anywhere label other 0 (0 + marks body) [] [])
-    ∙ sym (landed-two (landing label body 0 []) (landing label other (0 + marks body) []))
+    ap (at_label (label_in label body)) (landed-anywhere label other 0 (0 + counted_points body) [] [])
+    ∙ sym (landed-two (landing label body 0 []) (landing label other (0 + counted_points body) []))
 
 pub label_in-While : (label : ℕ) (at : Place) (test : Typed) (body : Statement) → label_in label body ≡ label_in label (While at test body)
 label_in-While label at test body = landed-anywhere label body 0 1 [] (Again (While at test body) 0 ∷ (Out ∷ []))
@@ -74,7 +74,7 @@ label_in-Do label at test body = landed-anywhere label body 0 1 [] (Again (Do at
 
 pub label_in-For : (label : ℕ) (at : Place) (first : Statements) (test last : Option Typed) (body : Statement) → label_in label body ≡ label_in label (For at first test last body)
 label_in-For label at first test last body =
-    landed-anywhere label body 0 (0 + 1 + marks_in first) [] (Again (For at first test last body) 0 ∷ (Out ∷ []))
+    landed-anywhere label body 0 (0 + 1 + counted_points_in first) [] (Again (For at first test last body) 0 ∷ (Out ∷ []))
 
 pub label_in-Switch : (label : ℕ) (at : Place) (value : Typed) (cases : List Case) (statements : Statements) → label_in_list label statements ≡ label_in label (Switch at value cases statements)
 label_in-Switch label at value cases statements = landed_in-anywhere label statements 0 0 [] (Out ∷ [])
@@ -88,9 +88,9 @@ label_in-Label label at number body = here_or (number == label) _ _ _ (landed-an
 
 pub label_in-Then : (label : ℕ) (first : Statement) (others : Statements) → label_in_list label (Then first others) ≡ at_label (label_in label first) (label_in_list label others)
 label_in-Then label first others =
-    landed-two (landing label first 0 (executes others (0 + marks first) [])) (landing_in label others (0 + marks first) [])
-    ∙ (ap (λ (next : Next). at_label next (landed (landing_in label others (0 + marks first) []))) (landed-anywhere label first 0 0 (executes others (0 + marks first) []) [])
-    ∙ ap (at_label (label_in label first)) (landed_in-anywhere label others (0 + marks first) 0 [] []))
+    landed-two (landing label first 0 (executes others (0 + counted_points first) [])) (landing_in label others (0 + counted_points first) [])
+    ∙ (ap (λ (next : Next). at_label next (landed (landing_in label others (0 + counted_points first) []))) (landed-anywhere label first 0 0 (executes others (0 + counted_points first) []) [])
+    ∙ ap (at_label (label_in label first)) (landed_in-anywhere label others (0 + counted_points first) 0 [] []))
 
 -- labels that were added, seen as those of the statement that they stand in
 pub added : {E : Type 0} (r : Result (Unit {0}) E) (old new some whole : ℕ → Next) → ((label : ℕ) → some label ≡ whole label) → OnOk r ((label : ℕ) → new label ≡ at_label (old label) (some label)) → OnOk r ((label : ℕ) → new label ≡ at_label (old label) (whole label))

@@ -6,12 +6,12 @@ use Rattle.std.proofs.lemmas.List.{reverse-append, length-reverse, map-append}
 use Rattle.std.proofs.lemmas.List.Elements.{All-append, All-cons, All-head, All-nil, All-weaker, All-contains_itself, Contains-append_left, Contains-append_right}
 use Rattle.cs_ast.specs.declared.place.Place.{Place}
 use Rattle.cs_events.specs.declared.point.PointKind.{PointKind}
-use Rattle.cs_cfg.specs.Fitting.{Brings}
+use Rattle.cs_cfg.specs.Fitting.{AddsPoints}
 use Rattle.cs_cfg.specs.Graph.{Point, no_point, Flow, Reach}
 use Rattle.cs_cfg.specs.Placing.{does}
-use Rattle.cs_cfg.proofs.Fitting.{brings_among}
+use Rattle.cs_cfg.proofs.Fitting.{adds_among}
 use Rattle.cs_lower.specs.Building.{Built, blocks, Has, Grows}
-use Rattle.cs_lower.specs.Sealing.{Seals, SealsMark}
+use Rattle.cs_lower.specs.Sealing.{Seals, SealsCountedPoint}
 
 module _ {X : Type 0} where
   -- what is in a list stays where it is when more comes after
@@ -70,7 +70,7 @@ more_and_more m n k first second e =
       keeps = λ flow has. first.keeps flow (second.keeps flow has);
     }
 
--- the same where no marks are among it
+-- the same where no counted points are among it
 pub grows_on : {old mid new : Built} → Grows 0 old mid → Grows 0 mid new → Grows 0 old new
 grows_on first second = more_and_more 0 0 0 first second refl
 
@@ -119,11 +119,11 @@ module _ {X : Type 0} where
       All-append (Contains (xs ++ ys)) (reverse xs) ys first (among_right xs ys)
 
 -- the same blocks bring in nothing
-pub brings_nothing : {flow : Flow} {some : List Point} → Brings flow [] some some
-brings_nothing = record { keeps = λ points includes fit. fit }
+pub adds_nothing : {flow : Flow} {some : List Point} → AddsPoints flow [] some some
+adds_nothing = record { keeps = λ points includes fit. fit }
 
 -- one more block
-pub pushed : (old : Built) (p : Point) → Seals old (record old { others = old.others ++ p ∷ [] }) (old.marks + length old.others) p
+pub pushed : (old : Built) (p : Point) → Seals old (record old { others = old.others ++ p ∷ [] }) (old.counted_points + length old.others) p
 pushed old p = record {
   grows = record {
     same = refl;
@@ -134,48 +134,48 @@ pushed old p = record {
     };
   };
   is = λ flow has. has.others (length old.others) p (newest old.others p);
-  brings = λ flow. brings_among (p ∷ blocks old) (old.heads ++ (old.others ++ p ∷ [])) (among_last p old.heads old.others);
+  adds = λ flow. adds_among (p ∷ blocks old) (old.heads ++ (old.others ++ p ∷ [])) (among_last p old.heads old.others);
 }
 
--- one more block of a mark
-pub pushed_mark : (old : Built) (kind : PointKind) (at : Place) (p : Point) (number : ℕ) → number + suc (length old.heads) ≡ old.marks → SealsMark old (record old { heads = old.heads ++ does at 0 (Reach kind number) p ∷ [] }) kind at p
-pushed_mark old kind at p number is_last = record {
+-- one more block of a counted point
+pub pushed_counted_point : (old : Built) (kind : PointKind) (at : Place) (p : Point) (number : ℕ) → number + suc (length old.heads) ≡ old.counted_points → SealsCountedPoint old (record old { heads = old.heads ++ does at 0 (Reach kind number) p ∷ [] }) kind at p
+pushed_counted_point old kind at p number is_last = record {
   grows = record {
     same = refl;
     counts = longer old.heads (does at 0 (Reach kind number) p);
     keeps = λ flow has. record {
-      heads = λ n mark q got. has.heads n mark q (kept old.heads (does at 0 (Reach kind number) p ∷ []) n q got);
+      heads = λ n counted_point q got. has.heads n counted_point q (kept old.heads (does at 0 (Reach kind number) p ∷ []) n q got);
       others = has.others;
     };
   };
-  is = λ flow has mark e.
-      let same : number ≡ mark = omega arith in
-      has.heads (length old.heads) mark (does at 0 (Reach kind number) p) (newest old.heads (does at 0 (Reach kind number) p)) e ∙ ap (λ (k : ℕ). does at 0 (Reach kind k) p) same;
-  brings = λ flow mark e.
-      let same : number ≡ mark = omega arith in
+  is = λ flow has counted_point e.
+      let same : number ≡ counted_point = omega arith in
+      has.heads (length old.heads) counted_point (does at 0 (Reach kind number) p) (newest old.heads (does at 0 (Reach kind number) p)) e ∙ ap (λ (k : ℕ). does at 0 (Reach kind k) p) same;
+  adds = λ flow counted_point e.
+      let same : number ≡ counted_point = omega arith in
       let head = does at 0 (Reach kind number) p in
-      subst (λ (k : ℕ). Brings flow [] (does at 0 (Reach kind k) p ∷ blocks old) ((old.heads ++ head ∷ []) ++ old.others)) same
-      (brings_among (head ∷ blocks old) ((old.heads ++ head ∷ []) ++ old.others) (among_middle head old.heads old.others));
+      subst (λ (k : ℕ). AddsPoints flow [] (does at 0 (Reach kind k) p ∷ blocks old) ((old.heads ++ head ∷ []) ++ old.others)) same
+      (adds_among (head ∷ blocks old) ((old.heads ++ head ∷ []) ++ old.others) (among_middle head old.heads old.others));
 }
 
 -- a graph of all that was built
-pub whole : (heads others : List Point) (entry marks : ℕ) → length heads ≡ marks → Has (record { blocks = reverse heads ++ others; entry = entry; marks = marks }) (record { marks = marks; heads = heads; others = others })
-whole heads others entry marks all = record {
-  heads = λ n mark p got e.
-      let at : mark + suc n ≡ length heads = omega arith in
-      ap (λ (q : Option Point). unwrap_or q no_point) (kept (reverse heads) others mark p (from_end heads n mark p got at));
+pub whole : (heads others : List Point) (entry counted_points : ℕ) → length heads ≡ counted_points → Has (record { blocks = reverse heads ++ others; entry = entry; counted_points = counted_points }) (record { counted_points = counted_points; heads = heads; others = others })
+whole heads others entry counted_points all = record {
+  heads = λ n counted_point p got e.
+      let at : counted_point + suc n ≡ length heads = omega arith in
+      ap (λ (q : Option Point). unwrap_or q no_point) (kept (reverse heads) others counted_point p (from_end heads n counted_point p got at));
   others = λ n p got.
-      let at : marks + n ≡ length (reverse heads) + n = omega (arith, length-reverse heads) in
+      let at : counted_points + n ≡ length (reverse heads) + n = omega (arith, length-reverse heads) in
       ap (λ (q : Option Point). unwrap_or q no_point) (ap (slice_get (reverse heads ++ others)) at ∙ (following (reverse heads) others n ∙ got));
 }
 
 -- the same of what is known to be more
-pub sealed : (old new : Built) (block : ℕ) (p : Point) → new ≡ record old { others = old.others ++ p ∷ [] } → block ≡ old.marks + length old.others → Seals old new block p
+pub sealed : (old new : Built) (block : ℕ) (p : Point) → new ≡ record old { others = old.others ++ p ∷ [] } → block ≡ old.counted_points + length old.others → Seals old new block p
 sealed old new block p is number =
-    subst (λ (n : ℕ). Seals old new n p) (sym number) (subst (λ (b : Built). Seals old b (old.marks + length old.others) p) (sym is) (pushed old p))
+    subst (λ (n : ℕ). Seals old new n p) (sym number) (subst (λ (b : Built). Seals old b (old.counted_points + length old.others) p) (sym is) (pushed old p))
 
-pub sealed_mark : (old new : Built) (kind : PointKind) (at : Place) (p : Point) (number : ℕ) → new ≡ record old { heads = old.heads ++ does at 0 (Reach kind number) p ∷ [] } → number + suc (length old.heads) ≡ old.marks → SealsMark old new kind at p
-sealed_mark old new kind at p number is last = subst (λ (b : Built). SealsMark old b kind at p) (sym is) (pushed_mark old kind at p number last)
+pub sealed_counted_point : (old new : Built) (kind : PointKind) (at : Place) (p : Point) (number : ℕ) → new ≡ record old { heads = old.heads ++ does at 0 (Reach kind number) p ∷ [] } → number + suc (length old.heads) ≡ old.counted_points → SealsCountedPoint old new kind at p
+sealed_counted_point old new kind at p number is last = subst (λ (b : Built). SealsCountedPoint old b kind at p) (sym is) (pushed_counted_point old kind at p number last)
 
 -- one more at the end of a list, seen as another
 pub map_push : {X Y : Type 0} (f : X → Y) (xs new : List X) (x : X) (y : Y) → new ≡ xs ++ x ∷ [] → f x ≡ y → map f new ≡ map f xs ++ y ∷ []

@@ -8,12 +8,12 @@ use Rattle.cs_meaning.specs.Types.{type_of, is_scalar, part_type, part_offset}
 use Rattle.cs_meaning.specs.Initials.{Piece, Evaluated, Spelled, pieces, pieces_from}
 use Rattle.cs_cfg.specs.ControlPoints.{Next, points, points_initial}
 use Rattle.cs_cfg.specs.Executing.{type_in, stores_at}
-use Rattle.cs_cfg.specs.Fitting.{Brings}
+use Rattle.cs_cfg.specs.Fitting.{AddsPoints}
 use Rattle.cs_cfg.specs.Graph as graph
 use Rattle.cs_cfg.specs.Graph.{Point, Flow}
 use Rattle.cs_cfg.specs.PiecePoints.{first_pieces, points_pieces}
 use Rattle.cs_cfg.specs.Placing.{does, used}
-use Rattle.cs_cfg.proofs.Fitting.{brings_both, brings_past, brings_silent, then_nothing}
+use Rattle.cs_cfg.proofs.Fitting.{adds_both, adds_past, adds_silent, then_nothing}
 use Rattle.cs_cfg.proofs.Meeting.{does_meets, same_meets}
 use Rattle.cs_cfg.proofs.Pieces.{points_same}
 use Rattle.cs_cfg.proofs.Starting.{stores_meet}
@@ -23,7 +23,7 @@ use Rattle.cs_lower.specs.Allocations.{InitialHasArguments, InitialsHaveArgument
 use Rattle.cs_lower.specs.Building.{Built}
 use Rattle.cs_lower.specs.Expressions.{Uses}
 use Rattle.cs_lower.specs.Statements.{labels_in, StoresPieces, Declares}
-use Rattle.cs_lower.proofs.Built.{nothing_more, grows_on, brings_nothing}
+use Rattle.cs_lower.proofs.Built.{nothing_more, grows_on, adds_nothing}
 use Rattle.cs_lower.proofs.Evaluating.{same_after, same_before}
 
 all_have : (some more : List Piece) → PiecesHaveArguments some → PiecesHaveArguments more → PiecesHaveArguments (some ++ more)
@@ -58,23 +58,23 @@ first_has (Spelled offset bytes) others has = (tt, has)
 
 -- the control points of an expression, and of a piece that is one
 module _ {flow : Flow} where
-  as_piece : {old new : List Point} (offset : ℕ) (e : Typed) (next : Next) → Brings flow (points e next) old new → Brings flow (points_pieces (Evaluated offset e ∷ []) next) old new
-  as_piece {old = old} {new = new} offset e next brings = subst (λ some. Brings flow some old new) (sym (append-nil (points e next))) brings
+  as_piece : {old new : List Point} (offset : ℕ) (e : Typed) (next : Next) → AddsPoints flow (points e next) old new → AddsPoints flow (points_pieces (Evaluated offset e ∷ []) next) old new
+  as_piece {old = old} {new = new} offset e next adds = subst (λ some. AddsPoints flow some old new) (sym (append-nil (points e next))) adds
 
-  as_value : {old new : List Point} (offset : ℕ) (e : Typed) (next : Next) → Brings flow (points_pieces (Evaluated offset e ∷ []) next) old new → Brings flow (points e next) old new
-  as_value {old = old} {new = new} offset e next brings = subst (λ some. Brings flow some old new) (append-nil (points e next)) brings
+  as_value : {old new : List Point} (offset : ℕ) (e : Typed) (next : Next) → AddsPoints flow (points_pieces (Evaluated offset e ∷ []) next) old new → AddsPoints flow (points e next) old new
+  as_value {old = old} {new = new} offset e next adds = subst (λ some. AddsPoints flow some old new) (append-nil (points e next)) adds
 
   -- a piece before others
-  brings_before : (one : Piece) (others : List Piece) (following : Next) {old between new : List Point} → Brings flow (points_pieces others following) old between
-      → Brings flow (points_pieces (one ∷ []) (first_pieces others following)) between new → Brings flow (points_pieces (one ∷ others) following) old new
-  brings_before (Evaluated offset e) others following rest one = brings_both rest (as_value offset e (first_pieces others following) one)
-  brings_before (Spelled offset bytes) others following rest one = then_nothing rest one
+  adds_before : (one : Piece) (others : List Piece) (following : Next) {old between new : List Point} → AddsPoints flow (points_pieces others following) old between
+      → AddsPoints flow (points_pieces (one ∷ []) (first_pieces others following)) between new → AddsPoints flow (points_pieces (one ∷ others) following) old new
+  adds_before (Evaluated offset e) others following rest one = adds_both rest (as_value offset e (first_pieces others following) one)
+  adds_before (Spelled offset bytes) others following rest one = then_nothing rest one
 
 -- the object becomes zero before its pieces are stored
 zeroed_first : (program : TypedProgram) {flow : Flow} {at : Place} {declaration : ℕ} {old new : List Point} {p r : Point} (shape : Shape) (initial : Initial) (following : Next) → p ≡ does at 0 (graph.Zero declaration) r
-    → Brings flow (points_pieces (pieces program shape 0 initial) following) old (r ∷ new) → Brings flow (points_initial initial following) old (p ∷ new)
+    → AddsPoints flow (points_pieces (pieces program shape 0 initial) following) old (r ∷ new) → AddsPoints flow (points_initial initial following) old (p ∷ new)
 zeroed_first program {flow = flow} {at = at} {declaration = declaration} {old = old} {new = new} {p = p} {r = r} shape initial following zeroed stored =
-    subst (λ some. Brings flow some old (p ∷ new)) (points_same program initial shape 0 following) (same_before zeroed (then_nothing stored (brings_silent at 0 (graph.Zero declaration) r refl)))
+    subst (λ some. AddsPoints flow some old (p ∷ new)) (points_same program initial shape 0 following) (same_before zeroed (then_nothing stored (adds_silent at 0 (graph.Zero declaration) r refl)))
 
 module _ {program : TypedProgram} {routine : Routine} where
   -- a value is stored
@@ -86,8 +86,8 @@ module _ {program : TypedProgram} {routine : Routine} where
       record {
         grows = h.grows;
         does = λ flow has args. (q, subst (λ s. used program flow e 0 p s) is (h.does flow has args.0), refl);
-        brings = λ flow has args following m.
-            as_piece offset e following (brings_past at 0 store q refl (same_after is (h.brings flow has args.0 following (same_meets is (does_meets at 0 store q refl m)))));
+        adds = λ flow has args following m.
+            as_piece offset e following (adds_past at 0 store q refl (same_after is (h.adds flow has args.0 following (same_meets is (does_meets at 0 store q refl m)))));
       }
 
   -- a text is stored
@@ -95,12 +95,12 @@ module _ {program : TypedProgram} {routine : Routine} where
   text_stored {at = at} {declaration = declaration} {offset = offset} {bytes = bytes} {built = built} {q = q} is = record {
     grows = nothing_more built;
     does = λ flow has args. (q, is, refl);
-    brings = λ flow has args following m. same_before is (brings_silent at 0 (graph.Spell declaration offset bytes) q refl);
+    adds = λ flow has args following m. same_before is (adds_silent at 0 (graph.Spell declaration offset bytes) q refl);
   }
 
   -- pieces in a row, lowered from the end
   pub none_stored : (at : Place) (declaration : ℕ) (built : Built) (p : Point) → StoresPieces program routine at declaration [] built built p p
-  none_stored at declaration built p = record { grows = nothing_more built; does = λ flow has args. refl; brings = λ flow has args following m. brings_nothing }
+  none_stored at declaration built p = record { grows = nothing_more built; does = λ flow has args. refl; adds = λ flow has args following m. adds_nothing }
 
   pub stored_then : {at : Place} {declaration : ℕ} {one : Piece} {others : List Piece} {old mid new : Built} {p r q : Point} → StoresPieces program routine at declaration others old mid r q → StoresPieces program routine at declaration (one ∷ []) mid new p r
       → StoresPieces program routine at declaration (one ∷ others) old new p q
@@ -109,11 +109,11 @@ module _ {program : TypedProgram} {routine : Routine} where
     does = λ flow has args.
         let both = first_has one others args in
         stored_before program routine at declaration flow one others p r q (first.does flow has both.0) (rest.does flow (first.grows.keeps flow has) both.1);
-    brings = λ flow has args following m.
+    adds = λ flow has args following m.
         let both = first_has one others args in
         let in_mid = first.grows.keeps flow has in
         let meets = stores_meet program flow routine (labels_in routine flow) others at declaration r q (rest.does flow in_mid both.1) m in
-        brings_before one others following (rest.brings flow in_mid both.1 following m) (first.brings flow has both.0 (first_pieces others following) meets);
+        adds_before one others following (rest.adds flow in_mid both.1 following m) (first.adds flow has both.0 (first_pieces others following) meets);
   }
 
   -- one more of a row that is lowered from its end
@@ -130,7 +130,7 @@ module _ {program : TypedProgram} {routine : Routine} where
   declared_unset {at = at} {declaration = declaration} {built = built} {q = q} is = record {
     grows = nothing_more built;
     does = λ flow has args. is;
-    brings = λ flow has args to following m. same_before is (brings_silent at 0 (graph.Clear declaration (is_scalar (type_in routine declaration))) q refl);
+    adds = λ flow has args to following m. same_before is (adds_silent at 0 (graph.Clear declaration (is_scalar (type_in routine declaration))) q refl);
   }
 
   pub declared_value : {at : Place} {declaration : ℕ} {e : Typed} {old new : Built} {p q : Point} → StoresPieces program routine at declaration (Evaluated 0 e ∷ []) old new p q → Declares program routine at declaration (Some (Value e)) old new p q
@@ -139,7 +139,7 @@ module _ {program : TypedProgram} {routine : Routine} where
     does = λ flow has args.
         let stored = h.does flow has (args, tt) in
         subst (λ r. used program flow e 0 p (does at 0 (graph.StoreLocal declaration 0 (type_of e) (is_scalar (type_in routine declaration))) r)) stored.2 stored.1;
-    brings = λ flow has args to following m. as_value 0 e following (h.brings flow has (args, tt) following m);
+    adds = λ flow has args to following m. as_value 0 e following (h.adds flow has (args, tt) following m);
   }
 
   pub declared_parts : {at : Place} {declaration : ℕ} {initial : Initial} {parts : Initials} {old new : Built} {p r q : Point} → initial ≡ Parts parts → p ≡ does at 0 (graph.Zero declaration) r
@@ -149,7 +149,7 @@ module _ {program : TypedProgram} {routine : Routine} where
       (λ stored. record {
         grows = stored.grows;
         does = λ flow has args. (r, zeroed, stored.does flow has (pieces_have program (type_in routine declaration) 0 (Parts parts) args));
-        brings = λ flow has args to following m. zeroed_first program (type_in routine declaration) (Parts parts) following zeroed (stored.brings flow has (pieces_have program (type_in routine declaration) 0 (Parts parts) args) following m);
+        adds = λ flow has args to following m. zeroed_first program (type_in routine declaration) (Parts parts) following zeroed (stored.adds flow has (pieces_have program (type_in routine declaration) 0 (Parts parts) args) following m);
       }) h
 
   pub declared_text : {at : Place} {declaration : ℕ} {initial : Initial} {bytes : List ℕ} {old new : Built} {p r q : Point} → initial ≡ Bytes bytes → p ≡ does at 0 (graph.Zero declaration) r
@@ -159,5 +159,5 @@ module _ {program : TypedProgram} {routine : Routine} where
       (λ stored. record {
         grows = stored.grows;
         does = λ flow has args. (r, zeroed, stored.does flow has (pieces_have program (type_in routine declaration) 0 (Bytes bytes) args));
-        brings = λ flow has args to following m. zeroed_first program (type_in routine declaration) (Bytes bytes) following zeroed (stored.brings flow has (pieces_have program (type_in routine declaration) 0 (Bytes bytes) args) following m);
+        adds = λ flow has args to following m. zeroed_first program (type_in routine declaration) (Bytes bytes) following zeroed (stored.adds flow has (pieces_have program (type_in routine declaration) 0 (Bytes bytes) args) following m);
       }) h

@@ -8,26 +8,26 @@ use Rattle.cs_ast.specs.TypedTree.{Typed, Of, And, Or, Choice, NoMore}
 use Rattle.cs_ast.specs.TypedProgram.{TypedProgram}
 use Rattle.cs_events.specs.declared.point.PointKind.TheVariants as point
 use Rattle.cs_cfg.specs.ControlPoints.{met, ControlPoint, first, first_in, points_in}
-use Rattle.cs_cfg.specs.Fitting.{Brings}
+use Rattle.cs_cfg.specs.Fitting.{AddsPoints}
 use Rattle.cs_cfg.specs.Graph as graph
 use Rattle.cs_cfg.specs.Graph.{Point, Flow, block_of}
 use Rattle.cs_cfg.specs.Placing.{does, split, used_then, Joins, there, jumps, evaluates, evaluates_form, used, used_all, joined, judged}
-use Rattle.cs_cfg.proofs.Choosing.{brings_use, and_brings, or_brings, choice_brings}
-use Rattle.cs_cfg.proofs.Fitting.{brings_both, brings_past, then_nothing}
+use Rattle.cs_cfg.proofs.Choosing.{adds_use, and_adds, or_adds, choice_adds}
+use Rattle.cs_cfg.proofs.Fitting.{adds_both, adds_past, then_nothing}
 use Rattle.cs_cfg.proofs.Meeting.{joins_meet, does_meets, split_meets, same_meets, use_meets, used_meets, all_meet}
 use Rattle.cs_lower.specs.Allocations.{HasArguments, AllHaveArguments}
 use Rattle.cs_lower.specs.Building.{jump_to, Built, blocks, Has}
 use Rattle.cs_lower.specs.Sealing.{Seals}
 use Rattle.cs_lower.specs.Expressions.{Evaluates, Uses, UsesBoth, UsesAll, UsesIn, Ands, Ors, Chooses, Commas}
-use Rattle.cs_lower.proofs.Built.{nothing_more, grows_on, brings_nothing}
+use Rattle.cs_lower.proofs.Built.{nothing_more, grows_on, adds_nothing}
 
 module _ {flow : Flow} {some : List ControlPoint} where
   -- the point after code may be seen as another that it is, and so may the point before it
-  pub same_after : {old new : List Point} {s t : Point} → s ≡ t → Brings flow some (s ∷ old) new → Brings flow some (t ∷ old) new
-  same_after {old = old} {new = new} is brings = subst (λ r. Brings flow some (r ∷ old) new) is brings
+  pub same_after : {old new : List Point} {s t : Point} → s ≡ t → AddsPoints flow some (s ∷ old) new → AddsPoints flow some (t ∷ old) new
+  same_after {old = old} {new = new} is adds = subst (λ r. AddsPoints flow some (r ∷ old) new) is adds
 
-  pub same_before : {old new : List Point} {p t : Point} → p ≡ t → Brings flow some old (t ∷ new) → Brings flow some old (p ∷ new)
-  same_before {old = old} {new = new} is brings = subst (λ r. Brings flow some old (r ∷ new)) (sym is) brings
+  pub same_before : {old new : List Point} {p t : Point} → p ≡ t → AddsPoints flow some old (t ∷ new) → AddsPoints flow some old (p ∷ new)
+  same_before {old = old} {new = new} is adds = subst (λ r. AddsPoints flow some old (r ∷ new)) (sym is) adds
 
 module _ (program : TypedProgram) (flow : Flow) where
   -- a jump to a block that is a point
@@ -49,7 +49,7 @@ module _ {program : TypedProgram} where
   uses {e = e} {number = number} {p = p} {q = q} is h = record {
     grows = h.grows;
     does = λ flow has args. used_is program flow e number p q (subst (λ s. evaluates program flow e number p s) is (h.does flow has args));
-    brings = λ flow has args following m. brings_use e number q (same_after is (h.brings flow has args following (same_meets is (use_meets e number q m))));
+    adds = λ flow has args following m. adds_use e number q (same_after is (h.adds flow has args following (same_meets is (use_meets e number q m))));
   }
 
   -- an expression at the beginning of a block
@@ -57,7 +57,7 @@ module _ {program : TypedProgram} where
   uses_in {e = e} {number = number} {q = q} h seals = record {
     grows = grows_on h.grows seals.grows;
     does = λ flow has args. subst (λ p. used program flow e number p q) (sym (seals.is flow has)) (h.does flow (seals.grows.keeps flow has) args);
-    brings = λ flow has args following m. then_nothing (h.brings flow (seals.grows.keeps flow has) args following m) (seals.brings flow);
+    adds = λ flow has args following m. then_nothing (h.adds flow (seals.grows.keeps flow has) args following m) (seals.adds flow);
   }
 
   -- two expressions
@@ -67,14 +67,14 @@ module _ {program : TypedProgram} where
       record {
         grows = grows_on last.grows before.grows;
         does = λ flow has a b. (r, before.does flow has a, subst (λ (n : ℕ). used program flow other n r q) is (last.does flow (before.grows.keeps flow has) b));
-        brings = λ flow has a b following m.
+        adds = λ flow has a b following m.
             let in_mid = before.grows.keeps flow has in
-            brings_both (last.brings flow in_mid b following m) (before.brings flow has a (first other following) (used_meets program flow other next r q (last.does flow in_mid b) m));
+            adds_both (last.adds flow in_mid b following m) (before.adds flow has a (first other following) (used_meets program flow other next r q (last.does flow in_mid b) m));
       }
 
   -- expressions in a row
   pub uses_none : (number : ℕ) (built : Built) (p : Point) → UsesAll program NoMore number built built p p
-  uses_none number built p = record { grows = nothing_more built; does = λ flow has args. refl; brings = λ flow has args following m. brings_nothing }
+  uses_none number built p = record { grows = nothing_more built; does = λ flow has args. refl; adds = λ flow has args following m. adds_nothing }
 
   -- one more of a row that is lowered from its end
   pub uses_further : {here : ℕ} {old mid new : Built} {p r q : Point} (row : List Expr) (left number : ℕ) (e : Expr) → 1 ≤ left → left ≤ length row → e ≡ get_or row (left - 1) e → here ≡ left - 1 + number
@@ -93,13 +93,13 @@ module _ {program : TypedProgram} where
               subst (λ (n : ℕ). used program flow (typed e) n p r) at (one.does flow has both.0),
               subst (λ (n : ℕ). used_all program flow (typed_list (drop left row)) n r q) above (last.does flow (one.grows.keeps flow has) both.1),
             );
-        brings = λ flow has args following m.
+        adds = λ flow has args following m.
             let both = subst (λ l. AllHaveArguments (typed_list l)) cut args in
             let rest = typed_list (drop left row) in
             let in_mid = one.grows.keeps flow has in
             let meets = all_meet program flow rest (left + number) r q (last.does flow in_mid both.1) m in
-            subst (λ l. Brings flow (points_in (typed_list l) following) (q ∷ blocks old) (p ∷ blocks new)) (sym cut)
-            (brings_both (last.brings flow in_mid both.1 following m) (one.brings flow has both.0 (first_in rest following) meets));
+            subst (λ l. AddsPoints flow (points_in (typed_list l) following) (q ∷ blocks old) (p ∷ blocks new)) (sym cut)
+            (adds_both (last.adds flow in_mid both.1 following m) (one.adds flow has both.0 (first_in rest following) meets));
       }
 
   -- the comma
@@ -107,10 +107,10 @@ module _ {program : TypedProgram} where
   commas {at = at} {a = a} {b = b} {number = number} {p = p} {r = r} {q = q} last is one = record {
     grows = grows_on last.grows one.grows;
     does = λ flow has in_a in_b ty. (r, subst (λ s. evaluates program flow a number p s) is (one.does flow has in_a), last.does flow (one.grows.keeps flow has) in_b);
-    brings = λ flow has in_a in_b following m.
+    adds = λ flow has in_a in_b following m.
         let in_mid = one.grows.keeps flow has in
         let dropped = does_meets at number graph.Drop r refl (used_meets program flow b number r q (last.does flow in_mid in_b) m) in
-        brings_both (last.brings flow in_mid in_b following m) (brings_past at number graph.Drop r refl (same_after is (one.brings flow has in_a (first b following) (same_meets is dropped))));
+        adds_both (last.adds flow in_mid in_b following m) (adds_past at number graph.Drop r refl (same_after is (one.adds flow has in_a (first b following) (same_meets is dropped))));
   }
 
   -- the ways of a branch, each of which ends with a jump to one block
@@ -129,13 +129,13 @@ module _ {program : TypedProgram} where
       record {
         grows = grows_on ends.grows (grows_on way.grows (grows_on knows.grows test.grows));
         does = placed;
-        brings = λ flow has in_a in_b following m.
+        adds = λ flow has in_a in_b following m.
             let in_z = test.grows.keeps flow has in
             let in_y = knows.grows.keeps flow in_z in
             let truth = does_meets at number graph.Judge (jump_to end) refl (joins_meet (joins flow in_z) m) in
-            let right = same_after judges (way.brings flow in_y in_b following (same_meets judges truth)) in
-            let left = same_after tests (test.brings flow has in_a (met point.Branch at) (same_meets tests (split_meets at number one other))) in
-            and_brings program flow at void number end following p q m a b (placed flow has in_a in_b void) (ends.brings flow) right (knows.brings flow) left;
+            let right = same_after judges (way.adds flow in_y in_b following (same_meets judges truth)) in
+            let left = same_after tests (test.adds flow has in_a (met point.Branch at) (same_meets tests (split_meets at number one other))) in
+            and_adds program flow at void number end following p q m a b (placed flow has in_a in_b void) (ends.adds flow) right (knows.adds flow) left;
       }
 
   pub ors : {at : Place} {a b : Typed} {number end one other : ℕ} {old x y z new : Built} {p q s t : Point} → Seals old x end q → s ≡ does at number graph.Judge (jump_to end) → UsesIn program b number x y other s → Seals y z one (does at number (graph.Number (pos 1)) (jump_to end)) → t ≡ split at number one other → Uses program a number z new p t → Ors program at a b number old new p q
@@ -153,13 +153,13 @@ module _ {program : TypedProgram} where
       record {
         grows = grows_on ends.grows (grows_on way.grows (grows_on knows.grows test.grows));
         does = placed;
-        brings = λ flow has in_a in_b following m.
+        adds = λ flow has in_a in_b following m.
             let in_z = test.grows.keeps flow has in
             let in_y = knows.grows.keeps flow in_z in
             let truth = does_meets at number graph.Judge (jump_to end) refl (joins_meet (joins flow in_z) m) in
-            let right = same_after judges (way.brings flow in_y in_b following (same_meets judges truth)) in
-            let left = same_after tests (test.brings flow has in_a (met point.Branch at) (same_meets tests (split_meets at number one other))) in
-            or_brings program flow at void number end following p q m a b (placed flow has in_a in_b void) (ends.brings flow) right (knows.brings flow) left;
+            let right = same_after judges (way.adds flow in_y in_b following (same_meets judges truth)) in
+            let left = same_after tests (test.adds flow has in_a (met point.Branch at) (same_meets tests (split_meets at number one other))) in
+            or_adds program flow at void number end following p q m a b (placed flow has in_a in_b void) (ends.adds flow) right (knows.adds flow) left;
       }
 
   pub chooses : {at : Place} {a b c : Typed} {number end one other : ℕ} {old x y z new : Built} {p q t u v : Point} → Seals old x end q → u ≡ jump_to end → UsesIn program b number x y one u → v ≡ jump_to end → UsesIn program c number y z other v → t ≡ split at number one other → Uses program a number z new p t → Chooses program at a b c number old new p q
@@ -177,12 +177,12 @@ module _ {program : TypedProgram} where
       record {
         grows = grows_on ends.grows (grows_on way_one.grows (grows_on way_other.grows test.grows));
         does = placed;
-        brings = λ flow has in_a in_b in_c following m.
+        adds = λ flow has in_a in_b in_c following m.
             let in_z = test.grows.keeps flow has in
             let in_y = way_other.grows.keeps flow in_z in
             let on = joins_meet (joins flow in_y) m in
-            let second = same_after jump_one (way_one.brings flow in_y in_b following (same_meets jump_one on)) in
-            let third = same_after jump_other (way_other.brings flow in_z in_c following (same_meets jump_other on)) in
-            let left = same_after tests (test.brings flow has in_a (met point.Branch at) (same_meets tests (split_meets at number one other))) in
-            choice_brings program flow at void number end following p q m a b c (placed flow has in_a in_b in_c void) (ends.brings flow) second third left;
+            let second = same_after jump_one (way_one.adds flow in_y in_b following (same_meets jump_one on)) in
+            let third = same_after jump_other (way_other.adds flow in_z in_c following (same_meets jump_other on)) in
+            let left = same_after tests (test.adds flow has in_a (met point.Branch at) (same_meets tests (split_meets at number one other))) in
+            choice_adds program flow at void number end following p q m a b c (placed flow has in_a in_b in_c void) (ends.adds flow) second third left;
       }

@@ -13,19 +13,19 @@ use Rattle.cs_ast.specs.TypedTree.{Typed, Of, Form, Convert, And, Or, Choice, Co
 use Rattle.cs_ast.specs.TypedProgram.{TypedProgram}
 use Rattle.cs_meaning.specs.Access.{access_of}
 use Rattle.cs_cfg.specs.ControlPoints.{Next, ControlPoint, first, points, points_of}
-use Rattle.cs_cfg.specs.Fitting.{Brings}
+use Rattle.cs_cfg.specs.Fitting.{AddsPoints}
 use Rattle.cs_cfg.specs.Graph as graph
 use Rattle.cs_cfg.specs.Graph.{Work, Point, Flow}
 use Rattle.cs_cfg.specs.GraphPoints.{MeetsNext}
 use Rattle.cs_cfg.specs.Placing.{does, evaluates, evaluates_form, used, used_all}
 use Rattle.cs_cfg.specs.Standing.{work_of}
 use Rattle.cs_cfg.proofs.Choosing.{IsSilent, acts_silently}
-use Rattle.cs_cfg.proofs.Fitting.{brings_both, brings_past}
+use Rattle.cs_cfg.proofs.Fitting.{adds_both, adds_past}
 use Rattle.cs_cfg.proofs.Meeting.{does_meets, same_meets, used_meets}
 use Rattle.cs_lower.specs.Allocations.{HasArguments}
 use Rattle.cs_lower.specs.Building.{Built, blocks, Has, Grows}
 use Rattle.cs_lower.specs.Expressions.{Evaluates, Uses, UsesBoth, UsesAll, Ands, Ors, Chooses, Commas, does_if, acted, fetched}
-use Rattle.cs_lower.proofs.Built.{nothing_more, grows_on, brings_nothing}
+use Rattle.cs_lower.proofs.Built.{nothing_more, grows_on, adds_nothing}
 use Rattle.cs_lower.proofs.Evaluating.{same_after}
 
 -- what holds of a value that was made, if one was made
@@ -39,25 +39,25 @@ module _ {flow : Flow} where
   if_meets at number None q silent m = m
   if_meets at number (Some work) q silent m = does_meets at number work q silent m
 
-  if_brings : {some : List ControlPoint} {old new : List Point} (at : Place) (number : ℕ) (work : Option Work) (q : Point) → IsSilent at work → Brings flow some (does_if at number work q ∷ old) new → Brings flow some (q ∷ old) new
-  if_brings at number None q silent rest = rest
-  if_brings at number (Some work) q silent rest = brings_past at number work q silent rest
+  if_adds : {some : List ControlPoint} {old new : List Point} (at : Place) (number : ℕ) (work : Option Work) (q : Point) → IsSilent at work → AddsPoints flow some (does_if at number work q ∷ old) new → AddsPoints flow some (q ∷ old) new
+  if_adds at number None q silent rest = rest
+  if_adds at number (Some work) q silent rest = adds_past at number work q silent rest
 
 module _ {program : TypedProgram} {at : Place} {ty : Shape} {number : ℕ} {old new : Built} {p s q : Point} where
   -- what is built of an expression's parts, before what is done with them; the form may be seen as another that it is
   from_parts : {form it : Form} → form ≡ it → s ≡ acted program (Of at ty form) number q → Grows 0 old new
       → ((flow : Flow) → s ≡ acted program (Of at ty it) number q → Has flow new → HasArguments (Of at ty it) → evaluates_form program flow at ty it number p q)
-      → ((flow : Flow) → Has flow new → HasArguments (Of at ty it) → (following : Next) → MeetsNext flow s following → Brings flow (points_of at it following) (s ∷ blocks old) (p ∷ blocks new))
+      → ((flow : Flow) → Has flow new → HasArguments (Of at ty it) → (following : Next) → MeetsNext flow s following → AddsPoints flow (points_of at it following) (s ∷ blocks old) (p ∷ blocks new))
       → Evaluates program (Of at ty form) number old new p q
-  from_parts {form = form} {it = it} is acts grows does brings =
+  from_parts {form = form} {it = it} is acts grows does adds =
       subst (λ f. s ≡ acted program (Of at ty f) number q → Evaluates program (Of at ty f) number old new p q) (sym is)
       (λ at_once. record {
         grows = grows;
         does = λ flow has args. does flow at_once has args;
-        brings = λ flow has args following m.
+        adds = λ flow has args following m.
             let silent = acts_silently program at ty it in
             let work = work_of program ty it in
-            if_brings at number work q silent (same_after at_once (brings flow has args following (same_meets at_once (if_meets at number work q silent m))));
+            if_adds at number work q silent (same_after at_once (adds flow has args following (same_meets at_once (if_meets at number work q silent m))));
       }) acts
 
   -- an expression with one part, whose value is used
@@ -66,7 +66,7 @@ module _ {program : TypedProgram} {at : Place} {ty : Shape} {number : ℕ} {old 
       → Evaluates program (Of at ty form) number old new p q
   part {a = a} is does args points_are acts h = from_parts is acts h.grows
       (λ flow at_once has all. does flow (subst (λ r. used program flow a number p r) at_once (h.does flow has (args all))))
-      (λ flow has all following m. subst (λ some. Brings flow some (s ∷ blocks old) (p ∷ blocks new)) (points_are following) (h.brings flow has (args all) following m))
+      (λ flow has all following m. subst (λ some. AddsPoints flow some (s ∷ blocks old) (p ∷ blocks new)) (points_are following) (h.adds flow has (args all) following m))
 
   -- an expression with two parts, in the order in which they are evaluated
   pub pair : {form it : Form} {a b : Typed} → form ≡ it
@@ -80,13 +80,13 @@ module _ {program : TypedProgram} {at : Place} {ty : Shape} {number : ℕ} {old 
       does flow placed.0 placed.1 (subst (λ r. used program flow b (suc number) placed.0 r) at_once placed.2))
       (λ flow has all following m.
       let both = args all in
-      subst (λ some. Brings flow some (s ∷ blocks old) (p ∷ blocks new)) (points_are following) (h.brings flow has both.0 both.1 following m))
+      subst (λ some. AddsPoints flow some (s ∷ blocks old) (p ∷ blocks new)) (points_are following) (h.adds flow has both.0 both.1 following m))
 
   -- a conversion to void doesn't use the value
   pub convert_away : {form : Form} {a : Typed} → form ≡ Convert a → ty ≡ void → s ≡ acted program (Of at ty form) number q → Evaluates program a number old new p s → Evaluates program (Of at ty form) number old new p q
   convert_away {a = a} is none acts h = from_parts is acts h.grows
       (λ flow at_once has all. away flow none (subst (λ r. evaluates program flow a number p r) at_once (h.does flow has all)))
-      (λ flow has all following m. h.brings flow has all following m)
+      (λ flow has all following m. h.adds flow has all following m)
     where
       away : (flow : Flow) → ty ≡ void → evaluates program flow a number p (acted program (Of at ty (Convert a)) number q) → evaluates_form program flow at ty (Convert a) number p q
       away flow is it = subst (λ t. evaluates program flow a number p (acted program (Of at t (Convert a)) number q) → evaluates_form program flow at t (Convert a) number p q) (sym is) (λ placed. placed) it
@@ -94,32 +94,32 @@ module _ {program : TypedProgram} {at : Place} {ty : Shape} {number : ℕ} {old 
   pub call : {form : Form} {row : TypedList} {function : ℕ} → form ≡ Call function row → s ≡ acted program (Of at ty form) number q → UsesAll program row number old new p s → Evaluates program (Of at ty form) number old new p q
   call {row = row} is acts parts = from_parts is acts parts.grows
       (λ flow at_once has args. subst (λ r. used_all program flow row number p r) at_once (parts.does flow has args))
-      (λ flow has args following m. parts.brings flow has args following m)
+      (λ flow has args following m. parts.adds flow has args following m)
 
   pub allocate : {form : Form} {row : TypedList} {allocator : Allocator} {element : Shape} → form ≡ Allocate allocator row element → s ≡ acted program (Of at ty form) number q → UsesAll program row number old new p s → Evaluates program (Of at ty form) number old new p q
   allocate {row = row} is acts parts = from_parts is acts parts.grows
       (λ flow at_once has args. (args.0, subst (λ r. used_all program flow row number p r) at_once (parts.does flow has args.1)))
-      (λ flow has args following m. parts.brings flow has args.1 following m)
+      (λ flow has args following m. parts.adds flow has args.1 following m)
 
   pub and : {form : Form} {a b : Typed} → form ≡ And a b → s ≡ acted program (Of at ty form) number q → Ands program at a b number old new p s → Evaluates program (Of at ty form) number old new p q
   and {a = a} {b = b} is acts parts = from_parts is acts parts.grows
       (λ flow at_once has args. subst (λ r. evaluates program flow (Of at ty (And a b)) number p r) at_once (parts.does flow has args.0 args.1 ty))
-      (λ flow has args following m. parts.brings flow has args.0 args.1 following m)
+      (λ flow has args following m. parts.adds flow has args.0 args.1 following m)
 
   pub or : {form : Form} {a b : Typed} → form ≡ Or a b → s ≡ acted program (Of at ty form) number q → Ors program at a b number old new p s → Evaluates program (Of at ty form) number old new p q
   or {a = a} {b = b} is acts parts = from_parts is acts parts.grows
       (λ flow at_once has args. subst (λ r. evaluates program flow (Of at ty (Or a b)) number p r) at_once (parts.does flow has args.0 args.1 ty))
-      (λ flow has args following m. parts.brings flow has args.0 args.1 following m)
+      (λ flow has args following m. parts.adds flow has args.0 args.1 following m)
 
   pub choice : {form : Form} {a b c : Typed} → form ≡ Choice a b c → s ≡ acted program (Of at ty form) number q → Chooses program at a b c number old new p s → Evaluates program (Of at ty form) number old new p q
   choice {a = a} {b = b} {c = c} is acts parts = from_parts is acts parts.grows
       (λ flow at_once has args. subst (λ r. evaluates program flow (Of at ty (Choice a b c)) number p r) at_once (parts.does flow has args.0 args.1 args.2 ty))
-      (λ flow has args following m. parts.brings flow has args.0 args.1 args.2 following m)
+      (λ flow has args following m. parts.adds flow has args.0 args.1 args.2 following m)
 
   pub comma : {form : Form} {a b : Typed} → form ≡ Comma a b → s ≡ acted program (Of at ty form) number q → Commas program at a b number old new p s → Evaluates program (Of at ty form) number old new p q
   comma {a = a} {b = b} is acts parts = from_parts is acts parts.grows
       (λ flow at_once has args. subst (λ r. evaluates program flow (Of at ty (Comma a b)) number p r) at_once (parts.does flow has args.0 args.1 ty))
-      (λ flow has args following m. parts.brings flow has args.0 args.1 following m)
+      (λ flow has args following m. parts.adds flow has args.0 args.1 following m)
 
 -- an expression without parts
 pub alone : {program : TypedProgram} {at : Place} {ty : Shape} {number : ℕ} {built : Built} {s q : Point} {form it : Form} → form ≡ it
@@ -127,7 +127,7 @@ pub alone : {program : TypedProgram} {at : Place} {ty : Shape} {number : ℕ} {b
     → Evaluates program (Of at ty form) number built built s q
 alone {program = program} {at = at} {ty = ty} {number = number} {built = built} {s = s} {q = q} {it = it} is does points_are acts = from_parts is acts (nothing_more built)
     (λ flow at_once has args. subst (λ r. evaluates_form program flow at ty it number r q) (sym at_once) (does flow))
-    (λ flow has args following m. subst (λ some. Brings flow some (s ∷ blocks built) (s ∷ blocks built)) (sym (points_are following)) brings_nothing)
+    (λ flow has args following m. subst (λ some. AddsPoints flow some (s ∷ blocks built) (s ∷ blocks built)) (sym (points_are following)) adds_nothing)
 
 -- a conversion uses the value, but for one to void
 pub convert : {program : TypedProgram} {at : Place} {number : ℕ} {old new : Built} {p s q : Point} {form : Form} {a : Typed} (to : CType) → (to ≡ Void → ⊥) → form ≡ Convert a → s ≡ acted program (Of at (shape_of to) form) number q
@@ -153,7 +153,7 @@ module _ {program : TypedProgram} {at : Place} {ty : Shape} {number next : ℕ} 
       (λ flow has args following m.
       let in_mid = one.grows.keeps flow has in
       let loaded = does_meets at number load r refl (used_meets program flow b next r s (last.does flow in_mid args.1) m) in
-      brings_both (last.brings flow in_mid args.1 following m) (brings_past at number load r refl (same_after loads (one.brings flow has args.0 (first b following) (same_meets loads loaded)))))
+      adds_both (last.adds flow in_mid args.1 following m) (adds_past at number load r refl (same_after loads (one.adds flow has args.0 (first b following) (same_meets loads loaded)))))
 
   pub move : {form : Form} {a b : Typed} {direction : Direction} {gives : Gives} → form ≡ Move a b direction gives → s ≡ acted program (Of at ty form) number q → next ≡ 2 + number → Uses program b next old mid r s → t ≡ fetched (Of at ty form) number r → Uses program a number mid new p t → Evaluates program (Of at ty form) number old new p q
   move {a = a} {b = b} is acts above last fetch one =
@@ -168,4 +168,4 @@ module _ {program : TypedProgram} {at : Place} {ty : Shape} {number next : ℕ} 
       (λ flow has args following m.
       let in_mid = one.grows.keeps flow has in
       let loaded = does_meets at number load r refl (used_meets program flow b next r s (last.does flow in_mid args.1) m) in
-      brings_both (last.brings flow in_mid args.1 following m) (brings_past at number load r refl (same_after loads (one.brings flow has args.0 (first b following) (same_meets loads loaded)))))
+      adds_both (last.adds flow in_mid args.1 following m) (adds_past at number load r refl (same_after loads (one.adds flow has args.0 (first b following) (same_meets loads loaded)))))

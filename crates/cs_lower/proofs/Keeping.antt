@@ -7,7 +7,7 @@ use Rattle.cs_cfg.specs.Executing.{IsKept}
 use Rattle.cs_lower.specs.Building.{jump_to, Built}
 use Rattle.cs_lower.specs.Keeping.{Keeps}
 use Rattle.cs_lower.specs.Sealing.{Seals}
-use Rattle.cs_lower.proofs.Bringing.{brings_less}
+use Rattle.cs_lower.proofs.AddedPoints.{adds_less}
 use Rattle.cs_lower.proofs.Built.{nothing_more}
 
 module _ (program : TypedProgram) (flow : Flow) where
@@ -21,7 +21,7 @@ module _ (program : TypedProgram) (flow : Flow) where
 
 -- a jump needs no block of its own; other code gets one
 pub keeps_jump : {built : Built} {p : Point} {block : ℕ} → p ≡ jump_to block → Keeps built built p
-keeps_jump {built = built} {p = p} {block = block} is = record { grows = nothing_more built; kept = λ program flow has. kept_jump program flow block p is; brings = λ flow. brings_less }
+keeps_jump {built = built} {p = p} {block = block} is = record { grows = nothing_more built; kept = λ program flow has. kept_jump program flow block p is; adds = λ flow. adds_less }
 
 pub keeps_block : {old new : Built} {p : Point} {block : ℕ} → Seals old new block p → Keeps old new p
-keeps_block {p = p} {block = block} seals = record { grows = seals.grows; kept = λ program flow has. kept_at program flow block p (seals.is flow has); brings = seals.brings }
+keeps_block {p = p} {block = block} seals = record { grows = seals.grows; kept = λ program flow has. kept_at program flow block p (seals.is flow has); adds = seals.adds }

@@ -1,5 +1,5 @@
 pub mod Aiming
-pub mod Bringing
+pub mod AddedPoints
 pub mod Built
 pub mod Declaring
 pub mod Evaluating
@@ -7,7 +7,7 @@ pub mod Executing
 pub mod ForLoops
 pub mod Forms
 pub mod Keeping
-pub mod LabelMarks
+pub mod LabelPoints
 pub mod Leaving
 pub mod LoopParts
 pub mod Switching

@@ -7,19 +7,19 @@ use Rattle.cs_ast.specs.TypedProgram.{TypedProgram, Routine}
 use Rattle.cs_events.specs.declared.point.PointKind.TheVariants as point
 use Rattle.cs_cfg.specs.ControlPoints.{Next, met, points_some, Targets, flows}
 use Rattle.cs_cfg.specs.Executing.{leaving}
-use Rattle.cs_cfg.specs.Fitting.{Brings}
+use Rattle.cs_cfg.specs.Fitting.{AddsPoints}
 use Rattle.cs_cfg.specs.Graph as graph
 use Rattle.cs_cfg.specs.Graph.{Point, Flow, block_of}
 use Rattle.cs_cfg.specs.GraphPoints.{past_jump}
 use Rattle.cs_cfg.specs.Placing.{does, split, Joins, there, jumps, used}
-use Rattle.cs_cfg.proofs.Bringing.{for_test_brings, return_brings}
-use Rattle.cs_cfg.proofs.Fitting.{brings_among, brings_jump, brings_past, brings_silent, nothing_then, then_nothing}
+use Rattle.cs_cfg.proofs.AddedPoints.{for_test_adds, return_adds}
+use Rattle.cs_cfg.proofs.Fitting.{adds_among, adds_jump, adds_past, adds_silent, nothing_then, then_nothing}
 use Rattle.cs_cfg.proofs.Meeting.{does_meets, point_meets, same_meets, split_meets}
 use Rattle.cs_lower.specs.Building.{jump_to, Built, blocks}
 use Rattle.cs_lower.specs.Sealing.{Seals}
 use Rattle.cs_lower.specs.Expressions.{Uses}
 use Rattle.cs_lower.specs.Statements.{TestsFor, EndsFor, Returns}
-use Rattle.cs_lower.proofs.Built.{nothing_more, grows_on, brings_nothing, among_rest}
+use Rattle.cs_lower.proofs.Built.{nothing_more, grows_on, adds_nothing, among_rest}
 use Rattle.cs_lower.proofs.Evaluating.{same_after, same_before}
 
 module _ (program : TypedProgram) (flow : Flow) where
@@ -31,10 +31,10 @@ module _ (program : TypedProgram) (flow : Flow) where
   joins_block block q is = subst (λ r. Joins program flow r (block_of flow block)) is there
 
 -- a `return` brings in its own control point and those of its value
-return_alone : {flow : Flow} {at : Place} {some new : List Point} (value : Option Typed) (to : Targets) (following : Next) → Brings flow (points_some value (met point.Return at)) (does at 1 (graph.Meet point.Return) leaving ∷ some) new
-    → Brings flow (flows to (Return at value) following) some new
+return_alone : {flow : Flow} {at : Place} {some new : List Point} (value : Option Typed) (to : Targets) (following : Next) → AddsPoints flow (points_some value (met point.Return at)) (does at 1 (graph.Meet point.Return) leaving ∷ some) new
+    → AddsPoints flow (flows to (Return at value) following) some new
 return_alone {at = at} {some = some} value to following values =
-    nothing_then (brings_jump 0) (return_brings at value to (jump_to 0) following (brings_among (jump_to 0 ∷ some) some (among_rest (jump_to 0) some)) values)
+    nothing_then (adds_jump 0) (return_adds at value to (jump_to 0) following (adds_among (jump_to 0 ∷ some) some (among_rest (jump_to 0) some)) values)
 
 module _ {program : TypedProgram} where
   -- the test of a `for`
@@ -42,16 +42,16 @@ module _ {program : TypedProgram} where
   no_test {built = built} {end = end} = record {
     grows = nothing_more built;
     does = λ flow q has args is. (refl, (end, joins_block program flow end q is));
-    brings = λ flow has args inside following m m'. brings_nothing;
+    adds = λ flow has args inside following m m'. adds_nothing;
   }
 
   pub tests_for : {at : Place} {test : Typed} {one end : ℕ} {old x new : Built} {p body : Point} → Seals old x one body → Uses program test 0 x new p (split at 0 one end) → TestsFor program at (Some test) old new p body end
   tests_for {at = at} {test = test} {one = one} {end = end} seals tests = record {
     grows = grows_on seals.grows tests.grows;
     does = λ flow q has args is. (one, end, tests.does flow has args, (seals.is flow (tests.grows.keeps flow has), block_joins program flow end q is));
-    brings = λ flow has args inside following m m'.
+    adds = λ flow has args inside following m m'.
         let way = same_meets (seals.is flow (tests.grows.keeps flow has)) m in
-        nothing_then (seals.brings flow) (for_test_brings at test one end way m' (tests.brings flow has args (met point.Branch at) (split_meets at 0 one end)));
+        nothing_then (seals.adds flow) (for_test_adds at test one end way m' (tests.adds flow has args (met point.Branch at) (split_meets at 0 one end)));
   }
 
   -- the last part of a `for`
@@ -59,7 +59,7 @@ module _ {program : TypedProgram} where
   no_last {built = built} {head = head} = record {
     grows = nothing_more built;
     does = λ flow has args. there;
-    brings = λ flow has args following m. brings_among (jump_to head ∷ blocks built) (blocks built) (among_rest (jump_to head) (blocks built));
+    adds = λ flow has args following m. adds_among (jump_to head ∷ blocks built) (blocks built) (among_rest (jump_to head) (blocks built));
   }
 
   pub ends_for : {at : Place} {last : Typed} {block head : ℕ} {old x new : Built} {p s : Point} → s ≡ does at 0 graph.Drop (jump_to head) → Uses program last 0 old x p s → Seals x new block p → EndsFor program (Some last) old new block head
@@ -72,10 +72,10 @@ module _ {program : TypedProgram} where
           (subst (λ s. used program flow last 0 p s) is (one.does flow (seals.grows.keeps flow has) args)),
       jumps there,
     );
-    brings = λ flow has args following m.
+    adds = λ flow has args following m.
         let dropped = does_meets at 0 graph.Drop (jump_to head) refl (past_jump m) in
-        let part = one.brings flow (seals.grows.keeps flow has) args following (same_meets is dropped) in
-        then_nothing (brings_past at 0 graph.Drop (jump_to head) refl (same_after is part)) (seals.brings flow);
+        let part = one.adds flow (seals.grows.keeps flow has) args following (same_meets is dropped) in
+        then_nothing (adds_past at 0 graph.Drop (jump_to head) refl (same_after is part)) (seals.adds flow);
   }
 
   -- a `return` without a value, and with one
@@ -87,7 +87,7 @@ module _ {program : TypedProgram} where
         record {
           grows = nothing_more built;
           does = λ flow has args. whole;
-          brings = λ flow has args to following. return_alone None to following (same_before whole (brings_silent at 0 graph.Nothing (does at 1 (graph.Meet point.Return) leaving) refl));
+          adds = λ flow has args to following. return_alone None to following (same_before whole (adds_silent at 0 graph.Nothing (does at 1 (graph.Meet point.Return) leaving) refl));
         }
 
     pub returns_value : {at : Place} {e : Typed} {old new : Built} {p s l : Point} → l ≡ leaving → s ≡ does at 1 (graph.Meet point.Return) l → Uses program e 0 old new p s → Returns program routine at (Some e) old new p
@@ -96,7 +96,7 @@ module _ {program : TypedProgram} where
         record {
           grows = h.grows;
           does = λ flow has args. subst (λ r. used program flow e 0 p r) returned (h.does flow has args);
-          brings = λ flow has args to following.
-              let value = h.brings flow has args (met point.Return at) (same_meets returned (point_meets at 1 (graph.Meet point.Return) leaving refl)) in
+          adds = λ flow has args to following.
+              let value = h.adds flow has args (met point.Return at) (same_meets returned (point_meets at 1 (graph.Meet point.Return) leaving refl)) in
               return_alone (Some e) to following (same_after returned value);
         }

@@ -11,14 +11,14 @@ use Rattle.cs_ast.specs.TypedView.{statement, statement_list}
 use Rattle.cs_ast.specs.TypedTree.{Typed, Statement, Switch, Statements, Empty, Then}
 use Rattle.cs_ast.specs.TypedProgram.{TypedProgram, Routine}
 use Rattle.cs_events.specs.declared.point.PointKind.TheVariants as point
-use Rattle.cs_meaning.specs.Marks.{marks, marks_in}
+use Rattle.cs_meaning.specs.CountedPoints.{counted_points, counted_points_in}
 use Rattle.cs_meaning.specs.Statements.{default_item}
 use Rattle.cs_cfg.specs.ControlPoints.{met, in_switch, starts_in}
 use Rattle.cs_cfg.specs.Graph.{Point, Flow, SwitchCase, block_of}
 use Rattle.cs_cfg.specs.Placing.{there, jumps}
 use Rattle.cs_cfg.specs.Executing.{executes_at, all_at, from_at, case_leads, cases_lead}
-use Rattle.cs_cfg.proofs.Bringing.{switch_brings}
-use Rattle.cs_cfg.proofs.Fitting.{brings_jump, brings_both, nothing_then}
+use Rattle.cs_cfg.proofs.AddedPoints.{switch_adds}
+use Rattle.cs_cfg.proofs.Fitting.{adds_jump, adds_both, nothing_then}
 use Rattle.cs_cfg.proofs.Meeting.{switch_meets, same_meets}
 use Rattle.cs_cfg.proofs.Starting.{all_start}
 use Rattle.cs_lower.specs.Allocations.{StatementHasArguments}
@@ -28,15 +28,15 @@ use Rattle.cs_lower.specs.Expressions.{Uses}
 use Rattle.cs_lower.specs.Statements.{labels_in, block_at, Executes, ExecutesIn, EntersAll}
 use Rattle.cs_lower.specs.Switching.{with_case, cases_to, leads_to}
 use Rattle.cs_lower.proofs.Aiming.{aims_of, aims_in_switch}
-use Rattle.cs_lower.proofs.Bringing.{brings_less}
-use Rattle.cs_lower.proofs.Built.{nothing_more, more_and_more, brings_nothing}
-use Rattle.cs_lower.proofs.Executing.{mark_before, mark_stays}
+use Rattle.cs_lower.proofs.AddedPoints.{adds_less}
+use Rattle.cs_lower.proofs.Built.{nothing_more, more_and_more, adds_nothing}
+use Rattle.cs_lower.proofs.Executing.{counted_point_before, counted_point_stays}
 
 module _ (program : TypedProgram) (routine : Routine) where
   -- from the first statement on are all
-  all_from : (flow : Flow) (statements : Statements) (mark : ℕ) (out again p q : Point) → from_at program flow routine (labels_in routine flow) 0 statements mark out again p q → all_at program flow routine (labels_in routine flow) statements mark out again p q
-  all_from flow Empty mark out again p q h = h
-  all_from flow (Then first others) mark out again p q h = h
+  all_from : (flow : Flow) (statements : Statements) (counted_point : ℕ) (out again p q : Point) → from_at program flow routine (labels_in routine flow) 0 statements counted_point out again p q → all_at program flow routine (labels_in routine flow) statements counted_point out again p q
+  all_from flow Empty counted_point out again p q h = h
+  all_from flow (Then first others) counted_point out again p q h = h
 
   -- the cases of a `switch` lead to its statements
   case_led : (flow : Flow) (value : Option ℤ) (item : ℕ) (blocks : List ℕ) (end : ℕ) (others : List SwitchCase) (Others : List SwitchCase → Type 0) → Others others
@@ -55,8 +55,8 @@ module _ {program : TypedProgram} {routine : Routine} where
   enters_none out again built end = record {
     grows = nothing_more built;
     counts = refl;
-    does = λ flow has args mark e item. there;
-    brings = λ flow has args mark e to aims following m. brings_nothing;
+    does = λ flow has args counted_point e item. there;
+    adds = λ flow has args counted_point e to aims following m. adds_nothing;
   }
 
   pub enters_then : {first : Statement} {others : Statements} {out again : ℕ} {old mid new : Built} {block next end : ℕ} {entries : List ℕ} → next ≡ block_at entries end 0
@@ -64,30 +64,30 @@ module _ {program : TypedProgram} {routine : Routine} where
   enters_then {first = first} {others = others} {out = out} {again = again} {old = old} {mid = mid} {new = new} {block = block} {next = next} {end = end} {entries = entries} is last one =
       let counts = last.counts in
       record {
-        grows = more_and_more (marks_in others) (marks first) (marks first + marks_in others) last.grows one.grows (omega arith);
+        grows = more_and_more (counted_points_in others) (counted_points first) (counted_points first + counted_points_in others) last.grows one.grows (omega arith);
         counts = omega arith;
-        does = λ flow has args mark e.
-            enters flow mark (one.does flow has args.0 mark e) (last.does flow (one.grows.keeps flow has) args.1 (mark + marks first) (mark_before one.grows mark e));
-        brings = λ flow has args mark e to aims following m.
+        does = λ flow has args counted_point e.
+            enters flow counted_point (one.does flow has args.0 counted_point e) (last.does flow (one.grows.keeps flow has) args.1 (counted_point + counted_points first) (counted_point_before one.grows counted_point e));
+        adds = λ flow has args counted_point e to aims following m.
             let in_mid = one.grows.keeps flow has in
-            let below = mark_before one.grows mark e in
-            let following_first = others_at flow mark (last.does flow in_mid args.1 (mark + marks first) below) in
-            let on = all_start program flow routine (labels_in routine flow) others (mark + marks first) (block_of flow out) (block_of flow again) (block_of flow next) (block_of flow end) (aims_of aims) following_first m in
-            brings_both (last.brings flow in_mid args.1 (mark + marks first) below to aims following m)
-            (nothing_then (brings_jump next) (one.brings flow has args.0 mark e to aims (starts_in to others following) on));
+            let below = counted_point_before one.grows counted_point e in
+            let following_first = others_at flow counted_point (last.does flow in_mid args.1 (counted_point + counted_points first) below) in
+            let on = all_start program flow routine (labels_in routine flow) others (counted_point + counted_points first) (block_of flow out) (block_of flow again) (block_of flow next) (block_of flow end) (aims_of aims) following_first m in
+            adds_both (last.adds flow in_mid args.1 (counted_point + counted_points first) below to aims following m)
+            (nothing_then (adds_jump next) (one.adds flow has args.0 counted_point e to aims (starts_in to others following) on));
       }
     where
-      others_at : (flow : Flow) (mark : ℕ) → ((item : ℕ) → from_at program flow routine (labels_in routine flow) item others (mark + marks first) (block_of flow out) (block_of flow again) (block_of flow (block_at entries end item)) (block_of flow end))
-          → all_at program flow routine (labels_in routine flow) others (mark + marks first) (block_of flow out) (block_of flow again) (block_of flow next) (block_of flow end)
-      others_at flow mark following =
-          subst (λ (b : ℕ). all_at program flow routine (labels_in routine flow) others (mark + marks first) (block_of flow out) (block_of flow again) (block_of flow b) (block_of flow end)) (sym is)
-          (all_from program routine flow others (mark + marks first) (block_of flow out) (block_of flow again) (block_of flow (block_at entries end 0)) (block_of flow end) (following 0))
+      others_at : (flow : Flow) (counted_point : ℕ) → ((item : ℕ) → from_at program flow routine (labels_in routine flow) item others (counted_point + counted_points first) (block_of flow out) (block_of flow again) (block_of flow (block_at entries end item)) (block_of flow end))
+          → all_at program flow routine (labels_in routine flow) others (counted_point + counted_points first) (block_of flow out) (block_of flow again) (block_of flow next) (block_of flow end)
+      others_at flow counted_point following =
+          subst (λ (b : ℕ). all_at program flow routine (labels_in routine flow) others (counted_point + counted_points first) (block_of flow out) (block_of flow again) (block_of flow b) (block_of flow end)) (sym is)
+          (all_from program routine flow others (counted_point + counted_points first) (block_of flow out) (block_of flow again) (block_of flow (block_at entries end 0)) (block_of flow end) (following 0))
 
-      enters : (flow : Flow) (mark : ℕ) → executes_at program flow routine (labels_in routine flow) first mark (block_of flow out) (block_of flow again) (block_of flow block) (jump_to next)
-          → ((item : ℕ) → from_at program flow routine (labels_in routine flow) item others (mark + marks first) (block_of flow out) (block_of flow again) (block_of flow (block_at entries end item)) (block_of flow end))
-          → (item : ℕ) → from_at program flow routine (labels_in routine flow) item (Then first others) mark (block_of flow out) (block_of flow again) (block_of flow (block_at (block ∷ entries) end item)) (block_of flow end)
-      enters flow mark here following zero = (block_of flow next, (jump_to next, here, jumps there), others_at flow mark following)
-      enters flow mark here following (suc item) = following item
+      enters : (flow : Flow) (counted_point : ℕ) → executes_at program flow routine (labels_in routine flow) first counted_point (block_of flow out) (block_of flow again) (block_of flow block) (jump_to next)
+          → ((item : ℕ) → from_at program flow routine (labels_in routine flow) item others (counted_point + counted_points first) (block_of flow out) (block_of flow again) (block_of flow (block_at entries end item)) (block_of flow end))
+          → (item : ℕ) → from_at program flow routine (labels_in routine flow) item (Then first others) counted_point (block_of flow out) (block_of flow again) (block_of flow (block_at (block ∷ entries) end item)) (block_of flow end)
+      enters flow counted_point here following zero = (block_of flow next, (jump_to next, here, jumps there), others_at flow counted_point following)
+      enters flow counted_point here following (suc item) = following item
 
   -- one more of a row that is lowered from its end
   pub enters_further : {out again : ℕ} {old mid new : Built} {block next end : ℕ} {blocks more : List ℕ} (row : List Stmt) (left : ℕ) (s : Stmt) → 1 ≤ left → left ≤ length row → s ≡ get_or row (left - 1) s → next ≡ block_at blocks end 0 → more ≡ block ∷ blocks
@@ -103,31 +103,31 @@ module _ {program : TypedProgram} {routine : Routine} where
   pub switch_made : {at : Place} {value : Typed} {cases : List Case} {statements : Statements} {out again end : ℕ} {old x y new : Built} {p q : Point} {entries : List ℕ} → Seals old x end q
       → EntersAll program routine statements end again x y entries end → Uses program value 0 y new p (leads_to at cases entries end) → Executes program routine (Switch at value cases statements) out again old new p q
   switch_made {at = at} {value = value} {cases = cases} {statements = statements} {out = out} {again = again} {end = end} {new = new} {p = p} {q = q} {entries = entries} ends enters goes =
-      let placed : (flow : Flow) → Has flow new → StatementHasArguments (Switch at value cases statements) → (mark : ℕ) → mark + length new.heads ≡ new.marks →
-      executes_at program flow routine (labels_in routine flow) (Switch at value cases statements) mark (block_of flow out) (block_of flow again) p q =
-      λ flow has args mark e.
+      let placed : (flow : Flow) → Has flow new → StatementHasArguments (Switch at value cases statements) → (counted_point : ℕ) → counted_point + length new.heads ≡ new.counted_points →
+      executes_at program flow routine (labels_in routine flow) (Switch at value cases statements) counted_point (block_of flow out) (block_of flow again) p q =
+      λ flow has args counted_point e.
       let in_y = goes.grows.keeps flow has in
       let on = ends.is flow (enters.grows.keeps flow in_y) in
-      let From : ℕ → Point → Type 0 = λ item o. from_at program flow routine (labels_in routine flow) item statements mark o (block_of flow again) (block_of flow (block_at entries end item)) o in (
+      let From : ℕ → Point → Type 0 = λ item o. from_at program flow routine (labels_in routine flow) item statements counted_point o (block_of flow again) (block_of flow (block_at entries end item)) o in (
         cases_to entries end cases,
         block_at entries end (default_item cases (length entries)),
         (λ item. block_of flow (block_at entries end item)),
         goes.does flow has args.0,
-        (λ item. subst (λ o. From item o) on (enters.does flow in_y args.1 mark (mark_stays goes.grows mark e) item)),
+        (λ item. subst (λ o. From item o) on (enters.does flow in_y args.1 counted_point (counted_point_stays goes.grows counted_point e) item)),
         cases_led program routine flow cases entries end,
         ap (λ (n : ℕ). block_of flow (block_at entries end (default_item cases n))) enters.counts,
         (block_at entries end 0, there),
       ) in
       record {
-        grows = more_and_more 0 (marks_in statements) (marks_in statements) ends.grows (more_and_more (marks_in statements) 0 (marks_in statements) enters.grows goes.grows (omega arith)) (omega arith);
+        grows = more_and_more 0 (counted_points_in statements) (counted_points_in statements) ends.grows (more_and_more (counted_points_in statements) 0 (counted_points_in statements) enters.grows goes.grows (omega arith)) (omega arith);
         does = placed;
-        brings = λ flow has args mark e to aims following m.
+        adds = λ flow has args counted_point e to aims following m.
             let in_y = goes.grows.keeps flow has in
             let on = same_meets (ends.is flow (enters.grows.keeps flow in_y)) m in
             let inner_aims = aims_in_switch (block_of flow end) aims on in
-            switch_brings program flow routine (labels_in routine flow) mark (block_of flow out) (block_of flow again) p q (aims_of aims) m (ends.brings flow) at value cases statements end (placed flow has args mark e)
-            (nothing_then brings_less (enters.brings flow in_y args.1 mark (mark_stays goes.grows mark e) (in_switch to following) inner_aims following on))
-            (goes.brings flow has args.0 (met point.Switch at) (switch_meets at (cases_to entries end cases) (block_at entries end (default_item cases (length entries)))));
+            switch_adds program flow routine (labels_in routine flow) counted_point (block_of flow out) (block_of flow again) p q (aims_of aims) m (ends.adds flow) at value cases statements end (placed flow has args counted_point e)
+            (nothing_then adds_less (enters.adds flow in_y args.1 counted_point (counted_point_stays goes.grows counted_point e) (in_switch to following) inner_aims following on))
+            (goes.adds flow has args.0 (met point.Switch at) (switch_meets at (cases_to entries end cases) (block_at entries end (default_item cases (length entries)))));
       }
 
 -- the cases with a value, and the one of `default`, as they are gone through

@@ -10,10 +10,10 @@ use Rattle.cs_ast.specs.TypedTree.{Statement}
 use Rattle.cs_ast.specs.TypedProgram.{TypedProgram, Routine}
 use Rattle.cs_events.specs.declared.point.PointKind.TheVariants as point
 use Rattle.cs_meaning.specs.Machine.{no_routine, NOWHERE, routine_of}
-use Rattle.cs_meaning.specs.Marks.{marks}
+use Rattle.cs_meaning.specs.CountedPoints.{counted_points}
 use Rattle.cs_meaning.specs.Calls.{falls_off}
 use Rattle.cs_cfg.specs.ControlPoints.{flows, end_of, body_targets, control_points}
-use Rattle.cs_cfg.specs.Fitting.{BlockFits, AllFit, GraphFits, CodeFits, Brings}
+use Rattle.cs_cfg.specs.Fitting.{BlockFits, AllFit, GraphFits, CodeFits, AddsPoints}
 use Rattle.cs_cfg.specs.Graph as graph
 use Rattle.cs_cfg.specs.Graph.{Point, Flow, Code, block_of, flow_of}
 use Rattle.cs_cfg.specs.Working.{closed_with}
@@ -21,7 +21,7 @@ use Rattle.cs_cfg.specs.Placing.{does, Joins, there}
 use Rattle.cs_cfg.specs.Executing.{leaving, finishing, executes_at}
 use Rattle.cs_cfg.specs.Lowered.{is_there, IsLowered}
 use Rattle.cs_cfg.specs.Placed.{LowersBody, IsPlaced}
-use Rattle.cs_cfg.proofs.Bringing.{graph_fits}
+use Rattle.cs_cfg.proofs.AddedPoints.{graph_fits}
 use Rattle.cs_cfg.proofs.Entered.{executed}
 use Rattle.cs_cfg.proofs.Fitting.{block_end, fit_none, fit_more, fit_among, includes_none}
 use Rattle.cs_cfg.proofs.Meeting.{point_meets, same_meets}
@@ -46,8 +46,8 @@ module _ {program : TypedProgram} {routine : Routine} where
       let d = begins.grows.same in
       let in_y : (flow : Flow) → Has flow new → Has flow y = begins.grows.keeps in
       let finish_at : (flow : Flow) → Has flow new → block_of flow finish ≡ finishing = λ flow has. finishes.is flow (executes.grows.keeps flow (in_y flow has)) ∙ finish_is in
-      let first : length new.heads ≡ new.marks → 0 + length y.heads ≡ y.marks = λ all. omega arith in
-      let lowers : (flow : Flow) → Has flow new → StatementHasArguments body → length new.heads ≡ new.marks → flow.entry ≡ entry → flow.marks ≡ marks body → LowersBody program routine body flow =
+      let first : length new.heads ≡ new.counted_points → 0 + length y.heads ≡ y.counted_points = λ all. omega arith in
+      let lowers : (flow : Flow) → Has flow new → StatementHasArguments body → length new.heads ≡ new.counted_points → flow.entry ≡ entry → flow.counted_points ≡ counted_points body → LowersBody program routine body flow =
       λ flow has args all starts counts.
       let At : Point → Point → Type 0 = λ o a. executes_at program flow routine (labels_in routine flow) body 0 o a inside following in
       record {
@@ -62,7 +62,7 @@ module _ {program : TypedProgram} {routine : Routine} where
         counts = counts;
       } in
       record {
-        grows = more_and_more 0 (marks body) (marks body) finishes.grows (more_and_more (marks body) 0 (marks body) executes.grows begins.grows (omega arith)) (omega arith);
+        grows = more_and_more 0 (counted_points body) (counted_points body) finishes.grows (more_and_more (counted_points body) 0 (counted_points body) executes.grows begins.grows (omega arith)) (omega arith);
         does = lowers;
         fits = λ flow has args all starts counts has_body fit.
             let low = lowers flow has args all starts counts in
@@ -70,21 +70,21 @@ module _ {program : TypedProgram} {routine : Routine} where
             let At : Point → Point → Type 0 = λ o a. Aims program routine flow (body_targets routine) o a in
             let aims_here = subst (λ a. At (block_of flow finish) a) is (subst (λ o. At o finishing) is (aims_from (aims program flow routine body has_body low))) in
             let end_met = same_meets closes (point_meets routine.closes 0 (graph.Close nothing) leaving refl) in
-            let made = same_after closes (executes.brings flow (in_y flow has) args 0 (first all) (body_targets routine) aims_here (end_of routine) end_met) in
-            let Made : Statement → Type 0 = λ b. Brings flow (flows (body_targets routine) b (end_of routine)) (does routine.closes 0 (graph.Close nothing) leaving ∷ blocks x) (inside ∷ blocks y) in
-            let finished = (finishes.brings flow).keeps (control_points routine) includes_none (fit_more (subst (λ p. BlockFits flow (control_points routine) p) (sym finish_is) (block_end graph.Finish refl)) fit) in
-            graph_fits program flow routine body has_body low (blocks new) (subst (λ b. Made b) (sym (executed routine body has_body)) made) (same_after enters (begins.brings flow)) finished;
+            let made = same_after closes (executes.adds flow (in_y flow has) args 0 (first all) (body_targets routine) aims_here (end_of routine) end_met) in
+            let Made : Statement → Type 0 = λ b. AddsPoints flow (flows (body_targets routine) b (end_of routine)) (does routine.closes 0 (graph.Close nothing) leaving ∷ blocks x) (inside ∷ blocks y) in
+            let finished = (finishes.adds flow).keeps (control_points routine) includes_none (fit_more (subst (λ p. BlockFits flow (control_points routine) p) (sym finish_is) (block_end graph.Finish refl)) fit) in
+            graph_fits program flow routine body has_body low (blocks new) (subst (λ b. Made b) (sym (executed routine body has_body)) made) (same_after enters (begins.adds flow)) finished;
       }
 
   -- all of a body's graph
-  pub whole_body : {body : Statement} {entry count : ℕ} {old new : Built} {flow : Flow} → BeginsBody program routine body old new entry → old ≡ record { marks = count; heads = []; others = [] } → count ≡ marks body
-      → (length new.heads ≡ new.marks → Has flow new) → All (Contains (blocks new)) flow.blocks → flow.entry ≡ entry → flow.marks ≡ new.marks → routine.body ≡ Some body → StatementHasArguments body → IsGraphOf program routine body flow
-  whole_body {old = old} {new = new} {flow = flow} begins starts counted has no_other first marked has_body args =
+  pub whole_body : {body : Statement} {entry count : ℕ} {old new : Built} {flow : Flow} → BeginsBody program routine body old new entry → old ≡ record { counted_points = count; heads = []; others = [] } → count ≡ counted_points body
+      → (length new.heads ≡ new.counted_points → Has flow new) → All (Contains (blocks new)) flow.blocks → flow.entry ≡ entry → flow.counted_points ≡ new.counted_points → routine.body ≡ Some body → StatementHasArguments body → IsGraphOf program routine body flow
+  whole_body {old = old} {new = new} {flow = flow} begins starts counted has no_other first with_counted_point has_body args =
       let none : length old.heads ≡ 0 = ap (λ (b : Built). length b.heads) starts in
-      let count = ap (λ (b : Built). b.marks) starts in
+      let count = ap (λ (b : Built). b.counted_points) starts in
       let c = begins.grows.counts in
       let d = begins.grows.same in
-      let all : length new.heads ≡ new.marks = omega arith in
+      let all : length new.heads ≡ new.counted_points = omega arith in
       let nothing_yet = subst (λ (b : Built). AllFit flow (control_points routine) (blocks b)) (sym starts) fit_none in
       record {
         lowers = begins.does flow (has all) args all first (omega arith);

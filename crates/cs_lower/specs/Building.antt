@@ -13,9 +13,9 @@ point_of strip = record { operations = reverse (map view.operation strip.operati
 abbrev pub jump_to : ℕ → Point
 jump_to block = record { operations = []; end = Jump block }
 
--- what was built: the blocks of the last marks, the last mark first, and the other blocks
+-- what was built: the blocks of the last counted points, the last counted point first, and the other blocks
 pub record Built : Type 0 where
-  pub marks : ℕ
+  pub counted_points : ℕ
   pub heads : List Point
   pub others : List Point
 
@@ -24,15 +24,15 @@ abbrev pub blocks : Built → List Point
 blocks built = built.heads ++ built.others
 
 abbrev pub built_of : GraphBuilder → Built
-built_of graph = record { marks = graph.marks; heads = map view.block graph.heads.items; others = map view.block graph.others.items }
+built_of graph = record { counted_points = graph.counted_points; heads = map view.block graph.heads.items; others = map view.block graph.others.items }
 
--- a graph has what was built: a mark's block is the one with the mark's number, and the other blocks stand after those of all marks
+-- a graph has what was built: a counted point's block is the one with the counted point's number, and the other blocks stand after those of all counted points
 pub record Has (flow : Flow) (built : Built) : Type 0 where
-  pub heads : (n mark : ℕ) (p : Point) → slice_get built.heads n ≡ Some p → mark + suc n ≡ built.marks → block_of flow mark ≡ p
-  pub others : (n : ℕ) (p : Point) → slice_get built.others n ≡ Some p → block_of flow (built.marks + n) ≡ p
+  pub heads : (n counted_point : ℕ) (p : Point) → slice_get built.heads n ≡ Some p → counted_point + suc n ≡ built.counted_points → block_of flow counted_point ≡ p
+  pub others : (n : ℕ) (p : Point) → slice_get built.others n ≡ Some p → block_of flow (built.counted_points + n) ≡ p
 
--- more was built, the blocks of so many marks among it
-pub record Grows (marks : ℕ) (old new : Built) : Type 0 where
-  pub same : new.marks ≡ old.marks
-  pub counts : length new.heads ≡ marks + length old.heads
+-- more was built, the blocks of so many counted points among it
+pub record Grows (counted_points : ℕ) (old new : Built) : Type 0 where
+  pub same : new.counted_points ≡ old.counted_points
+  pub counts : length new.heads ≡ counted_points + length old.heads
   pub keeps : (flow : Flow) → Has flow new → Has flow old

@@ -2,7 +2,7 @@
 use Rattle.std.specs.Prelude.{◌≡◌, ℕ, length, Option, Some}
 use Rattle.cs_ast.specs.TypedTree.{Statement}
 use Rattle.cs_ast.specs.TypedProgram.{TypedProgram, Routine}
-use Rattle.cs_meaning.specs.Marks.{marks}
+use Rattle.cs_meaning.specs.CountedPoints.{counted_points}
 use Rattle.cs_cfg.specs.ControlPoints.{control_points}
 use Rattle.cs_cfg.specs.Fitting.{AllFit}
 use Rattle.cs_cfg.specs.Graph.{Flow}
@@ -11,12 +11,12 @@ use Rattle.cs_cfg.specs.Placed.{LowersBody}
 use Rattle.cs_lower.specs.Allocations.{StatementHasArguments}
 use Rattle.cs_lower.specs.Building.{Built, blocks, Has, Grows}
 
--- a graph that begins in a block and has what was built executes a function's body, once the blocks of all marks are there; and what was
+-- a graph that begins in a block and has what was built executes a function's body, once the blocks of all counted points are there; and what was
 -- built has no control points but those of the function, where what was there before has no others
 pub record BeginsBody (program : TypedProgram) (routine : Routine) (body : Statement) (old new : Built) (entry : ℕ) : Type 0 where
-  pub grows : Grows (marks body) old new
-  pub does : (flow : Flow) → Has flow new → StatementHasArguments body → length new.heads ≡ new.marks → flow.entry ≡ entry → flow.marks ≡ marks body → LowersBody program routine body flow
-  pub fits : (flow : Flow) → Has flow new → StatementHasArguments body → length new.heads ≡ new.marks → flow.entry ≡ entry → flow.marks ≡ marks body → routine.body ≡ Some body →
+  pub grows : Grows (counted_points body) old new
+  pub does : (flow : Flow) → Has flow new → StatementHasArguments body → length new.heads ≡ new.counted_points → flow.entry ≡ entry → flow.counted_points ≡ counted_points body → LowersBody program routine body flow
+  pub fits : (flow : Flow) → Has flow new → StatementHasArguments body → length new.heads ≡ new.counted_points → flow.entry ≡ entry → flow.counted_points ≡ counted_points body → routine.body ≡ Some body →
       AllFit flow (control_points routine) (blocks old) → AllFit flow (control_points routine) (blocks new)
 
 -- a graph is that of a function's body: it executes the body, and has no control points but those of the function

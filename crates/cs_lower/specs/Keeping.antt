@@ -1,7 +1,7 @@
 -- Code to which nothing leads, as after a `return`, is in the graph too.
 use Rattle.std.specs.Prelude.{◌≡◌, ℕ, [], ◌∷◌}
 use Rattle.cs_ast.specs.TypedProgram.{TypedProgram}
-use Rattle.cs_cfg.specs.Fitting.{Brings}
+use Rattle.cs_cfg.specs.Fitting.{AddsPoints}
 use Rattle.cs_cfg.specs.Graph.{Point, Flow}
 use Rattle.cs_cfg.specs.Executing.{IsKept}
 use Rattle.cs_lower.specs.Building.{jump_to, Built, blocks, Has, Grows}
@@ -10,7 +10,7 @@ use Rattle.cs_lower.specs.Building.{jump_to, Built, blocks, Has, Grows}
 pub record Keeps (old new : Built) (p : Point) : Type 0 where
   pub grows : Grows 0 old new
   pub kept : (program : TypedProgram) (flow : Flow) → Has flow new → IsKept program flow p
-  pub brings : (flow : Flow) → Brings flow [] (p ∷ blocks old) (blocks new)
+  pub adds : (flow : Flow) → AddsPoints flow [] (p ∷ blocks old) (blocks new)
 
 -- a point jumps to a block; nothing leads to the other one, which stands after it
 pub record LeadsOff (old new : Built) (block : ℕ) (p q : Point) : Type 0 where

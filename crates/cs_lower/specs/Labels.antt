@@ -1,18 +1,18 @@
--- The labels of statements, each with its mark.
+-- The labels of statements, each with its counted point.
 use Rattle.std.specs.Prelude.{ℕ, [], Option, option_map}
 use Rattle.cs_ast.specs.TypedTree.{Statement, Statements}
 use Rattle.cs_ast.specs.TypedProgram.{Routine}
 use Rattle.cs_meaning.specs.Machine.{body_of}
 use Rattle.cs_meaning.specs.Jumps.{Landing, landing, landing_in}
 
--- the mark of the first label with a number in a statement, the first mark of which has this number, if the label is there
+-- the counted point of the first label with a number in a statement, the first counted point of which has this number, if the label is there
 abbrev pub label_in : ℕ → Statement → ℕ → Option ℕ
-label_in wanted s mark = option_map (λ (l : Landing). l.mark) (landing wanted s mark [])
+label_in wanted s counted_point = option_map (λ (l : Landing). l.counted_point) (landing wanted s counted_point [])
 
 -- the same in statements one after another
 abbrev pub label_among : ℕ → Statements → ℕ → Option ℕ
-label_among wanted statements mark = option_map (λ (l : Landing). l.mark) (landing_in wanted statements mark [])
+label_among wanted statements counted_point = option_map (λ (l : Landing). l.counted_point) (landing_in wanted statements counted_point [])
 
 -- the same in the body of a function
-abbrev pub marked_label : Routine → ℕ → Option ℕ
-marked_label routine wanted = label_in wanted (body_of routine) 0
+abbrev pub point_of_label : Routine → ℕ → Option ℕ
+point_of_label routine wanted = label_in wanted (body_of routine) 0

@@ -5,9 +5,9 @@ use Rattle.std.specs.Ordering.{nat_cmp}
 use Rattle.cs_types.specs.Layout.{IsLaidOut}
 use Rattle.cs_ast.specs.TypedProgram.{routine}
 use Rattle.cs_lower.specs.declared.context.Lowering.{Lowering}
-use Rattle.cs_lower.specs.Labels.{marked_label}
+use Rattle.cs_lower.specs.Labels.{point_of_label}
 
--- the program's structs are laid out, and each label of the function has its mark
+-- the program's structs are laid out, and each label of the function has its counted point
 pub record IsReady (lowering : Lowering) : Type 0 where
   pub laid_out : IsLaidOut lowering.program.now.model lowering.program.now.table.list
-  pub labels : (label : ℕ) → get nat_cmp lowering.labels label ≡ marked_label (routine lowering.function.now) label
+  pub labels : (label : ℕ) → get nat_cmp lowering.labels label ≡ point_of_label (routine lowering.function.now) label

@@ -8,20 +8,20 @@ use Rattle.cs_ast.specs.TypedProgram.{TypedProgram, Routine}
 use Rattle.cs_meaning.specs.Initials.{Piece}
 use Rattle.cs_meaning.specs.Jumps.{landing}
 use Rattle.cs_meaning.specs.Machine.{body_of}
-use Rattle.cs_meaning.specs.Marks.{marks, marks_in}
+use Rattle.cs_meaning.specs.CountedPoints.{counted_points, counted_points_in}
 use Rattle.cs_cfg.specs.ControlPoints.{Next, points_some, Targets, for_tested, for_points, at_label, flows, flows_in}
-use Rattle.cs_cfg.specs.Fitting.{Brings}
+use Rattle.cs_cfg.specs.Fitting.{AddsPoints}
 use Rattle.cs_cfg.specs.Graph.{Point, Flow, block_of}
 use Rattle.cs_cfg.specs.GraphPoints.{MeetsNext}
 use Rattle.cs_cfg.specs.PiecePoints.{points_pieces}
 use Rattle.cs_cfg.specs.Executing.{goes_to, executes_at, all_at, from_at, for_test_at, last_at, returns_at, declares_at, stores_at}
 use Rattle.cs_lower.specs.Allocations.{OptionHasArguments, OptionInitialHasArguments, PiecesHaveArguments, StatementHasArguments, StatementsHaveArguments}
-use Rattle.cs_lower.specs.Labels.{marked_label}
+use Rattle.cs_lower.specs.Labels.{point_of_label}
 use Rattle.cs_lower.specs.Building.{jump_to, Built, blocks, Has, Grows}
 
--- where the `goto`s of a function lead: to the block of that mark
+-- where the `goto`s of a function lead: to the block of that counted point
 abbrev pub labels_in : Routine → Flow → ℕ → Point
-labels_in routine flow label = block_of flow (unwrap_or (marked_label routine label) 0)
+labels_in routine flow label = block_of flow (unwrap_or (point_of_label routine label) 0)
 
 -- the block of the statement with a number, or the one after all of them
 abbrev pub block_at : List ℕ → ℕ → ℕ → ℕ
@@ -37,66 +37,66 @@ module _ (program : TypedProgram) (routine : Routine) where
 
   -- a point executes a statement; `break` and `continue` lead to two blocks
   pub record Executes (s : Statement) (out again : ℕ) (old new : Built) (p q : Point) : Type 0 where
-    pub grows : Grows (marks s) old new
-    pub does : (flow : Flow) → Has flow new → StatementHasArguments s → (mark : ℕ) → mark + length new.heads ≡ new.marks →
-        executes_at program flow routine (labels_in routine flow) s mark (block_of flow out) (block_of flow again) p q
-    pub brings : (flow : Flow) → Has flow new → StatementHasArguments s → (mark : ℕ) → mark + length new.heads ≡ new.marks → (to : Targets) → Aims flow to (block_of flow out) (block_of flow again) →
-        (following : Next) → MeetsNext flow q following → Brings flow (flows to s following) (q ∷ blocks old) (p ∷ blocks new)
+    pub grows : Grows (counted_points s) old new
+    pub does : (flow : Flow) → Has flow new → StatementHasArguments s → (counted_point : ℕ) → counted_point + length new.heads ≡ new.counted_points →
+        executes_at program flow routine (labels_in routine flow) s counted_point (block_of flow out) (block_of flow again) p q
+    pub adds : (flow : Flow) → Has flow new → StatementHasArguments s → (counted_point : ℕ) → counted_point + length new.heads ≡ new.counted_points → (to : Targets) → Aims flow to (block_of flow out) (block_of flow again) →
+        (following : Next) → MeetsNext flow q following → AddsPoints flow (flows to s following) (q ∷ blocks old) (p ∷ blocks new)
 
   -- the same of statements one after another
   pub record ExecutesAll (statements : Statements) (out again : ℕ) (old new : Built) (p q : Point) : Type 0 where
-    pub grows : Grows (marks_in statements) old new
-    pub does : (flow : Flow) → Has flow new → StatementsHaveArguments statements → (mark : ℕ) → mark + length new.heads ≡ new.marks →
-        all_at program flow routine (labels_in routine flow) statements mark (block_of flow out) (block_of flow again) p q
-    pub brings : (flow : Flow) → Has flow new → StatementsHaveArguments statements → (mark : ℕ) → mark + length new.heads ≡ new.marks → (to : Targets) → Aims flow to (block_of flow out) (block_of flow again) →
-        (following : Next) → MeetsNext flow q following → Brings flow (flows_in to statements following) (q ∷ blocks old) (p ∷ blocks new)
+    pub grows : Grows (counted_points_in statements) old new
+    pub does : (flow : Flow) → Has flow new → StatementsHaveArguments statements → (counted_point : ℕ) → counted_point + length new.heads ≡ new.counted_points →
+        all_at program flow routine (labels_in routine flow) statements counted_point (block_of flow out) (block_of flow again) p q
+    pub adds : (flow : Flow) → Has flow new → StatementsHaveArguments statements → (counted_point : ℕ) → counted_point + length new.heads ≡ new.counted_points → (to : Targets) → Aims flow to (block_of flow out) (block_of flow again) →
+        (following : Next) → MeetsNext flow q following → AddsPoints flow (flows_in to statements following) (q ∷ blocks old) (p ∷ blocks new)
 
   -- the same of a statement with which a block begins, and after which stands a jump
   pub record ExecutesIn (s : Statement) (out again : ℕ) (old new : Built) (block end : ℕ) : Type 0 where
-    pub grows : Grows (marks s) old new
-    pub does : (flow : Flow) → Has flow new → StatementHasArguments s → (mark : ℕ) → mark + length new.heads ≡ new.marks →
-        executes_at program flow routine (labels_in routine flow) s mark (block_of flow out) (block_of flow again) (block_of flow block) (jump_to end)
-    pub brings : (flow : Flow) → Has flow new → StatementHasArguments s → (mark : ℕ) → mark + length new.heads ≡ new.marks → (to : Targets) → Aims flow to (block_of flow out) (block_of flow again) →
-        (following : Next) → MeetsNext flow (block_of flow end) following → Brings flow (flows to s following) (jump_to end ∷ blocks old) (blocks new)
+    pub grows : Grows (counted_points s) old new
+    pub does : (flow : Flow) → Has flow new → StatementHasArguments s → (counted_point : ℕ) → counted_point + length new.heads ≡ new.counted_points →
+        executes_at program flow routine (labels_in routine flow) s counted_point (block_of flow out) (block_of flow again) (block_of flow block) (jump_to end)
+    pub adds : (flow : Flow) → Has flow new → StatementHasArguments s → (counted_point : ℕ) → counted_point + length new.heads ≡ new.counted_points → (to : Targets) → Aims flow to (block_of flow out) (block_of flow again) →
+        (following : Next) → MeetsNext flow (block_of flow end) following → AddsPoints flow (flows to s following) (jump_to end ∷ blocks old) (blocks new)
 
   -- statements one after another, each with which a block begins, and after them a block
   pub record EntersAll (statements : Statements) (out again : ℕ) (old new : Built) (entries : List ℕ) (end : ℕ) : Type 0 where
-    pub grows : Grows (marks_in statements) old new
+    pub grows : Grows (counted_points_in statements) old new
     pub counts : length entries ≡ count_of statements
-    pub does : (flow : Flow) → Has flow new → StatementsHaveArguments statements → (mark : ℕ) → mark + length new.heads ≡ new.marks → (item : ℕ) →
-        from_at program flow routine (labels_in routine flow) item statements mark (block_of flow out) (block_of flow again) (block_of flow (block_at entries end item)) (block_of flow end)
-    pub brings : (flow : Flow) → Has flow new → StatementsHaveArguments statements → (mark : ℕ) → mark + length new.heads ≡ new.marks → (to : Targets) → Aims flow to (block_of flow out) (block_of flow again) →
-        (following : Next) → MeetsNext flow (block_of flow end) following → Brings flow (flows_in to statements following) (blocks old) (blocks new)
+    pub does : (flow : Flow) → Has flow new → StatementsHaveArguments statements → (counted_point : ℕ) → counted_point + length new.heads ≡ new.counted_points → (item : ℕ) →
+        from_at program flow routine (labels_in routine flow) item statements counted_point (block_of flow out) (block_of flow again) (block_of flow (block_at entries end item)) (block_of flow end)
+    pub adds : (flow : Flow) → Has flow new → StatementsHaveArguments statements → (counted_point : ℕ) → counted_point + length new.heads ≡ new.counted_points → (to : Targets) → Aims flow to (block_of flow out) (block_of flow again) →
+        (following : Next) → MeetsNext flow (block_of flow end) following → AddsPoints flow (flows_in to statements following) (blocks old) (blocks new)
 
   -- pieces of an initializer are stored, one after another
   pub record StoresPieces (at : Place) (declaration : ℕ) (pieces : List Piece) (old new : Built) (p q : Point) : Type 0 where
     pub grows : Grows 0 old new
     pub does : (flow : Flow) → Has flow new → PiecesHaveArguments pieces → stores_at program flow routine (labels_in routine flow) at declaration pieces p q
-    pub brings : (flow : Flow) → Has flow new → PiecesHaveArguments pieces → (following : Next) → MeetsNext flow q following → Brings flow (points_pieces pieces following) (q ∷ blocks old) (p ∷ blocks new)
+    pub adds : (flow : Flow) → Has flow new → PiecesHaveArguments pieces → (following : Next) → MeetsNext flow q following → AddsPoints flow (points_pieces pieces following) (q ∷ blocks old) (p ∷ blocks new)
 
   -- a declaration
   pub record Declares (at : Place) (declaration : ℕ) (initial : Option Initial) (old new : Built) (p q : Point) : Type 0 where
     pub grows : Grows 0 old new
     pub does : (flow : Flow) → Has flow new → OptionInitialHasArguments initial → declares_at program flow routine (labels_in routine flow) at declaration initial p q
-    pub brings : (flow : Flow) → Has flow new → OptionInitialHasArguments initial → (to : Targets) (following : Next) → MeetsNext flow q following →
-        Brings flow (flows to (Declare at declaration initial) following) (q ∷ blocks old) (p ∷ blocks new)
+    pub adds : (flow : Flow) → Has flow new → OptionInitialHasArguments initial → (to : Targets) (following : Next) → MeetsNext flow q following →
+        AddsPoints flow (flows to (Declare at declaration initial) following) (q ∷ blocks old) (p ∷ blocks new)
 
   -- a `return`
   pub record Returns (at : Place) (value : Option Typed) (old new : Built) (p : Point) : Type 0 where
     pub grows : Grows 0 old new
     pub does : (flow : Flow) → Has flow new → OptionHasArguments value → returns_at program flow routine (labels_in routine flow) at value p
-    pub brings : (flow : Flow) → Has flow new → OptionHasArguments value → (to : Targets) (following : Next) → Brings flow (flows to (Return at value) following) (blocks old) (p ∷ blocks new)
+    pub adds : (flow : Flow) → Has flow new → OptionHasArguments value → (to : Targets) (following : Next) → AddsPoints flow (flows to (Return at value) following) (blocks old) (p ∷ blocks new)
 
 -- a test, and then one of two blocks, is a use over no temporaries; the test of a `for` may be left out
 pub record TestsFor (program : TypedProgram) (at : Place) (test : Option Typed) (old new : Built) (p body : Point) (end : ℕ) : Type 0 where
   pub grows : Grows 0 old new
   pub does : (flow : Flow) (q : Point) → Has flow new → OptionHasArguments test → block_of flow end ≡ q → for_test_at program flow at test p body q
-  pub brings : (flow : Flow) → Has flow new → OptionHasArguments test → (inside following : Next) → MeetsNext flow body inside → MeetsNext flow (block_of flow end) following →
-      Brings flow (for_tested at test inside following ++ for_points at test) (body ∷ blocks old) (p ∷ blocks new)
+  pub adds : (flow : Flow) → Has flow new → OptionHasArguments test → (inside following : Next) → MeetsNext flow body inside → MeetsNext flow (block_of flow end) following →
+      AddsPoints flow (for_tested at test inside following ++ for_points at test) (body ∷ blocks old) (p ∷ blocks new)
 
 -- the last part of a `for`, with a jump to its head
 pub record EndsFor (program : TypedProgram) (last : Option Typed) (old new : Built) (block head : ℕ) : Type 0 where
   pub grows : Grows 0 old new
   pub does : (flow : Flow) → Has flow new → OptionHasArguments last → last_at program flow last (block_of flow block) (block_of flow head)
-  pub brings : (flow : Flow) → Has flow new → OptionHasArguments last → (following : Next) → MeetsNext flow (block_of flow head) following →
-      Brings flow (points_some last following) (jump_to head ∷ blocks old) (blocks new)
+  pub adds : (flow : Flow) → Has flow new → OptionHasArguments last → (following : Next) → MeetsNext flow (block_of flow head) following →
+      AddsPoints flow (points_some last following) (jump_to head ∷ blocks old) (blocks new)

@@ -3,31 +3,31 @@ ghost use Rattle.std.specs.Prelude.{◌≡◌, ◌+◌, suc, [], length, All, Co
 ghost use Rattle.cs_cfg.specs.GraphView as view;
 ghost use Rattle.cs_lower.specs.Building.{point_of, built_of, blocks, Has};
 ghost use Rattle.cs_lower.specs.Keeping.{Keeps};
-ghost use Rattle.cs_lower.specs.Sealing.{Seals, SealsMark};
+ghost use Rattle.cs_lower.specs.Sealing.{Seals, SealsCountedPoint};
 
 use crate::strips::Strip;
 use cs_ast::Place;
-use cs_cfg::{Block, Flow, Mark};
+use cs_cfg::{Block, CountedPoint, Flow};
 use cs_events::PointKind;
 use std::alloc::{AllocError, Global};
 
-/// The blocks that were built of the graph of a function. The block of a mark has the mark's number, and the others come after.
+/// The blocks that were built of the graph of a function. The block of a counted point has the counted point's number, and the others come after.
 #[derive(Drop)]
 pub struct GraphBuilder {
     /// How many loop heads and labels the function has.
-    pub marks: u32,
-    /// The blocks of the last marks, the last mark first: code is built from its end.
+    pub counted_points: u32,
+    /// The blocks of the last counted points, the last counted point first: code is built from its end.
     pub heads: Vec<Block>,
     pub others: Vec<Block>,
 }
 
 impl GraphBuilder {
     /// Nothing is built yet.
-    pub fn new(alloc: Global, marks: u32) -> GraphBuilder
-        ensures { built_of result ≡ record { marks = marks; heads = []; others = [] } }
+    pub fn new(alloc: Global, counted_points: u32) -> GraphBuilder
+        ensures { built_of result ≡ record { counted_points = counted_points; heads = []; others = [] } }
     {
         GraphBuilder {
-            marks,
+            counted_points,
             heads: Vec::new(alloc),
             others: Vec::new(alloc),
         }
@@ -55,49 +55,49 @@ impl GraphBuilder {
         }
     }
 
-    // The number of the next block that isn't that of a mark.
+    // The number of the next block that isn't that of a counted point.
     fn next_block(&self) -> Result<u32, AllocError>
-        ensures { IfOk result (λ block. block ≡ self.now.marks + length (built_of self.now).others) }
+        ensures { IfOk result (λ block. block ≡ self.now.counted_points + length (built_of self.now).others) }
     {
         let following = u32::try_from(self.others.len()).map_err(|_| AllocError)?;
-        self.marks.checked_add(following).ok_or(AllocError)
+        self.counted_points.checked_add(following).ok_or(AllocError)
     }
 
-    /// The number of the mark before so many others that have no block yet.
-    pub fn mark_before(&self, others: u64) -> Result<u32, AllocError>
-        ensures { IfOk result (λ mark. mark + suc (others + length (built_of self.now).heads) ≡ self.now.marks) }
+    /// The number of the counted point before so many others that have no block yet.
+    pub fn counted_point_before(&self, others: u64) -> Result<u32, AllocError>
+        ensures { IfOk result (λ counted_point. counted_point + suc (others + length (built_of self.now).heads) ≡ self.now.counted_points) }
     {
         let built = u32::try_from(self.heads.len()).map_err(|_| AllocError)?;
         let others = u32::try_from(others).map_err(|_| AllocError)?;
-        let left = self.marks.checked_sub(built).ok_or(AllocError)?;
+        let left = self.counted_points.checked_sub(built).ok_or(AllocError)?;
         let left = left.checked_sub(others).ok_or(AllocError)?;
         left.checked_sub(1).ok_or(AllocError)
     }
 
-    /// Makes the block of the last mark that has none yet.
-    pub fn seal_mark(
+    /// Makes the block of the last counted point that has none yet.
+    pub fn seal_counted_point(
         &mut self,
         kind: PointKind,
         place: Place,
         strip: Strip,
     ) -> Result<(), AllocError>
-        ensures { OnOk result (SealsMark (built_of self.old) (built_of self.new) kind place (point_of strip)) }
+        ensures { OnOk result (SealsCountedPoint (built_of self.old) (built_of self.new) kind place (point_of strip)) }
     {
-        let number = self.mark_before(0)?;
-        let mark = Mark {
+        let number = self.counted_point_before(0)?;
+        let counted_point = CountedPoint {
             kind,
             place,
             number,
         };
-        self.heads.push(strip.into_block(Some(mark)))?;
+        self.heads.push(strip.into_block(Some(counted_point)))?;
         Ok(())
     }
 
-    /// The graph, once each mark has its block.
+    /// The graph, once each counted point has its block.
     pub fn finish(mut self, entry: u32) -> Result<Flow, AllocError>
         ensures entry { IfOk result (λ flow. flow.entry ≡ entry) }
-        ensures marks { IfOk result (λ flow. flow.marks ≡ self.marks) }
-        ensures whole { IfOk result (λ flow. length (built_of self).heads ≡ self.marks → Has (view.flow flow) (built_of self)) }
+        ensures counted_points { IfOk result (λ flow. flow.counted_points ≡ self.counted_points) }
+        ensures whole { IfOk result (λ flow. length (built_of self).heads ≡ self.counted_points → Has (view.flow flow) (built_of self)) }
         ensures no_other { IfOk result (λ flow. All (Contains (blocks (built_of self))) (view.flow flow).blocks) }
     {
         self.heads.reverse();
@@ -105,7 +105,7 @@ impl GraphBuilder {
         Ok(Flow {
             blocks: self.heads,
             entry,
-            marks: self.marks,
+            counted_points: self.counted_points,
         })
     }
 }

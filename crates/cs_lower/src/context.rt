@@ -16,7 +16,7 @@ pub struct Lowering<'a> {
     pub alloc: Global,
     pub program: &'a Program,
     pub function: &'a Function,
-    /// The mark of each label, which is that of the first statement with it.
+    /// The counted point of each label, which is that of the first statement with it.
     pub labels: BTreeMap<u32, u32>,
 }
 

@@ -72,15 +72,15 @@ fn lower_body(
     ensures { IfOk result (λ flow. StatementHasArguments (statement body.now) → IsGraphOf (typed_program program.now) (routine function.now) (statement body.now) (view.flow flow)) }
 {
     let mut labels = BTreeMap::new(alloc);
-    let marks = add_labels(&mut labels, body, 0)?;
-    let marks = narrowed(marks)?;
+    let counted_points = add_labels(&mut labels, body, 0)?;
+    let counted_points = narrowed(counted_points)?;
     let lowering = Lowering {
         alloc,
         program,
         function,
         labels,
     };
-    let mut graph = GraphBuilder::new(alloc, marks);
+    let mut graph = GraphBuilder::new(alloc, counted_points);
     let entry = lowering.lower_whole(&mut graph, body)?;
     let flow = graph.finish(entry)?;
     Ok(flow)

@@ -19,7 +19,7 @@ use cs_ast::typed::expression::Expr;
 use cs_ast::typed::statement::Stmt;
 use cs_cfg::Work;
 use cs_events::PointKind;
-use cs_run_state::marks::{marks, marks_in, together};
+use cs_run_state::counted_points::{counted_points, counted_points_in, together};
 use std::alloc::AllocError;
 
 impl Lowering<'_> {
@@ -36,8 +36,8 @@ impl Lowering<'_> {
         requires { IsReady self.now }
         ensures { IfOk result (λ made. (out again : ℕ) → Executes (typed_program self.now.program.now) (routine self.now.function.now) (While place (typed test.now) (statement body.now)) out again (built_of graph.old) (built_of graph.new) (point_of made) (point_of following)) }
     {
-        let inner = marks(body)?;
-        let head = graph.mark_before(inner)?;
+        let inner = counted_points(body)?;
+        let head = graph.counted_point_before(inner)?;
         let end = graph.seal(following)?;
         let exits = Exits {
             out: end,
@@ -45,7 +45,7 @@ impl Lowering<'_> {
         };
         let one = self.lower_way_out(graph, body, exits, head)?;
         let turned = self.lower_test(graph, place, test, one, end)?;
-        graph.seal_mark(PointKind::Head, place, turned)?;
+        graph.seal_counted_point(PointKind::Head, place, turned)?;
         Ok(self.jump(head))
     }
 
@@ -62,14 +62,14 @@ impl Lowering<'_> {
         requires { IsReady self.now }
         ensures { IfOk result (λ made. (out again : ℕ) → Executes (typed_program self.now.program.now) (routine self.now.function.now) (Do place (statement body.now) (typed test.now)) out again (built_of graph.old) (built_of graph.new) (point_of made) (point_of following)) }
     {
-        let inner = marks(body)?;
-        let start = graph.mark_before(inner)?;
+        let inner = counted_points(body)?;
+        let start = graph.counted_point_before(inner)?;
         let end = graph.seal(following)?;
         let tested = self.lower_test(graph, place, test, start, end)?;
         let again = graph.seal(tested)?;
         let exits = Exits { out: end, again };
         let turned = self.lower_statement(graph, body, exits, self.jump(again))?;
-        graph.seal_mark(PointKind::Head, place, turned)?;
+        graph.seal_counted_point(PointKind::Head, place, turned)?;
         Ok(self.jump(start))
     }
 
@@ -89,10 +89,10 @@ impl Lowering<'_> {
         requires { IsReady self.now }
         ensures { IfOk result (λ made. (out : ℕ) → Executes (typed_program self.now.program.now) (routine self.now.function.now) (For place (statement_list first.now) (some_typed test.now) (some_typed last.now) (statement body.now)) out around (built_of graph.old) (built_of graph.new) (point_of made) (point_of following)) }
     {
-        let before = marks_in(first)?;
-        let inside = marks(body)?;
+        let before = counted_points_in(first)?;
+        let inside = counted_points(body)?;
         let inner = together(before, inside)?;
-        let head = graph.mark_before(inner)?;
+        let head = graph.counted_point_before(inner)?;
         let end = graph.seal(following)?;
         let last = last.as_ref();
         let turn = self.lower_last(graph, place, last, head)?;
@@ -108,7 +108,7 @@ impl Lowering<'_> {
             again: around,
         };
         let entry = self.lower_all(graph, first, outer, self.jump(head))?;
-        graph.seal_mark(PointKind::Head, place, strip)?;
+        graph.seal_counted_point(PointKind::Head, place, strip)?;
         Ok(entry)
     }
 

@@ -18,7 +18,7 @@ use cs_ast::typed::expression::Expr;
 use cs_ast::typed::statement::{Stmt, StmtKind};
 use cs_cfg::{BlockEnd, Work};
 use cs_events::PointKind;
-use cs_run_state::marks::marks;
+use cs_run_state::counted_points::counted_points;
 use std::alloc::AllocError;
 
 /// The blocks to which `break` and `continue` lead.
@@ -160,7 +160,7 @@ impl Lowering<'_> {
         Ok(block)
     }
 
-    // A label (C11 6.8.1), whose mark is the one before those of its statement.
+    // A label (C11 6.8.1), whose counted point is the one before those of its statement.
     #[cycle(statements)]
     fn lower_label(
         &self,
@@ -173,11 +173,11 @@ impl Lowering<'_> {
         requires { IsReady self.now }
         ensures { IfOk result (λ made. (label : ℕ) → Executes (typed_program self.now.program.now) (routine self.now.function.now) (Label place label (statement body.now)) exits.out exits.again (built_of graph.old) (built_of graph.new) (point_of made) (point_of following)) }
     {
-        let inner = marks(body)?;
-        let mark = graph.mark_before(inner)?;
+        let inner = counted_points(body)?;
+        let counted_point = graph.counted_point_before(inner)?;
         let made = self.lower_statement(graph, body, exits, following)?;
-        graph.seal_mark(PointKind::Label, place, made)?;
-        Ok(self.jump(mark))
+        graph.seal_counted_point(PointKind::Label, place, made)?;
+        Ok(self.jump(counted_point))
     }
 
     // A jump, and after it code to which nothing leads.
@@ -204,7 +204,7 @@ impl Lowering<'_> {
         ensures { IfOk result (λ made. (place : Place) (out again : ℕ) → Executes (typed_program self.now.program.now) (routine self.now.function.now) (Goto place label) out again (built_of graph.old) (built_of graph.new) (point_of made) (point_of following)) }
     {
         match self.labels.get(&label) {
-            Some(mark) => self.lower_jump(graph, *mark, following),
+            Some(counted_point) => self.lower_jump(graph, *counted_point, following),
             None => Ok(following),
         }
     }

@@ -5,7 +5,7 @@ ghost use Rattle.cs_cfg.specs.Placing.{does};
 ghost use Rattle.cs_lower.specs.Building.{point_of, jump_to};
 
 use cs_ast::Place;
-use cs_cfg::{Block, BlockEnd, Mark, Operation, Work};
+use cs_cfg::{Block, BlockEnd, CountedPoint, Operation, Work};
 use std::alloc::{AllocError, Global};
 
 /// Operations with the last one first, and the end after them.
@@ -57,13 +57,13 @@ impl Strip {
         }
     }
 
-    /// The block that the strip is, which may be that of a mark.
-    pub fn into_block(mut self, mark: Option<Mark>) -> Block
-        ensures { view.block result ≡ record { operations = view.marked mark (point_of self).operations; end = (point_of self).end } }
+    /// The block that the strip is, which may be that of a counted point.
+    pub fn into_block(mut self, counted_point: Option<CountedPoint>) -> Block
+        ensures { view.block result ≡ record { operations = view.with_counted_point counted_point (point_of self).operations; end = (point_of self).end } }
     {
         self.operations.reverse();
         Block {
-            mark,
+            counted_point,
             operations: self.operations,
             end: self.end,
         }

@@ -16,7 +16,7 @@ use Rattle.cs_events.specs.Silence.{Owes, owes_next, stops, asks, touches, IsBel
 use Rattle.cs_meaning.specs.Memory.{UnsetFill, changed}
 use Rattle.cs_meaning.specs.Access.{write_operand}
 use Rattle.cs_meaning.specs.Machine.{Operand, Scalar, Item, Evaluate, EvaluateUnused, Act as Acting, Fetch, Choose, Judge, Use, Drop, Store, Spell, Execute, Decide, Turn, Again, Out, Begin, End, Give, Leave, Frame, State, to_do, pop, with_memory, operand_at, cell_at, routine_of, body_of}
-use Rattle.cs_meaning.specs.Marks.{marks, marks_in, with_visits, reached_again, reach_mark}
+use Rattle.cs_meaning.specs.CountedPoints.{counted_points, counted_points_in, with_visits, reached_again, reach_counted_point}
 use Rattle.cs_meaning.specs.Jumps.{Landing, landing}
 use Rattle.cs_meaning.specs.Calls.{leave_to}
 use Rattle.cs_meaning.specs.Statements.{local_type, if_scalar, refilled, declare, returns, lands, execute, turned, turn, again, decide}
@@ -47,24 +47,24 @@ kept_under most m extra some next kept =
 kept_owed : (most : ℕ) (m : State) {act : Act State} → Owes (Keeps m) act → Owes (Under most m 1) act
 kept_owed most m owed = owes_wider (Keeps m) (Under most m 1) (kept_under most m 1 (omega arith)) owed
 
--- a mark that is reached once more leaves fewer turns
-visited : (budgets : RunBudgets) (m before : State) (mark count extra : ℕ) → m.frame.visits ≡ before.frame.visits → m.callers ≡ before.callers → slice_get m.frame.visits mark ≡ Some count → nat_lt count budgets.visits ≡ true → Under budgets.visits before extra (with_visits mark (count + 1) m)
-visited budgets m before mark count extra same_visits same_callers h room =
-    let less = one_visit_less budgets.visits m.frame.visits mark count h (grind (arith, nat_tests)) in
+-- a counted point that is reached once more leaves fewer turns
+visited : (budgets : RunBudgets) (m before : State) (counted_point count extra : ℕ) → m.frame.visits ≡ before.frame.visits → m.callers ≡ before.callers → slice_get m.frame.visits counted_point ≡ Some count → nat_lt count budgets.visits ≡ true → Under budgets.visits before extra (with_visits counted_point (count + 1) m)
+visited budgets m before counted_point count extra same_visits same_callers h room =
+    let less = one_visit_less budgets.visits m.frame.visits counted_point count h (grind (arith, nat_tests)) in
     let a : visits_left budgets.visits m.frame.visits ≡ visits_left budgets.visits before.frame.visits = ap (visits_left budgets.visits) same_visits in
     let b : turns_in budgets.visits m.callers ≡ turns_in budgets.visits before.callers = ap (turns_in budgets.visits) same_callers in
     inl (omega arith)
 
-mark_again : (budgets : RunBudgets) (at : Place) (kind : PointKind) (m before : State) (mark count extra : ℕ) (room : Bool) → m.frame.visits ≡ before.frame.visits → m.callers ≡ before.callers → slice_get m.frame.visits mark ≡ Some count → nat_lt count budgets.visits ≡ room → Owes (Under budgets.visits before extra) (if room then Touches (Meets kind at) (Goes (with_visits mark (count + 1) m)) else Stops (Over Visits at))
-mark_again budgets at kind m before mark count extra true same_visits same_callers h room = touches (owes_next (visited budgets m before mark count extra same_visits same_callers h room))
-mark_again budgets at kind m before mark count extra false same_visits same_callers h room = stops
+counted_point_again : (budgets : RunBudgets) (at : Place) (kind : PointKind) (m before : State) (counted_point count extra : ℕ) (room : Bool) → m.frame.visits ≡ before.frame.visits → m.callers ≡ before.callers → slice_get m.frame.visits counted_point ≡ Some count → nat_lt count budgets.visits ≡ room → Owes (Under budgets.visits before extra) (if room then Touches (Meets kind at) (Goes (with_visits counted_point (count + 1) m)) else Stops (Over Visits at))
+counted_point_again budgets at kind m before counted_point count extra true same_visits same_callers h room = touches (owes_next (visited budgets m before counted_point count extra same_visits same_callers h room))
+counted_point_again budgets at kind m before counted_point count extra false same_visits same_callers h room = stops
 
-mark_counted : (budgets : RunBudgets) (at : Place) (kind : PointKind) (m before : State) (mark extra : ℕ) (count : Option ℕ) → m.frame.visits ≡ before.frame.visits → m.callers ≡ before.callers → slice_get m.frame.visits mark ≡ count → Owes (Under budgets.visits before extra) (reached_again budgets at kind mark count m)
-mark_counted budgets at kind m before mark extra None same_visits same_callers h = stops
-mark_counted budgets at kind m before mark extra (Some count) same_visits same_callers h = mark_again budgets at kind m before mark count extra (nat_lt count budgets.visits) same_visits same_callers h refl
+counted_point_counted : (budgets : RunBudgets) (at : Place) (kind : PointKind) (m before : State) (counted_point extra : ℕ) (count : Option ℕ) → m.frame.visits ≡ before.frame.visits → m.callers ≡ before.callers → slice_get m.frame.visits counted_point ≡ count → Owes (Under budgets.visits before extra) (reached_again budgets at kind counted_point count m)
+counted_point_counted budgets at kind m before counted_point extra None same_visits same_callers h = stops
+counted_point_counted budgets at kind m before counted_point extra (Some count) same_visits same_callers h = counted_point_again budgets at kind m before counted_point count extra (nat_lt count budgets.visits) same_visits same_callers h refl
 
-owes_mark : (budgets : RunBudgets) (at : Place) (kind : PointKind) (mark : ℕ) (m before : State) (extra : ℕ) → m.frame.visits ≡ before.frame.visits → m.callers ≡ before.callers → Owes (Under budgets.visits before extra) (reach_mark budgets at kind mark m)
-owes_mark budgets at kind mark m before extra same_visits same_callers = mark_counted budgets at kind m before mark extra (slice_get m.frame.visits mark) same_visits same_callers refl
+owes_counted_point : (budgets : RunBudgets) (at : Place) (kind : PointKind) (counted_point : ℕ) (m before : State) (extra : ℕ) → m.frame.visits ≡ before.frame.visits → m.callers ≡ before.callers → Owes (Under budgets.visits before extra) (reach_counted_point budgets at kind counted_point m)
+owes_counted_point budgets at kind counted_point m before extra same_visits same_callers = counted_point_counted budgets at kind m before counted_point extra (slice_get m.frame.visits counted_point) same_visits same_callers refl
 
 -- what is below some weight is below more
 as_much : (most : ℕ) (m next : State) (much more : ℕ) → much ≤ more → IsBelow (turns most) weight (turns most m) much next → IsBelow (turns most) weight (turns most m) more next
@@ -91,89 +91,89 @@ module _ (program : TypedProgram) (budgets : RunBudgets) where
 
   lands_owes : (landed : Option Landing) (m : State) → Owes (Under budgets.visits m 1) (lands budgets landed m)
   lands_owes None m = goes_light budgets.visits m m 1 refl refl (omega arith)
-  lands_owes (Some landed) m = owes_mark budgets landed.at point.Label landed.mark (to_do landed.todo m) m 1 refl refl
+  lands_owes (Some landed) m = owes_counted_point budgets landed.at point.Label landed.counted_point (to_do landed.todo m) m 1 refl refl
 
   returns_owes : (at : Place) (value : Option Typed) (m : State) → Owes (Under budgets.visits m (3 + weigh_some value)) (Goes (returns at value m))
   returns_owes at None m = goes_light budgets.visits m _ (3 + weigh_some None) refl refl (omega arith)
   returns_owes at (Some e) m = goes_light budgets.visits m _ (3 + weigh_some (Some e)) refl refl (omega arith)
 
-  execute_owes : (ending : List Item) (s : Statement) (mark : ℕ) (m : State) → Owes (Under budgets.visits m (weigh_statement s)) (execute program budgets ending s mark m)
-  execute_owes ending (Block at statements) mark m =
-      let all = executes_weigh statements mark m.frame.todo in
+  execute_owes : (ending : List Item) (s : Statement) (counted_point : ℕ) (m : State) → Owes (Under budgets.visits m (weigh_statement s)) (execute program budgets ending s counted_point m)
+  execute_owes ending (Block at statements) counted_point m =
+      let all = executes_weigh statements counted_point m.frame.todo in
       goes_light budgets.visits m _ (weigh_statement (Block at statements)) refl refl (omega arith)
-  execute_owes ending (Declare at declaration initial) mark m = declare_owes at declaration initial m
-  execute_owes ending (Run at e) mark m = goes_light budgets.visits m _ (weigh_statement (Run at e)) refl refl (omega arith)
-  execute_owes ending (If at test body) mark m = goes_light budgets.visits m _ (weigh_statement (If at test body)) refl refl (omega arith)
-  execute_owes ending (IfElse at test body other) mark m = goes_light budgets.visits m _ (weigh_statement (IfElse at test body other)) refl refl (omega arith)
-  execute_owes ending (While at test body) mark m = goes_light budgets.visits m _ 3 refl refl (omega arith)
-  execute_owes ending (Do at body test) mark m = goes_light budgets.visits m _ 3 refl refl (omega arith)
-  execute_owes ending (For at first test last body) mark m =
-      let all = executes_weigh first (mark + 1) (Turn (For at first test last body) mark ∷ (Out ∷ m.frame.todo)) in
+  execute_owes ending (Declare at declaration initial) counted_point m = declare_owes at declaration initial m
+  execute_owes ending (Run at e) counted_point m = goes_light budgets.visits m _ (weigh_statement (Run at e)) refl refl (omega arith)
+  execute_owes ending (If at test body) counted_point m = goes_light budgets.visits m _ (weigh_statement (If at test body)) refl refl (omega arith)
+  execute_owes ending (IfElse at test body other) counted_point m = goes_light budgets.visits m _ (weigh_statement (IfElse at test body other)) refl refl (omega arith)
+  execute_owes ending (While at test body) counted_point m = goes_light budgets.visits m _ 3 refl refl (omega arith)
+  execute_owes ending (Do at body test) counted_point m = goes_light budgets.visits m _ 3 refl refl (omega arith)
+  execute_owes ending (For at first test last body) counted_point m =
+      let all = executes_weigh first (counted_point + 1) (Turn (For at first test last body) counted_point ∷ (Out ∷ m.frame.todo)) in
       goes_light budgets.visits m _ (weigh_statement (For at first test last body)) refl refl (omega arith)
-  execute_owes ending (Switch at value cases statements) mark m = goes_light budgets.visits m _ (weigh_statement (Switch at value cases statements)) refl refl (omega arith)
-  execute_owes ending (Goto at wanted) mark m = lands_owes (landing wanted (body_of (routine_of program m.frame.function)) 0 ending) m
-  execute_owes ending (Label at number body) mark m = owes_mark budgets at point.Label mark (to_do (Execute body (mark + 1) ∷ m.frame.todo) m) m 1 refl refl
-  execute_owes ending (Break at) mark m =
+  execute_owes ending (Switch at value cases statements) counted_point m = goes_light budgets.visits m _ (weigh_statement (Switch at value cases statements)) refl refl (omega arith)
+  execute_owes ending (Goto at wanted) counted_point m = lands_owes (landing wanted (body_of (routine_of program m.frame.function)) 0 ending) m
+  execute_owes ending (Label at number body) counted_point m = owes_counted_point budgets at point.Label counted_point (to_do (Execute body (counted_point + 1) ∷ m.frame.todo) m) m 1 refl refl
+  execute_owes ending (Break at) counted_point m =
       let less = broken_light m.frame.todo in
       goes_light budgets.visits m _ 1 refl refl (omega arith)
-  execute_owes ending (Continue at) mark m =
+  execute_owes ending (Continue at) counted_point m =
       let less = continued_light m.frame.todo in
       goes_light budgets.visits m _ 1 refl refl (omega arith)
-  execute_owes ending (Return at value) mark m = returns_owes at value m
+  execute_owes ending (Return at value) counted_point m = returns_owes at value m
 
-  turn_owes : (s : Statement) (mark : ℕ) (m : State) → Owes (Under budgets.visits m 1) (turn budgets s mark m)
-  turn_owes (Block at statements) mark m = goes_light budgets.visits m m 1 refl refl (omega arith)
-  turn_owes (Declare at declaration initial) mark m = goes_light budgets.visits m m 1 refl refl (omega arith)
-  turn_owes (Run at e) mark m = goes_light budgets.visits m m 1 refl refl (omega arith)
-  turn_owes (If at test body) mark m = goes_light budgets.visits m m 1 refl refl (omega arith)
-  turn_owes (IfElse at test body other) mark m = goes_light budgets.visits m m 1 refl refl (omega arith)
-  turn_owes (While at test body) mark m = owes_mark budgets at point.Head mark (to_do (turned (While at test body) mark m.frame.todo) m) m 1 refl refl
-  turn_owes (Do at body test) mark m = owes_mark budgets at point.Head mark (to_do (turned (Do at body test) mark m.frame.todo) m) m 1 refl refl
-  turn_owes (For at first test last body) mark m = owes_mark budgets at point.Head mark (to_do (turned (For at first test last body) mark m.frame.todo) m) m 1 refl refl
-  turn_owes (Switch at value cases statements) mark m = goes_light budgets.visits m m 1 refl refl (omega arith)
-  turn_owes (Goto at wanted) mark m = goes_light budgets.visits m m 1 refl refl (omega arith)
-  turn_owes (Label at number body) mark m = goes_light budgets.visits m m 1 refl refl (omega arith)
-  turn_owes (Break at) mark m = goes_light budgets.visits m m 1 refl refl (omega arith)
-  turn_owes (Continue at) mark m = goes_light budgets.visits m m 1 refl refl (omega arith)
-  turn_owes (Return at value) mark m = goes_light budgets.visits m m 1 refl refl (omega arith)
+  turn_owes : (s : Statement) (counted_point : ℕ) (m : State) → Owes (Under budgets.visits m 1) (turn budgets s counted_point m)
+  turn_owes (Block at statements) counted_point m = goes_light budgets.visits m m 1 refl refl (omega arith)
+  turn_owes (Declare at declaration initial) counted_point m = goes_light budgets.visits m m 1 refl refl (omega arith)
+  turn_owes (Run at e) counted_point m = goes_light budgets.visits m m 1 refl refl (omega arith)
+  turn_owes (If at test body) counted_point m = goes_light budgets.visits m m 1 refl refl (omega arith)
+  turn_owes (IfElse at test body other) counted_point m = goes_light budgets.visits m m 1 refl refl (omega arith)
+  turn_owes (While at test body) counted_point m = owes_counted_point budgets at point.Head counted_point (to_do (turned (While at test body) counted_point m.frame.todo) m) m 1 refl refl
+  turn_owes (Do at body test) counted_point m = owes_counted_point budgets at point.Head counted_point (to_do (turned (Do at body test) counted_point m.frame.todo) m) m 1 refl refl
+  turn_owes (For at first test last body) counted_point m = owes_counted_point budgets at point.Head counted_point (to_do (turned (For at first test last body) counted_point m.frame.todo) m) m 1 refl refl
+  turn_owes (Switch at value cases statements) counted_point m = goes_light budgets.visits m m 1 refl refl (omega arith)
+  turn_owes (Goto at wanted) counted_point m = goes_light budgets.visits m m 1 refl refl (omega arith)
+  turn_owes (Label at number body) counted_point m = goes_light budgets.visits m m 1 refl refl (omega arith)
+  turn_owes (Break at) counted_point m = goes_light budgets.visits m m 1 refl refl (omega arith)
+  turn_owes (Continue at) counted_point m = goes_light budgets.visits m m 1 refl refl (omega arith)
+  turn_owes (Return at value) counted_point m = goes_light budgets.visits m m 1 refl refl (omega arith)
 
-  decide_owes : (s : Statement) (mark : ℕ) (m : State) → Owes (Under budgets.visits m 1) (decide s mark m)
-  decide_owes (If at test body) mark m =
-      owes_branch (Under budgets.visits m 1) at (cell_at m 0) (λ holds. Goes (to_do (if holds then Execute body mark ∷ m.frame.todo else m.frame.todo) (pop m)))
-  decide_owes (IfElse at test body other) mark m =
-      owes_branch (Under budgets.visits m 1) at (cell_at m 0) (λ holds. Goes (to_do (if holds then Execute body mark ∷ m.frame.todo else Execute other (mark + marks body) ∷ m.frame.todo) (pop m)))
-  decide_owes (While at test body) mark m =
-      owes_branch (Under budgets.visits m 1) at (cell_at m 0) (λ holds. Goes (to_do (if holds then Execute body (mark + 1) ∷ (Again (While at test body) mark ∷ m.frame.todo) else m.frame.todo) (pop m)))
-  decide_owes (Do at body test) mark m =
-      owes_branch (Under budgets.visits m 1) at (cell_at m 0) (λ holds. Goes (to_do (if holds then Turn (Do at body test) mark ∷ m.frame.todo else m.frame.todo) (pop m)))
-  decide_owes (For at first test last body) mark m =
-      owes_branch (Under budgets.visits m 1) at (cell_at m 0) (λ holds. Goes (to_do (if holds then Execute body (mark + 1 + marks_in first) ∷ (Again (For at first test last body) mark ∷ m.frame.todo) else m.frame.todo) (pop m)))
-  decide_owes (Switch at value cases statements) mark m = touches asks
-  decide_owes (Block at statements) mark m = goes_light budgets.visits m m 1 refl refl (omega arith)
-  decide_owes (Declare at declaration initial) mark m = goes_light budgets.visits m m 1 refl refl (omega arith)
-  decide_owes (Run at e) mark m = goes_light budgets.visits m m 1 refl refl (omega arith)
-  decide_owes (Goto at wanted) mark m = goes_light budgets.visits m m 1 refl refl (omega arith)
-  decide_owes (Label at number body) mark m = goes_light budgets.visits m m 1 refl refl (omega arith)
-  decide_owes (Break at) mark m = goes_light budgets.visits m m 1 refl refl (omega arith)
-  decide_owes (Continue at) mark m = goes_light budgets.visits m m 1 refl refl (omega arith)
-  decide_owes (Return at value) mark m = goes_light budgets.visits m m 1 refl refl (omega arith)
+  decide_owes : (s : Statement) (counted_point : ℕ) (m : State) → Owes (Under budgets.visits m 1) (decide s counted_point m)
+  decide_owes (If at test body) counted_point m =
+      owes_branch (Under budgets.visits m 1) at (cell_at m 0) (λ holds. Goes (to_do (if holds then Execute body counted_point ∷ m.frame.todo else m.frame.todo) (pop m)))
+  decide_owes (IfElse at test body other) counted_point m =
+      owes_branch (Under budgets.visits m 1) at (cell_at m 0) (λ holds. Goes (to_do (if holds then Execute body counted_point ∷ m.frame.todo else Execute other (counted_point + counted_points body) ∷ m.frame.todo) (pop m)))
+  decide_owes (While at test body) counted_point m =
+      owes_branch (Under budgets.visits m 1) at (cell_at m 0) (λ holds. Goes (to_do (if holds then Execute body (counted_point + 1) ∷ (Again (While at test body) counted_point ∷ m.frame.todo) else m.frame.todo) (pop m)))
+  decide_owes (Do at body test) counted_point m =
+      owes_branch (Under budgets.visits m 1) at (cell_at m 0) (λ holds. Goes (to_do (if holds then Turn (Do at body test) counted_point ∷ m.frame.todo else m.frame.todo) (pop m)))
+  decide_owes (For at first test last body) counted_point m =
+      owes_branch (Under budgets.visits m 1) at (cell_at m 0) (λ holds. Goes (to_do (if holds then Execute body (counted_point + 1 + counted_points_in first) ∷ (Again (For at first test last body) counted_point ∷ m.frame.todo) else m.frame.todo) (pop m)))
+  decide_owes (Switch at value cases statements) counted_point m = touches asks
+  decide_owes (Block at statements) counted_point m = goes_light budgets.visits m m 1 refl refl (omega arith)
+  decide_owes (Declare at declaration initial) counted_point m = goes_light budgets.visits m m 1 refl refl (omega arith)
+  decide_owes (Run at e) counted_point m = goes_light budgets.visits m m 1 refl refl (omega arith)
+  decide_owes (Goto at wanted) counted_point m = goes_light budgets.visits m m 1 refl refl (omega arith)
+  decide_owes (Label at number body) counted_point m = goes_light budgets.visits m m 1 refl refl (omega arith)
+  decide_owes (Break at) counted_point m = goes_light budgets.visits m m 1 refl refl (omega arith)
+  decide_owes (Continue at) counted_point m = goes_light budgets.visits m m 1 refl refl (omega arith)
+  decide_owes (Return at value) counted_point m = goes_light budgets.visits m m 1 refl refl (omega arith)
 
-  again_owes : (s : Statement) (mark : ℕ) (m : State) → Owes (Under budgets.visits m (1 + weigh_again s)) (Goes (to_do (again s mark m.frame.todo) m))
-  again_owes (Block at statements) mark m = goes_light budgets.visits m _ (1 + weigh_again (Block at statements)) refl refl (omega arith)
-  again_owes (Declare at declaration initial) mark m = goes_light budgets.visits m _ (1 + weigh_again (Declare at declaration initial)) refl refl (omega arith)
-  again_owes (Run at e) mark m = goes_light budgets.visits m _ (1 + weigh_again (Run at e)) refl refl (omega arith)
-  again_owes (If at test body) mark m = goes_light budgets.visits m _ (1 + weigh_again (If at test body)) refl refl (omega arith)
-  again_owes (IfElse at test body other) mark m = goes_light budgets.visits m _ (1 + weigh_again (IfElse at test body other)) refl refl (omega arith)
-  again_owes (While at test body) mark m = goes_light budgets.visits m _ (1 + weigh_again (While at test body)) refl refl (omega arith)
-  again_owes (Do at body test) mark m = goes_light budgets.visits m _ (1 + weigh_again (Do at body test)) refl refl (omega arith)
-  again_owes (For at first test None body) mark m = goes_light budgets.visits m _ 2 refl refl (omega arith)
-  again_owes (For at first test (Some e) body) mark m = goes_light budgets.visits m _ (1 + weigh_again (For at first test (Some e) body)) refl refl (omega arith)
-  again_owes (Switch at value cases statements) mark m = goes_light budgets.visits m _ (1 + weigh_again (Switch at value cases statements)) refl refl (omega arith)
-  again_owes (Goto at wanted) mark m = goes_light budgets.visits m _ (1 + weigh_again (Goto at wanted)) refl refl (omega arith)
-  again_owes (Label at number body) mark m = goes_light budgets.visits m _ (1 + weigh_again (Label at number body)) refl refl (omega arith)
-  again_owes (Break at) mark m = goes_light budgets.visits m _ (1 + weigh_again (Break at)) refl refl (omega arith)
-  again_owes (Continue at) mark m = goes_light budgets.visits m _ (1 + weigh_again (Continue at)) refl refl (omega arith)
-  again_owes (Return at value) mark m = goes_light budgets.visits m _ (1 + weigh_again (Return at value)) refl refl (omega arith)
+  again_owes : (s : Statement) (counted_point : ℕ) (m : State) → Owes (Under budgets.visits m (1 + weigh_again s)) (Goes (to_do (again s counted_point m.frame.todo) m))
+  again_owes (Block at statements) counted_point m = goes_light budgets.visits m _ (1 + weigh_again (Block at statements)) refl refl (omega arith)
+  again_owes (Declare at declaration initial) counted_point m = goes_light budgets.visits m _ (1 + weigh_again (Declare at declaration initial)) refl refl (omega arith)
+  again_owes (Run at e) counted_point m = goes_light budgets.visits m _ (1 + weigh_again (Run at e)) refl refl (omega arith)
+  again_owes (If at test body) counted_point m = goes_light budgets.visits m _ (1 + weigh_again (If at test body)) refl refl (omega arith)
+  again_owes (IfElse at test body other) counted_point m = goes_light budgets.visits m _ (1 + weigh_again (IfElse at test body other)) refl refl (omega arith)
+  again_owes (While at test body) counted_point m = goes_light budgets.visits m _ (1 + weigh_again (While at test body)) refl refl (omega arith)
+  again_owes (Do at body test) counted_point m = goes_light budgets.visits m _ (1 + weigh_again (Do at body test)) refl refl (omega arith)
+  again_owes (For at first test None body) counted_point m = goes_light budgets.visits m _ 2 refl refl (omega arith)
+  again_owes (For at first test (Some e) body) counted_point m = goes_light budgets.visits m _ (1 + weigh_again (For at first test (Some e) body)) refl refl (omega arith)
+  again_owes (Switch at value cases statements) counted_point m = goes_light budgets.visits m _ (1 + weigh_again (Switch at value cases statements)) refl refl (omega arith)
+  again_owes (Goto at wanted) counted_point m = goes_light budgets.visits m _ (1 + weigh_again (Goto at wanted)) refl refl (omega arith)
+  again_owes (Label at number body) counted_point m = goes_light budgets.visits m _ (1 + weigh_again (Label at number body)) refl refl (omega arith)
+  again_owes (Break at) counted_point m = goes_light budgets.visits m _ (1 + weigh_again (Break at)) refl refl (omega arith)
+  again_owes (Continue at) counted_point m = goes_light budgets.visits m _ (1 + weigh_again (Continue at)) refl refl (omega arith)
+  again_owes (Return at value) counted_point m = goes_light budgets.visits m _ (1 + weigh_again (Return at value)) refl refl (omega arith)
 
   leave_owes : (callers : List Frame) (value : Operand) (m : State) (extra : ℕ) → m.callers ≡ callers → Owes (Under budgets.visits m extra) (leave_to callers value m)
   leave_owes [] value m extra h = stops
@@ -200,10 +200,10 @@ module _ (program : TypedProgram) (budgets : RunBudgets) where
       (Goes (with_memory (changed (write_operand program ty offset (operand_at m 0)) (LocalObject m.frame.number declaration) m.memory) (pop m)))
       (goes_light budgets.visits m _ 1 refl refl (omega arith))
   item_owes (Spell declaration offset bytes) m = goes_light budgets.visits m _ 1 refl refl (omega arith)
-  item_owes (Execute s mark) m = execute_owes (at_end (routine_of program m.frame.function)) s mark m
-  item_owes (Decide s mark) m = decide_owes s mark m
-  item_owes (Turn s mark) m = turn_owes s mark m
-  item_owes (Again s mark) m = again_owes s mark m
+  item_owes (Execute s counted_point) m = execute_owes (at_end (routine_of program m.frame.function)) s counted_point m
+  item_owes (Decide s counted_point) m = decide_owes s counted_point m
+  item_owes (Turn s counted_point) m = turn_owes s counted_point m
+  item_owes (Again s counted_point) m = again_owes s counted_point m
   item_owes Out m = goes_light budgets.visits m m 1 refl refl (omega arith)
   item_owes (Begin at) m = touches (goes_light budgets.visits m m 1 refl refl (omega arith))
   item_owes (End at value) m = touches (goes_light budgets.visits m _ 2 refl refl (omega arith))

@@ -9,17 +9,17 @@ use Rattle.cs_ast.specs.TypedProgram.{TypedProgram}
 use Rattle.cs_meaning.specs.Types.{type_of, part_type, part_offset}
 use Rattle.cs_meaning.specs.Initials.{Piece, Evaluated, Spelled, pieces, pieces_from}
 use Rattle.cs_meaning.specs.Machine.{Item, Evaluate, EvaluateUnused, Act as Acting, Fetch, Choose, Judge, Use, Drop, Store, Spell, Execute, Decide, Turn, Again, Out, Begin, End, Give, Leave}
-use Rattle.cs_meaning.specs.Marks.{marks}
+use Rattle.cs_meaning.specs.CountedPoints.{counted_points}
 use Rattle.cs_meaning.specs.Jumps.{executes, broken_out, continued}
 use Rattle.cs_meaning.specs.Expressions.{evaluates_all, evaluates_both, evaluates_operand, evaluates_form, evaluates, uses}
 use Rattle.cs_meaning.specs.Statements.{stores_pieces}
 use Rattle.cs_meaning.proofs.Weights.{weigh, weigh_form, weigh_all, weigh_initial, weigh_initials, weigh_statements, weigh_items}
 
 -- statements in a row weigh what they weigh one by one
-pub executes_weigh : (statements : Statements) (mark : ℕ) (following : List Item) → weigh_items (executes statements mark following) ≡ weigh_statements statements + weigh_items following
-executes_weigh Empty mark following = omega arith
-executes_weigh (Then first others) mark following =
-    let rest = executes_weigh others (mark + marks first) following in
+pub executes_weigh : (statements : Statements) (counted_point : ℕ) (following : List Item) → weigh_items (executes statements counted_point following) ≡ weigh_statements statements + weigh_items following
+executes_weigh Empty counted_point following = omega arith
+executes_weigh (Then first others) counted_point following =
+    let rest = executes_weigh others (counted_point + counted_points first) following in
     omega arith
 
 -- pieces one after another are stored one after another
@@ -78,16 +78,16 @@ broken_light ((Store at declaration offset ty) ∷ items) =
 broken_light ((Spell declaration offset bytes) ∷ items) =
     let rest = broken_light items in
     omega arith
-broken_light ((Execute s mark) ∷ items) =
+broken_light ((Execute s counted_point) ∷ items) =
     let rest = broken_light items in
     omega arith
-broken_light ((Decide s mark) ∷ items) =
+broken_light ((Decide s counted_point) ∷ items) =
     let rest = broken_light items in
     omega arith
-broken_light ((Turn s mark) ∷ items) =
+broken_light ((Turn s counted_point) ∷ items) =
     let rest = broken_light items in
     omega arith
-broken_light ((Again s mark) ∷ items) =
+broken_light ((Again s counted_point) ∷ items) =
     let rest = broken_light items in
     omega arith
 broken_light (Out ∷ items) = omega arith
@@ -136,16 +136,16 @@ continued_light ((Store at declaration offset ty) ∷ items) =
 continued_light ((Spell declaration offset bytes) ∷ items) =
     let rest = continued_light items in
     omega arith
-continued_light ((Execute s mark) ∷ items) =
+continued_light ((Execute s counted_point) ∷ items) =
     let rest = continued_light items in
     omega arith
-continued_light ((Decide s mark) ∷ items) =
+continued_light ((Decide s counted_point) ∷ items) =
     let rest = continued_light items in
     omega arith
-continued_light ((Turn s mark) ∷ items) =
+continued_light ((Turn s counted_point) ∷ items) =
     let rest = continued_light items in
     omega arith
-continued_light ((Again s mark) ∷ items) = omega arith
+continued_light ((Again s counted_point) ∷ items) = omega arith
 continued_light (Out ∷ items) =
     let rest = continued_light items in
     omega arith

@@ -103,10 +103,10 @@ weigh_item (Use at) = 1
 weigh_item Drop = 1
 weigh_item (Store at declaration offset ty) = 1
 weigh_item (Spell declaration offset bytes) = 1
-weigh_item (Execute s mark) = weigh_statement s
-weigh_item (Decide s mark) = 1
-weigh_item (Turn s mark) = 1
-weigh_item (Again s mark) = 1 + weigh_again s
+weigh_item (Execute s counted_point) = weigh_statement s
+weigh_item (Decide s counted_point) = 1
+weigh_item (Turn s counted_point) = 1
+weigh_item (Again s counted_point) = 1 + weigh_again s
 weigh_item Out = 1
 weigh_item (Begin at) = 1
 weigh_item (End at value) = 2
@@ -125,7 +125,7 @@ weigh_frames (frame ∷ frames) = (1 + weigh_items frame.todo) + weigh_frames fr
 abbrev pub weight : State → ℕ
 weight m = (1 + weigh_items m.frame.todo) + weigh_frames m.callers
 
--- how often marks may still be reached that were reached so often
+-- how often counted points may still be reached that were reached so often
 abbrev pub visits_left : ℕ → List ℕ → ℕ
 visits_left most [] = 0
 visits_left most (count ∷ counts) = (most - count) + visits_left most counts
@@ -137,12 +137,12 @@ turns_in most (frame ∷ frames) = visits_left most frame.visits + turns_in most
 abbrev pub turns : ℕ → State → ℕ
 turns most m = visits_left most m.frame.visits + turns_in most m.callers
 
--- a mark that is reached once more may be reached once less
-pub one_visit_less : (most : ℕ) (counts : List ℕ) (mark count : ℕ) → slice_get counts mark ≡ Some count → count < most → visits_left most (slice_set counts mark (count + 1)) < visits_left most counts
-one_visit_less most [] mark count h less = cc
+-- a counted point that is reached once more may be reached once less
+pub one_visit_less : (most : ℕ) (counts : List ℕ) (counted_point count : ℕ) → slice_get counts counted_point ≡ Some count → count < most → visits_left most (slice_set counts counted_point (count + 1)) < visits_left most counts
+one_visit_less most [] counted_point count h less = cc
 one_visit_less most (c ∷ counts) zero count h less =
     let same : c ≡ count = cc in
     omega arith
-one_visit_less most (c ∷ counts) (suc mark) count h less =
-    let rest = one_visit_less most counts mark count h less in
+one_visit_less most (c ∷ counts) (suc counted_point) count h less =
+    let rest = one_visit_less most counts counted_point count h less in
     omega arith

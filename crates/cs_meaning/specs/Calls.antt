@@ -31,7 +31,7 @@ use Rattle.cs_meaning.specs.Memory.{Block, Memory, Fill, UnsetFill, ZeroFill, In
 use Rattle.cs_meaning.specs.Access.{shows_then, receive}
 use Rattle.cs_meaning.specs.Operators.{operate}
 use Rattle.cs_meaning.specs.Machine.{Operand, Scalar, Whole, Nothing, Execute, Item, Begin, End, CallFrame, Frame, Running, State, push, push_cell, pop, pop_many, with_memory, cell_of, cell_at, newest, routine_of, body_of}
-use Rattle.cs_meaning.specs.Marks.{marks}
+use Rattle.cs_meaning.specs.CountedPoints.{counted_points}
 
 -- the path of the result of a call, of what a call wrote through an argument, and of an allocation
 abbrev pub root_path : Root → Path
@@ -80,7 +80,7 @@ new_frame function number routine = record {
   number = number;
   todo = Begin routine.at ∷ (Execute (body_of routine) 0 ∷ (End routine.closes (falls_off routine.returns) ∷ []));
   stack = [];
-  visits = replicate (marks (body_of routine)) 0;
+  visits = replicate (counted_points (body_of routine)) 0;
 }
 
 -- the machine in a new frame, which has its locals, with these arguments

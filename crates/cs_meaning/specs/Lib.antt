@@ -3,7 +3,7 @@ pub mod Initials
 pub mod Memory
 pub mod Inputs
 pub mod Machine
-pub mod Marks
+pub mod CountedPoints
 pub mod Access
 pub mod Operators
 pub mod Calls

@@ -13,8 +13,8 @@ pub data Operand : Type 0 where
   Whole : (cells : List Cell) → Operand
   Nothing : Operand
 
--- what is still to be done. A statement goes with the number of its first mark in the function's body: loop heads and labels are
--- marks, and are numbered as they stand there
+-- what is still to be done. A statement goes with the number of its first counted point in the function's body: loop heads and labels are
+-- counted points, and are numbered as they stand there
 pub data Item : Type 0 where
   -- evaluate an expression
   Evaluate : (e : Typed) → Item
@@ -36,13 +36,13 @@ pub data Item : Type 0 where
   Store : (at : Place) (declaration offset : ℕ) (ty : Shape) → Item
   -- store bytes in a declared object from an offset on
   Spell : (declaration offset : ℕ) (bytes : List ℕ) → Item
-  Execute : (s : Statement) (mark : ℕ) → Item
+  Execute : (s : Statement) (counted_point : ℕ) → Item
   -- go the way that the test of a statement, or the value of a `switch`, says
-  Decide : (s : Statement) (mark : ℕ) → Item
+  Decide : (s : Statement) (counted_point : ℕ) → Item
   -- reach the head of a loop
-  Turn : (s : Statement) (mark : ℕ) → Item
+  Turn : (s : Statement) (counted_point : ℕ) → Item
   -- what comes after the body of a loop, and where `continue` leads
-  Again : (s : Statement) (mark : ℕ) → Item
+  Again : (s : Statement) (counted_point : ℕ) → Item
   -- where `break` leads
   Out : Item
   -- begin a function's body
@@ -64,7 +64,7 @@ pub record CallFrame (Rest : Type 0) : Type 0 where
   pub todo : Rest
   -- values and places, the newest first
   pub stack : List Operand
-  -- how often each mark of the body was reached
+  -- how often each counted point of the body was reached
   pub visits : List ℕ
 
 -- a state of such a machine

@@ -18,7 +18,7 @@ use Rattle.cs_meaning.specs.Memory.{Fill, UnsetFill, ZeroFill, changed, refill}
 use Rattle.cs_meaning.specs.Access.{shows_then, touches_then, write_operand, write_bytes}
 use Rattle.cs_meaning.specs.Operators.{branch}
 use Rattle.cs_meaning.specs.Machine.{Nothing, Item, Evaluate, EvaluateUnused, Drop, Store, Spell, Execute, Decide, Turn, Again, Out, Give, Running, State, to_do, push, pop, with_memory, operand_at, cell_at, routine_of, body_of}
-use Rattle.cs_meaning.specs.Marks.{marks, marks_in, reach_mark}
+use Rattle.cs_meaning.specs.CountedPoints.{counted_points, counted_points_in, reach_counted_point}
 use Rattle.cs_meaning.specs.Jumps.{executes, broken_out, continued, Landing, landing}
 
 -- the type of a local of the function that runs
@@ -71,7 +71,7 @@ returns at (Some e) m = to_do (Evaluate e ∷ (Give at ∷ m.frame.todo)) m
 -- a `goto` lands at a label, which is reached; one that isn't there leads on
 abbrev pub lands : RunBudgets → Option Landing → State → Act State
 lands budgets None m = Goes m
-lands budgets (Some landing) m = reach_mark budgets landing.at point.Label landing.mark (to_do landing.todo m)
+lands budgets (Some landing) m = reach_counted_point budgets landing.at point.Label landing.counted_point (to_do landing.todo m)
 
 -- what is to be done at a label of the function that runs
 abbrev pub go_to : TypedProgram → RunBudgets → ℕ → List Item → State → Act State
@@ -79,41 +79,41 @@ go_to program budgets wanted at_end m = lands budgets (landing wanted (body_of (
 
 -- a statement begins; `at_end` is what is to be done at the end of the function's body
 abbrev pub execute : TypedProgram → RunBudgets → List Item → Statement → ℕ → State → Act State
-execute program budgets at_end (Block at statements) mark m = Goes (to_do (executes statements mark m.frame.todo) m)
-execute program budgets at_end (Declare at declaration initial) mark m = declare program at declaration initial m
-execute program budgets at_end (Run at e) mark m = Goes (to_do (EvaluateUnused e ∷ (Drop ∷ m.frame.todo)) m)
-execute program budgets at_end (If at test body) mark m = Goes (to_do (Evaluate test ∷ (Decide (If at test body) mark ∷ m.frame.todo)) m)
-execute program budgets at_end (IfElse at test body other) mark m = Goes (to_do (Evaluate test ∷ (Decide (IfElse at test body other) mark ∷ m.frame.todo)) m)
-execute program budgets at_end (While at test body) mark m = Goes (to_do (Turn (While at test body) mark ∷ (Out ∷ m.frame.todo)) m)
-execute program budgets at_end (Do at body test) mark m = Goes (to_do (Turn (Do at body test) mark ∷ (Out ∷ m.frame.todo)) m)
-execute program budgets at_end (For at first test last body) mark m =
-    Goes (to_do (executes first (mark + 1) (Turn (For at first test last body) mark ∷ (Out ∷ m.frame.todo))) m)
-execute program budgets at_end (Switch at value cases statements) mark m =
-    Goes (to_do (Evaluate value ∷ (Decide (Switch at value cases statements) mark ∷ (Out ∷ m.frame.todo))) m)
-execute program budgets at_end (Goto at wanted) mark m = go_to program budgets wanted at_end m
-execute program budgets at_end (Label at number body) mark m = reach_mark budgets at point.Label mark (to_do (Execute body (mark + 1) ∷ m.frame.todo) m)
-execute program budgets at_end (Break at) mark m = Goes (to_do (broken_out m.frame.todo) m)
-execute program budgets at_end (Continue at) mark m = Goes (to_do (continued m.frame.todo) m)
-execute program budgets at_end (Return at value) mark m = Goes (returns at value m)
+execute program budgets at_end (Block at statements) counted_point m = Goes (to_do (executes statements counted_point m.frame.todo) m)
+execute program budgets at_end (Declare at declaration initial) counted_point m = declare program at declaration initial m
+execute program budgets at_end (Run at e) counted_point m = Goes (to_do (EvaluateUnused e ∷ (Drop ∷ m.frame.todo)) m)
+execute program budgets at_end (If at test body) counted_point m = Goes (to_do (Evaluate test ∷ (Decide (If at test body) counted_point ∷ m.frame.todo)) m)
+execute program budgets at_end (IfElse at test body other) counted_point m = Goes (to_do (Evaluate test ∷ (Decide (IfElse at test body other) counted_point ∷ m.frame.todo)) m)
+execute program budgets at_end (While at test body) counted_point m = Goes (to_do (Turn (While at test body) counted_point ∷ (Out ∷ m.frame.todo)) m)
+execute program budgets at_end (Do at body test) counted_point m = Goes (to_do (Turn (Do at body test) counted_point ∷ (Out ∷ m.frame.todo)) m)
+execute program budgets at_end (For at first test last body) counted_point m =
+    Goes (to_do (executes first (counted_point + 1) (Turn (For at first test last body) counted_point ∷ (Out ∷ m.frame.todo))) m)
+execute program budgets at_end (Switch at value cases statements) counted_point m =
+    Goes (to_do (Evaluate value ∷ (Decide (Switch at value cases statements) counted_point ∷ (Out ∷ m.frame.todo))) m)
+execute program budgets at_end (Goto at wanted) counted_point m = go_to program budgets wanted at_end m
+execute program budgets at_end (Label at number body) counted_point m = reach_counted_point budgets at point.Label counted_point (to_do (Execute body (counted_point + 1) ∷ m.frame.todo) m)
+execute program budgets at_end (Break at) counted_point m = Goes (to_do (broken_out m.frame.todo) m)
+execute program budgets at_end (Continue at) counted_point m = Goes (to_do (continued m.frame.todo) m)
+execute program budgets at_end (Return at value) counted_point m = Goes (returns at value m)
 
 -- a test is evaluated before a loop's body, or there is none
 abbrev pub tests : Option Typed → Statement → ℕ → Statement → ℕ → List Item → List Item
-tests None loop mark body inner following = Execute body inner ∷ (Again loop mark ∷ following)
-tests (Some test) loop mark body inner following = Evaluate test ∷ (Decide loop mark ∷ following)
+tests None loop counted_point body inner following = Execute body inner ∷ (Again loop counted_point ∷ following)
+tests (Some test) loop counted_point body inner following = Evaluate test ∷ (Decide loop counted_point ∷ following)
 
 -- what is to be done once the head of a loop is reached (C11 6.8.5)
 abbrev pub turned : Statement → ℕ → List Item → List Item
-turned (While at test body) mark following = Evaluate test ∷ (Decide (While at test body) mark ∷ following)
-turned (Do at body test) mark following = Execute body (mark + 1) ∷ (Again (Do at body test) mark ∷ following)
-turned (For at first test last body) mark following = tests test (For at first test last body) mark body (mark + 1 + marks_in first) following
-turned other mark following = following
+turned (While at test body) counted_point following = Evaluate test ∷ (Decide (While at test body) counted_point ∷ following)
+turned (Do at body test) counted_point following = Execute body (counted_point + 1) ∷ (Again (Do at body test) counted_point ∷ following)
+turned (For at first test last body) counted_point following = tests test (For at first test last body) counted_point body (counted_point + 1 + counted_points_in first) following
+turned other counted_point following = following
 
 -- the head of a loop is reached; any other statement has none
 abbrev pub turn : RunBudgets → Statement → ℕ → State → Act State
-turn budgets (While at test body) mark m = reach_mark budgets at point.Head mark (to_do (turned (While at test body) mark m.frame.todo) m)
-turn budgets (Do at body test) mark m = reach_mark budgets at point.Head mark (to_do (turned (Do at body test) mark m.frame.todo) m)
-turn budgets (For at first test last body) mark m = reach_mark budgets at point.Head mark (to_do (turned (For at first test last body) mark m.frame.todo) m)
-turn budgets other mark m = Goes m
+turn budgets (While at test body) counted_point m = reach_counted_point budgets at point.Head counted_point (to_do (turned (While at test body) counted_point m.frame.todo) m)
+turn budgets (Do at body test) counted_point m = reach_counted_point budgets at point.Head counted_point (to_do (turned (Do at body test) counted_point m.frame.todo) m)
+turn budgets (For at first test last body) counted_point m = reach_counted_point budgets at point.Head counted_point (to_do (turned (For at first test last body) counted_point m.frame.todo) m)
+turn budgets other counted_point m = Goes m
 
 -- what comes after the last part of a `for`
 abbrev pub last_part : Option Typed → List Item → List Item
@@ -122,16 +122,16 @@ last_part (Some e) following = Evaluate e ∷ (Drop ∷ following)
 
 -- what comes after the body of a loop
 abbrev pub again : Statement → ℕ → List Item → List Item
-again (While at test body) mark following = Turn (While at test body) mark ∷ following
-again (Do at body test) mark following = Evaluate test ∷ (Decide (Do at body test) mark ∷ following)
-again (For at first test last body) mark following = last_part last (Turn (For at first test last body) mark ∷ following)
-again other mark following = following
+again (While at test body) counted_point following = Turn (While at test body) counted_point ∷ following
+again (Do at body test) counted_point following = Evaluate test ∷ (Decide (Do at body test) counted_point ∷ following)
+again (For at first test last body) counted_point following = last_part last (Turn (For at first test last body) counted_point ∷ following)
+again other counted_point following = following
 
 -- statements from the one with a number on
 abbrev pub executes_from : ℕ → Statements → ℕ → List Item → List Item
-executes_from number Empty mark following = following
-executes_from zero (Then first others) mark following = executes (Then first others) mark following
-executes_from (suc number) (Then first others) mark following = executes_from number others (mark + marks first) following
+executes_from number Empty counted_point following = following
+executes_from zero (Then first others) counted_point following = executes (Then first others) counted_point following
+executes_from (suc number) (Then first others) counted_point following = executes_from number others (counted_point + counted_points first) following
 
 -- a case that was found: its number among those with a value, and the number of the statement that it leads to
 pub record Chosen : Type 0 where
@@ -176,21 +176,21 @@ chosen_case cases statements None = record { number = values_in cases; item = de
 
 -- the statements of a `switch` from those of a case on: the case shows
 abbrev pub switch_to : Place → Statements → ℕ → Chosen → State → Act State
-switch_to at statements mark chosen m =
-    Touches (Meets point.Switch at) (shows_then at (label.Case chosen.number) (Goes (to_do (executes_from chosen.item statements mark m.frame.todo) m)))
+switch_to at statements counted_point chosen m =
+    Touches (Meets point.Switch at) (shows_then at (label.Case chosen.number) (Goes (to_do (executes_from chosen.item statements counted_point m.frame.todo) m)))
 
 -- the way that the newest value says, which is a test's or a `switch`'s
 abbrev pub decide : Statement → ℕ → State → Act State
-decide (If at test body) mark m =
-    branch at (cell_at m 0) (λ holds. Goes (to_do (if holds then Execute body mark ∷ m.frame.todo else m.frame.todo) (pop m)))
-decide (IfElse at test body other) mark m =
-    branch at (cell_at m 0) (λ holds. Goes (to_do (if holds then Execute body mark ∷ m.frame.todo else Execute other (mark + marks body) ∷ m.frame.todo) (pop m)))
-decide (While at test body) mark m =
-    branch at (cell_at m 0) (λ holds. Goes (to_do (if holds then Execute body (mark + 1) ∷ (Again (While at test body) mark ∷ m.frame.todo) else m.frame.todo) (pop m)))
-decide (Do at body test) mark m =
-    branch at (cell_at m 0) (λ holds. Goes (to_do (if holds then Turn (Do at body test) mark ∷ m.frame.todo else m.frame.todo) (pop m)))
-decide (For at first test last body) mark m =
-    branch at (cell_at m 0) (λ holds. Goes (to_do (if holds then Execute body (mark + 1 + marks_in first) ∷ (Again (For at first test last body) mark ∷ m.frame.todo) else m.frame.todo) (pop m)))
-decide (Switch at value cases statements) mark m =
-    switch_to at statements mark (chosen_case cases statements (case_of cases (number_in (cell_at m 0)) 0)) (pop m)
-decide other mark m = Goes m
+decide (If at test body) counted_point m =
+    branch at (cell_at m 0) (λ holds. Goes (to_do (if holds then Execute body counted_point ∷ m.frame.todo else m.frame.todo) (pop m)))
+decide (IfElse at test body other) counted_point m =
+    branch at (cell_at m 0) (λ holds. Goes (to_do (if holds then Execute body counted_point ∷ m.frame.todo else Execute other (counted_point + counted_points body) ∷ m.frame.todo) (pop m)))
+decide (While at test body) counted_point m =
+    branch at (cell_at m 0) (λ holds. Goes (to_do (if holds then Execute body (counted_point + 1) ∷ (Again (While at test body) counted_point ∷ m.frame.todo) else m.frame.todo) (pop m)))
+decide (Do at body test) counted_point m =
+    branch at (cell_at m 0) (λ holds. Goes (to_do (if holds then Turn (Do at body test) counted_point ∷ m.frame.todo else m.frame.todo) (pop m)))
+decide (For at first test last body) counted_point m =
+    branch at (cell_at m 0) (λ holds. Goes (to_do (if holds then Execute body (counted_point + 1 + counted_points_in first) ∷ (Again (For at first test last body) counted_point ∷ m.frame.todo) else m.frame.todo) (pop m)))
+decide (Switch at value cases statements) counted_point m =
+    switch_to at statements counted_point (chosen_case cases statements (case_of cases (number_in (cell_at m 0)) 0)) (pop m)
+decide other counted_point m = Goes m

@@ -14,10 +14,10 @@ past_other (item.Expression expr_step.EvaluateUnused e) following h = refl
 past_other (item.Expression expr_step.Act e) following h = refl
 past_other (item.Expression expr_step.Fetch e) following h = refl
 past_other (item.Expression expr_step.Choose e) following h = refl
-past_other (item.Statement stmt_step.Execute s mark) following h = refl
-past_other (item.Statement stmt_step.Decide s mark) following h = refl
-past_other (item.Statement stmt_step.Turn s mark) following h = refl
-past_other (item.Statement stmt_step.Again s mark) following h = refl
+past_other (item.Statement stmt_step.Execute s counted_point) following h = refl
+past_other (item.Statement stmt_step.Decide s counted_point) following h = refl
+past_other (item.Statement stmt_step.Turn s counted_point) following h = refl
+past_other (item.Statement stmt_step.Again s counted_point) following h = refl
 past_other (item.Judge place) following h = refl
 past_other (item.Use place) following h = refl
 past_other item.Discard following h = refl
@@ -30,16 +30,16 @@ past_other (item.End place ty) following h = refl
 past_other (item.Give place) following h = refl
 past_other item.Leave following h = refl
 
-pub past_others : (i : Item) (following : List machine.Item) → ((s : _) (mark : _) → i ≡ item.Statement stmt_step.Again s mark → ⊥) → continued (item_of i ∷ following) ≡ continued following
+pub past_others : (i : Item) (following : List machine.Item) → ((s : _) (counted_point : _) → i ≡ item.Statement stmt_step.Again s counted_point → ⊥) → continued (item_of i ∷ following) ≡ continued following
 past_others (item.Expression expr_step.Evaluate e) following h = refl
 past_others (item.Expression expr_step.EvaluateUnused e) following h = refl
 past_others (item.Expression expr_step.Act e) following h = refl
 past_others (item.Expression expr_step.Fetch e) following h = refl
 past_others (item.Expression expr_step.Choose e) following h = refl
-past_others (item.Statement stmt_step.Execute s mark) following h = refl
-past_others (item.Statement stmt_step.Decide s mark) following h = refl
-past_others (item.Statement stmt_step.Turn s mark) following h = refl
-past_others (item.Statement stmt_step.Again s mark) following h = absurd (h s mark refl)
+past_others (item.Statement stmt_step.Execute s counted_point) following h = refl
+past_others (item.Statement stmt_step.Decide s counted_point) following h = refl
+past_others (item.Statement stmt_step.Turn s counted_point) following h = refl
+past_others (item.Statement stmt_step.Again s counted_point) following h = absurd (h s counted_point refl)
 past_others (item.Judge place) following h = refl
 past_others (item.Use place) following h = refl
 past_others item.Discard following h = refl

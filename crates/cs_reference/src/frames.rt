@@ -12,9 +12,9 @@ use cs_ast::Place;
 use cs_ast::typed::program::{Function, Local, Program};
 use cs_run_state::Operand;
 use cs_run_state::blocks::{Block, BlockType, Change, Fill};
+use cs_run_state::counted_points::counted_points;
 use cs_run_state::items::{Item, StmtStep};
 use cs_run_state::machine::{Frame, Machine};
-use cs_run_state::marks::marks;
 use cs_run_state::types::size_of;
 use std::alloc::{AllocError, Global};
 
@@ -48,7 +48,7 @@ pub fn new_frame<'a>(
     match &callee.body {
         Some(body) => {
             todo.push(Item::Statement(StmtStep::Execute, body, 0))?;
-            visits = zeros(alloc, marks(body)?)?;
+            visits = zeros(alloc, counted_points(body)?)?;
         }
         None => todo.push(Item::Pass(callee.place))?,
     }

@@ -18,15 +18,15 @@ use cs_ast::typed::statement::{Stmt, StmtKind};
 use cs_events::PointKind;
 use cs_run_state::Stop;
 use cs_run_state::blocks::BlockType;
+use cs_run_state::counted_points::{counted_points, counted_points_in, together};
 use cs_run_state::items::{Item, StmtStep};
 use cs_run_state::machine::Machine;
-use cs_run_state::marks::{marks, marks_in, together};
 use std::alloc::AllocError;
 
-/// Where a label stands: its mark and its place.
+/// Where a label stands: its counted point and its place.
 #[derive(Clone, Copy, Debug, PartialEq, Eq)]
 pub struct Landing {
-    pub mark: u64,
+    pub counted_point: u64,
     pub place: Place,
 }
 
@@ -77,7 +77,7 @@ impl<'a> Runner<'a> {
         match seek(label, body, 0, &mut todo)? {
             Some(landing) => {
                 set_todo(&mut self.machine, todo);
-                self.reach_mark(landing.place, PointKind::Label, landing.mark)
+                self.reach_counted_point(landing.place, PointKind::Label, landing.counted_point)
             }
             None => Ok(()),
         }
@@ -100,37 +100,64 @@ fn set_todo<'a>(state: &mut Machine<'a>, todo: Vec<Item<'a>>)
     state.frame.todo = todo;
 }
 
-// Where a label stands in a statement, the first mark of which has a number. What is to be done once it is reached is then put before
+// Where a label stands in a statement, the first counted point of which has a number. What is to be done once it is reached is then put before
 // what is to be done after the statement; else nothing is put there.
 #[cycle(seek)]
 fn seek<'a>(
     label: u32,
     s: &'a Stmt,
-    mark: u64,
+    counted_point: u64,
     todo: &mut Vec<Item<'a>>,
 ) -> Result<Option<Landing>, AllocError>
-    ensures { IfOk result (lands_at (jumps.landing label (statement s.now) mark (todo_of todo.old.items)) todo.old todo.new) }
+    ensures { IfOk result (lands_at (jumps.landing label (statement s.now) counted_point (todo_of todo.old.items)) todo.old todo.new) }
 {
     match &s.kind {
-        StmtKind::Block(statements) => seek_in(label, statements, mark, todo),
-        StmtKind::If(_, body) => seek(label, body, mark, todo),
-        StmtKind::IfElse(_, body, other) => match seek(label, body, mark, todo)? {
+        StmtKind::Block(statements) => seek_in(label, statements, counted_point, todo),
+        StmtKind::If(_, body) => seek(label, body, counted_point, todo),
+        StmtKind::IfElse(_, body, other) => match seek(label, body, counted_point, todo)? {
             Some(found) => Ok(Some(found)),
-            None => seek(label, other, together(mark, marks(body)?)?, todo),
+            None => seek(
+                label,
+                other,
+                together(counted_point, counted_points(body)?)?,
+                todo,
+            ),
         },
-        StmtKind::While(_, body) => seek_in_loop(label, body, together(mark, 1)?, s, mark, todo),
-        StmtKind::Do(body, _) => seek_in_loop(label, body, together(mark, 1)?, s, mark, todo),
+        StmtKind::While(_, body) => seek_in_loop(
+            label,
+            body,
+            together(counted_point, 1)?,
+            s,
+            counted_point,
+            todo,
+        ),
+        StmtKind::Do(body, _) => seek_in_loop(
+            label,
+            body,
+            together(counted_point, 1)?,
+            s,
+            counted_point,
+            todo,
+        ),
         StmtKind::For(first, _, _, body) => {
-            let inner = together(together(mark, 1)?, marks_in(first)?)?;
-            seek_in_loop(label, body, inner, s, mark, todo)
+            let inner = together(together(counted_point, 1)?, counted_points_in(first)?)?;
+            seek_in_loop(label, body, inner, s, counted_point, todo)
         }
-        StmtKind::Switch(_, _, statements) => seek_in_switch(label, statements, mark, todo),
+        StmtKind::Switch(_, _, statements) => seek_in_switch(
+            label,
+            statements,
+            counted_point,
+            todo,
+        ),
         StmtKind::Label(number, body) => {
-            let inner = together(mark, 1)?;
+            let inner = together(counted_point, 1)?;
             if *number == label {
                 put_first(todo, Item::Statement(StmtStep::Execute, body, inner))?;
                 let place = s.place;
-                Ok(Some(Landing { mark, place }))
+                Ok(Some(Landing {
+                    counted_point,
+                    place,
+                }))
             } else {
                 seek(label, body, inner, todo)
             }
@@ -140,20 +167,20 @@ fn seek<'a>(
     }
 }
 
-// The same in the body of a loop, the first mark of which has a number of its own.
+// The same in the body of a loop, the first counted point of which has a number of its own.
 #[cycle(seek)]
 fn seek_in_loop<'a>(
     label: u32,
     body: &'a Stmt,
     inner: u64,
     s: &'a Stmt,
-    mark: u64,
+    counted_point: u64,
     todo: &mut Vec<Item<'a>>,
 ) -> Result<Option<Landing>, AllocError>
-    ensures { IfOk result (lands_at (jumps.landing label (statement body.now) inner (machine.Again (statement s.now) mark ∷ (machine.Out ∷ todo_of todo.old.items))) todo.old todo.new) }
+    ensures { IfOk result (lands_at (jumps.landing label (statement body.now) inner (machine.Again (statement s.now) counted_point ∷ (machine.Out ∷ todo_of todo.old.items))) todo.old todo.new) }
 {
     put_first(todo, Item::Out)?;
-    put_first(todo, Item::Statement(StmtStep::Again, s, mark))?;
+    put_first(todo, Item::Statement(StmtStep::Again, s, counted_point))?;
     match seek(label, body, inner, todo)? {
         Some(found) => Ok(Some(found)),
         None => {
@@ -169,13 +196,13 @@ fn seek_in_loop<'a>(
 fn seek_in_switch<'a>(
     label: u32,
     statements: &'a [Stmt],
-    mark: u64,
+    counted_point: u64,
     todo: &mut Vec<Item<'a>>,
 ) -> Result<Option<Landing>, AllocError>
-    ensures { IfOk result (lands_at (jumps.landing_in label (statement_list statements.now) mark (machine.Out ∷ todo_of todo.old.items)) todo.old todo.new) }
+    ensures { IfOk result (lands_at (jumps.landing_in label (statement_list statements.now) counted_point (machine.Out ∷ todo_of todo.old.items)) todo.old todo.new) }
 {
     put_first(todo, Item::Out)?;
-    match seek_in(label, statements, mark, todo)? {
+    match seek_in(label, statements, counted_point, todo)? {
         Some(found) => Ok(Some(found)),
         None => {
             drop_first(todo);
@@ -189,19 +216,19 @@ fn seek_in_switch<'a>(
 fn seek_in<'a>(
     label: u32,
     statements: &'a [Stmt],
-    mark: u64,
+    counted_point: u64,
     todo: &mut Vec<Item<'a>>,
 ) -> Result<Option<Landing>, AllocError>
-    ensures { IfOk result (lands_at (jumps.landing_in label (statement_list statements.now) mark (todo_of todo.old.items)) todo.old todo.new) }
+    ensures { IfOk result (lands_at (jumps.landing_in label (statement_list statements.now) counted_point (todo_of todo.old.items)) todo.old todo.new) }
 {
-    put_statements(todo, statements, mark)?;
-    let mut at = mark;
+    put_statements(todo, statements, counted_point)?;
+    let mut at = counted_point;
     for s in statements {
         drop_first(todo);
         if let Some(found) = seek(label, s, at, todo)? {
             return Ok(Some(found));
         }
-        at = together(at, marks(s)?)?;
+        at = together(at, counted_points(s)?)?;
     }
     Ok(None)
 }

@@ -8,8 +8,8 @@ ghost use Rattle.cs_meaning.specs.Jumps as jumps;
 ghost use Rattle.cs_run_state.specs.MachineView.{item_of, todo_of};
 
 use cs_ast::typed::statement::Stmt;
+use cs_run_state::counted_points::{counted_points, counted_points_in, together};
 use cs_run_state::items::{Item, StmtStep};
-use cs_run_state::marks::{marks, marks_in, together};
 use std::alloc::AllocError;
 
 /// Puts a thing before what is to be done.
@@ -65,20 +65,20 @@ fn is_again(item: &Item) -> bool
     matches!(item, Item::Statement(StmtStep::Again, _, _))
 }
 
-/// Puts statements in their order, the first mark of which has a number, before what is to be done.
+/// Puts statements in their order, the first counted point of which has a number, before what is to be done.
 pub fn put_statements<'a>(
     todo: &mut Vec<Item<'a>>,
     statements: &'a [Stmt],
-    mark: u64,
+    counted_point: u64,
 ) -> Result<(), AllocError>
-    ensures { OnOk result (todo_of todo.new.items ≡ jumps.executes (statement_list statements.now) mark (todo_of todo.old.items)) }
+    ensures { OnOk result (todo_of todo.new.items ≡ jumps.executes (statement_list statements.now) counted_point (todo_of todo.old.items)) }
 {
-    let mut following = together(mark, marks_in(statements)?)?;
+    let mut following = together(counted_point, counted_points_in(statements)?)?;
     let mut left = statements.len();
     while left > 0 {
         left -= 1;
         let s = &statements[left];
-        following = following.checked_sub(marks(s)?).ok_or(AllocError)?;
+        following = following.checked_sub(counted_points(s)?).ok_or(AllocError)?;
         put_first(todo, Item::Statement(StmtStep::Execute, s, following))?;
     }
     Ok(())

@@ -2,7 +2,7 @@
 ghost use Rattle.std.specs.Prelude.{◌≡◌, ◌+◌, ◌∷◌, OnOk, IfErr, option_map, option_copied};
 ghost use Rattle.cs_ast.specs.TypedView.{typed, statement};
 ghost use Rattle.cs_meaning.specs.Machine as machine;
-ghost use Rattle.cs_meaning.specs.Marks as meaning_marks;
+ghost use Rattle.cs_meaning.specs.CountedPoints as meaning_counted_points;
 ghost use Rattle.cs_meaning.specs.Statements as meaning;
 ghost use Rattle.cs_run_state.specs.MachineView.{state_of};
 ghost use Rattle.cs_reference.specs.Deciding.{decides, turns};
@@ -15,29 +15,39 @@ use cs_ast::typed::expression::Expr;
 use cs_ast::typed::statement::{Stmt, StmtKind};
 use cs_events::PointKind;
 use cs_run_state::Stop;
+use cs_run_state::counted_points::{counted_points, counted_points_in, together};
 use cs_run_state::items::{ExprStep, Item, StmtStep};
 use cs_run_state::machine::Machine;
-use cs_run_state::marks::{marks, marks_in, together};
 use std::alloc::AllocError;
 
 impl<'a> Runner<'a> {
     /// The newest value, which is a test's or a `switch`'s, says the way.
-    pub fn decide(&mut self, s: &'a Stmt, mark: u64) -> Result<(), Stop>
-        ensures ok { OnOk result (LeadsOn self.old self.new (meaning.decide (statement s.now) mark (state_in self.old))) }
-        ensures err { IfErr result (Ends self.old self.new (meaning.decide (statement s.now) mark (state_in self.old))) }
+    pub fn decide(&mut self, s: &'a Stmt, counted_point: u64) -> Result<(), Stop>
+        ensures ok { OnOk result (LeadsOn self.old self.new (meaning.decide (statement s.now) counted_point (state_in self.old))) }
+        ensures err { IfErr result (Ends self.old self.new (meaning.decide (statement s.now) counted_point (state_in self.old))) }
         ensures kept { OnOk result (self.new.setting ≡ self.old.setting) }
     {
         match &s.kind {
-            StmtKind::If(_, body) => self.decide_if(s.place, body, mark),
-            StmtKind::IfElse(_, body, other) => self.decide_either(s.place, body, other, mark),
-            StmtKind::While(_, body) => self.decide_body(s, mark, body, together(mark, 1)?),
-            StmtKind::Do(_, _) => self.decide_turn(s, mark),
+            StmtKind::If(_, body) => self.decide_if(s.place, body, counted_point),
+            StmtKind::IfElse(_, body, other) => self.decide_either(
+                s.place,
+                body,
+                other,
+                counted_point,
+            ),
+            StmtKind::While(_, body) => self.decide_body(
+                s,
+                counted_point,
+                body,
+                together(counted_point, 1)?,
+            ),
+            StmtKind::Do(_, _) => self.decide_turn(s, counted_point),
             StmtKind::For(first, _, _, body) => {
-                let inner = together(together(mark, 1)?, marks_in(first)?)?;
-                self.decide_body(s, mark, body, inner)
+                let inner = together(together(counted_point, 1)?, counted_points_in(first)?)?;
+                self.decide_body(s, counted_point, body, inner)
             }
             StmtKind::Switch(_, cases, statements) => {
-                self.decide_switch(s.place, cases, statements, mark)
+                self.decide_switch(s.place, cases, statements, counted_point)
             }
             StmtKind::Block(_) | StmtKind::Declare(_, _) | StmtKind::Run(_) => Ok(()),
             StmtKind::Goto(_) | StmtKind::Label(_, _) | StmtKind::Break => Ok(()),
@@ -46,13 +56,13 @@ impl<'a> Runner<'a> {
     }
 
     // A statement is executed where the newest value holds.
-    fn decide_if(&mut self, place: Place, body: &'a Stmt, mark: u64) -> Result<(), Stop>
-        ensures ok { OnOk result (LeadsOn self.old self.new (decides place (machine.Execute (statement body.now) mark ∷ (state_in self.old).frame.todo) (state_in self.old).frame.todo (state_in self.old))) }
-        ensures err { IfErr result (Ends self.old self.new (decides place (machine.Execute (statement body.now) mark ∷ (state_in self.old).frame.todo) (state_in self.old).frame.todo (state_in self.old))) }
+    fn decide_if(&mut self, place: Place, body: &'a Stmt, counted_point: u64) -> Result<(), Stop>
+        ensures ok { OnOk result (LeadsOn self.old self.new (decides place (machine.Execute (statement body.now) counted_point ∷ (state_in self.old).frame.todo) (state_in self.old).frame.todo (state_in self.old))) }
+        ensures err { IfErr result (Ends self.old self.new (decides place (machine.Execute (statement body.now) counted_point ∷ (state_in self.old).frame.todo) (state_in self.old).frame.todo (state_in self.old))) }
         ensures kept { OnOk result (self.new.setting ≡ self.old.setting) }
     {
         if self.machine.test(&mut self.log, self.setting, place)? {
-            put_stmt(&mut self.machine, StmtStep::Execute, body, mark)?;
+            put_stmt(&mut self.machine, StmtStep::Execute, body, counted_point)?;
         }
         Ok(())
     }
@@ -63,16 +73,16 @@ impl<'a> Runner<'a> {
         place: Place,
         body: &'a Stmt,
         other: &'a Stmt,
-        mark: u64,
+        counted_point: u64,
     ) -> Result<(), Stop>
-        ensures ok { OnOk result (LeadsOn self.old self.new (decides place (machine.Execute (statement body.now) mark ∷ (state_in self.old).frame.todo) (machine.Execute (statement other.now) (mark + meaning_marks.marks (statement body.now)) ∷ (state_in self.old).frame.todo) (state_in self.old))) }
-        ensures err { IfErr result (Ends self.old self.new (decides place (machine.Execute (statement body.now) mark ∷ (state_in self.old).frame.todo) (machine.Execute (statement other.now) (mark + meaning_marks.marks (statement body.now)) ∷ (state_in self.old).frame.todo) (state_in self.old))) }
+        ensures ok { OnOk result (LeadsOn self.old self.new (decides place (machine.Execute (statement body.now) counted_point ∷ (state_in self.old).frame.todo) (machine.Execute (statement other.now) (counted_point + meaning_counted_points.counted_points (statement body.now)) ∷ (state_in self.old).frame.todo) (state_in self.old))) }
+        ensures err { IfErr result (Ends self.old self.new (decides place (machine.Execute (statement body.now) counted_point ∷ (state_in self.old).frame.todo) (machine.Execute (statement other.now) (counted_point + meaning_counted_points.counted_points (statement body.now)) ∷ (state_in self.old).frame.todo) (state_in self.old))) }
         ensures kept { OnOk result (self.new.setting ≡ self.old.setting) }
     {
         if self.machine.test(&mut self.log, self.setting, place)? {
-            put_stmt(&mut self.machine, StmtStep::Execute, body, mark)?;
+            put_stmt(&mut self.machine, StmtStep::Execute, body, counted_point)?;
         } else {
-            let following = together(mark, marks(body)?)?;
+            let following = together(counted_point, counted_points(body)?)?;
             put_stmt(&mut self.machine, StmtStep::Execute, other, following)?;
         }
         Ok(())
@@ -82,46 +92,51 @@ impl<'a> Runner<'a> {
     fn decide_body(
         &mut self,
         s: &'a Stmt,
-        mark: u64,
+        counted_point: u64,
         body: &'a Stmt,
         inner: u64,
     ) -> Result<(), Stop>
-        ensures ok { OnOk result (LeadsOn self.old self.new (decides s.now.place (machine.Execute (statement body.now) inner ∷ (machine.Again (statement s.now) mark ∷ (state_in self.old).frame.todo)) (state_in self.old).frame.todo (state_in self.old))) }
-        ensures err { IfErr result (Ends self.old self.new (decides s.now.place (machine.Execute (statement body.now) inner ∷ (machine.Again (statement s.now) mark ∷ (state_in self.old).frame.todo)) (state_in self.old).frame.todo (state_in self.old))) }
+        ensures ok { OnOk result (LeadsOn self.old self.new (decides s.now.place (machine.Execute (statement body.now) inner ∷ (machine.Again (statement s.now) counted_point ∷ (state_in self.old).frame.todo)) (state_in self.old).frame.todo (state_in self.old))) }
+        ensures err { IfErr result (Ends self.old self.new (decides s.now.place (machine.Execute (statement body.now) inner ∷ (machine.Again (statement s.now) counted_point ∷ (state_in self.old).frame.todo)) (state_in self.old).frame.todo (state_in self.old))) }
         ensures kept { OnOk result (self.new.setting ≡ self.old.setting) }
     {
         if self.machine.test(&mut self.log, self.setting, s.place)? {
-            put_body(&mut self.machine, s, mark, body, inner)?;
+            put_body(&mut self.machine, s, counted_point, body, inner)?;
         }
         Ok(())
     }
 
     // A loop turns where the newest value holds.
-    fn decide_turn(&mut self, s: &'a Stmt, mark: u64) -> Result<(), Stop>
-        ensures ok { OnOk result (LeadsOn self.old self.new (decides s.now.place (machine.Turn (statement s.now) mark ∷ (state_in self.old).frame.todo) (state_in self.old).frame.todo (state_in self.old))) }
-        ensures err { IfErr result (Ends self.old self.new (decides s.now.place (machine.Turn (statement s.now) mark ∷ (state_in self.old).frame.todo) (state_in self.old).frame.todo (state_in self.old))) }
+    fn decide_turn(&mut self, s: &'a Stmt, counted_point: u64) -> Result<(), Stop>
+        ensures ok { OnOk result (LeadsOn self.old self.new (decides s.now.place (machine.Turn (statement s.now) counted_point ∷ (state_in self.old).frame.todo) (state_in self.old).frame.todo (state_in self.old))) }
+        ensures err { IfErr result (Ends self.old self.new (decides s.now.place (machine.Turn (statement s.now) counted_point ∷ (state_in self.old).frame.todo) (state_in self.old).frame.todo (state_in self.old))) }
         ensures kept { OnOk result (self.new.setting ≡ self.old.setting) }
     {
         if self.machine.test(&mut self.log, self.setting, s.place)? {
-            put_stmt(&mut self.machine, StmtStep::Turn, s, mark)?;
+            put_stmt(&mut self.machine, StmtStep::Turn, s, counted_point)?;
         }
         Ok(())
     }
 
     /// The head of a loop is reached; any other statement has none.
-    pub fn turn(&mut self, s: &'a Stmt, mark: u64) -> Result<(), Stop>
-        ensures ok { OnOk result (LeadsOn self.old self.new (meaning.turn (budgets_of self.old) (statement s.now) mark (state_in self.old))) }
-        ensures err { IfErr result (Ends self.old self.new (meaning.turn (budgets_of self.old) (statement s.now) mark (state_in self.old))) }
+    pub fn turn(&mut self, s: &'a Stmt, counted_point: u64) -> Result<(), Stop>
+        ensures ok { OnOk result (LeadsOn self.old self.new (meaning.turn (budgets_of self.old) (statement s.now) counted_point (state_in self.old))) }
+        ensures err { IfErr result (Ends self.old self.new (meaning.turn (budgets_of self.old) (statement s.now) counted_point (state_in self.old))) }
         ensures kept { OnOk result (self.new.setting ≡ self.old.setting) }
     {
         match &s.kind {
-            StmtKind::While(test, _) => self.turn_to_test(s, mark, test),
-            StmtKind::Do(body, _) => self.turn_to_body(s, mark, body, together(mark, 1)?),
+            StmtKind::While(test, _) => self.turn_to_test(s, counted_point, test),
+            StmtKind::Do(body, _) => self.turn_to_body(
+                s,
+                counted_point,
+                body,
+                together(counted_point, 1)?,
+            ),
             StmtKind::For(first, test, _, body) => match test {
-                Some(test) => self.turn_to_test(s, mark, test),
+                Some(test) => self.turn_to_test(s, counted_point, test),
                 None => {
-                    let inner = together(together(mark, 1)?, marks_in(first)?)?;
-                    self.turn_to_body(s, mark, body, inner)
+                    let inner = together(together(counted_point, 1)?, counted_points_in(first)?)?;
+                    self.turn_to_body(s, counted_point, body, inner)
                 }
             },
             StmtKind::Block(_) | StmtKind::Declare(_, _) | StmtKind::Run(_) => Ok(()),
@@ -132,41 +147,45 @@ impl<'a> Runner<'a> {
     }
 
     // The head of a loop is reached, and then its test is evaluated.
-    fn turn_to_test(&mut self, s: &'a Stmt, mark: u64, test: &'a Expr) -> Result<(), Stop>
-        ensures ok { OnOk result (LeadsOn self.old self.new (turns (budgets_of self.old) s.now.place mark (machine.Evaluate (typed test.now) ∷ (machine.Decide (statement s.now) mark ∷ (state_in self.old).frame.todo)) (state_in self.old))) }
-        ensures err { IfErr result (Ends self.old self.new (turns (budgets_of self.old) s.now.place mark (machine.Evaluate (typed test.now) ∷ (machine.Decide (statement s.now) mark ∷ (state_in self.old).frame.todo)) (state_in self.old))) }
+    fn turn_to_test(&mut self, s: &'a Stmt, counted_point: u64, test: &'a Expr) -> Result<(), Stop>
+        ensures ok { OnOk result (LeadsOn self.old self.new (turns (budgets_of self.old) s.now.place counted_point (machine.Evaluate (typed test.now) ∷ (machine.Decide (statement s.now) counted_point ∷ (state_in self.old).frame.todo)) (state_in self.old))) }
+        ensures err { IfErr result (Ends self.old self.new (turns (budgets_of self.old) s.now.place counted_point (machine.Evaluate (typed test.now) ∷ (machine.Decide (statement s.now) counted_point ∷ (state_in self.old).frame.todo)) (state_in self.old))) }
         ensures kept { OnOk result (self.new.setting ≡ self.old.setting) }
     {
-        put_test(&mut self.machine, test, s, mark)?;
-        self.reach_mark(s.place, PointKind::Head, mark)
+        put_test(&mut self.machine, test, s, counted_point)?;
+        self.reach_counted_point(s.place, PointKind::Head, counted_point)
     }
 
     // The head of a loop is reached, and then its body is executed.
     fn turn_to_body(
         &mut self,
         s: &'a Stmt,
-        mark: u64,
+        counted_point: u64,
         body: &'a Stmt,
         inner: u64,
     ) -> Result<(), Stop>
-        ensures ok { OnOk result (LeadsOn self.old self.new (turns (budgets_of self.old) s.now.place mark (machine.Execute (statement body.now) inner ∷ (machine.Again (statement s.now) mark ∷ (state_in self.old).frame.todo)) (state_in self.old))) }
-        ensures err { IfErr result (Ends self.old self.new (turns (budgets_of self.old) s.now.place mark (machine.Execute (statement body.now) inner ∷ (machine.Again (statement s.now) mark ∷ (state_in self.old).frame.todo)) (state_in self.old))) }
+        ensures ok { OnOk result (LeadsOn self.old self.new (turns (budgets_of self.old) s.now.place counted_point (machine.Execute (statement body.now) inner ∷ (machine.Again (statement s.now) counted_point ∷ (state_in self.old).frame.todo)) (state_in self.old))) }
+        ensures err { IfErr result (Ends self.old self.new (turns (budgets_of self.old) s.now.place counted_point (machine.Execute (statement body.now) inner ∷ (machine.Again (statement s.now) counted_point ∷ (state_in self.old).frame.todo)) (state_in self.old))) }
         ensures kept { OnOk result (self.new.setting ≡ self.old.setting) }
     {
-        put_body(&mut self.machine, s, mark, body, inner)?;
-        self.reach_mark(s.place, PointKind::Head, mark)
+        put_body(&mut self.machine, s, counted_point, body, inner)?;
+        self.reach_counted_point(s.place, PointKind::Head, counted_point)
     }
 }
 
 /// What comes after the body of a loop.
-pub fn go_again<'a>(state: &mut Machine<'a>, s: &'a Stmt, mark: u64) -> Result<(), AllocError>
-    ensures { OnOk result (state_of state.new ≡ machine.to_do (meaning.again (statement s.now) mark (state_of state.old).frame.todo) (state_of state.old)) }
+pub fn go_again<'a>(
+    state: &mut Machine<'a>,
+    s: &'a Stmt,
+    counted_point: u64,
+) -> Result<(), AllocError>
+    ensures { OnOk result (state_of state.new ≡ machine.to_do (meaning.again (statement s.now) counted_point (state_of state.old).frame.todo) (state_of state.old)) }
 {
     match &s.kind {
-        StmtKind::While(_, _) => put_stmt(state, StmtStep::Turn, s, mark),
-        StmtKind::Do(_, test) => put_test(state, test, s, mark),
+        StmtKind::While(_, _) => put_stmt(state, StmtStep::Turn, s, counted_point),
+        StmtKind::Do(_, test) => put_test(state, test, s, counted_point),
         StmtKind::For(_, _, last, _) => {
-            put_stmt(state, StmtStep::Turn, s, mark)?;
+            put_stmt(state, StmtStep::Turn, s, counted_point)?;
             put_last(state, last.as_ref())
         }
         StmtKind::Block(_) | StmtKind::Declare(_, _) | StmtKind::Run(_) => Ok(()),

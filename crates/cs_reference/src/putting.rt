@@ -12,16 +12,16 @@ use cs_run_state::items::{ExprStep, Item, StmtStep};
 use cs_run_state::machine::Machine;
 use std::alloc::AllocError;
 
-/// Puts a step of a statement, the first mark of which has a number, before what is to be done.
+/// Puts a step of a statement, the first counted point of which has a number, before what is to be done.
 pub fn put_stmt<'a>(
     state: &mut Machine<'a>,
     step: StmtStep,
     s: &'a Stmt,
-    mark: u64,
+    counted_point: u64,
 ) -> Result<(), AllocError>
-    ensures { OnOk result (state_of state.new ≡ machine.to_do (statement_item step (statement s.now) mark ∷ (state_of state.old).frame.todo) (state_of state.old)) }
+    ensures { OnOk result (state_of state.new ≡ machine.to_do (statement_item step (statement s.now) counted_point ∷ (state_of state.old).frame.todo) (state_of state.old)) }
 {
-    state.put(Item::Statement(step, s, mark))?;
+    state.put(Item::Statement(step, s, counted_point))?;
     Ok(())
 }
 
@@ -30,11 +30,11 @@ pub fn put_stmt<'a>(
 pub fn put_all<'a>(
     state: &mut Machine<'a>,
     statements: &'a [Stmt],
-    mark: u64,
+    counted_point: u64,
 ) -> Result<(), AllocError>
-    ensures { OnOk result (state_of state.new ≡ machine.to_do (jumps.executes (statement_list statements.now) mark (state_of state.old).frame.todo) (state_of state.old)) }
+    ensures { OnOk result (state_of state.new ≡ machine.to_do (jumps.executes (statement_list statements.now) counted_point (state_of state.old).frame.todo) (state_of state.old)) }
 {
-    put_statements(&mut state.frame.todo, statements, mark)?;
+    put_statements(&mut state.frame.todo, statements, counted_point)?;
     Ok(())
 }
 
@@ -43,21 +43,25 @@ pub fn put_test<'a>(
     state: &mut Machine<'a>,
     test: &'a Expr,
     s: &'a Stmt,
-    mark: u64,
+    counted_point: u64,
 ) -> Result<(), AllocError>
-    ensures { OnOk result (state_of state.new ≡ machine.to_do (machine.Evaluate (typed test.now) ∷ (machine.Decide (statement s.now) mark ∷ (state_of state.old).frame.todo)) (state_of state.old)) }
+    ensures { OnOk result (state_of state.new ≡ machine.to_do (machine.Evaluate (typed test.now) ∷ (machine.Decide (statement s.now) counted_point ∷ (state_of state.old).frame.todo)) (state_of state.old)) }
 {
-    put_stmt(state, StmtStep::Decide, s, mark)?;
+    put_stmt(state, StmtStep::Decide, s, counted_point)?;
     state.put_expr(ExprStep::Evaluate, test)?;
     Ok(())
 }
 
 /// A loop turns, and after it is where `break` leads.
-pub fn put_loop<'a>(state: &mut Machine<'a>, s: &'a Stmt, mark: u64) -> Result<(), AllocError>
-    ensures { OnOk result (state_of state.new ≡ machine.to_do (machine.Turn (statement s.now) mark ∷ (machine.Out ∷ (state_of state.old).frame.todo)) (state_of state.old)) }
+pub fn put_loop<'a>(
+    state: &mut Machine<'a>,
+    s: &'a Stmt,
+    counted_point: u64,
+) -> Result<(), AllocError>
+    ensures { OnOk result (state_of state.new ≡ machine.to_do (machine.Turn (statement s.now) counted_point ∷ (machine.Out ∷ (state_of state.old).frame.todo)) (state_of state.old)) }
 {
     state.put(Item::Out)?;
-    put_stmt(state, StmtStep::Turn, s, mark)?;
+    put_stmt(state, StmtStep::Turn, s, counted_point)?;
     Ok(())
 }
 
@@ -65,13 +69,13 @@ pub fn put_loop<'a>(state: &mut Machine<'a>, s: &'a Stmt, mark: u64) -> Result<(
 pub fn put_body<'a>(
     state: &mut Machine<'a>,
     s: &'a Stmt,
-    mark: u64,
+    counted_point: u64,
     body: &'a Stmt,
     inner: u64,
 ) -> Result<(), AllocError>
-    ensures { OnOk result (state_of state.new ≡ machine.to_do (machine.Execute (statement body.now) inner ∷ (machine.Again (statement s.now) mark ∷ (state_of state.old).frame.todo)) (state_of state.old)) }
+    ensures { OnOk result (state_of state.new ≡ machine.to_do (machine.Execute (statement body.now) inner ∷ (machine.Again (statement s.now) counted_point ∷ (state_of state.old).frame.todo)) (state_of state.old)) }
 {
-    put_stmt(state, StmtStep::Again, s, mark)?;
+    put_stmt(state, StmtStep::Again, s, counted_point)?;
     put_stmt(state, StmtStep::Execute, body, inner)?;
     Ok(())
 }

@@ -15,41 +15,60 @@ use cs_ast::Place;
 use cs_ast::typed::expression::Expr;
 use cs_ast::typed::statement::{Stmt, StmtKind};
 use cs_events::PointKind;
+use cs_run_state::counted_points::together;
 use cs_run_state::items::{ExprStep, Item, StmtStep};
 use cs_run_state::machine::Machine;
-use cs_run_state::marks::together;
 use cs_run_state::{Operand, Stop};
 use std::alloc::AllocError;
 
 impl<'a> Runner<'a> {
-    /// A statement begins, the first mark of which has a number.
-    pub fn execute(&mut self, s: &'a Stmt, mark: u64) -> Result<(), Stop>
+    /// A statement begins, the first counted point of which has a number.
+    pub fn execute(&mut self, s: &'a Stmt, counted_point: u64) -> Result<(), Stop>
         requires { IsReady self.old }
-        ensures ok { OnOk result (LeadsOn self.old self.new (meaning.execute (program_of self.old) (budgets_of self.old) (steps.at_end (machine.routine_of (program_of self.old) (state_in self.old).frame.function)) (statement s.now) mark (state_in self.old))) }
-        ensures err { IfErr result (Ends self.old self.new (meaning.execute (program_of self.old) (budgets_of self.old) (steps.at_end (machine.routine_of (program_of self.old) (state_in self.old).frame.function)) (statement s.now) mark (state_in self.old))) }
+        ensures ok { OnOk result (LeadsOn self.old self.new (meaning.execute (program_of self.old) (budgets_of self.old) (steps.at_end (machine.routine_of (program_of self.old) (state_in self.old).frame.function)) (statement s.now) counted_point (state_in self.old))) }
+        ensures err { IfErr result (Ends self.old self.new (meaning.execute (program_of self.old) (budgets_of self.old) (steps.at_end (machine.routine_of (program_of self.old) (state_in self.old).frame.function)) (statement s.now) counted_point (state_in self.old))) }
         ensures kept { OnOk result (self.new.setting ≡ self.old.setting) }
     {
         match &s.kind {
-            StmtKind::Block(statements) => Ok(put_all(&mut self.machine, statements, mark)?),
+            StmtKind::Block(statements) => Ok(put_all(
+                &mut self.machine,
+                statements,
+                counted_point,
+            )?),
             StmtKind::Declare(declaration, first) => {
                 self.declare(s.place, *declaration, first.as_ref())
             }
             StmtKind::Run(e) => Ok(put_run(&mut self.machine, e)?),
-            StmtKind::If(test, _) => Ok(put_test(&mut self.machine, test, s, mark)?),
-            StmtKind::IfElse(test, _, _) => Ok(put_test(&mut self.machine, test, s, mark)?),
-            StmtKind::While(_, _) => Ok(put_loop(&mut self.machine, s, mark)?),
-            StmtKind::Do(_, _) => Ok(put_loop(&mut self.machine, s, mark)?),
-            StmtKind::For(first, _, _, _) => Ok(put_for(&mut self.machine, s, mark, first)?),
-            StmtKind::Switch(value, _, _) => Ok(put_switch(&mut self.machine, s, mark, value)?),
+            StmtKind::If(test, _) => Ok(put_test(&mut self.machine, test, s, counted_point)?),
+            StmtKind::IfElse(test, _, _) => Ok(put_test(
+                &mut self.machine,
+                test,
+                s,
+                counted_point,
+            )?),
+            StmtKind::While(_, _) => Ok(put_loop(&mut self.machine, s, counted_point)?),
+            StmtKind::Do(_, _) => Ok(put_loop(&mut self.machine, s, counted_point)?),
+            StmtKind::For(first, _, _, _) => Ok(put_for(
+                &mut self.machine,
+                s,
+                counted_point,
+                first,
+            )?),
+            StmtKind::Switch(value, _, _) => Ok(put_switch(
+                &mut self.machine,
+                s,
+                counted_point,
+                value,
+            )?),
             StmtKind::Goto(label) => self.go_to(*label),
             StmtKind::Label(_, body) => {
                 put_stmt(
                     &mut self.machine,
                     StmtStep::Execute,
                     body,
-                    together(mark, 1)?,
+                    together(counted_point, 1)?,
                 )?;
-                self.reach_mark(s.place, PointKind::Label, mark)
+                self.reach_counted_point(s.place, PointKind::Label, counted_point)
             }
             StmtKind::Break => {
                 break_out(&mut self.machine);
@@ -68,13 +87,13 @@ impl<'a> Runner<'a> {
 fn put_for<'a>(
     state: &mut Machine<'a>,
     s: &'a Stmt,
-    mark: u64,
+    counted_point: u64,
     first: &'a [Stmt],
 ) -> Result<(), AllocError>
-    ensures { OnOk result (state_of state.new ≡ machine.to_do (jumps.executes (statement_list first.now) (mark + 1) (machine.Turn (statement s.now) mark ∷ (machine.Out ∷ (state_of state.old).frame.todo))) (state_of state.old)) }
+    ensures { OnOk result (state_of state.new ≡ machine.to_do (jumps.executes (statement_list first.now) (counted_point + 1) (machine.Turn (statement s.now) counted_point ∷ (machine.Out ∷ (state_of state.old).frame.todo))) (state_of state.old)) }
 {
-    put_loop(state, s, mark)?;
-    put_all(state, first, together(mark, 1)?)?;
+    put_loop(state, s, counted_point)?;
+    put_all(state, first, together(counted_point, 1)?)?;
     Ok(())
 }
 
@@ -82,13 +101,13 @@ fn put_for<'a>(
 fn put_switch<'a>(
     state: &mut Machine<'a>,
     s: &'a Stmt,
-    mark: u64,
+    counted_point: u64,
     value: &'a Expr,
 ) -> Result<(), AllocError>
-    ensures { OnOk result (state_of state.new ≡ machine.to_do (machine.Evaluate (typed value.now) ∷ (machine.Decide (statement s.now) mark ∷ (machine.Out ∷ (state_of state.old).frame.todo))) (state_of state.old)) }
+    ensures { OnOk result (state_of state.new ≡ machine.to_do (machine.Evaluate (typed value.now) ∷ (machine.Decide (statement s.now) counted_point ∷ (machine.Out ∷ (state_of state.old).frame.todo))) (state_of state.old)) }
 {
     state.put(Item::Out)?;
-    put_test(state, value, s, mark)?;
+    put_test(state, value, s, counted_point)?;
     Ok(())
 }
 

@@ -46,7 +46,7 @@ impl<'a> Runner<'a> {
     {
         match item {
             Item::Expression(step, e) => self.perform_expr(step, e),
-            Item::Statement(step, s, mark) => self.perform_stmt(step, s, mark),
+            Item::Statement(step, s, counted_point) => self.perform_stmt(step, s, counted_point),
             Item::Judge(place) => self.machine.judge(&mut self.log, self.setting, place),
             Item::Use(place) => self.machine.use_result(&self.log, self.setting, place),
             Item::Discard => {
@@ -103,18 +103,18 @@ impl<'a> Runner<'a> {
     }
 
     // A step of a statement.
-    fn perform_stmt(&mut self, step: StmtStep, s: &'a Stmt, mark: u64) -> Result<(), Stop>
+    fn perform_stmt(&mut self, step: StmtStep, s: &'a Stmt, counted_point: u64) -> Result<(), Stop>
         requires { IsReady self.old }
-        ensures ok { OnOk result (LeadsOn self.old self.new (steps.do_item (program_of self.old) (budgets_of self.old) (statement_item step (statement s.now) mark) (state_in self.old))) }
-        ensures err { IfErr result (Ends self.old self.new (steps.do_item (program_of self.old) (budgets_of self.old) (statement_item step (statement s.now) mark) (state_in self.old))) }
+        ensures ok { OnOk result (LeadsOn self.old self.new (steps.do_item (program_of self.old) (budgets_of self.old) (statement_item step (statement s.now) counted_point) (state_in self.old))) }
+        ensures err { IfErr result (Ends self.old self.new (steps.do_item (program_of self.old) (budgets_of self.old) (statement_item step (statement s.now) counted_point) (state_in self.old))) }
         ensures kept { OnOk result (self.new.setting ≡ self.old.setting) }
     {
         match step {
-            StmtStep::Execute => self.execute(s, mark),
-            StmtStep::Decide => self.decide(s, mark),
-            StmtStep::Turn => self.turn(s, mark),
+            StmtStep::Execute => self.execute(s, counted_point),
+            StmtStep::Decide => self.decide(s, counted_point),
+            StmtStep::Turn => self.turn(s, counted_point),
             StmtStep::Again => {
-                go_again(&mut self.machine, s, mark)?;
+                go_again(&mut self.machine, s, counted_point)?;
                 Ok(())
             }
         }

@@ -14,8 +14,8 @@ use crate::runner::Runner;
 use cs_ast::Place;
 use cs_ast::typed::statement::{Case, Stmt};
 use cs_events::{Label, PointKind};
+use cs_run_state::counted_points::{counted_points_in, together};
 use cs_run_state::machine::Machine;
-use cs_run_state::marks::{marks_in, together};
 use cs_run_state::{Stop, Touch};
 use std::alloc::AllocError;
 
@@ -33,10 +33,10 @@ impl<'a> Runner<'a> {
         place: Place,
         cases: &[Case],
         statements: &'a [Stmt],
-        mark: u64,
+        counted_point: u64,
     ) -> Result<(), Stop>
-        ensures ok { OnOk result (LeadsOn self.old self.new (meaning.switch_to place (statement_list statements.now) mark (meaning.chosen_case cases.now (statement_list statements.now) (meaning.case_of cases.now (number_in (machine.cell_at (state_in self.old) 0)) 0)) (machine.pop (state_in self.old)))) }
-        ensures err { IfErr result (Ends self.old self.new (meaning.switch_to place (statement_list statements.now) mark (meaning.chosen_case cases.now (statement_list statements.now) (meaning.case_of cases.now (number_in (machine.cell_at (state_in self.old) 0)) 0)) (machine.pop (state_in self.old)))) }
+        ensures ok { OnOk result (LeadsOn self.old self.new (meaning.switch_to place (statement_list statements.now) counted_point (meaning.chosen_case cases.now (statement_list statements.now) (meaning.case_of cases.now (number_in (machine.cell_at (state_in self.old) 0)) 0)) (machine.pop (state_in self.old)))) }
+        ensures err { IfErr result (Ends self.old self.new (meaning.switch_to place (statement_list statements.now) counted_point (meaning.chosen_case cases.now (statement_list statements.now) (meaning.case_of cases.now (number_in (machine.cell_at (state_in self.old) 0)) 0)) (machine.pop (state_in self.old)))) }
         ensures kept { OnOk result (self.new.setting ≡ self.old.setting) }
     {
         let number = self.machine.pop_cell().number();
@@ -44,7 +44,7 @@ impl<'a> Runner<'a> {
         self.log.touch(Touch::Meets(PointKind::Switch, place))?;
         self.log
             .show(self.setting, place, Label::Case(chosen.number))?;
-        put_from(&mut self.machine, statements, chosen.item, mark)?;
+        put_from(&mut self.machine, statements, chosen.item, counted_point)?;
         Ok(())
     }
 }
@@ -54,14 +54,18 @@ fn put_from<'a>(
     state: &mut Machine<'a>,
     statements: &'a [Stmt],
     number: u32,
-    mark: u64,
+    counted_point: u64,
 ) -> Result<(), AllocError>
-    ensures { OnOk result (state_of state.new ≡ machine.to_do (meaning.executes_from number (statement_list statements.now) mark (state_of state.old).frame.todo) (state_of state.old)) }
+    ensures { OnOk result (state_of state.new ≡ machine.to_do (meaning.executes_from number (statement_list statements.now) counted_point (state_of state.old).frame.todo) (state_of state.old)) }
 {
     let number = number as usize;
     if number <= statements.len() {
-        let before = marks_in(&statements[..number])?;
-        put_all(state, &statements[number..], together(mark, before)?)?;
+        let before = counted_points_in(&statements[..number])?;
+        put_all(
+            state,
+            &statements[number..],
+            together(counted_point, before)?,
+        )?;
     }
     Ok(())
 }

@@ -1,6 +1,6 @@
-//! Marks that are reached.
+//! Counted points that are reached.
 ghost use Rattle.std.specs.Prelude.{◌≡◌, ◌<◌, length, slice_get, OnOk, IfErr};
-ghost use Rattle.cs_meaning.specs.Marks as meaning;
+ghost use Rattle.cs_meaning.specs.CountedPoints as meaning;
 ghost use Rattle.cs_run_state.specs.MachineView.{state_of};
 ghost use Rattle.cs_reference.specs.RunnerView.{budgets_of, state_in, LeadsOn, Ends};
 
@@ -11,17 +11,22 @@ use cs_run_state::machine::Machine;
 use cs_run_state::{Stop, Touch};
 
 impl<'a> Runner<'a> {
-    /// A mark is reached once more, unless the budget of visits is used up; one that has no count is over.
+    /// A counted point is reached once more, unless the budget of visits is used up; one that has no count is over.
     #[tactic(auto, using(cs_run_state::proofs::Performing::silent, std::proofs::lemmas::Option::slice_get_within))]
-    pub fn reach_mark(&mut self, place: Place, kind: PointKind, mark: u64) -> Result<(), Stop>
-        ensures ok { OnOk result (LeadsOn self.old self.new (meaning.reach_mark (budgets_of self.old) place kind mark (state_in self.old))) }
-        ensures err { IfErr result (Ends self.old self.new (meaning.reach_mark (budgets_of self.old) place kind mark (state_in self.old))) }
+    pub fn reach_counted_point(
+        &mut self,
+        place: Place,
+        kind: PointKind,
+        counted_point: u64,
+    ) -> Result<(), Stop>
+        ensures ok { OnOk result (LeadsOn self.old self.new (meaning.reach_counted_point (budgets_of self.old) place kind counted_point (state_in self.old))) }
+        ensures err { IfErr result (Ends self.old self.new (meaning.reach_counted_point (budgets_of self.old) place kind counted_point (state_in self.old))) }
         ensures kept { OnOk result (self.new.setting ≡ self.old.setting) }
     {
-        match visits_of(&self.machine, mark) {
+        match visits_of(&self.machine, counted_point) {
             Some(count) => {
                 if count < self.setting.budgets.visits {
-                    set_visits(&mut self.machine, mark, count + 1);
+                    set_visits(&mut self.machine, counted_point, count + 1);
                     self.log.touch(Touch::Meets(kind, place))?;
                     Ok(())
                 } else {
@@ -33,19 +38,19 @@ impl<'a> Runner<'a> {
     }
 }
 
-// How often a mark of the body was reached, if it has a count.
+// How often a counted point of the body was reached, if it has a count.
 #[tactic(auto, unfolding(cs_run_state::specs::MachineView::state_of))]
-fn visits_of(state: &Machine, mark: u64) -> Option<u32>
-    ensures { result ≡ slice_get (state_of state.now).frame.visits mark }
+fn visits_of(state: &Machine, counted_point: u64) -> Option<u32>
+    ensures { result ≡ slice_get (state_of state.now).frame.visits counted_point }
 {
-    state.frame.visits.get(mark as usize).copied()
+    state.frame.visits.get(counted_point as usize).copied()
 }
 
-// A mark was reached so often.
+// A counted point was reached so often.
 #[tactic(auto, unfolding(cs_run_state::specs::MachineView::state_of))]
-fn set_visits(state: &mut Machine, mark: u64, count: u32)
-    requires { mark < length (state_of state.old).frame.visits }
-    ensures { state_of state.new ≡ meaning.with_visits mark count (state_of state.old) }
+fn set_visits(state: &mut Machine, counted_point: u64, count: u32)
+    requires { counted_point < length (state_of state.old).frame.visits }
+    ensures { state_of state.new ≡ meaning.with_visits counted_point count (state_of state.old) }
 {
-    state.frame.visits[mark as usize] = count;
+    state.frame.visits[counted_point as usize] = count;
 }

@@ -16,9 +16,9 @@ use Rattle.cs_replay.specs.FrameChanges.{inside_with}
 use Rattle.cs_reference.proofs.Locals.{locals_are}
 
 -- the run in a new frame, which is as it should be
-pub entered_is : (code : Code) (program : TypedProgram) (function : ℕ) (flow : Flow) (routine : Routine) (arguments : List Operand) (frame : Frame) (locals : ℕ → Option Block) (m : CodeState) → frame ≡ begun function m.frames flow.marks → flow_of code function ≡ Some flow → ((n : ℕ) → locals n ≡ option_map (local_block program (slice_get arguments n)) (slice_get routine.variables n)) → inside_with (block_in code frame.function flow.entry) frame locals m ≡ inside program (code_frame function flow m.frames) routine arguments m
+pub entered_is : (code : Code) (program : TypedProgram) (function : ℕ) (flow : Flow) (routine : Routine) (arguments : List Operand) (frame : Frame) (locals : ℕ → Option Block) (m : CodeState) → frame ≡ begun function m.frames flow.counted_points → flow_of code function ≡ Some flow → ((n : ℕ) → locals n ≡ option_map (local_block program (slice_get arguments n)) (slice_get routine.variables n)) → inside_with (block_in code frame.function flow.entry) frame locals m ≡ inside program (code_frame function flow m.frames) routine arguments m
 entered_is code program function flow routine arguments frame locals m is there are =
-    let new = begun function m.frames flow.marks in
+    let new = begun function m.frames flow.counted_points in
     ap (λ (f : Frame). inside_with (block_in code f.function flow.entry) f locals m) is
     ∙ (ap (λ (found : Option Flow). inside_with (block_of (unwrap_or found no_flow) flow.entry) new locals m) there
     ∙ ap (λ (memory : Memory). record m { frame = at_point (block_of flow flow.entry) new; callers = m.frame ∷ m.callers; memory = memory; frames = m.frames + 1 }) (locals_are program m.frames routine.variables arguments locals m.memory are))

@@ -21,7 +21,7 @@ use Rattle.cs_cfg.specs.Working.{CodeState}
 use Rattle.cs_replay.specs.CodeStates.{code_state}
 use Rattle.cs_replay.specs.ReplayerView.{ended}
 use Rattle.cs_replay.proofs.Performs.{Seen, leads_so, finishes_so}
-use Rattle.cs_replay.proofs.Reported.{shown_reported, touched_reported, marked, way_seen, marked_so, branch_reported}
+use Rattle.cs_replay.proofs.Reported.{shown_reported, touched_reported, with_truth, way_seen, with_truth_so, branch_reported}
 
 module _ (setting : Setting) (log later : Log) where
   -- an act of the code's run ends the run as that of the machine does
@@ -46,12 +46,12 @@ module _ (setting : Setting) (log later : Log) where
   -- a test takes a way
   pub branches_so : (at : Place) (cell : Cell) (m : State) (ways : Bool → CodeState) (holds : Bool) → ((onward : Bool → Act State) → perform setting log (branch at cell onward) ≡ perform setting later (onward holds)) → perform setting log (branch at cell (λ b. Goes (ways b))) ≡ Continues (ways holds) later
   branches_so at cell m ways holds leads =
-      leads_so (way_seen ways) setting log later (branch at cell (λ b. Goes (marked m b))) (branch at cell (λ b. Goes (ways b))) (marked m holds) (branch_reported at cell m ways) (leads (λ b. Goes (marked m b)) ∙ perform-Goes setting later (marked m holds))
-      ∙ ap (λ (t : CodeState). Continues t later) (sym (marked_so ways m holds))
+      leads_so (way_seen ways) setting log later (branch at cell (λ b. Goes (with_truth m b))) (branch at cell (λ b. Goes (ways b))) (with_truth m holds) (branch_reported at cell m ways) (leads (λ b. Goes (with_truth m b)) ∙ perform-Goes setting later (with_truth m holds))
+      ∙ ap (λ (t : CodeState). Continues t later) (sym (with_truth_so ways m holds))
 
   pub no_branch : (at : Place) (cell : Cell) (m : State) (ways : Bool → CodeState) (stop : Stop) → ((onward : Bool → Act State) → perform setting log (branch at cell onward) ≡ finished stop later (perform setting log (branch at cell onward))) → perform setting log (branch at cell (λ b. Goes (ways b))) ≡ ended stop later (perform setting log (branch at cell (λ b. Goes (ways b))))
   no_branch at cell m ways stop ends =
-      ends_so (way_seen ways) (branch at cell (λ b. Goes (marked m b))) (branch at cell (λ b. Goes (ways b))) stop (branch_reported at cell m ways) (ends (λ b. Goes (marked m b)))
+      ends_so (way_seen ways) (branch at cell (λ b. Goes (with_truth m b))) (branch at cell (λ b. Goes (ways b))) stop (branch_reported at cell m ways) (ends (λ b. Goes (with_truth m b)))
 
 module _ (setting : Setting) (log : Log) where
   -- an act leads to a state that is told in another way

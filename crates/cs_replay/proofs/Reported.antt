@@ -27,7 +27,7 @@ use Rattle.cs_meaning.specs.Memory.{Block, Memory, Fill, UnsetFill, ZeroFill, Un
 use Rattle.cs_meaning.specs.Access.{Access, shows_then}
 use Rattle.cs_meaning.specs.Operators.{branch}
 use Rattle.cs_meaning.specs.Machine.{Operand, Scalar, Whole, Nothing, CallFrame, State, push, push_cell, pop, pop_many, with_memory, cell_of, operand_at, cell_at, newest, routine_of}
-use Rattle.cs_meaning.specs.Marks.{reached_again}
+use Rattle.cs_meaning.specs.CountedPoints.{reached_again}
 use Rattle.cs_meaning.specs.Calls.{result_path, write_through, write_arguments, outside_result, call_outside, call_routine, call, allocated, allocate, release, release_block, release_known, release_object}
 use Rattle.cs_meaning.specs.Expressions.{pointer_age, amount_age, given, number_at, stores_to, use_result}
 use Rattle.cs_cfg.specs.declared.operation.Work as w
@@ -92,13 +92,13 @@ module _ (p : ℕ → Point) (callers : List (CallFrame Point)) where
   use_reported at (Whole cells) m = both_go refl
   use_reported at Nothing m = both_go refl
 
-  again_reported : (budgets : RunBudgets) (at : Place) (kind : PointKind) (mark : ℕ) (count : Option ℕ) (m : State) → Reported (reached_again budgets at kind mark count m) (reached_again budgets at kind mark count (code_state p callers m))
-  again_reported budgets at kind mark None m = both_stop
-  again_reported budgets at kind mark (Some count) m = yields_if R (nat_lt count budgets.visits) (both_touch (both_go refl)) both_stop
+  again_reported : (budgets : RunBudgets) (at : Place) (kind : PointKind) (counted_point : ℕ) (count : Option ℕ) (m : State) → Reported (reached_again budgets at kind counted_point count m) (reached_again budgets at kind counted_point count (code_state p callers m))
+  again_reported budgets at kind counted_point None m = both_stop
+  again_reported budgets at kind counted_point (Some count) m = yields_if R (nat_lt count budgets.visits) (both_touch (both_go refl)) both_stop
 
-  -- a mark that is reached
-  pub mark_reported : (code : Code) (program : TypedProgram) (budgets : RunBudgets) (at : Place) (kind : PointKind) (mark : ℕ) (m : State) → Reported (works program budgets at (Reach kind mark) m) (do_work code program budgets at (Reach kind mark) (code_state p callers m))
-  mark_reported code program budgets at kind mark m = again_reported budgets at kind mark (slice_get m.frame.visits mark) m
+  -- a counted point that is reached
+  pub counted_point_reported : (code : Code) (program : TypedProgram) (budgets : RunBudgets) (at : Place) (kind : PointKind) (counted_point : ℕ) (m : State) → Reported (works program budgets at (Reach kind counted_point) m) (do_work code program budgets at (Reach kind counted_point) (code_state p callers m))
+  counted_point_reported code program budgets at kind counted_point m = again_reported budgets at kind counted_point (slice_get m.frame.visits counted_point) m
 
   -- an operation that is no call
   pub work_reported : (code : Code) (program : TypedProgram) (budgets : RunBudgets) (at : Place) (one : w.Work) (m : State) → ((callee count : _) → one ≡ of.Call callee count → ⊥) → Reported (works program budgets at (work one) m) (do_work code program budgets at (work one) (code_state p callers m))
@@ -193,15 +193,15 @@ pub touched_reported : (touch : Touch) (at : Place) (what : Label) (m : State) (
 touched_reported touch at what m t = both_touch (shown_reported at what m t)
 
 -- a test goes on in a state for each of its ways; on the machine's stack it is left which one it was
-abbrev pub marked : State → Bool → State
-marked m holds = push_cell (truth_cell holds) m
+abbrev pub with_truth : State → Bool → State
+with_truth m holds = push_cell (truth_cell holds) m
 
 abbrev pub way_seen : (Bool → CodeState) → State → CodeState
 way_seen ways m = ways (is_true (number_at m 0))
 
-pub marked_so : (ways : Bool → CodeState) (m : State) (holds : Bool) → ways holds ≡ way_seen ways (marked m holds)
-marked_so ways m true = refl
-marked_so ways m false = refl
+pub with_truth_so : (ways : Bool → CodeState) (m : State) (holds : Bool) → ways holds ≡ way_seen ways (with_truth m holds)
+with_truth_so ways m true = refl
+with_truth_so ways m false = refl
 
-pub branch_reported : (at : Place) (cell : Cell) (m : State) (ways : Bool → CodeState) → Yields (Seen (way_seen ways)) (branch at cell (λ holds. Goes (marked m holds))) (branch at cell (λ holds. Goes (ways holds)))
-branch_reported at cell m ways = yields_branch (Seen (way_seen ways)) at cell (λ holds. both_go (marked_so ways m holds))
+pub branch_reported : (at : Place) (cell : Cell) (m : State) (ways : Bool → CodeState) → Yields (Seen (way_seen ways)) (branch at cell (λ holds. Goes (with_truth m holds))) (branch at cell (λ holds. Goes (ways holds)))
+branch_reported at cell m ways = yields_branch (Seen (way_seen ways)) at cell (λ holds. both_go (with_truth_so ways m holds))

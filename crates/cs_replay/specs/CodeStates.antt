@@ -12,6 +12,6 @@ at_point p frame = record { function = frame.function; number = frame.number; to
 abbrev pub code_state : (ℕ → Point) → List (CallFrame Point) → State → CodeState
 code_state p callers m = record { frame = at_point (p m.frame.function) m.frame; callers = callers; memory = m.memory; frames = m.frames; allocations = m.allocations; calls = m.calls }
 
--- a frame with nothing to do, in which no mark was reached of so many
+-- a frame with nothing to do, in which no counted point was reached of so many
 abbrev pub begun : ℕ → ℕ → ℕ → Frame
-begun function number marks = record { function = function; number = number; todo = []; stack = []; visits = replicate marks 0 }
+begun function number counted_points = record { function = function; number = number; todo = []; stack = []; visits = replicate counted_points 0 }

@@ -16,7 +16,7 @@ use Rattle.cs_meaning.specs.Memory.{UnsetFill, ZeroFill, changed}
 use Rattle.cs_meaning.specs.Access.{shows_then, touches_then, load_object, write_operand}
 use Rattle.cs_meaning.specs.Operators.{truth, operate, convert_number, convert, sum, compare, difference, arrow}
 use Rattle.cs_meaning.specs.Machine.{Scalar, Nothing as NoOperand, Running, push, push_cell, pop, pop_many, with_stack, with_memory, operand_at, cell_of, cell_at}
-use Rattle.cs_meaning.specs.Marks.{reach_mark}
+use Rattle.cs_meaning.specs.CountedPoints.{reach_counted_point}
 use Rattle.cs_meaning.specs.Calls.{allocate, release}
 use Rattle.cs_meaning.specs.Expressions.{pointer_age, amount_age, given, number_at, stores_to, judge, use_result}
 use Rattle.cs_meaning.specs.Statements.{refilled, spell_local}
@@ -74,6 +74,6 @@ works program budgets at (StoreLocal declaration offset ty scalar) m =
     touches_then (λ local. Stores m.frame.number local at) (if_local scalar declaration)
     (Goes (with_memory (changed (write_operand program ty offset (operand_at m 0)) (LocalObject m.frame.number declaration) m.memory) (pop m)))
 works program budgets at (Spell declaration offset bytes) m = spell_local program declaration offset bytes m
-works program budgets at (Reach kind mark) m = reach_mark budgets at kind mark m
+works program budgets at (Reach kind counted_point) m = reach_counted_point budgets at kind counted_point m
 works program budgets at (Meet kind) m = Touches (Meets kind at) (Goes m)
 works program budgets at (Close nothing) m = Touches (Meets point.End at) (Goes (push (closed_with nothing) m))

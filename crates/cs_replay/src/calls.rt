@@ -70,7 +70,7 @@ impl<'a> Replayer<'a> {
             .show(setting, place, Label::Callee(function))?;
         let alloc = *self.callers.allocator();
         let number = frames_of(&self.runner.machine);
-        let frame = new_frame(alloc, function, number, flow.marks)?;
+        let frame = new_frame(alloc, function, number, flow.counted_points)?;
         let variables = locals_of(setting.program, function);
         let locals = local_blocks(alloc, setting.program, variables, &arguments)?;
         self.go_inside(frame, locals, flow.entry)?;

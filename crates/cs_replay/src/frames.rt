@@ -12,15 +12,15 @@ pub fn new_frame<'a>(
     alloc: Global,
     function: u32,
     number: u64,
-    marks: u32,
+    counted_points: u32,
 ) -> Result<Frame<'a>, AllocError>
-    ensures { IfOk result (λ frame. frame_of frame ≡ begun function number marks) }
+    ensures { IfOk result (λ frame. frame_of frame ≡ begun function number counted_points) }
 {
     Ok(Frame {
         function,
         number,
         todo: Vec::new(alloc),
         stack: Vec::new(alloc),
-        visits: zeros(alloc, u64::from(marks))?,
+        visits: zeros(alloc, u64::from(counted_points))?,
     })
 }

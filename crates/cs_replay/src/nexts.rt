@@ -2,17 +2,17 @@
 ghost use Rattle.std.specs.Prelude.{◌≡◌, ◌+◌};
 ghost use Rattle.cs_cfg.specs.Graph as graph;
 ghost use Rattle.cs_cfg.specs.GraphView as view;
-ghost use Rattle.cs_replay.specs.Nexts.{found_block, flow_found, unmarked, IsNext};
+ghost use Rattle.cs_replay.specs.Nexts.{found_block, flow_found, without_counted_point, IsNext};
 ghost use Rattle.cs_replay.specs.Points.{left_of, point_of};
 
 use crate::positions::Position;
-use cs_cfg::{Block, BlockEnd, Code, Flow, Mark, Operation};
+use cs_cfg::{Block, BlockEnd, Code, CountedPoint, Flow, Operation};
 
 /// What a frame does next.
 #[derive(Clone, Copy)]
 pub enum Next<'a> {
     /// A loop head or a label is reached.
-    Mark(&'a Mark),
+    CountedPoint(&'a CountedPoint),
     Operation(&'a Operation),
     End(&'a BlockEnd),
     /// The frame stands in a block that isn't there.
@@ -54,10 +54,10 @@ pub fn flow_at(code: &Code, function: u32) -> Option<&Flow>
 fn next_in(block: &Block, done: usize) -> Next<'_>
     ensures { IsNext result (left_of done (view.block block.now)) (left_of (done + 1) (view.block block.now)) }
 {
-    match &block.mark {
-        Some(mark) => {
+    match &block.counted_point {
+        Some(counted_point) => {
             if done == 0 {
-                Next::Mark(mark)
+                Next::CountedPoint(counted_point)
             } else {
                 operation_at(block, done - 1)
             }
@@ -68,7 +68,7 @@ fn next_in(block: &Block, done: usize) -> Next<'_>
 
 // The operation with a number in a block, or the block's end.
 fn operation_at(block: &Block, number: usize) -> Next<'_>
-    ensures { IsNext result (left_of number (unmarked block.now)) (left_of (number + 1) (unmarked block.now)) }
+    ensures { IsNext result (left_of number (without_counted_point block.now)) (left_of (number + 1) (without_counted_point block.now)) }
 {
     match block.operations.get(number) {
         Some(operation) => Next::Operation(operation),

@@ -1,7 +1,7 @@
 //! How far frames have come.
 
-/// How far a frame has come: a block of its function, and how many of the things that the block does are done. Its mark is the
-/// first one, where it has a mark.
+/// How far a frame has come: a block of its function, and how many of the things that the block does are done. Its counted point is the
+/// first one, where it has a counted point.
 #[derive(Clone, Copy, Debug, PartialEq, Eq)]
 pub struct Position {
     pub block: u32,

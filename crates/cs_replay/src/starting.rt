@@ -34,9 +34,9 @@ pub fn begin<'a>(
     ensures log { IfOk result (λ run. log_of run.runner.log ≡ empty) }
     ensures kept { IfOk result (λ run. (run.runner.setting.now ≡ setting.now) × (run.code.now ≡ code.now)) }
 {
-    let (block, marks) = beginning(flow_at(code, entry));
+    let (block, counted_points) = beginning(flow_at(code, entry));
     let mut machine = start(alloc, setting, entry)?;
-    let frame = new_frame(alloc, entry, 0, marks)?;
+    let frame = new_frame(alloc, entry, 0, counted_points)?;
     put_in(&mut machine, frame);
     let log = Log::new(alloc);
     let callers = Vec::new(alloc);
@@ -52,13 +52,13 @@ pub fn begin<'a>(
     })
 }
 
-// The block in which a graph begins, and how many marks it has.
+// The block in which a graph begins, and how many counted points it has.
 fn beginning(flow: Option<&Flow>) -> (u32, u32)
     ensures entry { result.0 ≡ (unwrap_or (flow_found flow.entry) no_flow).entry }
-    ensures marks { result.1 ≡ (unwrap_or (flow_found flow.entry) no_flow).marks }
+    ensures counted_points { result.1 ≡ (unwrap_or (flow_found flow.entry) no_flow).counted_points }
 {
     match flow {
-        Some(flow) => (flow.entry, flow.marks),
+        Some(flow) => (flow.entry, flow.counted_points),
         None => (0, 0),
     }
 }

@@ -11,7 +11,7 @@ use crate::operands::cut;
 use crate::replayer::Replayer;
 use crate::working::{takes, work};
 use cs_ast::Place;
-use cs_cfg::{Mark, Operation, Work};
+use cs_cfg::{CountedPoint, Operation, Work};
 use cs_run_state::{Cell, Operand, Stop};
 use std::alloc::AllocError;
 
@@ -25,9 +25,9 @@ impl<'a> Replayer<'a> {
     {
         let function = self.runner.machine.frame.function;
         match next_at(self.code, function, self.position) {
-            Next::Mark(mark) => {
+            Next::CountedPoint(counted_point) => {
                 self.advance()?;
-                self.reach(mark)
+                self.reach(counted_point)
             }
             Next::Operation(operation) => {
                 self.advance()?;
@@ -47,14 +47,17 @@ impl<'a> Replayer<'a> {
     }
 
     // A loop head or a label is reached.
-    fn reach(&mut self, mark: &Mark) -> Result<(), Stop>
-        ensures ok { OnOk result (LeadsOn self.old self.new (steps.do_operation (code_of self.old) (program_of self.old) (budgets_of self.old) (reaching mark.now) (state_in self.old))) }
-        ensures err { IfErr result (Ends self.old self.new (steps.do_operation (code_of self.old) (program_of self.old) (budgets_of self.old) (reaching mark.now) (state_in self.old))) }
+    fn reach(&mut self, counted_point: &CountedPoint) -> Result<(), Stop>
+        ensures ok { OnOk result (LeadsOn self.old self.new (steps.do_operation (code_of self.old) (program_of self.old) (budgets_of self.old) (reaching counted_point.now) (state_in self.old))) }
+        ensures err { IfErr result (Ends self.old self.new (steps.do_operation (code_of self.old) (program_of self.old) (budgets_of self.old) (reaching counted_point.now) (state_in self.old))) }
         ensures kept { OnOk result (KeepsSetting self.old self.new) }
     {
         cut(&mut self.runner.machine, 0);
-        self.runner
-            .reach_mark(mark.place, mark.kind, u64::from(mark.number))?;
+        self.runner.reach_counted_point(
+            counted_point.place,
+            counted_point.kind,
+            u64::from(counted_point.number),
+        )?;
         Ok(())
     }
 

@@ -25,17 +25,17 @@ expression_item expr_step.Act e = machine.Act e
 expression_item expr_step.Fetch e = machine.Fetch e
 expression_item expr_step.Choose e = machine.Choose e
 
--- what is done with a statement whose first mark has a number
+-- what is done with a statement whose first counted point has a number
 abbrev pub statement_item : StmtStep → Statement → ℕ → machine.Item
-statement_item stmt_step.Execute s mark = machine.Execute s mark
-statement_item stmt_step.Decide s mark = machine.Decide s mark
-statement_item stmt_step.Turn s mark = machine.Turn s mark
-statement_item stmt_step.Again s mark = machine.Again s mark
+statement_item stmt_step.Execute s counted_point = machine.Execute s counted_point
+statement_item stmt_step.Decide s counted_point = machine.Decide s counted_point
+statement_item stmt_step.Turn s counted_point = machine.Turn s counted_point
+statement_item stmt_step.Again s counted_point = machine.Again s counted_point
 
 -- a thing to do
 abbrev pub item_of : Item → machine.Item
 item_of (item.Expression step e) = expression_item step (typed e.now)
-item_of (item.Statement step s mark) = statement_item step (statement s.now) mark
+item_of (item.Statement step s counted_point) = statement_item step (statement s.now) counted_point
 item_of (item.Judge place) = machine.Judge place
 item_of (item.Use place) = machine.Use place
 item_of item.Discard = machine.Drop

@@ -11,7 +11,7 @@ use cs_types::CType;
 pub enum Item<'a> {
     /// A step of an expression.
     Expression(ExprStep, &'a Expr),
-    /// A step of a statement. It goes with the number of its first mark in the function's body: loop heads and labels are marks,
+    /// A step of a statement. It goes with the number of its first counted point in the function's body: loop heads and labels are counted points,
     /// and are numbered as they stand there.
     Statement(StmtStep, &'a Stmt, u64),
     /// Make the right part of `&&` or `||` a truth.

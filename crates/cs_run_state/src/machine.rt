@@ -33,7 +33,7 @@ pub struct Frame<'a> {
     pub todo: Vec<Item<'a>>,
     /// Values and places, the newest last.
     pub stack: Vec<Operand>,
-    /// How often each mark of the body was reached.
+    /// How often each counted point of the body was reached.
     pub visits: Vec<u32>,
 }
 

@@ -17,11 +17,11 @@ lower_whole-requires c = record {
   labels = λ label.
       let body = statement c.args.body.now in
       let none = ap (λ es. lookup (is_at (nat_cmp label)) es) c.new-labels.ensures.empty in
-      c.in_ok-marks.ensures.labels label
+      c.in_ok-counted_points.ensures.labels label
       ∙ (ap (λ found. option_or found (label_in label body 0)) none
       ∙ ap (λ b. label_in label (unwrap_or b (Block (routine c.args.function.now).at Empty)) 0) (sym c.requires.own));
 }
 
 pub returns : goal.returns
 returns c =
-    whole_body c.in_ok-entry.ensures c.new-graph.ensures (omega (arith, c.in_ok-marks.ensures.next)) c.in_ok-flow.ensures.whole c.in_ok-flow.ensures.no_other c.in_ok-flow.ensures.entry c.in_ok-flow.ensures.marks c.requires.own
+    whole_body c.in_ok-entry.ensures c.new-graph.ensures (omega (arith, c.in_ok-counted_points.ensures.next)) c.in_ok-flow.ensures.whole c.in_ok-flow.ensures.no_other c.in_ok-flow.ensures.entry c.in_ok-flow.ensures.counted_points c.requires.own

@@ -139,7 +139,7 @@ lower_way_out-returns t c = executes_in c.jump.ensures c.in_ok-made.ensures c.in
 
 pub lower_label-returns : goal.lower_label-returns
 lower_label-returns t c = λ label.
-    made.label {mark = c.in_ok-mark.mark} {inner = c.in_ok-inner.inner} {old = built_of c.args.graph.now} c.in_ok-mark.ensures c.in_ok-inner.ensures c.in_ok-made.ensures c.in_ok-seal_mark.ensures c.jump.ensures
+    made.label {counted_point = c.in_ok-counted_point.counted_point} {inner = c.in_ok-inner.inner} {old = built_of c.args.graph.now} c.in_ok-counted_point.ensures c.in_ok-inner.ensures c.in_ok-made.ensures c.in_ok-seal_counted_point.ensures c.jump.ensures
 
 pub lower_switch-returns : goal.lower_switch-returns
 lower_switch-returns t c = λ out.
@@ -149,11 +149,11 @@ lower_switch-returns t c = λ out.
 
 pub lower_while-returns : goal.lower_while-returns
 lower_while-returns t c = λ out again.
-    while_made {head = c.in_ok-head.head} {old = built_of c.args.graph.now} c.in_ok-head.ensures c.in_ok-inner.ensures c.in_ok-end.ensures c.in_ok-one.ensures c.in_ok-turned.ensures c.in_ok-seal_mark.ensures c.jump.ensures
+    while_made {head = c.in_ok-head.head} {old = built_of c.args.graph.now} c.in_ok-head.ensures c.in_ok-inner.ensures c.in_ok-end.ensures c.in_ok-one.ensures c.in_ok-turned.ensures c.in_ok-seal_counted_point.ensures c.jump.ensures
 
 pub lower_do-returns : goal.lower_do-returns
 lower_do-returns t c = λ out again.
-    do_made {head = c.in_ok-start.start} {old = built_of c.args.graph.now} c.in_ok-start.ensures c.in_ok-inner.ensures c.in_ok-end.ensures c.in_ok-tested.ensures c.in_ok-again.ensures c.jump.ensures c.in_ok-turned.ensures c.in_ok-seal_mark.ensures c.jump-2.ensures
+    do_made {head = c.in_ok-start.start} {old = built_of c.args.graph.now} c.in_ok-start.ensures c.in_ok-inner.ensures c.in_ok-end.ensures c.in_ok-tested.ensures c.in_ok-again.ensures c.jump.ensures c.in_ok-turned.ensures c.in_ok-seal_counted_point.ensures c.jump-2.ensures
 
 pub lower_for-returns : goal.lower_for-returns
 lower_for-returns t c = λ out.
@@ -168,7 +168,7 @@ lower_for-returns t c = λ out.
     (for_made
     (for_turned {counted = c.in_ok-before.before} {inside = c.in_ok-inside.inside} {inner = c.in_ok-inner.inner} {head = c.in_ok-head.head} {old = built_of c.args.graph.now}
     c.in_ok-head.ensures c.in_ok-inner.ensures c.in_ok-before.ensures c.in_ok-inside.ensures c.in_ok-end.ensures c.in_ok-turn.ensures c.jump.ensures c.in_ok-made.ensures c.in_ok-strip.ensures)
-    c.jump-2.ensures c.in_ok-entry.ensures c.in_ok-seal_mark.ensures)
+    c.jump-2.ensures c.in_ok-entry.ensures c.in_ok-seal_counted_point.ensures)
 
 pub lower_all-loop-left-init : goal.lower_all-loop-left-init
 lower_all-loop-left-init t c = record {

@@ -6,5 +6,5 @@ use Rattle.cs_lower.proofs.strips.Strip.into_block.Goals as goal
 
 pub returns : goal.returns
 returns c =
-    let block : List Operation → Point = λ l. record { operations = view.marked c.args.mark l; end = view.block_end c.args.self.end } in
+    let block : List Operation → Point = λ l. record { operations = view.with_counted_point c.args.counted_point l; end = view.block_end c.args.self.end } in
     ap block (ap (map view.operation) c.reverse.ensures.items ∙ map_reverse view.operation c.args.self.operations.items)

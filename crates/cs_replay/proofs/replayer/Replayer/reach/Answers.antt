@@ -1,5 +1,5 @@
 use Rattle.std.proofs.Common.{◌≡◌, Err, rules}
-use Rattle.cs_meaning.specs.Marks.{reach_mark}
+use Rattle.cs_meaning.specs.CountedPoints.{reach_counted_point}
 use Rattle.cs_run_state.specs.View.{setting_of, log_of}
 use Rattle.cs_run_state.specs.MachineView.{state_of}
 use Rattle.cs_cfg.specs.Working as working
@@ -9,26 +9,26 @@ use Rattle.cs_replay.specs.ReplayerView.{program_of, budgets_of, code_of, caller
 use Rattle.cs_replay.specs.Works.{cut_to}
 use Rattle.cs_replay.proofs.Leading.{ends_so}
 use Rattle.cs_replay.proofs.Performs.{leads_so}
-use Rattle.cs_replay.proofs.Reported.{mark_reported}
+use Rattle.cs_replay.proofs.Reported.{counted_point_reported}
 use Rattle.cs_replay.proofs.replayer.Replayer.reach.Goals as goal
 
-pub returns-in_err-reach_mark-clause-err : goal.returns-in_err-reach_mark-clause-err
-returns-in_err-reach_mark-clause-err c =
+pub returns-in_err-reach_counted_point-clause-err : goal.returns-in_err-reach_counted_point-clause-err
+returns-in_err-reach_counted_point-clause-err c =
     let run = c.args.self.now in
-    let mark = c.args.mark.now in
+    let counted_point = c.args.counted_point.now in
     let m = cut_to 0 (state_of run.runner.machine) in
     let points = point_of run.code.now run.position in
     let callers = callers_of run.code.now run.callers.items in
-    let there : c.from_residual.result ≡ Err c.in_err-reach_mark.field-0.0 = search rules in
-    let ends = rw (c.cut.ensures, c.from.ensures) at c.in_err-reach_mark.ensures.err in
-    rw there (ends_so (setting_of run.runner.setting.now) (log_of run.runner.log) (log_of c.reach_mark.new.self.log) (code_state points callers) (reach_mark (budgets_of run) mark.place mark.kind mark.number m) (reach_mark (budgets_of run) mark.place mark.kind mark.number (working.cut 0 (state_in run))) c.in_err-reach_mark.field-0.0 (mark_reported points callers (code_of run) (program_of run) (budgets_of run) mark.place mark.kind mark.number m) ends)
+    let there : c.from_residual.result ≡ Err c.in_err-reach_counted_point.field-0.0 = search rules in
+    let ends = rw (c.cut.ensures, c.from.ensures) at c.in_err-reach_counted_point.ensures.err in
+    rw there (ends_so (setting_of run.runner.setting.now) (log_of run.runner.log) (log_of c.reach_counted_point.new.self.log) (code_state points callers) (reach_counted_point (budgets_of run) counted_point.place counted_point.kind counted_point.number m) (reach_counted_point (budgets_of run) counted_point.place counted_point.kind counted_point.number (working.cut 0 (state_in run))) c.in_err-reach_counted_point.field-0.0 (counted_point_reported points callers (code_of run) (program_of run) (budgets_of run) counted_point.place counted_point.kind counted_point.number m) ends)
 
 pub returns-clause-ok : goal.returns-clause-ok
 returns-clause-ok c =
     let run = c.args.self.now in
-    let mark = c.args.mark.now in
+    let counted_point = c.args.counted_point.now in
     let m = cut_to 0 (state_of run.runner.machine) in
     let points = point_of run.code.now run.position in
     let callers = callers_of run.code.now run.callers.items in
-    let leads = rw (c.cut.ensures, c.from.ensures) at c.in_ok-reach_mark.ensures.ok in
-    leads_so (code_state points callers) (setting_of run.runner.setting.now) (log_of run.runner.log) (log_of c.reach_mark.new.self.log) (reach_mark (budgets_of run) mark.place mark.kind mark.number m) (reach_mark (budgets_of run) mark.place mark.kind mark.number (working.cut 0 (state_in run))) (state_of c.reach_mark.new.self.machine) (mark_reported points callers (code_of run) (program_of run) (budgets_of run) mark.place mark.kind mark.number m) leads
+    let leads = rw (c.cut.ensures, c.from.ensures) at c.in_ok-reach_counted_point.ensures.ok in
+    leads_so (code_state points callers) (setting_of run.runner.setting.now) (log_of run.runner.log) (log_of c.reach_counted_point.new.self.log) (reach_counted_point (budgets_of run) counted_point.place counted_point.kind counted_point.number m) (reach_counted_point (budgets_of run) counted_point.place counted_point.kind counted_point.number (working.cut 0 (state_in run))) (state_of c.reach_counted_point.new.self.machine) (counted_point_reported points callers (code_of run) (program_of run) (budgets_of run) counted_point.place counted_point.kind counted_point.number m) leads

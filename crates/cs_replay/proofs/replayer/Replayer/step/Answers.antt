@@ -9,17 +9,17 @@ use Rattle.cs_replay.specs.ReplayerView.{program_of, budgets_of, code_of, state_
 use Rattle.cs_replay.proofs.Stepping.{leads_after, ends_after, kept_after, ready_after, step_ends, step_leaves, on_ok}
 use Rattle.cs_replay.proofs.replayer.Replayer.step.Goals as goal
 
-pub returns-in_ok-advance-in-Mark-clause-ok : goal.returns-in_ok-advance-in-Mark-clause-ok
-returns-in_ok-advance-in-Mark-clause-ok c =
-    on_ok c.reach.result (leads_after c.args.self.now c.advance.new.self c.reach.new.self (reaching c.in-Mark.mark.now) c.in_ok-advance-in-Mark.ensures c.in-Mark.ensures) c.reach.ensures.ok
+pub returns-in_ok-advance-in-CountedPoint-clause-ok : goal.returns-in_ok-advance-in-CountedPoint-clause-ok
+returns-in_ok-advance-in-CountedPoint-clause-ok c =
+    on_ok c.reach.result (leads_after c.args.self.now c.advance.new.self c.reach.new.self (reaching c.in-CountedPoint.counted_point.now) c.in_ok-advance-in-CountedPoint.ensures c.in-CountedPoint.ensures) c.reach.ensures.ok
 
-pub returns-in_ok-advance-in-Mark-clause-err : goal.returns-in_ok-advance-in-Mark-clause-err
-returns-in_ok-advance-in-Mark-clause-err c =
-    IfErr-weaker c.reach.result _ _ (ends_after c.args.self.now c.advance.new.self c.reach.new.self (reaching c.in-Mark.mark.now) c.in_ok-advance-in-Mark.ensures c.in-Mark.ensures) c.reach.ensures.err
+pub returns-in_ok-advance-in-CountedPoint-clause-err : goal.returns-in_ok-advance-in-CountedPoint-clause-err
+returns-in_ok-advance-in-CountedPoint-clause-err c =
+    IfErr-weaker c.reach.result _ _ (ends_after c.args.self.now c.advance.new.self c.reach.new.self (reaching c.in-CountedPoint.counted_point.now) c.in_ok-advance-in-CountedPoint.ensures c.in-CountedPoint.ensures) c.reach.ensures.err
 
-pub returns-in_ok-advance-in-Mark-clause-kept : goal.returns-in_ok-advance-in-Mark-clause-kept
-returns-in_ok-advance-in-Mark-clause-kept c =
-    on_ok c.reach.result (kept_after c.args.self.now c.advance.new.self c.reach.new.self (reaching c.in-Mark.mark.now) c.in_ok-advance-in-Mark.ensures c.in-Mark.ensures) c.reach.ensures.kept
+pub returns-in_ok-advance-in-CountedPoint-clause-kept : goal.returns-in_ok-advance-in-CountedPoint-clause-kept
+returns-in_ok-advance-in-CountedPoint-clause-kept c =
+    on_ok c.reach.result (kept_after c.args.self.now c.advance.new.self c.reach.new.self (reaching c.in-CountedPoint.counted_point.now) c.in_ok-advance-in-CountedPoint.ensures c.in-CountedPoint.ensures) c.reach.ensures.kept
 
 pub operate-requires : goal.operate-requires
 operate-requires c = ready_after c.args.self.now c.advance-in-Operation.new.self c.advance-in-Operation.new.self (view.operation c.in-Operation.operation.now) c.in_ok-advance-in-Operation.ensures c.in-Operation.ensures c.requires

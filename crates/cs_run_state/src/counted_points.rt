@@ -1,44 +1,44 @@
-//! Marks: the loop heads and the labels of a body, numbered as they stand there.
+//! Counted points: the loop heads and the labels of a body, numbered as they stand there.
 ghost use Rattle.std.specs.Prelude.{◌≡◌, ◌+◌, IfOk};
 ghost use Rattle.cs_ast.specs.TypedView.{statement, statement_list};
-ghost use Rattle.cs_meaning.specs.Marks as meaning;
+ghost use Rattle.cs_meaning.specs.CountedPoints as meaning;
 
 use cs_ast::typed::statement::{Stmt, StmtKind};
 use std::alloc::AllocError;
 
 /// How many loop heads and labels there are in a statement.
-#[cycle(marks)]
-pub fn marks(s: &Stmt) -> Result<u64, AllocError>
-    ensures { IfOk result (λ count. count ≡ meaning.marks (statement s.now)) }
+#[cycle(counted_points)]
+pub fn counted_points(s: &Stmt) -> Result<u64, AllocError>
+    ensures { IfOk result (λ count. count ≡ meaning.counted_points (statement s.now)) }
 {
     match &s.kind {
-        StmtKind::Block(statements) => marks_in(statements),
+        StmtKind::Block(statements) => counted_points_in(statements),
         StmtKind::Declare(_, _) => Ok(0),
         StmtKind::Run(_) => Ok(0),
-        StmtKind::If(_, body) => marks(body),
+        StmtKind::If(_, body) => counted_points(body),
         StmtKind::IfElse(_, body, other) => {
-            let first = marks(body)?;
-            let second = marks(other)?;
+            let first = counted_points(body)?;
+            let second = counted_points(other)?;
             together(first, second)
         }
         StmtKind::While(_, body) => {
-            let inner = marks(body)?;
+            let inner = counted_points(body)?;
             together(1, inner)
         }
         StmtKind::Do(body, _) => {
-            let inner = marks(body)?;
+            let inner = counted_points(body)?;
             together(1, inner)
         }
         StmtKind::For(first, _, _, body) => {
-            let before = marks_in(first)?;
-            let inner = marks(body)?;
+            let before = counted_points_in(first)?;
+            let inner = counted_points(body)?;
             let head = together(1, before)?;
             together(head, inner)
         }
-        StmtKind::Switch(_, _, statements) => marks_in(statements),
+        StmtKind::Switch(_, _, statements) => counted_points_in(statements),
         StmtKind::Goto(_) => Ok(0),
         StmtKind::Label(_, body) => {
-            let inner = marks(body)?;
+            let inner = counted_points(body)?;
             together(1, inner)
         }
         StmtKind::Break => Ok(0),
@@ -48,19 +48,19 @@ pub fn marks(s: &Stmt) -> Result<u64, AllocError>
 }
 
 /// How many there are in statements one after another.
-#[cycle(marks)]
-pub fn marks_in(statements: &[Stmt]) -> Result<u64, AllocError>
-    ensures { IfOk result (λ count. count ≡ meaning.marks_in (statement_list statements.now)) }
+#[cycle(counted_points)]
+pub fn counted_points_in(statements: &[Stmt]) -> Result<u64, AllocError>
+    ensures { IfOk result (λ count. count ≡ meaning.counted_points_in (statement_list statements.now)) }
 {
     let mut count = 0;
     for s in statements {
-        let inner = marks(s)?;
+        let inner = counted_points(s)?;
         count = together(count, inner)?;
     }
     Ok(count)
 }
 
-/// So many marks and so many more.
+/// So many counted points and so many more.
 pub fn together(some: u64, more: u64) -> Result<u64, AllocError>
     ensures { IfOk result (λ all. all ≡ some + more) }
 {

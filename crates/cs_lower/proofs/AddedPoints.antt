@@ -4,7 +4,7 @@ use Rattle.cs_ast.specs.declared.place.Place.{Place}
 use Rattle.cs_ast.specs.TypedTree.{Typed, Statement, Statements, IfElse, For}
 use Rattle.cs_events.specs.declared.point.PointKind.TheVariants as point
 use Rattle.cs_cfg.specs.ControlPoints.{Next, met, first_some, points, points_some, Targets, for_test, for_tested, for_points, in_loop, in_switch, starts, flows, flows_in}
-use Rattle.cs_cfg.specs.Fitting.{Brings}
+use Rattle.cs_cfg.specs.Fitting.{AddsPoints}
 use Rattle.cs_cfg.specs.Graph.{Point, Flow, Reach, block_of}
 use Rattle.cs_cfg.specs.GraphPoints.{MeetsNext}
 use Rattle.cs_cfg.specs.Placing.{does, split}
@@ -13,14 +13,14 @@ use Rattle.cs_lower.specs.Building.{jump_to}
 
 module _ {flow : Flow} where
   -- all blocks but the first
-  pub brings_less : {block : Point} {blocks : List Point} → Brings flow [] (block ∷ blocks) blocks
-  brings_less = record { keeps = λ all includes fit. fit_others fit }
+  pub adds_less : {block : Point} {blocks : List Point} → AddsPoints flow [] (block ∷ blocks) blocks
+  adds_less = record { keeps = λ all includes fit. fit_others fit }
 
   -- an `if` with an `else`, which is put together before the other way
-  pub if_else_brings : (at : Place) (test : Typed) (body other : Statement) (to : Targets) (following : Next) (one two end : ℕ) {old with_other with_both new : List Point} →
-      MeetsNext flow (block_of flow one) (starts to body following) → MeetsNext flow (block_of flow two) (starts to other following) → Brings flow (flows to other following) (jump_to end ∷ old) with_other →
-      Brings flow (flows to body following) (jump_to end ∷ with_other) with_both → Brings flow (points test (met point.Branch at)) (split at 0 one two ∷ with_both) new → Brings flow (flows to (IfElse at test body other) following) old new
-  if_else_brings at test body other to following one two end one_met two_met others inside tests = record {
+  pub if_else_adds : (at : Place) (test : Typed) (body other : Statement) (to : Targets) (following : Next) (one two end : ℕ) {old with_other with_both new : List Point} →
+      MeetsNext flow (block_of flow one) (starts to body following) → MeetsNext flow (block_of flow two) (starts to other following) → AddsPoints flow (flows to other following) (jump_to end ∷ old) with_other →
+      AddsPoints flow (flows to body following) (jump_to end ∷ with_other) with_both → AddsPoints flow (points test (met point.Branch at)) (split at 0 one two ∷ with_both) new → AddsPoints flow (flows to (IfElse at test body other) following) old new
+  if_else_adds at test body other to following one two end one_met two_met others inside tests = record {
     keeps = λ all includes fit.
         let in_test = points test (met point.Branch at) in
         let in_body = flows to body following in
@@ -33,13 +33,13 @@ module _ {flow : Flow} where
   }
 
   -- a `for`, whose first part is put together between the loop and its head
-  pub for_brings : (at : Place) (beginning : Statements) (test last : Option Typed) (body : Statement) (to : Targets) (following : Next) (head : ℕ) (p r : Point) {old with_loop with_first new : List Point} →
+  pub for_adds : (at : Place) (beginning : Statements) (test last : Option Typed) (body : Statement) (to : Targets) (following : Next) (head : ℕ) (p r : Point) {old with_loop with_first new : List Point} →
       MeetsNext flow r (for_test at test (starts (in_loop to following (first_some last (met point.Head at))) body (first_some last (met point.Head at)))) →
-      Brings flow ((for_tested at test (starts (in_loop to following (first_some last (met point.Head at))) body (first_some last (met point.Head at))) following ++ for_points at test)
+      AddsPoints flow ((for_tested at test (starts (in_loop to following (first_some last (met point.Head at))) body (first_some last (met point.Head at))) following ++ for_points at test)
       ++ (flows (in_loop to following (first_some last (met point.Head at))) body (first_some last (met point.Head at)) ++ points_some last (met point.Head at))) old (r ∷ with_loop) →
-      Brings flow (flows_in (in_switch to following) beginning (met point.Head at)) (jump_to head ∷ with_loop) (p ∷ with_first) → Brings flow [] (does at 0 (Reach point.Head head) r ∷ with_first) new →
-      Brings flow (flows to (For at beginning test last body) following) old (p ∷ new)
-  for_brings at beginning test last body to following head p r inside_met loop begins heads = record {
+      AddsPoints flow (flows_in (in_switch to following) beginning (met point.Head at)) (jump_to head ∷ with_loop) (p ∷ with_first) → AddsPoints flow [] (does at 0 (Reach point.Head head) r ∷ with_first) new →
+      AddsPoints flow (flows to (For at beginning test last body) following) old (p ∷ new)
+  for_adds at beginning test last body to following head p r inside_met loop begins heads = record {
     keeps = λ all includes fit.
         let to_last = first_some last (met point.Head at) in
         let inner = in_loop to following to_last in

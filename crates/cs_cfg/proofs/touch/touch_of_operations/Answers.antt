@@ -1,7 +1,7 @@
 use Rattle.std.proofs.Common.{◌∙◌}
 use Rattle.cs_cfg.specs.GraphView.{block_end}
 use Rattle.cs_cfg.proofs.Reported.{reported_inside, reported_after, reported_nowhere}
-use Rattle.cs_cfg.proofs.touch.unmarked_touch.Goals as goal
+use Rattle.cs_cfg.proofs.touch.touch_of_operations.Goals as goal
 
 pub returns-in-Some : goal.returns-in-Some
 returns-in-Some c = record { reported = c.touch.ensures.reported ∙ reported_inside c.args.operations.now (block_end c.args.end.now) c.args.number c.in-Some.operation c.in-Some.ensures.lookup }
