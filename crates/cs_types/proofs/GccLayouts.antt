@@ -14,7 +14,7 @@
 --  9  struct deep { struct nested n[2]; struct wide w; char c; }
 -- 10  struct grid { short m[2][3]; unsigned long long last; }
 -- 11  struct many { unsigned char a; unsigned short b; unsigned d; unsigned long e; unsigned long long f; signed char g; }
-use Rattle.std.proofs.Common.{ℕ, List, [], ◌∷◌, refl, Box, Global}
+use Rattle.std.proofs.Common.{ℕ, List, [], ◌∷◌, refl}
 use Rattle.std.specs.Prelude.{Some}
 use Rattle.cs_types.specs.declared.data_model.DataModel.TheVariants.{Lp64, Ilp32}
 use Rattle.cs_types.specs.declared.int_type.IntType.TheVariants.{Char, SChar, UChar, Short, UShort, Int as PlainInt, UInt, Long, ULong, LLong, ULLong}

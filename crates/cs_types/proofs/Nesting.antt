@@ -10,7 +10,7 @@ use Rattle.cs_types.specs.declared.int_type.IntType.TheVariants.{Char, SChar, UC
 use Rattle.cs_types.specs.Members.{Member}
 use Rattle.cs_types.specs.declared.structs.StructType.{StructType}
 use Rattle.cs_types.specs.IntType.{bytes_of, word_bytes}
-use Rattle.cs_types.specs.Shape.{Shape, void, integer, pointer, array, struct, shape_of}
+use Rattle.cs_types.specs.Shape.{Shape, void, integer, pointer, array, struct}
 use Rattle.cs_types.specs.Layout.{Layout, round_up, repeated, alone, side_by_side, padded, layout_with, member_layouts, members_of, struct_layout}
 use Rattle.cs_types.specs.LeafSearch.{layout_within}
 use Rattle.cs_types.proofs.Leaves.{Within-wider, Within-row, Within-side_by_side, side_by_side-aligned, round_up-least, IsSound, AllSound}

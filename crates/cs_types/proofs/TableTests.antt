@@ -11,7 +11,7 @@ use Rattle.cs_names.proofs.Comparisons.{same_bytes}
 use Rattle.cs_types.specs.declared.data_model.DataModel.{DataModel}
 use Rattle.cs_types.specs.Members.{Member}
 use Rattle.cs_types.specs.declared.structs.StructType.{StructType}
-use Rattle.cs_types.specs.Shape.{Shape, void, integer, pointer, array, struct, shape_of}
+use Rattle.cs_types.specs.Shape.{Shape, void, integer, pointer, array, struct}
 use Rattle.cs_types.specs.Layout.{Layout, layout_of, member_layouts, offsets, HasSmallSizes, IsLaid, IsLaidOut, Fits}
 
 both : (a b : Bool) → (a && b) ≡ true → (a ≡ true) × (b ≡ true)

@@ -7,7 +7,7 @@ use Rattle.cs_types.specs.declared.data_model.DataModel.{DataModel}
 use Rattle.cs_types.specs.Members.{Member}
 use Rattle.cs_types.specs.declared.structs.StructType.{StructType}
 use Rattle.cs_types.specs.IntType.{bytes_of, word_bytes}
-use Rattle.cs_types.specs.Shape.{Shape, void, integer, pointer, array, struct, shape_of}
+use Rattle.cs_types.specs.Shape.{Shape, void, integer, pointer, array, struct}
 
 -- a scalar with the offset at which it begins
 pub record Leaf : Type 0 where

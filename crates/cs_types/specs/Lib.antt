@@ -2,6 +2,7 @@ pub mod Conversions
 pub mod DataModel
 pub mod IntType
 pub mod Layout
+pub mod Kinds
 pub mod LeafSearch
 pub mod Shape
 pub mod Members

@@ -6,7 +6,7 @@ use crate::int_type::IntType;
 use std::alloc::{AllocError, Global};
 
 /// A type of C (C11 6.2.5). An enum is `int`; a struct is its number in the table of structs.
-#[derive(Debug, Drop)]
+#[derive(Drop)]
 pub enum CType {
     Void,
     Int(IntType),

@@ -1,5 +1,6 @@
 //! The two data models, and what else of the analyzed machine they fix.
 ghost use Rattle.std.specs.Prelude.{◌≡◌, ◌^◌, ◌≤◌, pos};
+ghost use Rattle.cs_types.specs.IntType.{word_bytes};
 ghost use Rattle.cs_types.specs.DataModel.{size_type_of, difference_type_of, offset_bound_of, product_bound_of, start_extent_of};
 
 use crate::int_type::IntType;
@@ -9,6 +10,16 @@ use crate::int_type::IntType;
 pub enum DataModel {
     Lp64,
     Ilp32,
+}
+
+/// The bytes of a pointer.
+pub fn pointer_bytes(model: DataModel) -> u64
+    ensures { result ≡ word_bytes model }
+{
+    match model {
+        DataModel::Lp64 => 8,
+        DataModel::Ilp32 => 4,
+    }
 }
 
 /// The type of `sizeof` (C11 6.5.3.4).

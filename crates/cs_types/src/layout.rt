@@ -1,16 +1,15 @@
 //! Sizes, alignments and scalars of types, found by dividing offsets (C11 6.2.8, 6.5.3.4, 6.7.2.1).
 ghost use Rattle.std.specs.Prelude.{◌≡◌, option_copied};
 ghost use Rattle.std.specs.Option.{option_map};
-ghost use Rattle.cs_types.specs.IntType.{word_bytes};
 ghost use Rattle.cs_types.specs.Shape.{shape_of};
-ghost use Rattle.cs_types.specs.Layout.{Fits, IsLaidOut, layout_of, leaf_of, complete_of};
+ghost use Rattle.cs_types.specs.Layout.{Fits, IsLaidOut, layout_of, leaf_of};
 ghost use Rattle.cs_types.specs.LeafSearch.{DividesArrays, EntersMember, last_at};
 
 use crate::ctype::CType;
-use crate::data_model::DataModel;
+use crate::data_model::{DataModel, pointer_bytes};
 use crate::int_type::bytes;
 use crate::members::Member;
-use crate::structs::{StructTable, StructType};
+use crate::structs::{StructTable, complete_struct};
 
 /// The bytes of a type, as `sizeof` tells them, and `None` for `void` and incomplete types.
 pub fn size(model: DataModel, table: &StructTable, ty: &CType) -> Option<u64>
@@ -40,28 +39,6 @@ pub fn align(model: DataModel, table: &StructTable, ty: &CType) -> Option<u64>
     }
 }
 
-// The bytes of a pointer.
-fn pointer_bytes(model: DataModel) -> u64
-    ensures { result ≡ word_bytes model }
-{
-    match model {
-        DataModel::Lp64 => 8,
-        DataModel::Ilp32 => 4,
-    }
-}
-
-// The struct with this number if it has its members.
-fn complete_struct(table: &StructTable, number: u32) -> Option<&StructType>
-    ensures { option_copied result ≡ complete_of table.now.list number }
-{
-    let structs = table.list.as_slice();
-    let found = structs.get(number as usize)?;
-    match &found.members {
-        Some(_) => Some(found),
-        None => None,
-    }
-}
-
 /// The scalar type that begins at an offset of a type: it costs the depth of the type, and not the length of its
 /// arrays. `None` where none begins there, as in `void` and incomplete types.
 pub fn leaf_at<'a>(
@@ -88,7 +65,7 @@ pub fn leaf_at<'a>(
 }
 
 // What an offset of a type leads to, once the arrays around it are divided away.
-#[derive(Debug, Drop)]
+#[derive(Drop)]
 enum Base<'a> {
     // A scalar that begins there.
     Scalar(&'a CType),

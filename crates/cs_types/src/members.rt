@@ -8,7 +8,7 @@ use std::alloc::{AllocError, Global};
 use std::marker::Model;
 
 /// A member of a struct, with its offset in bytes from the struct's start. A contract sees the shape of its type.
-#[derive(Debug, Drop)]
+#[derive(Drop)]
 pub struct Member {
     name: Name,
     ty: CType,
@@ -58,7 +58,7 @@ impl Member {
 }
 
 /// The members of a struct in their order. A contract sees them as a list.
-#[derive(Debug, Drop)]
+#[derive(Drop)]
 pub struct Members {
     list: Vec<Member>,
 }

@@ -1,5 +1,6 @@
 //! The structs of a program, and the table that numbers them.
-ghost use Rattle.std.specs.Prelude.{◌≡◌, ◌<◌, ◌++◌, [], ◌∷◌, OnOk, OnErr, length, slice_set};
+ghost use Rattle.std.specs.Prelude.{◌≡◌, ◌<◌, ◌++◌, [], ◌∷◌, OnOk, OnErr, length, slice_set, option_copied};
+ghost use Rattle.cs_types.specs.Layout.{members_of, complete_of};
 
 use crate::members::Members;
 use cs_names::Name;
@@ -8,7 +9,7 @@ use std::marker::Model;
 
 /// A struct by its tag, with its size and alignment in bytes. An incomplete one has no members yet, and its size and
 /// alignment mean nothing.
-#[derive(Debug, Drop)]
+#[derive(Drop)]
 pub struct StructType {
     pub tag: Name,
     pub members: Option<Members>,
@@ -17,7 +18,7 @@ pub struct StructType {
 }
 
 /// Structs by number. A contract sees them as a list.
-#[derive(Debug, Drop)]
+#[derive(Drop)]
 pub struct Structs {
     list: Vec<StructType>,
 }
@@ -70,7 +71,31 @@ impl Structs {
 }
 
 /// The structs of a program: a struct's number is its place in the list.
-#[derive(Debug, Drop)]
+#[derive(Drop)]
 pub struct StructTable {
     pub list: Structs,
+}
+
+/// The members of a struct, if it has them.
+pub fn members_of(table: &StructTable, number: u32) -> Option<&Members>
+    ensures { option_copied result ≡ members_of table.now.list number }
+{
+    let structs = table.list.as_slice();
+    let found = structs.get(number as usize)?;
+    match &found.members {
+        Some(members) => Some(members),
+        None => None,
+    }
+}
+
+/// The struct with this number, if it has its members.
+pub fn complete_struct(table: &StructTable, number: u32) -> Option<&StructType>
+    ensures { option_copied result ≡ complete_of table.now.list number }
+{
+    let structs = table.list.as_slice();
+    let found = structs.get(number as usize)?;
+    match &found.members {
+        Some(_) => Some(found),
+        None => None,
+    }
 }

@@ -1,8 +1,12 @@
-//! Worked examples of the typing of expressions: texts with the types and the values that gcc gives them.
+//! Worked examples of types and of the typing of expressions: numbers, layouts, and texts with the types and the values that gcc gives them.
 #![tactic(auto)]
 
 #[cfg(test)]
 mod constants;
+#[cfg(test)]
+mod integers;
+#[cfg(test)]
+mod layouts;
 #[cfg(test)]
 mod refused;
 #[cfg(test)]
