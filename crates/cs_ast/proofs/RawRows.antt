@@ -14,7 +14,7 @@ written-row n end_of-RawExpr = refl
 written-row n (more_of-RawExpr place p kind rest) = ap (More (written_kind kind)) (written-row _ rest)
 
 -- the row of an expression's arguments or bounds
-abbrev row_of : RawExprKind → (n : Count) × Row_of-RawExpr n
+abbrev pub row_of : RawExprKind → (n : Count) × Row_of-RawExpr n
 row_of (kind.Call' place p function shape row) = (_, row)
 row_of (kind.SizeOfType' ty shape row) = (_, row)
 row_of (kind.Cast' ty shape row place p operand) = (_, row)

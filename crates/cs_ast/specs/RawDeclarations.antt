@@ -49,7 +49,7 @@ pub record Declared : Type 0 where
   pub declarator : Declarator
   pub initial : Option Initial
 
--- a parameter, whose name may be left out
+-- a parameter, whose name may be absent
 pub record Parameter : Type 0 where
   pub specs : Specs
   pub pointers : List PointerWord

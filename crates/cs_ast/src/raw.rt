@@ -11,6 +11,4 @@ pub mod name;
 pub mod operator;
 pub mod statement;
 pub mod statement_height;
-#[cfg(test)]
-mod tests;
 pub mod written_type;

@@ -4,18 +4,18 @@ use crate::place::Place;
 use cs_names::{Bytes, Name};
 
 /// A token at the place of its first byte.
-#[derive(Clone, Debug, Drop, PartialEq, Eq)]
+#[derive(Clone, Drop, PartialEq, Eq)]
 pub struct Token {
     pub kind: TokenKind,
     pub place: Place,
 }
 
 /// What a token is.
-#[derive(Clone, Debug, Drop, PartialEq, Eq)]
+#[derive(Clone, Drop, PartialEq, Eq)]
 pub enum TokenKind {
     /// A keyword that the grammar takes.
     Keyword(Keyword),
-    /// A word of C that is left out: no production takes it.
+    /// A word of C that isn't supported: no production takes it.
     Unsupported(Unsupported),
     /// The word `__attribute__` without a closed parenthesis after it: no production takes it.
     Attribute,
@@ -32,7 +32,7 @@ pub enum TokenKind {
 }
 
 /// An integer constant: its value, and what its type depends on beside the value.
-#[derive(Clone, Copy, Debug, PartialEq, Eq)]
+#[derive(Clone, Copy, PartialEq, Eq)]
 pub struct IntegerConstant {
     pub value: u64,
     /// Whether it is written in base ten.
@@ -43,7 +43,7 @@ pub struct IntegerConstant {
 }
 
 /// The `l`s of a suffix.
-#[derive(Clone, Copy, Debug, PartialEq, Eq)]
+#[derive(Clone, Copy, PartialEq, Eq)]
 pub enum Length {
     Plain,
     Long,
@@ -51,7 +51,7 @@ pub enum Length {
 }
 
 /// The keywords that the grammar takes (C11 6.4.1).
-#[derive(Clone, Copy, Debug, PartialEq, Eq)]
+#[derive(Clone, Copy, PartialEq, Eq)]
 pub enum Keyword {
     Break,
     Case,
@@ -80,8 +80,8 @@ pub enum Keyword {
     While,
 }
 
-/// The words of C and of its common extensions that are left out, one for each spelling.
-#[derive(Clone, Copy, Debug, PartialEq, Eq)]
+/// The words of C and of its common extensions that aren't supported, one for each spelling.
+#[derive(Clone, Copy, PartialEq, Eq)]
 pub enum Unsupported {
     Float,
     Double,
@@ -111,18 +111,18 @@ pub enum Unsupported {
     /// `asm`
     Asm,
     /// `__asm__`
-    AsmBetween,
+    AsmUnderscored,
     /// `__asm`
-    AsmAfter,
+    AsmPrefixed,
     /// `typeof`
     Typeof,
     /// `__typeof__`
-    TypeofBetween,
+    TypeofUnderscored,
     Auto,
 }
 
 /// The punctuators.
-#[derive(Clone, Copy, Debug, PartialEq, Eq)]
+#[derive(Clone, Copy, PartialEq, Eq)]
 pub enum Punctuator {
     /// `[`
     OpenBracket,

@@ -26,7 +26,7 @@ use Rattle.cs_decl_parser.specs.Reasons.{is_unsupported, plain_reason}
 use Rattle.cs_decl_parser.specs.Aptness.{may_be_out, IsApt, IsStopApt, IsAnswerApt}
 use Rattle.cs_decl_parser.specs.DeclarationAnswers.{is_designator}
 
--- what is left out everywhere in a scope is left out somewhere in it
+-- what is unsupported everywhere in a scope is unsupported somewhere in it
 out_punctuator : (scope : Scope) (m : Punctuator) → is_unsupported scope (token.Punctuator m) ≡ true → may_be_out (token.Punctuator m) ≡ true
 out_punctuator File punctuator.Ellipsis e = refl
 out_punctuator Block punctuator.Ellipsis e = refl

@@ -91,7 +91,7 @@ same_first (word.Enum tag) = refl
 pub stuck_at : (names : Names) (ws : List TypeWord) (next : TokenKind) → IsStuck names ws next → IsStuckAt names ws next
 stuck_at names ws next stuck one more e = stuck one more (sym (same_first one) ∙ e)
 
--- words that name nothing go on with a type
+-- words that name nothing continue with a type
 pub goes_on_with : (names : Names) (ws : List TypeWord) → named_by ws ≡ [] → MayGoOn names ws
 goes_on_with names ws none = (word.Void ∷ [], ap (names_type names) (named_more ws (word.Void ∷ []) ∙ ap (λ (x : List TypeWord). x ++ word.Void ∷ []) none))
 

@@ -58,7 +58,7 @@ phrase_taken names level limit tokens from phrase taken is t = record {
       (subst (λ (e : RawExpr). Took (Expressions names level) limit (written e) (kind_or_end tokens phrase.next) (is_deep phrase.otherwise)) (sym is.0) t.took));
 }
 
--- the token after it, if nothing else goes on with that
+-- the token after it, if nothing else continues with that
 pub phrase_apt : (names : Names) (level limit : ℕ) (tokens : List Token) (from : ℕ) (phrase : Phrase) (taken : Unclosed RawExpr) → IsPhraseOf phrase taken → IsPhraseTaken names level limit tokens from phrase → IsApt scope.Block (kind_or_end tokens taken.next) taken.otherwise
 phrase_apt names level limit tokens from phrase taken is t =
     subst (λ (n : ℕ). IsApt scope.Block (kind_or_end tokens n) taken.otherwise) (sym is.2)

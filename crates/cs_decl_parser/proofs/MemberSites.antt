@@ -100,7 +100,7 @@ starts_no_brace : (tokens more : Kinds) → Starts tokens → tokens ≡ open_br
 starts_no_brace tokens more (with_star m e) same = let z = sym e ∙ same in cc
 starts_no_brace tokens more (with_name n m e) same = let z = sym e ∙ same in cc
 
--- there is room for a member
+-- the limit allows a member
 has_limit : (names : Names) (limit inner : ℕ) → limit ≡ 1 + inner → 1 ≤ inner → HasLimit (member_pair names) limit inner
 has_limit names limit inner less some = (less, some, some)
 

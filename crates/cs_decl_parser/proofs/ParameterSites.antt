@@ -46,7 +46,7 @@ use Rattle.cs_expr_parser.proofs.Standing.{spells_one, spells_none, spells_more,
 use Rattle.cs_expr_parser.proofs.Stopping.{refused_number}
 use Rattle.cs_decl_parser.proofs.StatementStops.{stops_in, front_of, first_front, near_start, pair_first_stops}
 
--- the tokens of a name, if there is one at a number
+-- the tokens of a name, if there is one at an index
 pub name_spelled : (IsName : List ℕ → Type 0) (tokens : List Token) (at next : ℕ) (name : Option RawName) → at ≤ length tokens → IsNameAt IsName (kind_or_end tokens at) name → next ≡ number_past at (name_in name) → Spells tokens at next (name_text (name_in name))
 name_spelled IsName tokens at next None within i is = subst (λ (n : ℕ). Spells tokens at n (λ rest. rest)) (sym is) (spells_none tokens at within)
 name_spelled IsName tokens at next (Some n) within i is = subst (λ (m : ℕ). Spells tokens at m (λ rest. token.Name n.name ∷ rest)) (sym is) (spells_one tokens at (token.Name n.name) i.0 (λ x. cc))

@@ -1,7 +1,6 @@
 -- The places of statements, over tokens by their numbers and over plain variables: for the clauses on places of the parts that read them.
-use Rattle.std.proofs.Common.{◌≡◌, ℕ, ◌+◌, ◌⊎◌, inl, inr, List, [], ◌∷◌, ◌++◌, Option, length, drop, refl, sym, ap, ◌∙◌, subst, arith, Vec, Box, Global}
+use Rattle.std.proofs.Common.{◌≡◌, ℕ, ◌+◌, ◌⊎◌, inl, inr, List, [], ◌∷◌, ◌++◌, Option, length, drop, refl, sym, ap, ◌∙◌, subst, arith, Vec, Global}
 use Rattle.std.proofs.lemmas.List.{drop-drop, length-append}
-use mathlib.Core.Former.{Count}
 use Rattle.cs_ast.specs.declared.place.Place.{Place}
 use Rattle.cs_ast.specs.declared.token.Token.{Token}
 use Rattle.cs_ast.specs.declared.token.TokenKind.{TokenKind}
@@ -34,6 +33,7 @@ use Rattle.cs_decl_parser.specs.Forms.{IsJump}
 use Rattle.cs_decl_parser.specs.FilePlaces.{past, past_first, past_test, IsSomePlaced, IsFirstPlaced, ArePartsPlaced, IsItemPlaced, AreItemsPlaced, IsSwitchItemPlaced, AreSwitchItemsPlaced, HasSpecPlaces, AreObjectsPlaced, IsDeclarationPlaced}
 use Rattle.cs_decl_parser.specs.StatementPlaces.{HasStatementPlaces, AreItemsBeside, AreSwitchItemsBeside, AreForPartsPlaced, IsMadeOf, IsLabelOf, IsTestedOf, IsChoiceOf, IsDoneOf, IsLoopOf}
 use Rattle.cs_decl_parser.specs.Blocks.{Controls, control_of}
+use Rattle.cs_ast.proofs.RawStatementRows.{block_of, switch_of}
 use Rattle.cs_expr_parser.proofs.Standing.{spells_as}
 use Rattle.cs_expr_parser.proofs.Stopping.{refused_number}
 use Rattle.cs_decl_parser.proofs.ForSites.{controls_law}
@@ -50,47 +50,7 @@ past_word_and_test tokens from next test sp = ap (past (test_text test)) (one_af
 test_stands : (tokens : List Token) (from : ℕ) (test : RawExpr) → HasPlaces test (drop (from + 1 + 1) tokens) → HasPlaces test (drop 2 (drop from tokens))
 test_stands tokens from test p = subst (HasPlaces test) (sym (on tokens from 2 (from + 1 + 1) (omega arith))) p
 
--- nodes of parts in boxes
-pub label_made : (name : List ℕ) (x : Box RawStmt Global) (body : RawStmt) (list : List Token) → x.value ≡ body → HasStatementPlaces body (drop 2 list) → ArePartsPlaced (kind.Label name x) list
-label_made name x body list e p = subst (λ (s : RawStmt). HasStatementPlaces s (drop 2 list)) (sym e) p
-
-pub if_made : (test : RawExpr) (x : Box RawStmt Global) (body : RawStmt) (list : List Token) → x.value ≡ body → HasPlaces test (drop 2 list) → HasStatementPlaces body (past (test_text (written test)) (drop 1 list)) → ArePartsPlaced (kind.If test x) list
-if_made test x body list e t p = (t, subst (λ (s : RawStmt). HasStatementPlaces s (past (test_text (written test)) (drop 1 list))) (sym e) p)
-
-pub while_made : (test : RawExpr) (x : Box RawStmt Global) (body : RawStmt) (list : List Token) → x.value ≡ body → HasPlaces test (drop 2 list) → HasStatementPlaces body (past (test_text (written test)) (drop 1 list)) → ArePartsPlaced (kind.While test x) list
-while_made test x body list e t p = (t, subst (λ (s : RawStmt). HasStatementPlaces s (past (test_text (written test)) (drop 1 list))) (sym e) p)
-
-pub if_else_made : (test : RawExpr) (x y : Box RawStmt Global) (body other : RawStmt) (list : List Token) → x.value ≡ body → y.value ≡ other → HasPlaces test (drop 2 list) → HasStatementPlaces body (past (test_text (written test)) (drop 1 list)) → HasStatementPlaces other (drop 1 (past (sentence_text (statement_of body)) (past (test_text (written test)) (drop 1 list)))) → ArePartsPlaced (kind.IfElse test x y) list
-if_else_made test x y body other list e f t p q = (
-  t,
-  subst (λ (s : RawStmt). HasStatementPlaces s (past (test_text (written test)) (drop 1 list))) (sym e) p,
-  subst (λ (s : RawStmt). HasStatementPlaces y.value (drop 1 (past (sentence_text (statement_of s)) (past (test_text (written test)) (drop 1 list))))) (sym e)
-      (subst (λ (s : RawStmt). HasStatementPlaces s (drop 1 (past (sentence_text (statement_of body)) (past (test_text (written test)) (drop 1 list))))) (sym f) q),
-)
-
-pub do_made : (x : Box RawStmt Global) (test : RawExpr) (body : RawStmt) (list : List Token) → x.value ≡ body → HasStatementPlaces body (drop 1 list) → HasPlaces test (drop 2 (past (sentence_text (statement_of body)) (drop 1 list))) → ArePartsPlaced (kind.Do x test) list
-do_made x test body list e p t = (
-  subst (λ (s : RawStmt). HasStatementPlaces s (drop 1 list)) (sym e) p,
-  subst (λ (s : RawStmt). HasPlaces test (drop 2 (past (sentence_text (statement_of s)) (drop 1 list)))) (sym e) t,
-)
-
-pub for_made : (parts : ForParts) (x : Box RawStmt Global) (body : RawStmt) (list : List Token) → x.value ≡ body → AreForPartsPlaced parts (drop 2 list) → HasStatementPlaces body (past_test parts.last (past_test parts.test (past_first parts.first (drop 2 list)))) → ArePartsPlaced (kind.For parts.first parts.test parts.last x) list
-for_made parts x body list e a p = (
-  a.0,
-  a.1,
-  a.2,
-  subst (λ (s : RawStmt). HasStatementPlaces s (past_test parts.last (past_test parts.test (past_first parts.first (drop 2 list))))) (sym e) p,
-)
-
 -- rows of items
-abbrev row_of_block : RawStmtKind → (n : Count) × kinds.Row_of-RawItem n
-row_of_block (kind.Block' shape row) = (_, row)
-row_of_block _ = (_, kinds.end_of-RawItem)
-
-abbrev row_of_switch : RawStmtKind → (n : Count) × kinds.Row_of-RawSwitchItem n
-row_of_switch (kind.Switch' value shape row) = (_, row)
-row_of_switch _ = (_, kinds.end_of-RawSwitchItem)
-
 items_in : (n : _) (row : kinds.Row_of-RawItem n) (list : List Token) → AreItemsBeside (kinds.items-the_row-RawItem n row) list → AreItemsPlaced row list
 items_in n kinds.end_of-RawItem list a = tt
 items_in n (kinds.more_of-RawItem first others) list a = (a.0, items_in _ others (past (item_text (item first)) list) a.1)
@@ -101,12 +61,12 @@ switch_items_in n (kinds.more_of-RawSwitchItem first others) list a = (a.0, swit
 
 pub block_made : (items : Vec RawItem Global) (list : List Token) → AreItemsBeside items.items (drop 1 list) → ArePartsPlaced (kind.Block items) list
 block_made items list a =
-    let row = row_of_block (kind.Block items) in
+    let row = block_of (kind.Block items) in
     items_in row.0 row.1 (drop 1 list) (subst (λ (x : List RawItem). AreItemsBeside x (drop 1 list)) (sym (kinds.items_hidden-the_row-RawItem-0 items)) a)
 
 pub switch_made : (value : RawExpr) (items : Vec RawSwitchItem Global) (list : List Token) → HasPlaces value (drop 2 list) → AreSwitchItemsBeside items.items (drop 1 (past (test_text (written value)) (drop 1 list))) → ArePartsPlaced (kind.Switch value items) list
 switch_made value items list v a =
-    let row = row_of_switch (kind.Switch value items) in
+    let row = switch_of (kind.Switch value items) in
     let there = drop 1 (past (test_text (written value)) (drop 1 list)) in
     (v, switch_items_in row.0 row.1 there (subst (λ (x : List RawSwitchItem). AreSwitchItemsBeside x there) (sym (kinds.items_hidden-the_row-RawSwitchItem-1 items)) a))
 

@@ -1,4 +1,4 @@
--- A token is left out, or a fault of syntax, as the tokens before it tell: for the contract of the parser of files.
+-- A token is unsupported, or a fault of syntax, as the tokens before it tell: for the contract of the parser of files.
 use Rattle.std.proofs.Common.{◌≡◌, ℕ, ◌↔◌, Bool, true, false, IsTrue, List, [], ◌∷◌, ◌++◌, Some, drop, take, refl, sym, ap, ◌∙◌, subst}
 use Rattle.std.proofs.lemmas.Bool.{false≢true}
 use Rattle.std.proofs.lemmas.List.{append_cancel_right, take-append-drop, map-append}
@@ -68,7 +68,7 @@ either_why : (front : Kinds) (next : TokenKind) (out : Bool) → (BeginsFile (fr
 either_why front next true none is = (none, is.0 refl)
 either_why front next false none is = (none, λ left. false≢true (is.1 left))
 
--- the tokens before it tell whether it is left out, where no file goes on with it
+-- the tokens before it say whether it is unsupported, where no file continues with it
 reported_after : (tokens : List Token) (at : ℕ) (reason : Reason) (out : Bool) → is_deep reason ≡ false → (BeginsLowFile 200 (kinds (take at tokens)) → (BeginsFile (kinds (take at tokens) ++ kind_or_end tokens at ∷ []) → ⊥) → IsTrue out ↔ IsUnsupportedOfFile (kinds (take at tokens)) (kind_or_end tokens at)) → IsPartRefusedAt tokens at reason → IsFileRefusedAt tokens at (unsupported_if out)
 reported_after tokens at reason out flat is part =
     let r = part.stopped in
@@ -89,7 +89,7 @@ reported_after tokens at reason out flat is part =
       why = λ within. let none = r.flat within flat in either_why r.front next out none (reported none);
     }
 
--- a colon is left out after a member's declarator
+-- a colon is unsupported after a member's declarator
 pub reported_colon : (tokens : List Token) (at : ℕ) (reason : Reason) (out : Bool) → is_deep reason ≡ false → kind_or_end tokens at ≡ colon → (BeginsFile (kinds (take at tokens)) → IsTrue out ↔ MayHave (kinds (take at tokens)) after_member) → IsPartRefusedAt tokens at reason → IsFileRefusedAt tokens at (unsupported_if out)
 reported_colon tokens at reason out flat k is r =
     reported_after tokens at reason out flat (λ b none. subst (λ (x : TokenKind). IsTrue out ↔ IsUnsupportedOfFile (kinds (take at tokens)) x) (sym k) (is (any_height (kinds (take at tokens)) b))) r
@@ -100,7 +100,7 @@ inside_word front out (token.Keyword keyword.Typedef) w is = is
 inside_word front out (token.Keyword _) w is = absurd (false≢true w)
 inside_word front out _ w is = absurd (false≢true w)
 
--- `static` and `typedef` are left out inside a block or an expression
+-- `static` and `typedef` are unsupported inside a block or an expression
 pub reported_word : (tokens : List Token) (at : ℕ) (reason : Reason) (out : Bool) → is_deep reason ≡ false → is_file_word (kind_or_end tokens at) ≡ true → (BeginsFile (kinds (take at tokens)) → IsTrue out ↔ IsInside (kinds (take at tokens))) → IsPartRefusedAt tokens at reason → IsFileRefusedAt tokens at (unsupported_if out)
 reported_word tokens at reason out flat w is r = reported_after tokens at reason out flat (λ b none. inside_word (kinds (take at tokens)) out (kind_or_end tokens at) w is (any_height (kinds (take at tokens)) b)) r
 
@@ -110,21 +110,21 @@ list_punctuator front out (token.Punctuator punctuator.OpenBracket) d is = is
 list_punctuator front out (token.Punctuator _) d is = absurd (false≢true d)
 list_punctuator front out _ d is = absurd (false≢true d)
 
--- a dot and an opening bracket are left out where a list of initial values may open
+-- a dot and an opening bracket are unsupported where a list of initial values may open
 pub reported_list : (tokens : List Token) (at : ℕ) (reason : Reason) (out : Bool) → is_deep reason ≡ false → is_designator (kind_or_end tokens at) ≡ true → (BeginsLowFile 200 (kinds (take at tokens)) → IsTrue out ↔ MayHave (kinds (take at tokens)) opens_list) → IsPartRefusedAt tokens at reason → IsFileRefusedAt tokens at (unsupported_if out)
 reported_list tokens at reason out flat d is r = reported_after tokens at reason out flat (λ b none. list_punctuator (kinds (take at tokens)) out (kind_or_end tokens at) d (is b)) r
 
--- a list may open where a value is awaited, and a file goes on with a brace
+-- a list may open where a value is awaited, and a file continues with a brace
 pub list_reported : (front : Kinds) (awaits : Bool) → (MayHave front opens_list ↔ (IsTrue awaits × BeginsFile (front ++ token.Punctuator punctuator.OpenBrace ∷ []))) → (out : Bool) → (awaits ≡ false → out ≡ false) → (awaits ≡ true → IsTrue out ↔ BeginsFile (front ++ token.Punctuator punctuator.OpenBrace ∷ [])) → IsTrue out ↔ MayHave front opens_list
 list_reported front true is out never on = (λ o. is.1 (refl, (on refl).0 o), λ m. (on refl).1 (is.0 m).1)
 list_reported front false is out never on = (λ o. absurd (false≢true (sym (never refl) ∙ o)), λ m. absurd (false≢true (is.0 m).0))
 
--- a brace is left out after a tag inside a block or an expression, and after a type
+-- a brace is unsupported after a tag inside a block or an expression, and after a type
 pub reported_brace : (tokens : List Token) (at : ℕ) (reason : Reason) (out : Bool) → is_deep reason ≡ false → kind_or_end tokens at ≡ brace → (BeginsFile (kinds (take at tokens)) → IsTrue out ↔ IsUnsupportedOfFile (kinds (take at tokens)) brace) → IsPartRefusedAt tokens at reason → IsFileRefusedAt tokens at (unsupported_if out)
 reported_brace tokens at reason out flat k is r =
     reported_after tokens at reason out flat (λ b none. subst (λ (x : TokenKind). IsTrue out ↔ IsUnsupportedOfFile (kinds (take at tokens)) x) (sym k) (is (any_height (kinds (take at tokens)) b))) r
 
--- a parenthesis is left out where a declarator's name may stand
+-- a parenthesis is unsupported where a declarator's name may stand
 pub reported_parenthesis : (tokens : List Token) (at : ℕ) (reason : Reason) (out : Bool) → is_deep reason ≡ false → kind_or_end tokens at ≡ opening → (BeginsLowFile 200 (kinds (take at tokens)) → (BeginsFile (kinds (take at tokens) ++ opening ∷ []) → ⊥) → IsTrue out ↔ MayHave (kinds (take at tokens)) declared_name) → IsPartRefusedAt tokens at reason → IsFileRefusedAt tokens at (unsupported_if out)
 reported_parenthesis tokens at reason out flat k is r =
     reported_after tokens at reason out flat

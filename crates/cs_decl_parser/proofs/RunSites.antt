@@ -149,7 +149,7 @@ second_colon : (fs following more : Kinds) (next : TokenKind) → (first_or fs n
 second_colon [] following more next other near same = near_other colon next following more other near (sym same)
 second_colon (g ∷ gs) following more next other near same = other cc
 
--- a name is no expression that is refused where there is room for it
+-- a name is no expression that is refused where the limit allows it
 no_name_refused : (names : Names) (limit : ℕ) (n : List ℕ) (deep : Bool) → 1 ≤ limit → is_among names n ≡ false → Refused (Closed names) limit [] (token.Name n) deep → ⊥
 no_name_refused names limit n deep some free r =
     let v = r.never (Named n) [] (token.Name n ∷ semicolon ∷ []) (omega arith, free) tt (inr (semicolon ∷ [], refl)) refl in

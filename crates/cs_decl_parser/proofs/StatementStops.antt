@@ -59,7 +59,7 @@ stops_pass C D limit inner tokens from lift (stop.Refused at reason) s = refused
 abbrev pub IsPlainStop : Scope → List Token → ℕ → Stop → Type 0
 IsPlainStop scope tokens at s = s ≡ stop.Refused at (plain_reason scope (kind_or_end tokens at))
 
--- the token after these is refused, and no phrase of any height goes on with it
+-- the token after these is refused, and no phrase of any height continues with it
 pub stops_plain : (C : Class) (limit : ℕ) (tokens : List Token) (from at : ℕ) (scope : Scope) (front : Kinds) (s : Stop) → Spells tokens from at (λ rest. front ++ rest) → IsPlainStop scope tokens at s → Refused C limit front (kind_or_end tokens at) false → Stops C limit tokens from s
 stops_plain C limit tokens from at scope front s spelled is r =
     subst (Stops C limit tokens from) (sym is)

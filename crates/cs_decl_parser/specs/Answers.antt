@@ -13,7 +13,7 @@ use Rattle.cs_expr_parser.specs.declared.stop.Stop.TheVariants as stop
 use Rattle.cs_decl_parser.specs.declared.stop.Taken.{Taken}
 use Rattle.cs_decl_parser.specs.declared.stop.Unclosed.{Unclosed}
 
--- want of memory, or a token is refused: no phrase of the class goes on with it that is low enough
+-- want of memory, or a token is refused: no phrase of the class continues with it that is low enough
 abbrev pub Stops : Class → ℕ → List Token → ℕ → Stop → Type 0
 Stops C limit tokens from stop.Memory = Unit {0}
 Stops C limit tokens from (stop.Refused at reason) = IsRefused C limit tokens from at reason
@@ -24,13 +24,13 @@ pub record IsExactly {A : Type 0} (C : Class) (view : A → C.Tree) (limit : ℕ
   pub spelled : Spells tokens from taken.next (C.spell (view taken.tree))
   pub exactly : Exactly C limit (view taken.tree)
 
--- a phrase of the class was taken before the next token; a higher one goes on with that or none does
+-- a phrase of the class was taken before the next token; a higher one continues with that or none does
 pub record IsTaken {A : Type 0} (C : Class) (view : A → C.Tree) (limit : ℕ) (tokens : List Token) (from : ℕ) (deep : Bool) (taken : Taken A) : Type 0 where
   pub height_is : taken.height ≡ C.tall (view taken.tree)
   pub spelled : Spells tokens from taken.next (C.spell (view taken.tree))
   pub took : Took C limit (view taken.tree) (kind_or_end tokens taken.next) deep
 
--- the same of a phrase that may end with an expression: the reason tells whether a higher one goes on
+-- the same of a phrase that may end with an expression: the reason says whether a higher one continues
 pub record IsUnclosed {A : Type 0} (C : Class) (view : A → C.Tree) (limit : ℕ) (tokens : List Token) (from : ℕ) (taken : Unclosed A) : Type 0 where
   pub height_is : taken.height ≡ C.tall (view taken.tree)
   pub spelled : Spells tokens from taken.next (C.spell (view taken.tree))

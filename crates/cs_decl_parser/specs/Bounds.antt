@@ -19,7 +19,7 @@ abbrev pub Refuses : ℕ → Stop → Type 0
 Refuses number (stop.Refused at reason) = at ≡ number
 Refuses number other = ⊥
 
--- one token at least was taken, and the tree is no higher than the room
+-- one token at least was taken, and the tree is no higher than the limit
 abbrev pub IsBounded : {A : Type 0} → ℕ → List Token → ℕ → Result (Taken A) Stop → Type 0
 IsBounded limit tokens from (Ok taken) = (from < taken.next) × (taken.next ≤ length tokens) × (taken.height ≤ limit)
 IsBounded limit tokens from (Err answer) = StopsInside tokens from answer
@@ -38,7 +38,7 @@ abbrev pub IsUnclosedRowBounded : {A : Type 0} → ℕ → List Token → ℕ �
 IsUnclosedRowBounded limit tokens from (Ok taken) = (from ≤ taken.next) × (taken.next ≤ length tokens) × (taken.height ≤ limit)
 IsUnclosedRowBounded limit tokens from (Err answer) = StopsInside tokens from answer
 
--- a word lies inside the tokens and is no higher than the room
+-- a word lies inside the tokens and is no higher than the limit
 abbrev pub IsWordInside : ℕ → List Token → ℕ → NextWord → Type 0
 IsWordInside limit tokens at found = (at < found.next) × (found.next ≤ length tokens) × (found.height ≤ limit)
 
@@ -56,7 +56,7 @@ IsWordBounded limit tokens at (Err answer) = StopsInside tokens at answer
 abbrev pub IsOf : {A : Type 0} → ℕ → ℕ → Taken A → Type 0
 IsOf tall next taken = (taken.height ≡ tall) × (taken.next ≡ next)
 
--- a word has so many tokens from a number on, and is so high
+-- a word has so many tokens from an index on, and is so high
 abbrev pub IsWordOf : ℕ → ℕ → ℕ → NextWord → Type 0
 IsWordOf many tall at found = (found.next ≡ at + many) × (found.height ≡ tall)
 

@@ -48,7 +48,7 @@ IsPointerWord after_star kind (Some pointer.Star) = kind ≡ token.Punctuator pu
 IsPointerWord after_star kind (Some pointer.Const) = (kind ≡ token.Keyword keyword.Const) × (after_star ≡ true)
 IsPointerWord after_star kind None = (kind ≡ token.Punctuator punctuator.Star → ⊥) × (kind ≡ token.Keyword keyword.Const → after_star ≡ true → ⊥)
 
--- the words of pointers from a number on are these, and no more
+-- the words of pointers from an index on are these, and no more
 pub record ArePointers (tokens : List Token) (from at : ℕ) (words : List PointerWord) : Type 0 where
   pub spelled : Spells tokens from at (pointers_text words)
   pub pointers : IsTrue (is_pointer words)

@@ -191,16 +191,16 @@ abbrev mutual
   ArePartsPlaced (kind.Block' shape row) tokens = AreItemsPlaced row (drop 1 tokens)
   ArePartsPlaced kind.Empty tokens = Unit {0}
   ArePartsPlaced (kind.Run e) tokens = HasPlaces e tokens
-  ArePartsPlaced (kind.If' test p place body) tokens =
+  ArePartsPlaced (kind.If' test place p body) tokens =
       HasPlaces test (drop 2 tokens) × (StandsAt place (past (test_text (written test)) (drop 1 tokens)) × ArePartsPlaced body (past (test_text (written test)) (drop 1 tokens)))
-  ArePartsPlaced (kind.IfElse' test p place body q place' other) tokens =
+  ArePartsPlaced (kind.IfElse' test place p body place' q other) tokens =
       HasPlaces test (drop 2 tokens) × (StandsAt place (past (test_text (written test)) (drop 1 tokens)) × ArePartsPlaced body (past (test_text (written test)) (drop 1 tokens)))
       × (StandsAt place' (drop 1 (past (sentence_text (sentence body)) (past (test_text (written test)) (drop 1 tokens)))) × ArePartsPlaced other (drop 1 (past (sentence_text (sentence body)) (past (test_text (written test)) (drop 1 tokens)))))
-  ArePartsPlaced (kind.While' test p place body) tokens =
+  ArePartsPlaced (kind.While' test place p body) tokens =
       HasPlaces test (drop 2 tokens) × (StandsAt place (past (test_text (written test)) (drop 1 tokens)) × ArePartsPlaced body (past (test_text (written test)) (drop 1 tokens)))
-  ArePartsPlaced (kind.Do' p place body test) tokens =
+  ArePartsPlaced (kind.Do' place p body test) tokens =
       (StandsAt place (drop 1 tokens) × ArePartsPlaced body (drop 1 tokens)) × HasPlaces test (drop 2 (past (sentence_text (sentence body)) (drop 1 tokens)))
-  ArePartsPlaced (kind.For' first test last p place body) tokens =
+  ArePartsPlaced (kind.For' first test last place p body) tokens =
       IsFirstPlaced first (drop 2 tokens) × IsSomePlaced test (past_first first (drop 2 tokens))
       × IsSomePlaced last (past_test test (past_first first (drop 2 tokens)))
       × (StandsAt place (past_test last (past_test test (past_first first (drop 2 tokens)))) × ArePartsPlaced body (past_test last (past_test test (past_first first (drop 2 tokens)))))
@@ -210,12 +210,12 @@ abbrev mutual
   ArePartsPlaced kind.Continue tokens = Unit {0}
   ArePartsPlaced kind.Break tokens = Unit {0}
   ArePartsPlaced (kind.Return value) tokens = IsSomePlaced value (drop 1 tokens)
-  ArePartsPlaced (kind.Label' name p place body) tokens = (StandsAt place (drop 2 tokens) × ArePartsPlaced body (drop 2 tokens))
+  ArePartsPlaced (kind.Label' name place p body) tokens = (StandsAt place (drop 2 tokens) × ArePartsPlaced body (drop 2 tokens))
 
   -- what stands in a block
   pub IsItemPlaced : RawItem → List Token → Type 0
   IsItemPlaced (items.TheVariants.Declare s objects) tokens = IsDeclarationPlaced s objects.items tokens
-  IsItemPlaced (items.TheVariants.Run' place body) tokens = (StandsAt place tokens × ArePartsPlaced body tokens)
+  IsItemPlaced (items.TheVariants.Run' place p body) tokens = (StandsAt place tokens × ArePartsPlaced body tokens)
 
   pub AreItemsPlaced : {n : _} → kinds.Row_of-RawItem n → List Token → Type 0
   AreItemsPlaced kinds.end_of-RawItem tokens = Unit {0}

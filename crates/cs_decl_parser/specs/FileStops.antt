@@ -19,7 +19,7 @@ is_file_word (token.Keyword keyword.Static) = true
 is_file_word (token.Keyword keyword.Typedef) = true
 is_file_word other = false
 
--- whether the token is left out isn't told by the parts of the parser: the tokens before it tell it of a colon, of `static`, of
+-- whether the token is unsupported isn't told by the parts of the parser: the tokens before it tell it of a colon, of `static`, of
 -- `typedef`, of a dot, and of an opening bracket, brace and parenthesis
 abbrev pub is_unsupported_after : TokenKind → Bool
 is_unsupported_after (token.Punctuator punctuator.Colon) = true
@@ -29,11 +29,11 @@ is_unsupported_after (token.Punctuator punctuator.OpenBrace) = true
 is_unsupported_after (token.Punctuator punctuator.OpenParenthesis) = true
 is_unsupported_after other = is_file_word other
 
--- the reason, where it is told whether the token is left out
+-- the reason, where it is told whether the token is unsupported
 abbrev pub unsupported_if : Bool → Reason
 unsupported_if out = if out then Unsupported else Syntax
 
--- a part refuses a token, or the end of input: for the right reason, if the parts tell whether the token is left out
+-- a part refuses a token, or the end of input: for the right reason, if the parts say whether the token is unsupported
 pub record IsPartRefusedAt (tokens : List Token) (at : ℕ) (reason : Reason) : Type 0 where
   pub stopped : IsStoppedAt tokens at reason
   pub why : at < length tokens → is_unsupported_after (kind_or_end tokens at) ≡ false → IsFileReason stopped.front (Some (kind_or_end tokens at)) reason

@@ -34,7 +34,7 @@ abbrev pub ParameterAnswer : Names → ℕ → List Token → ℕ → Result (Ta
 ParameterAnswer names limit tokens from (Ok taken) = IsTaken (ParameterClass names) parameter limit tokens from false taken
 ParameterAnswer names limit tokens from (Err stop) = ParameterStops names limit tokens from stop
 
--- the number after a name, if there is one at a number
+-- the number after a name, if there is one at an index
 abbrev pub number_past : ℕ → Option (List ℕ) → ℕ
 number_past at None = at
 number_past at (Some name) = at + 1

@@ -36,7 +36,7 @@ pub record IsWordPlaced (tokens : List Token) (at : ℕ) (found : NextWord) : Ty
 abbrev pub IsFresh : TypeSoFar → NextWord → Type 0
 IsFresh so_far found = settles (spec found.word) ≡ true → names_some so_far ≡ false
 
--- the same of the word at a number, if one was found
+-- the same of the word at an index, if one was found
 abbrev pub IsWordThere : List Token → ℕ → TypeSoFar → Option NextWord → Type 0
 IsWordThere tokens at so_far None = Unit {0}
 IsWordThere tokens at so_far (Some found) = IsWordPlaced tokens at found × IsFresh so_far found

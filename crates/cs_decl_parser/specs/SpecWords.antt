@@ -77,7 +77,7 @@ pub record IsPlainWord (names : Names) (tokens : List Token) (at : ℕ) (so_far 
 abbrev pub NothingFits : Names → TypeSoFar → TokenKind → Type 0
 NothingFits names so_far next = (before : List TypeWord) → Describes names so_far before → IsStuck names before next
 
--- the word of one token at a number; not asked where `struct` or `enum` stands
+-- the word of one token at an index; not asked where `struct` or `enum` stands
 abbrev pub PlainAnswer : Names → List Token → ℕ → TypeSoFar → Result (Option NextWord) Stop → Type 0
 PlainAnswer names tokens at so_far (Ok (Some found)) = (one : TypeWord) × IsPlainWord names tokens at so_far found one
 PlainAnswer names tokens at so_far (Ok None) = HasNoTag (kind_or_end tokens at) → NothingFits names so_far (kind_or_end tokens at)
@@ -100,7 +100,7 @@ abbrev pub BlockTagAnswer : Names → List Token → ℕ → Result NextWord Sto
 BlockTagAnswer names tokens at (Ok found) = (one : TypeWord) × IsPlainWord names tokens at Nothing found one
 BlockTagAnswer names tokens at (Err stop) = BlockTagStops tokens at stop
 
--- the word at a number inside a block
+-- the word at an index inside a block
 abbrev pub BlockWordAnswer : Names → List Token → ℕ → TypeSoFar → Result (Option NextWord) Stop → Type 0
 BlockWordAnswer names tokens at so_far (Ok (Some found)) = (one : TypeWord) × IsPlainWord names tokens at so_far found one
 BlockWordAnswer names tokens at so_far (Ok None) = NothingFits names so_far (kind_or_end tokens at)
@@ -146,14 +146,14 @@ abbrev pub ElementAnswer : Names → ℕ → List Token → ℕ → Result NextW
 ElementAnswer names limit tokens at (Ok found) = IsSpecTaken names limit tokens at Nothing found
 ElementAnswer names limit tokens at (Err stop) = ElementStops names limit tokens at stop
 
--- the word at a number outside blocks
+-- the word at an index outside blocks
 abbrev pub SpecAnswer : Names → ℕ → List Token → ℕ → TypeSoFar → Result (Option NextWord) Stop → Type 0
 SpecAnswer names limit tokens at so_far (Ok (Some found)) = IsSpecTaken names limit tokens at so_far found
 SpecAnswer names limit tokens at so_far (Ok None) = NothingFits names so_far (kind_or_end tokens at) × (kind_or_end tokens at ≡ token.Keyword keyword.Static → ⊥)
 SpecAnswer names limit tokens at so_far (Err stop.Memory) = Unit {0}
 SpecAnswer names limit tokens at so_far (Err other) = (names_some so_far ≡ false) × ElementStops names limit tokens at other
 
--- `static`, where it stands at a number
+-- `static`, where it is at an index
 abbrev pub IsStatic : ℕ → TypeSoFar → NextWord → Type 0
 IsStatic at so_far found = (found.word ≡ words.Static) × (found.height ≡ 1) × (found.next ≡ at + 1) × (found.so_far ≡ so_far)
 
@@ -161,7 +161,7 @@ IsStatic at so_far found = (found.word ≡ words.Static) × (found.height ≡ 1)
 abbrev pub name_in : Option RawName → Option (List ℕ)
 name_in tag = option_map (λ (n : RawName). n.name) tag
 
--- the number after `struct` or `enum`, at a number, and its tag, if it has one
+-- the number after `struct` or `enum`, at an index, and its tag, if it has one
 abbrev pub number_after : ℕ → Option (List ℕ) → ℕ
 number_after at None = at + 1
 number_after at (Some tag) = at + 2
@@ -175,7 +175,7 @@ pub record IsTagged (first : TokenKind) (tag : List ℕ) (found : NextWord) : Ty
   pub one : (is_struct : Bool) → first ≡ tag_keyword is_struct → found.word ≡ words.Plain (word_of_tag is_struct tag)
   pub whole : found.so_far ≡ Whole
 
--- `struct` or `enum`, a tag if there is one, and an opening brace stand at a number
+-- `struct` or `enum`, a tag if there is one, and an opening brace are at an index
 pub record IsOpened (tokens : List Token) (at brace : ℕ) (tag : Option (List ℕ)) : Type 0 where
   pub is_struct : Bool
   pub stands : kind_or_end tokens at ≡ tag_keyword is_struct

@@ -17,7 +17,7 @@ use Rattle.cs_decl_parser.specs.FilePlaces.{past, past_first, past_test, AreSide
 
 -- a statement has its places
 abbrev pub HasStatementPlaces : RawStmt → List Token → Type 0
-HasStatementPlaces s tokens = IsStatementPlaced s.place s.kind tokens
+HasStatementPlaces s tokens = IsStatementPlaced s.place s.kind.value tokens
 
 -- the items of a block, and of a `switch`
 abbrev pub AreItemsBeside : List RawItem → List Token → Type 0

@@ -25,7 +25,7 @@ use cs_ast::raw::declaration::{RawInit, RawSpecs};
 use cs_ast::raw::statement::{RawItem, RawStmt, RawStmtKind};
 use std::alloc::Global;
 
-/// The block whose opening brace stands at a number.
+/// The block whose opening brace is at an index.
 #[cycle(statement)]
 pub fn block(
     alloc: Global,
@@ -45,7 +45,7 @@ pub fn block(
     let items = items(alloc, source, from + 1, limit - 1)?;
     let kind = RawStmtKind::Block(items.tree);
     let (height, next) = (items.height + 1, items.next + 1);
-    Ok(node(place_at(source, from), kind, height, next))
+    Ok(node(alloc, place_at(source, from), kind, height, next)?)
 }
 
 /// What stands in a block, from after its opening brace to the closing one, which isn't taken. The height is that of the highest,
@@ -81,7 +81,7 @@ pub fn items(
     })
 }
 
-/// The declaration or the statement that the tokens from a number on begin with.
+/// The declaration or the statement that begins at an index.
 #[cycle(statement)]
 pub fn item(alloc: Global, source: &Source, from: usize, limit: u32) -> Result<Taken<RawItem>, Stop>
     requires within { from ≤ length source.now.tokens.now }
@@ -114,7 +114,7 @@ pub struct DeclaredObjects {
     pub objects: Vec<RawInit>,
 }
 
-/// The declaration of objects in a block, with its semicolon, where a type begins at a number.
+/// The declaration of objects in a block, with its semicolon, where a type begins at an index.
 pub fn declaration(
     alloc: Global,
     source: &Source,

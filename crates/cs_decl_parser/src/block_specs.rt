@@ -17,7 +17,7 @@ use cs_ast::raw::declaration::RawSpecs;
 use cs_grammar::{Reason, TypeSoFar};
 use std::alloc::Global;
 
-/// What stands before declarators inside a block, from a number on: as many words as fit together.
+/// What stands before declarators inside a block, from an index on: as many words as fit together.
 pub fn block_specs(
     alloc: Global,
     source: &Source,
@@ -52,7 +52,7 @@ pub fn block_specs(
     })
 }
 
-/// The word at a number, if one stands there that fits after those before it.
+/// The word at an index, if one stands there that fits after those before it.
 fn block_word_at(source: &Source, at: usize, so_far: TypeSoFar) -> Result<Option<NextWord>, Stop>
     requires within { at ≤ length source.now.tokens.now }
     requires few { length source.now.tokens.now < 2 ^ 32 }
@@ -71,7 +71,7 @@ fn block_word_at(source: &Source, at: usize, so_far: TypeSoFar) -> Result<Option
     Ok(Some(found))
 }
 
-/// `struct` or `enum`, at a number, with a tag after it.
+/// `struct` or `enum`, at an index, with a tag after it.
 fn tag_at(source: &Source, at: usize) -> Result<NextWord, Stop>
     requires within { at < length source.now.tokens.now }
     requires few { length source.now.tokens.now < 2 ^ 32 }
@@ -90,7 +90,7 @@ fn tag_at(source: &Source, at: usize) -> Result<NextWord, Stop>
     Ok(without_body(source, at, tag))
 }
 
-/// The refusal of what stands at a number, where bodies are left out.
+/// The refusal of what is at an index, where bodies aren't supported.
 fn refuse_body(source: &Source, at: usize) -> Stop
     ensures plain { RefusesAfter at false result }
     ensures apt { IsStopApt Scope.Block source.now.tokens.now result }

@@ -23,7 +23,7 @@ use cs_ast::{Keyword, Punctuator};
 use cs_expr_parser::ExprLevel;
 use std::alloc::Global;
 
-/// `if ( test ) body` or `if ( test ) body else other`, from a number on. An `else` belongs to the nearest `if`.
+/// `if ( test ) body` or `if ( test ) body else other`, from an index on. An `else` belongs to the nearest `if`.
 #[cycle(statement)]
 pub fn if_statement(
     alloc: Global,
@@ -52,7 +52,7 @@ pub fn if_statement(
     Ok(made)
 }
 
-/// `switch ( value ) { .. }`, from a number on.
+/// `switch ( value ) { .. }`, from an index on.
 #[cycle(statement)]
 pub fn switch_statement(
     alloc: Global,
@@ -76,7 +76,7 @@ pub fn switch_statement(
     let items = switch_items(alloc, source, value.next + 1, limit - 2)?;
     let height = value.height.max(items.height + 1) + 1;
     let kind = RawStmtKind::Switch(value.tree, items.tree);
-    Ok(node(place_at(source, from), kind, height, items.next))
+    Ok(node(alloc, place_at(source, from), kind, height, items.next)?)
 }
 
 /// What stands in a `switch`, from after its opening brace to after the closing one. The height is that of the highest.
@@ -110,7 +110,7 @@ fn switch_items(
     })
 }
 
-/// What stands in a `switch` at a number: `case`, `default`, or what any block may have.
+/// What stands in a `switch` at an index: `case`, `default`, or what any block may have.
 #[cycle(statement)]
 fn switch_item(
     alloc: Global,
@@ -139,7 +139,7 @@ fn switch_item(
     })
 }
 
-/// `case value :`, from a number on.
+/// `case value :`, from an index on.
 fn case(
     alloc: Global,
     source: &Source,
@@ -172,7 +172,7 @@ fn case(
     })
 }
 
-/// `default :`, from a number on, which is as high as nothing.
+/// `default :`, from an index on, which is as high as nothing.
 fn default(source: &Source, from: usize) -> Result<Taken<RawSwitchItem>, Stop>
     requires within { from < length source.now.tokens.now }
     requires few { length source.now.tokens.now < 2 ^ 32 }

@@ -79,7 +79,7 @@ pub fn closing_at(at: usize, comma: bool) -> usize
     if comma { at + 1 } else { at }
 }
 
-/// Whether a comma stands at a number, and doesn't end a list between braces.
+/// Whether a comma is at an index, and doesn't end a list between braces.
 pub fn goes_on(source: &Source, at: usize) -> bool
     requires few { at < 2 ^ 33 }
     ensures within { IsTrue result → at < length source.now.tokens.now }

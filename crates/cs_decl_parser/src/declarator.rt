@@ -27,11 +27,11 @@ use cs_expr_parser::ExprLevel;
 use std::alloc::{AllocError, Global};
 
 /// What a declarator declares.
-#[derive(Clone, Copy, Debug, PartialEq, Eq)]
+#[derive(Clone, Copy)]
 pub enum Declares {
-    /// Objects, functions or typedefs: the name is no typedef's so far, and a bound may be left out.
+    /// Objects, functions or typedefs: the name is no typedef's so far, and a bound may be absent.
     Names,
-    /// Members: the name may be any, and no bound is left out.
+    /// Members: the name may be any, and no bound is unsupported.
     Members,
 }
 
@@ -42,7 +42,7 @@ pub struct Pointed {
     pub name: RawName,
 }
 
-/// The declarator that the tokens from a number on begin with.
+/// The declarator that begins at an index.
 pub fn declarator(
     alloc: Global,
     source: &Source,
@@ -65,7 +65,7 @@ pub fn declarator(
     Ok(taken)
 }
 
-/// The name that the tokens from a number on begin with, with the pointers before it.
+/// The name that begins at an index, with the pointers before it.
 pub fn pointed_name(
     alloc: Global,
     source: &Source,
@@ -95,7 +95,7 @@ pub fn pointed_name(
     })
 }
 
-/// The name at a number, if one stands there that may be declared.
+/// The name at an index, if one stands there that may be declared.
 fn name_at(source: &Source, at: usize, declares: Declares) -> Result<Option<RawName>, AllocError>
     ensures within { IfOk result (λ name. IsSome name → at < length source.now.tokens.now) }
     ensures name { IfOk result (IsNameAt (IsNameFor declares source.now.names.now) (kind_or_end source.now.tokens.now at)) }
@@ -137,7 +137,7 @@ pub fn with_bounds(
     })
 }
 
-/// The bounds of arrays from a number on, each between brackets. The height is that of the highest, 0 where there is none.
+/// The bounds of arrays from an index on, each between brackets. The height is that of the highest, 0 where there is none.
 /// Where there is no room for the bound of a member, it isn't taken.
 pub fn bounds(
     alloc: Global,
@@ -179,7 +179,7 @@ fn lacks_limit(declares: Declares, limit: u32) -> bool
     }
 }
 
-/// Whether the bracket of a bound for which there is room stands at a number.
+/// Whether the bracket of a bound that the limit allows is at an index.
 fn begins_bound(source: &Source, at: usize, limit: u32, declares: Declares) -> bool
     ensures bracket { IsTrue result → kind_or_end source.now.tokens.now at ≡ token.Punctuator punctuator.OpenBracket }
     ensures limit { IsTrue result → has_no_limit declares limit ≡ false }
@@ -189,7 +189,7 @@ fn begins_bound(source: &Source, at: usize, limit: u32, declares: Declares) -> b
     !lacks_limit(declares, limit) && is_punctuator(source, at, Punctuator::OpenBracket)
 }
 
-/// The bound of an array, between brackets, the first of which stands at a number.
+/// The bound of an array, between brackets, the first of which is at an index.
 fn bound(
     alloc: Global,
     source: &Source,
@@ -258,7 +258,7 @@ pub fn declarators(
     })
 }
 
-/// The refusal of the token after a declarator, at a number.
+/// The refusal of the token after a declarator, at an index.
 fn refuse_after(source: &Source, at: usize, limit: u32, declares: Declares) -> Stop
     requires some { 1 ≤ limit }
     ensures is { (inner : ℕ) → limit ≡ 1 + inner → RefusesAfter at (is_full declares inner (kind_or_end source.now.tokens.now at)) result }

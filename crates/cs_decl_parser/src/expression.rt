@@ -18,7 +18,7 @@ use cs_ast::raw::expression::RawExpr;
 use cs_expr_parser::{ExprLevel, Phrase, expression_at};
 use std::alloc::Global;
 
-/// The expression of a level that the tokens from a number on begin with.
+/// The expression of a level that begins at an index.
 pub fn expression(
     alloc: Global,
     source: &Source,
@@ -78,7 +78,7 @@ pub fn closed(
     })
 }
 
-/// The expression, which may be left out, with the punctuator after it that closes it. Its height is 0 where it is left out.
+/// The expression, which may be absent, with the punctuator after it that closes it. Its height is 0 where it is absent.
 pub fn closed_if_any(
     alloc: Global,
     source: &Source,
@@ -110,7 +110,7 @@ pub fn closed_if_any(
     })
 }
 
-/// The expression between parentheses, the first of which is to stand at a number.
+/// The expression between parentheses, the first of which must be at an index.
 pub fn parenthesised(
     alloc: Global,
     source: &Source,

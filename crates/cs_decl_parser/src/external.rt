@@ -31,7 +31,7 @@ use std::alloc::Global;
 /// How high a part of a file may be.
 const MOST: u32 = 200;
 
-/// The part of a file that the tokens from a number on begin with.
+/// The part of a file that begins at an index.
 pub fn external(alloc: Global, source: &Source, from: usize) -> Result<Taken<RawExternal>, Stop>
     requires within { from < length source.now.tokens.now }
     requires few { length source.now.tokens.now < 2 ^ 32 }
@@ -56,7 +56,7 @@ pub fn external(alloc: Global, source: &Source, from: usize) -> Result<Taken<Raw
     })
 }
 
-/// `typedef` and the names that it declares, from a number on (C11 6.7.8).
+/// `typedef` and the names that it declares, from an index on (C11 6.7.8).
 fn typedef(alloc: Global, source: &Source, from: usize) -> Result<Taken<RawExternalKind>, Stop>
     requires within { from < length source.now.tokens.now }
     requires few { length source.now.tokens.now < 2 ^ 32 }
@@ -76,7 +76,7 @@ fn typedef(alloc: Global, source: &Source, from: usize) -> Result<Taken<RawExter
     })
 }
 
-/// A type alone, objects or a function, from a number on.
+/// A type alone, objects or a function, from an index on.
 fn declared(alloc: Global, source: &Source, from: usize) -> Result<Taken<RawExternalKind>, Stop>
     requires within { from < length source.now.tokens.now }
     requires few { length source.now.tokens.now < 2 ^ 32 }

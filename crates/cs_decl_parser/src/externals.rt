@@ -24,7 +24,7 @@ pub struct Parts {
     pub list: Vec<RawExternal>,
     /// The names that their typedefs declare.
     pub names: TypedefNames,
-    /// The number of the token after them.
+    /// The index of the token after them.
     pub next: usize,
 }
 

@@ -7,7 +7,7 @@ use crate::source::{Source, begins_type, is_punctuator, keyword_at, name_at, pun
 use cs_ast::{Keyword, Punctuator};
 
 /// The form of a statement.
-#[derive(Clone, Copy, Debug, PartialEq, Eq)]
+#[derive(Clone, Copy)]
 pub enum Form {
     Block,
     Empty,
@@ -28,7 +28,7 @@ pub enum Form {
     Run,
 }
 
-/// The form of the statement that the tokens from a number on begin with.
+/// The form of the statement that begins at an index.
 pub fn form_at(source: &Source, at: usize) -> Form
     requires few { at < 2 ^ 33 }
     ensures within { IsFormAt source.now.tokens.now at result }
@@ -47,7 +47,7 @@ pub fn form_at(source: &Source, at: usize) -> Form
     }
 }
 
-/// Whether a name with a colon after it stands at a number.
+/// Whether a name with a colon after it is at an index.
 pub fn is_label(source: &Source, at: usize) -> bool
     requires few { at < 2 ^ 33 }
     ensures within { IsTrue result → at + 1 < length source.now.tokens.now }

@@ -53,14 +53,14 @@ pub fn initial(
     })
 }
 
-/// Whether a designator would begin with the token at a number.
+/// Whether a designator would begin with the token at an index.
 fn begins_designator(source: &Source, at: usize) -> bool
     ensures { IsTrue result → is_designator (kind_or_end source.now.tokens.now at) ≡ true }
 {
     is_punctuator(source, at, Punctuator::Dot) || is_punctuator(source, at, Punctuator::OpenBracket)
 }
 
-/// Items between braces, one at least, the first of which stands at a number.
+/// Items between braces, one at least, the first of which is at an index.
 #[cycle(initial)]
 fn items(
     alloc: Global,

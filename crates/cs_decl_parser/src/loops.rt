@@ -27,7 +27,7 @@ use cs_ast::{Keyword, Punctuator};
 use cs_expr_parser::ExprLevel;
 use std::alloc::Global;
 
-/// `while ( test ) body`, from a number on.
+/// `while ( test ) body`, from an index on.
 #[cycle(statement)]
 pub fn while_statement(
     alloc: Global,
@@ -51,7 +51,7 @@ pub fn while_statement(
     Ok(made)
 }
 
-/// `do body while ( test ) ;`, from a number on.
+/// `do body while ( test ) ;`, from an index on.
 #[cycle(statement)]
 pub fn do_statement(
     alloc: Global,
@@ -90,7 +90,7 @@ pub struct ForParts {
     pub last: Option<RawExpr>,
 }
 
-/// `for ( first ; test ; last ) body`, from a number on.
+/// `for ( first ; test ; last ) body`, from an index on.
 #[cycle(statement)]
 pub fn for_statement(
     alloc: Global,
@@ -114,7 +114,7 @@ pub fn for_statement(
     Ok(made)
 }
 
-/// The parts of a `for` between parentheses, the first of which is to stand at a number. The height is that of the highest part.
+/// The parts of a `for` between parentheses, the first of which must be at an index. The height is that of the highest part.
 fn control(alloc: Global, source: &Source, from: usize, limit: u32) -> Result<Taken<ForParts>, Stop>
     requires within { from ≤ length source.now.tokens.now }
     requires few { length source.now.tokens.now < 2 ^ 32 }

@@ -9,7 +9,7 @@ use crate::source::{Source, begins_type, name_at, place_at};
 use cs_ast::raw::name::RawName;
 use std::alloc::AllocError;
 
-/// The name at a number, which may be that of a typedef, if one stands there.
+/// The name at an index, which may be that of a typedef, if one stands there.
 pub fn any_name_at(source: &Source, at: usize) -> Result<Option<RawName>, AllocError>
     ensures within { IfOk result (λ name. IsSome name → at < length source.now.tokens.now) }
     ensures name { IfOk result (IsNameAt (λ name. Unit {0}) (kind_or_end source.now.tokens.now at)) }
@@ -25,7 +25,7 @@ pub fn any_name_at(source: &Source, at: usize) -> Result<Option<RawName>, AllocE
     }))
 }
 
-/// The name at a number, if one stands there that is no typedef's.
+/// The name at an index, if one stands there that is no typedef's.
 pub fn free_name_at(source: &Source, at: usize) -> Result<Option<RawName>, AllocError>
     ensures within { IfOk result (λ name. IsSome name → at < length source.now.tokens.now) }
     ensures name { IfOk result (IsNameAt (IsFree source.now.names.now) (kind_or_end source.now.tokens.now at)) }

@@ -16,15 +16,22 @@ use cs_ast::raw::statement::{RawStmt, RawStmtKind};
 use std::alloc::{AllocError, Global};
 
 /// The statement of a kind at its place, of this height, up to this token.
-pub fn node(place: Place, kind: RawStmtKind, height: u32, next: usize) -> Taken<RawStmt>
-    ensures node { IsNode (sentence kind) height next result }
-    ensures placed { IsMadeOf place kind result.tree }
+pub fn node(
+    alloc: Global,
+    place: Place,
+    kind: RawStmtKind,
+    height: u32,
+    next: usize,
+) -> Result<Taken<RawStmt>, AllocError>
+    ensures node { IfOk result (IsNode (sentence kind) height next) }
+    ensures placed { IfOk result (λ made. IsMadeOf place kind made.tree) }
 {
-    Taken {
+    let kind = Box::new(alloc, kind)?;
+    Ok(Taken {
         tree: RawStmt { place, kind },
         height,
         next,
-    }
+    })
 }
 
 /// `name : body`
@@ -38,9 +45,8 @@ pub fn label_node(
     ensures placed { IfOk result (λ made. IsLabelOf name.place body.tree made.tree) }
 {
     let (height, next) = (body.height + 1, body.next);
-    let body = Box::new(alloc, body.tree)?;
-    let kind = RawStmtKind::Label(name.name, body);
-    Ok(node(name.place, kind, height, next))
+    let kind = RawStmtKind::Label(name.name, body.tree);
+    Ok(node(alloc, name.place, kind, height, next)?)
 }
 
 /// `if ( test ) body`
@@ -55,9 +61,8 @@ pub fn if_node(
     ensures placed { IfOk result (λ made. IsTestedOf place test.tree body.tree made.tree) }
 {
     let (height, next) = (test.height.max(body.height) + 1, body.next);
-    let body = Box::new(alloc, body.tree)?;
-    let kind = RawStmtKind::If(test.tree, body);
-    Ok(node(place, kind, height, next))
+    let kind = RawStmtKind::If(test.tree, body.tree);
+    Ok(node(alloc, place, kind, height, next)?)
 }
 
 /// `if ( test ) body else other`
@@ -74,10 +79,8 @@ pub fn if_else_node(
 {
     let height = test.height.max(body.height).max(other.height) + 1;
     let next = other.next;
-    let body = Box::new(alloc, body.tree)?;
-    let other = Box::new(alloc, other.tree)?;
-    let kind = RawStmtKind::IfElse(test.tree, body, other);
-    Ok(node(place, kind, height, next))
+    let kind = RawStmtKind::IfElse(test.tree, body.tree, other.tree);
+    Ok(node(alloc, place, kind, height, next)?)
 }
 
 /// `while ( test ) body`
@@ -92,9 +95,8 @@ pub fn while_node(
     ensures placed { IfOk result (λ made. IsTestedOf place test.tree body.tree made.tree) }
 {
     let (height, next) = (test.height.max(body.height) + 1, body.next);
-    let body = Box::new(alloc, body.tree)?;
-    let kind = RawStmtKind::While(test.tree, body);
-    Ok(node(place, kind, height, next))
+    let kind = RawStmtKind::While(test.tree, body.tree);
+    Ok(node(alloc, place, kind, height, next)?)
 }
 
 /// `do body while ( test ) ;`, with the token after its semicolon
@@ -110,9 +112,8 @@ pub fn do_node(
     ensures placed { IfOk result (λ made. IsDoneOf place body.tree test.tree made.tree) }
 {
     let height = body.height.max(test.height) + 1;
-    let body = Box::new(alloc, body.tree)?;
-    let kind = RawStmtKind::Do(body, test.tree);
-    Ok(node(place, kind, height, next))
+    let kind = RawStmtKind::Do(body.tree, test.tree);
+    Ok(node(alloc, place, kind, height, next)?)
 }
 
 /// `for ( first ; test ; last ) body`
@@ -127,8 +128,7 @@ pub fn for_node(
     ensures placed { IfOk result (λ made. IsLoopOf place parts.tree body.tree made.tree) }
 {
     let (height, next) = (parts.height.max(body.height) + 1, body.next);
-    let body = Box::new(alloc, body.tree)?;
     let ForParts { first, test, last } = parts.tree;
-    let kind = RawStmtKind::For(first, test, last, body);
-    Ok(node(place, kind, height, next))
+    let kind = RawStmtKind::For(first, test, last, body.tree);
+    Ok(node(alloc, place, kind, height, next)?)
 }

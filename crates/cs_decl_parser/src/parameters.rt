@@ -61,7 +61,7 @@ pub fn parameters(
     })
 }
 
-/// Whether `void` alone stands before a closing parenthesis, from a number on.
+/// Whether `void` alone stands before a closing parenthesis, from an index on.
 fn is_void_alone(source: &Source, from: usize) -> bool
     requires few { from < 2 ^ 33 }
     ensures within { IsTrue result → from + 1 < length source.now.tokens.now }
@@ -138,7 +138,7 @@ fn parameter(
     })
 }
 
-/// The name of a parameter at a number, if it has one.
+/// The name of a parameter at an index, if it has one.
 fn parameter_name(source: &Source, at: usize) -> Result<Taken<Option<RawName>>, Stop>
     requires within { at ≤ length source.now.tokens.now }
     requires few { length source.now.tokens.now < 2 ^ 32 }
@@ -159,7 +159,7 @@ fn parameter_name(source: &Source, at: usize) -> Result<Taken<Option<RawName>>, 
     })
 }
 
-/// The number after a name, if there is one at a number.
+/// The number after a name, if there is one at an index.
 fn after_name(at: usize, name: &Option<RawName>) -> usize
     requires few { at < 2 ^ 32 }
     ensures { result ≡ number_past at (name_in name.now) }

@@ -1,4 +1,4 @@
-//! Why a token of a file is refused: the tokens before it tell of some whether they are left out.
+//! Why a token of a file is refused: the tokens before it tell of some whether they are unsupported.
 ghost use Rattle.std.specs.Prelude.{◌≡◌, ◌<◌, ◌≤◌, ◌+◌, ◌⊎◌, ◌^◌, ◌∷◌, [], ◌++◌, ◌↔◌, length, take, IfOk, IsTrue, true};
 ghost use Rattle.cs_grammar.specs.FilePhrases.{BeginsFile, BeginsLowFile};
 ghost use Rattle.cs_ast.specs.declared.token.TokenKind.TheVariants as token;
@@ -24,8 +24,8 @@ use cs_unsupported::{
 };
 use std::alloc::{AllocError, Global};
 
-/// Why the token at a number is refused: the tokens before it tell whether a colon, `static`, `typedef`, a dot, or an opening
-/// bracket, brace or parenthesis is left out.
+/// Why the token at an index is refused: the tokens before it say whether a colon, `static`, `typedef`, a dot, or an opening
+/// bracket, brace or parenthesis is unsupported.
 pub fn reason_reported(
     alloc: Global,
     tokens: &[Token],
@@ -63,7 +63,7 @@ pub fn reason_reported(
     Ok(reason)
 }
 
-/// Whether a brace with this number is left out, in the part of the file after these, which the tokens before it end in.
+/// Whether a brace with this number is unsupported, in the part of the file after these, which the tokens before it end in.
 fn is_brace_out(
     alloc: Global,
     tokens: &[Token],
@@ -82,7 +82,7 @@ fn is_brace_out(
     Ok(following)
 }
 
-/// Whether a dot or an opening bracket stands at a number.
+/// Whether a dot or an opening bracket is at an index.
 fn begins_designator(tokens: &[Token], at: usize) -> bool
     ensures begins { IsTrue result ↔ (is_designator (kind_or_end tokens.now at) ≡ true) }
     ensures within { IsTrue result → at < length tokens.now }
@@ -113,7 +113,7 @@ fn may_open_list(alloc: Global, tokens: &[Token], at: usize) -> Result<bool, All
 }
 
 /// Whether a declarator's name may stand in place of the token with this number, where some file that is low enough begins with the
-/// tokens before it, and none of any height goes on with an opening parenthesis.
+/// tokens before it, and none of any height continues with an opening parenthesis.
 fn may_name_declarator(alloc: Global, tokens: &[Token], at: usize) -> Result<bool, AllocError>
     requires within { at < length tokens.now }
     requires few { length tokens.now < 2 ^ 32 }
@@ -153,7 +153,7 @@ fn is_deep_or_past(at: usize, reason: Reason, count: usize) -> bool
     count < at || is_too_deep(reason)
 }
 
-/// Whether `static` or `typedef` stands at a number.
+/// Whether `static` or `typedef` is at an index.
 fn is_file_word(tokens: &[Token], at: usize) -> bool
     ensures word { result ≡ file_word (kind_or_end tokens.now at) }
     ensures within { IsTrue result → at < length tokens.now }
@@ -164,7 +164,7 @@ fn is_file_word(tokens: &[Token], at: usize) -> bool
     )
 }
 
-/// The reason, where it is told whether a token is left out.
+/// The reason, where it is told whether a token is unsupported.
 fn unsupported_if(out: bool) -> Reason
     ensures { result ≡ out_if out }
 {

@@ -25,14 +25,14 @@ pub struct Source<'a> {
     pub names: &'a TypedefNames,
 }
 
-/// Whether tokens stand inside a block, where other words are left out.
-#[derive(Clone, Copy, Debug, PartialEq, Eq)]
+/// Whether tokens stand inside a block, where other words are unsupported.
+#[derive(Clone, Copy, PartialEq, Eq)]
 pub enum Scope {
     File,
     Block,
 }
 
-/// The punctuator that stands at a number, if one does.
+/// The punctuator at an index, if there is one.
 pub fn punctuator_at(source: &Source, at: usize) -> Option<Punctuator>
     ensures punctuator { result ≡ punctuator_of (kind_or_end source.now.tokens.now at) }
     ensures within { IsSome result → at < length source.now.tokens.now }
@@ -40,7 +40,7 @@ pub fn punctuator_at(source: &Source, at: usize) -> Option<Punctuator>
     tokens::punctuator_at(source.tokens, at)
 }
 
-/// Whether this punctuator stands at a number.
+/// Whether this punctuator is at an index.
 pub fn is_punctuator(source: &Source, at: usize, punctuator: Punctuator) -> bool
     ensures punctuator { IsTrue result ↔ (kind_or_end source.now.tokens.now at ≡ token.Punctuator punctuator) }
     ensures within { IsTrue result → at < length source.now.tokens.now }
@@ -48,7 +48,7 @@ pub fn is_punctuator(source: &Source, at: usize, punctuator: Punctuator) -> bool
     tokens::is_punctuator(source.tokens, at, punctuator)
 }
 
-/// The keyword that stands at a number, if one does.
+/// The keyword at an index, if there is one.
 pub fn keyword_at(source: &Source, at: usize) -> Option<Keyword>
     ensures keyword { result ≡ keyword_of (kind_or_end source.now.tokens.now at) }
     ensures within { IsSome result → at < length source.now.tokens.now }
@@ -56,7 +56,7 @@ pub fn keyword_at(source: &Source, at: usize) -> Option<Keyword>
     tokens::keyword_at(source.tokens, at)
 }
 
-/// Whether this keyword stands at a number.
+/// Whether this keyword is at an index.
 pub fn is_keyword(source: &Source, at: usize, keyword: Keyword) -> bool
     ensures keyword { IsTrue result ↔ (kind_or_end source.now.tokens.now at ≡ token.Keyword keyword) }
     ensures within { IsTrue result → at < length source.now.tokens.now }
@@ -64,7 +64,7 @@ pub fn is_keyword(source: &Source, at: usize, keyword: Keyword) -> bool
     keyword_at(source, at) == Some(keyword)
 }
 
-/// The name that stands at a number, if one does.
+/// The name at an index, if there is one.
 pub fn name_at<'a>(source: &Source<'a>, at: usize) -> Option<&'a Name>
     ensures name { option_copied result ≡ name_of (kind_or_end source.now.tokens.now at) }
     ensures within { IsSome result → at < length source.now.tokens.now }
@@ -72,14 +72,14 @@ pub fn name_at<'a>(source: &Source<'a>, at: usize) -> Option<&'a Name>
     tokens::name_at(source.tokens, at)
 }
 
-/// Whether a type without `static` may begin with the token at a number.
+/// Whether a type without `static` may begin with the token at an index.
 pub fn begins_type(source: &Source, at: usize) -> bool
     ensures { result ≡ starts_type source.now.names.now (kind_or_end source.now.tokens.now at) }
 {
     tokens::begins_type(source.tokens, source.names, at)
 }
 
-/// Whether the token at a number is left out wherever it stands, outside expressions, in this scope.
+/// Whether the token at an index is unsupported wherever it stands, outside expressions, in this scope.
 fn is_unsupported(source: &Source, at: usize, scope: Scope) -> bool
     ensures { result ≡ unsupported scope (kind_or_end source.now.tokens.now at) }
 {
@@ -101,7 +101,7 @@ fn is_unsupported_kind(kind: &TokenKind, scope: Scope) -> bool
     }
 }
 
-/// Why the token at a number is refused where no tree of any height goes on with it.
+/// Why the token at an index is refused where no tree of any height continues with it.
 #[tactic(auto, using(crate::proofs::AptReasons::always_apt, crate::proofs::AptReasons::syntax_apt))]
 pub fn reason_at(source: &Source, at: usize, scope: Scope) -> Reason
     ensures is { result ≡ plain_reason scope (kind_or_end source.now.tokens.now at) }
@@ -114,7 +114,7 @@ pub fn reason_at(source: &Source, at: usize, scope: Scope) -> Reason
     }
 }
 
-/// The refusal of the token at a number, with which no tree of any height goes on.
+/// The refusal of the token at an index, which no tree of any height continues with.
 pub fn refuse(source: &Source, at: usize, scope: Scope) -> Stop
     ensures is { result ≡ stop.Refused at (plain_reason scope (kind_or_end source.now.tokens.now at)) }
     ensures apt { IsStopApt scope source.now.tokens.now result }
@@ -122,7 +122,7 @@ pub fn refuse(source: &Source, at: usize, scope: Scope) -> Stop
     Stop::Refused(at, reason_at(source, at, scope))
 }
 
-/// The same, where besides a punctuator is left out.
+/// The same, where besides a punctuator is unsupported.
 #[tactic(auto, using(crate::proofs::AptReasons::left_apt))]
 pub fn refuse_but(source: &Source, at: usize, scope: Scope, unsupported: Punctuator) -> Stop
     ensures reason { RefusesBut unsupported scope at (kind_or_end source.now.tokens.now at) result }
@@ -135,7 +135,7 @@ pub fn refuse_but(source: &Source, at: usize, scope: Scope, unsupported: Punctua
     refuse(source, at, scope)
 }
 
-/// The refusal of the token at a number, with which only trees that are too high go on.
+/// The refusal of the token at an index, which only trees that are too high continue with.
 #[tactic(auto, using(crate::proofs::AptReasons::deep_apt))]
 pub fn refuse_deep(at: usize) -> Stop
     ensures is { result ≡ stop.Refused at TooDeep }
@@ -144,7 +144,7 @@ pub fn refuse_deep(at: usize) -> Stop
     Stop::Refused(at, Reason::TooDeep)
 }
 
-/// The place of the token at a number.
+/// The place of the token at an index.
 pub fn place_at(source: &Source, at: usize) -> Place
     requires { at < length source.now.tokens.now }
     ensures { StandsAt result (drop at source.now.tokens.now) }

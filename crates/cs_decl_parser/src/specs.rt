@@ -34,20 +34,20 @@ pub struct NextWord {
     /// The place of its tag, if it has one.
     pub tag: Option<Place>,
     pub height: u32,
-    /// The number of the token after it.
+    /// The index of the token after it.
     pub next: usize,
     /// What the words leave open with this one.
     pub so_far: TypeSoFar,
 }
 
-/// Whether what stands before declarators outside blocks may begin with the token at a number.
+/// Whether what stands before declarators outside blocks may begin with the token at an index.
 pub fn begins_specs(source: &Source, at: usize) -> bool
     ensures { result ≡ begins_words Scope.File source.now.names.now (kind_or_end source.now.tokens.now at) }
 {
     begins_type(source, at) || is_keyword(source, at, Keyword::Static)
 }
 
-/// What stands before declarators outside blocks, from a number on: as many words as fit together.
+/// What stands before declarators outside blocks, from an index on: as many words as fit together.
 #[cycle(specs)]
 pub fn specs(
     alloc: Global,
@@ -85,7 +85,7 @@ pub fn specs(
     })
 }
 
-/// Whether `struct` or `enum` stands at a number.
+/// Whether `struct` or `enum` is at an index.
 pub fn begins_tagged(source: &Source, at: usize) -> bool
     ensures tag { IsTrue result → IsTagKeyword (kind_or_end source.now.tokens.now at) }
     ensures none { result ≡ false → HasNoTag (kind_or_end source.now.tokens.now at) }
@@ -97,7 +97,7 @@ pub fn begins_tagged(source: &Source, at: usize) -> bool
     is_keyword(source, at, Keyword::Enum)
 }
 
-/// The word at a number, if one stands there that fits after those before it.
+/// The word at an index, if one stands there that fits after those before it.
 #[cycle(specs)]
 fn word_at(
     alloc: Global,
@@ -137,7 +137,7 @@ pub fn names_type(so_far: TypeSoFar) -> bool
     }
 }
 
-/// `static`, at a number.
+/// `static`, at an index.
 fn static_word(at: usize, so_far: TypeSoFar) -> NextWord
     requires few { at < 2 ^ 32 }
     ensures word { IsStatic at so_far result }
@@ -152,7 +152,7 @@ fn static_word(at: usize, so_far: TypeSoFar) -> NextWord
     }
 }
 
-/// The word of one token at a number, if it is one that fits after the words before it.
+/// The word of one token at an index, if it is one that fits after the words before it.
 pub fn plain_word(source: &Source, at: usize, so_far: TypeSoFar) -> Result<Option<NextWord>, Stop>
     requires few { length source.now.tokens.now < 2 ^ 32 }
     ensures bounds { IsWordBounded 1 source.now.tokens.now at result }
@@ -175,7 +175,7 @@ pub fn plain_word(source: &Source, at: usize, so_far: TypeSoFar) -> Result<Optio
     }
 }
 
-/// `struct` or `enum`, at a number, with a tag or a body after it or both.
+/// `struct` or `enum`, at an index, with a tag or a body after it or both.
 #[cycle(specs)]
 fn tagged(alloc: Global, source: &Source, at: usize, limit: u32) -> Result<NextWord, Stop>
     requires within { at < length source.now.tokens.now }
@@ -198,7 +198,7 @@ fn tagged(alloc: Global, source: &Source, at: usize, limit: u32) -> Result<NextW
     }
 }
 
-/// The number after `struct` or `enum`, at a number, and its tag, if it has one.
+/// The number after `struct` or `enum`, at an index, and its tag, if it has one.
 fn after_tag(at: usize, tag: &Option<RawName>) -> usize
     requires few { at < 2 ^ 32 }
     ensures { result ≡ number_after at (name_in tag.now) }
@@ -209,7 +209,7 @@ fn after_tag(at: usize, tag: &Option<RawName>) -> usize
     }
 }
 
-/// `struct` or `enum`, at a number, and the tag after it.
+/// `struct` or `enum`, at an index, and the tag after it.
 pub fn without_body(source: &Source, at: usize, tag: RawName) -> NextWord
     requires few { at < 2 ^ 32 }
     ensures bounds { IsWordOf 2 1 at result }
@@ -230,7 +230,7 @@ pub fn without_body(source: &Source, at: usize, tag: RawName) -> NextWord
     }
 }
 
-/// `struct` or `enum`, at a number, with its tag, if it has one, and a body, whose opening brace stands at another.
+/// `struct` or `enum`, at an index, with its tag, if it has one, and a body, whose opening brace stands at another.
 #[cycle(specs)]
 fn with_body(
     alloc: Global,

@@ -26,9 +26,9 @@ use crate::stop::{Stop, Taken};
 use cs_ast::Punctuator;
 use cs_ast::raw::statement::{RawStmt, RawStmtKind};
 use cs_expr_parser::ExprLevel;
-use std::alloc::Global;
+use std::alloc::{AllocError, Global};
 
-/// The statement that the tokens from a number on begin with.
+/// The statement that begins at an index.
 #[cycle(statement)]
 pub fn statement(
     alloc: Global,
@@ -57,24 +57,30 @@ pub fn statement(
         Form::Label => label(alloc, source, from, limit),
         Form::Unlabelled => Err(refuse(source, from + 1, Scope::Block)),
         Form::Run => run(alloc, source, from, limit),
-        Form::Empty => Ok(leaf(source, from, from + 1, RawStmtKind::Empty)),
-        Form::Goto => goto(source, from),
-        Form::Continue => jump(source, from, RawStmtKind::Continue),
-        Form::Break => jump(source, from, RawStmtKind::Break),
+        Form::Empty => Ok(leaf(alloc, source, from, from + 1, RawStmtKind::Empty)?),
+        Form::Goto => goto(alloc, source, from),
+        Form::Continue => jump(alloc, source, from, RawStmtKind::Continue),
+        Form::Break => jump(alloc, source, from, RawStmtKind::Break),
         Form::Return => return_statement(alloc, source, from, limit),
     }
 }
 
-/// A statement with no part, from a number on, up to another.
-fn leaf(source: &Source, from: usize, next: usize, kind: RawStmtKind) -> Taken<RawStmt>
+/// A statement with no part, from an index on, up to another index.
+fn leaf(
+    alloc: Global,
+    source: &Source,
+    from: usize,
+    next: usize,
+    kind: RawStmtKind,
+) -> Result<Taken<RawStmt>, AllocError>
     requires within { from < length source.now.tokens.now }
-    ensures node { IsNode (sentence kind) 1 next result }
-    ensures placed { ArePartsPlaced kind (drop from source.now.tokens.now) → HasStatementPlaces result.tree (drop from source.now.tokens.now) }
+    ensures node { IfOk result (IsNode (sentence kind) 1 next) }
+    ensures placed { IfOk result (λ made. ArePartsPlaced kind (drop from source.now.tokens.now) → HasStatementPlaces made.tree (drop from source.now.tokens.now)) }
 {
-    node(place_at(source, from), kind, 1, next)
+    Ok(node(alloc, place_at(source, from), kind, 1, next)?)
 }
 
-/// `name : body`, from a number on (C11 6.8.1).
+/// `name : body`, from an index on (C11 6.8.1).
 #[cycle(statement)]
 fn label(alloc: Global, source: &Source, from: usize, limit: u32) -> Result<Taken<RawStmt>, Stop>
     requires within { from + 2 ≤ length source.now.tokens.now }
@@ -94,7 +100,7 @@ fn label(alloc: Global, source: &Source, from: usize, limit: u32) -> Result<Take
     Ok(made)
 }
 
-/// An expression with its semicolon, from a number on (C11 6.8.3).
+/// An expression with its semicolon, from an index on (C11 6.8.3).
 fn run(alloc: Global, source: &Source, from: usize, limit: u32) -> Result<Taken<RawStmt>, Stop>
     requires within { from ≤ length source.now.tokens.now }
     requires few { length source.now.tokens.now < 2 ^ 32 }
@@ -108,11 +114,11 @@ fn run(alloc: Global, source: &Source, from: usize, limit: u32) -> Result<Taken<
     let value = closed(alloc, source, from, limit.saturating_sub(1), level, closing)?;
     let (height, next) = (value.height + 1, value.next);
     let kind = RawStmtKind::Run(value.tree);
-    Ok(node(place_at(source, from), kind, height, next))
+    Ok(node(alloc, place_at(source, from), kind, height, next)?)
 }
 
-/// `goto name ;`, from a number on (C11 6.8.6.1).
-fn goto(source: &Source, from: usize) -> Result<Taken<RawStmt>, Stop>
+/// `goto name ;`, from an index on (C11 6.8.6.1).
+fn goto(alloc: Global, source: &Source, from: usize) -> Result<Taken<RawStmt>, Stop>
     requires within { from < length source.now.tokens.now }
     requires few { length source.now.tokens.now < 2 ^ 32 }
     requires stands { kind_or_end source.now.tokens.now from ≡ token.Keyword keyword.Goto }
@@ -127,11 +133,16 @@ fn goto(source: &Source, from: usize) -> Result<Taken<RawStmt>, Stop>
     if !is_punctuator(source, from + 2, Punctuator::Semicolon) {
         return Err(refuse(source, from + 2, Scope::Block));
     }
-    Ok(leaf(source, from, from + 3, RawStmtKind::Goto(name.name)))
+    Ok(leaf(alloc, source, from, from + 3, RawStmtKind::Goto(name.name))?)
 }
 
-/// `continue ;` or `break ;`, from a number on (C11 6.8.6.2, 6.8.6.3).
-fn jump(source: &Source, from: usize, kind: RawStmtKind) -> Result<Taken<RawStmt>, Stop>
+/// `continue ;` or `break ;`, from an index on (C11 6.8.6.2, 6.8.6.3).
+fn jump(
+    alloc: Global,
+    source: &Source,
+    from: usize,
+    kind: RawStmtKind,
+) -> Result<Taken<RawStmt>, Stop>
     requires within { from < length source.now.tokens.now }
     requires few { length source.now.tokens.now < 2 ^ 32 }
     requires stands { IsJump (kind_or_end source.now.tokens.now from) (sentence kind) }
@@ -143,10 +154,10 @@ fn jump(source: &Source, from: usize, kind: RawStmtKind) -> Result<Taken<RawStmt
     if !is_punctuator(source, from + 1, Punctuator::Semicolon) {
         return Err(refuse(source, from + 1, Scope::Block));
     }
-    Ok(leaf(source, from, from + 2, kind))
+    Ok(leaf(alloc, source, from, from + 2, kind)?)
 }
 
-/// `return value ;` or `return ;`, from a number on (C11 6.8.6.4).
+/// `return value ;` or `return ;`, from an index on (C11 6.8.6.4).
 fn return_statement(
     alloc: Global,
     source: &Source,
@@ -166,5 +177,5 @@ fn return_statement(
     let value = closed_if_any(alloc, source, from + 1, limit - 1, level, closing)?;
     let (height, next) = (value.height + 1, value.next);
     let kind = RawStmtKind::Return(value.tree);
-    Ok(node(place_at(source, from), kind, height, next))
+    Ok(node(alloc, place_at(source, from), kind, height, next)?)
 }

@@ -9,7 +9,7 @@ pub struct Taken<T> {
     pub tree: T,
     /// The height of the tree, or of the highest of some trees.
     pub height: u32,
-    /// The number of the token after it.
+    /// The index of the token after it.
     pub next: usize,
 }
 
@@ -19,8 +19,8 @@ pub struct Unclosed<T> {
     pub tree: T,
     /// The height of the tree.
     pub height: u32,
-    /// The number of the token after it.
+    /// The index of the token after it.
     pub next: usize,
-    /// Why the token after it is refused, if the caller can't go on with it either.
+    /// Why the token after it is refused, if the caller can't continue with it either.
     pub otherwise: Reason,
 }

@@ -11,7 +11,7 @@ use cs_ast::{Keyword, Punctuator};
 use cs_grammar::integer_word;
 use std::alloc::{AllocError, Global};
 
-/// The stars from a number on and the `const`s after them, which are as high as nothing.
+/// The stars from an index on and the `const`s after them, which are as high as nothing.
 pub fn stars(
     alloc: Global,
     source: &Source,
@@ -35,7 +35,7 @@ pub fn stars(
     })
 }
 
-/// The word of pointers at a number, if one stands there. `const` is one after a star alone.
+/// The word of pointers at an index, if one stands there. `const` is one after a star alone.
 fn pointer_word_at(source: &Source, at: usize, after_star: bool) -> Option<PointerWord>
     ensures within { IsSome result → at < length source.now.tokens.now }
     ensures word { IsPointerWord after_star (kind_or_end source.now.tokens.now at) result }
@@ -49,7 +49,7 @@ fn pointer_word_at(source: &Source, at: usize, after_star: bool) -> Option<Point
     }
 }
 
-/// The word of a type that the one token at a number is, if it is one.
+/// The word of a type that the one token at an index is, if it is one.
 pub fn type_word_at(source: &Source, at: usize) -> Result<Option<TypeWord>, AllocError>
     ensures within { IfOk result (λ word. IsSome word → at < length source.now.tokens.now) }
     ensures word { IfOk result (IsTypeWord source.now.names.now (kind_or_end source.now.tokens.now at)) }

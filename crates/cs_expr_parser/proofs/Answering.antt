@@ -40,7 +40,7 @@ use Rattle.cs_expr_parser.proofs.Stopping.{deep_reason}
 use Rattle.cs_expr_parser.proofs.EndOfInput.{no_end}
 use Rattle.cs_expr_parser.proofs.Telling.{plain_not_unsupported, yields_reason, text_ends, text_plain}
 
--- the next token is refused as too deep exactly where some phrase of the level, of any height, goes on with it
+-- the next token is refused as too deep exactly where some phrase of the level, of any height, continues with it
 abbrev YieldsDepth : Names → ℕ → Kinds → Option TokenKind → Reason → Type 0
 YieldsDepth names level front (Some next) TooDeep = BeginsPhrase names level (front ++ next ∷ [])
 YieldsDepth names level front (Some next) other = BeginsPhrase names level (front ++ next ∷ []) → ⊥
@@ -61,7 +61,7 @@ kind_found : (tokens : List Token) (at : ℕ) (P : Option TokenKind → Type 0) 
 kind_found tokens at P some none (Some t) e = some t.kind (kind_of_some tokens at t e)
 kind_found tokens at P some none None e = none (kind_of_none tokens at e)
 
--- what holds of each token, and of the end of input, holds at a number
+-- what holds of each token, and of the end of input, holds at an index
 kind_cases : (tokens : List Token) (at : ℕ) (P : Option TokenKind → Type 0) → ((next : TokenKind) → kind_or_end tokens at ≡ next → P (Some next)) → (kind_or_end tokens at ≡ token.Attribute → P None) → P (kind_at tokens at)
 kind_cases tokens at P some none = kind_found tokens at P some none (slice_get tokens at) refl
 

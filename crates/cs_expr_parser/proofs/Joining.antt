@@ -1,4 +1,4 @@
--- Which tokens go on with which chains: for the contracts of `postfix`, `infix` and `comma`.
+-- Which tokens continue with which chains: for the contracts of `postfix`, `infix` and `comma`.
 use Rattle.std.proofs.Common.{◌≡◌, ℕ, suc, ◌+◌, ◌<◌, ◌≤◌, Bool, true, false, List, [], ◌∷◌, Option, Some, None, refl, sym, ap, ◌∙◌, subst, arith}
 use Rattle.cs_ast.specs.declared.token.TokenKind.{TokenKind}
 use Rattle.cs_ast.specs.declared.token.TokenKind.TheVariants as token
@@ -58,7 +58,7 @@ last_suffix punctuator.Increment s a b c d e = absurd (e refl)
 last_suffix punctuator.Decrement s a b c d e = refl
 last_suffix _ s a b c d e = absurd cc
 
--- a punctuator that stands after an operand goes on with a postfix expression
+-- a punctuator that stands after an operand continues with a postfix expression
 pub some_suffix : (kind : TokenKind) (m : Punctuator) → IsSuffixAt kind (Some m) → join kind ≡ suc 15
 some_suffix kind m s = ap join s.0 ∙ suffix_join m s.1
 

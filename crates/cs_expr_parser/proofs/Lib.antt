@@ -11,7 +11,6 @@ mod Joining
 mod Sites
 mod SitesOfLevels
 mod SitesOfPrefixes
-mod ProgramRows
 mod TypesInside
 pub mod WordsBegun
 pub mod SitesOfWords

@@ -158,7 +158,7 @@ punctuator_gap punctuator.Increment h = absurd (omega (arith, h))
 punctuator_gap punctuator.Decrement h = absurd (omega (arith, h))
 punctuator_gap _ h = omega arith
 
--- no token goes on with a cast or a unary expression
+-- no token continues with a cast or a unary expression
 pub join_gap : (tokens : Kinds) → join_of tokens ≤ 15 → join_of tokens ≤ 13
 join_gap [] h = omega arith
 join_gap (token.Punctuator m ∷ others) h = punctuator_gap m h

@@ -76,7 +76,7 @@ arguments_law names = λ es x y. listed_append es (close_parenthesis ∷ x) y
 pub bounds_law : (names : Names) → Lawful (Rows closed_bounds_text (ArePhrases names 2))
 bounds_law names = λ es x y. bounds_append es (close_parenthesis ∷ x) y
 
--- what any arguments that begin so go on with
+-- what any arguments that begin so continue with
 abbrev pub ArgumentsGoOn : Names → WrittenList → Type 0
 ArgumentsGoOn names done = (other : WrittenList) (after following : Kinds) → ArePhrases names 1 other → arguments_text other after ≡ row_text done following → (rest : WrittenList) × (other ≡ joined done rest) × (arguments_text rest after ≡ following) × (rest ≡ End → done ≡ End)
 
@@ -242,7 +242,7 @@ open_bracket = token.Punctuator punctuator.OpenBracket
 abbrev close_bracket : TokenKind
 close_bracket = token.Punctuator punctuator.CloseBracket
 
--- what any bounds that begin so go on with
+-- what any bounds that begin so continue with
 abbrev pub BoundsGoOn : Names → WrittenList → Type 0
 BoundsGoOn names done = (other : WrittenList) (after following : Kinds) → ArePhrases names 2 other → closed_bounds_text other after ≡ bounds_text done following → (rest : WrittenList) × (other ≡ joined done rest) × (closed_bounds_text rest after ≡ following)
 

@@ -12,7 +12,7 @@ use Rattle.cs_ast.specs.RawView.{written, written_list}
 use Rattle.cs_grammar.specs.TypeWords.{Names}
 use Rattle.cs_grammar.specs.Phrases.{ArePhrases}
 use Rattle.cs_grammar.specs.Text.{Kinds, text, words_text, pointers_text, bounds_text}
-use Rattle.cs_grammar.specs.Places.{HasPlaces, HasTagPlace, StandsAt, following, after_words}
+use Rattle.cs_grammar.specs.Places.{HasPlaces, HasTagPlace, StandsAt, after_tree, after_words}
 use Rattle.cs_expr_parser.specs.Positions.{kinds, kind_or_end}
 use Rattle.cs_expr_parser.specs.Parts.{Spells, IsTakenFrom, IsChainFrom, IsRowFrom, IsBounded, closed_bounds_text}
 use Rattle.cs_expr_parser.specs.Words.{IsWordsFrom, IsPointersFrom}
@@ -49,39 +49,39 @@ pub same_placed : (tokens : List Token) (from : ℕ) (tree other : RawExpr) → 
 same_placed tokens from tree other e p = subst (λ (x : RawExpr). HasPlaces x (drop from tokens)) (sym e) p
 
 -- a token between two operands
-pub between_stands : (tokens : List Token) (from : ℕ) (tree : RawExpr) (next : ℕ) (at : Place) → EndsAt tokens from tree next → StandsAt at (drop next tokens) → StandsAt at (following tree.kind (drop from tokens))
+pub between_stands : (tokens : List Token) (from : ℕ) (tree : RawExpr) (next : ℕ) (at : Place) → EndsAt tokens from tree next → StandsAt at (drop next tokens) → StandsAt at (after_tree tree (drop from tokens))
 between_stands tokens from tree next at e s = subst (StandsAt at) (sym e) s
 
-pub between_after : (tokens : List Token) (from : ℕ) (tree : RawExpr) (next : ℕ) (at : Place) → EndsAt tokens from tree next → StandsAt at (drop (next + 1) tokens) → StandsAt at (drop 1 (following tree.kind (drop from tokens)))
+pub between_after : (tokens : List Token) (from : ℕ) (tree : RawExpr) (next : ℕ) (at : Place) → EndsAt tokens from tree next → StandsAt at (drop (next + 1) tokens) → StandsAt at (drop 1 (after_tree tree (drop from tokens)))
 between_after tokens from tree next at e s = subst (StandsAt at) (sym (ap (λ (x : List Token). drop 1 x) e ∙ drop_one tokens next)) s
 
-pub between_placed : (tokens : List Token) (from : ℕ) (tree : RawExpr) (next : ℕ) (right : RawExpr) → EndsAt tokens from tree next → HasPlaces right (drop (next + 1) tokens) → HasPlaces right (drop 1 (following tree.kind (drop from tokens)))
+pub between_placed : (tokens : List Token) (from : ℕ) (tree : RawExpr) (next : ℕ) (right : RawExpr) → EndsAt tokens from tree next → HasPlaces right (drop (next + 1) tokens) → HasPlaces right (drop 1 (after_tree tree (drop from tokens)))
 between_placed tokens from tree next right e p = subst (HasPlaces right) (sym (ap (λ (x : List Token). drop 1 x) e ∙ drop_one tokens next)) p
 
 pub before_placed : (tokens : List Token) (from : ℕ) (operand : RawExpr) → HasPlaces operand (drop (from + 1) tokens) → HasPlaces operand (drop 1 (drop from tokens))
 before_placed tokens from operand p = subst (HasPlaces operand) (sym (drop_one tokens from)) p
 
-pub between_row : (tokens : List Token) (from : ℕ) (tree : RawExpr) (next : ℕ) (row : List RawExpr) → EndsAt tokens from tree next → AreInRow row (drop (next + 1) tokens) → AreInRow row (drop 1 (following tree.kind (drop from tokens)))
+pub between_row : (tokens : List Token) (from : ℕ) (tree : RawExpr) (next : ℕ) (row : List RawExpr) → EndsAt tokens from tree next → AreInRow row (drop (next + 1) tokens) → AreInRow row (drop 1 (after_tree tree (drop from tokens)))
 between_row tokens from tree next row e p = subst (AreInRow row) (sym (ap (λ (x : List Token). drop 1 x) e ∙ drop_one tokens next)) p
 
 -- the last of three parts
-pub last_placed : (tokens : List Token) (from : ℕ) (test : RawExpr) (next : ℕ) (one : RawExpr) (after_one : ℕ) (other : RawExpr) → EndsAt tokens from test next → EndsAt tokens (next + 1) one after_one → HasPlaces other (drop (after_one + 1) tokens) → HasPlaces other (drop 1 (following one.kind (drop 1 (following test.kind (drop from tokens)))))
+pub last_placed : (tokens : List Token) (from : ℕ) (test : RawExpr) (next : ℕ) (one : RawExpr) (after_one : ℕ) (other : RawExpr) → EndsAt tokens from test next → EndsAt tokens (next + 1) one after_one → HasPlaces other (drop (after_one + 1) tokens) → HasPlaces other (drop 1 (after_tree one (drop 1 (after_tree test (drop from tokens)))))
 last_placed tokens from test next one after_one other e f p =
     subst (HasPlaces other)
-    (sym (ap (λ (x : List Token). drop 1 (following one.kind x)) (ap (λ (x : List Token). drop 1 x) e ∙ drop_one tokens next) ∙ ap (λ (x : List Token). drop 1 x) f ∙ drop_one tokens after_one)) p
+    (sym (ap (λ (x : List Token). drop 1 (after_tree one x)) (ap (λ (x : List Token). drop 1 x) e ∙ drop_one tokens next) ∙ ap (λ (x : List Token). drop 1 x) f ∙ drop_one tokens after_one)) p
 
 -- the tokens after expressions in a row
 abbrev pub after_row : List RawExpr → List Token → List Token
 after_row [] tokens = tokens
-after_row (tree ∷ trees) tokens = after_row trees (drop 1 (following tree.kind tokens))
+after_row (tree ∷ trees) tokens = after_row trees (drop 1 (after_tree tree tokens))
 
 row_more : (trees : List RawExpr) (tree : RawExpr) (tokens : List Token) → AreInRow trees tokens → HasPlaces tree (after_row trees tokens) → AreInRow (trees ++ tree ∷ []) tokens
 row_more [] tree tokens a p = (p, tt)
-row_more (t ∷ ts) tree tokens a p = (a.0, row_more ts tree (drop 1 (following t.kind tokens)) a.1 p)
+row_more (t ∷ ts) tree tokens a p = (a.0, row_more ts tree (drop 1 (after_tree t tokens)) a.1 p)
 
-row_longer : (trees : List RawExpr) (tree : RawExpr) (tokens : List Token) → after_row (trees ++ tree ∷ []) tokens ≡ drop 1 (following tree.kind (after_row trees tokens))
+row_longer : (trees : List RawExpr) (tree : RawExpr) (tokens : List Token) → after_row (trees ++ tree ∷ []) tokens ≡ drop 1 (after_tree tree (after_row trees tokens))
 row_longer [] tree tokens = refl
-row_longer (t ∷ ts) tree tokens = row_longer ts tree (drop 1 (following t.kind tokens))
+row_longer (t ∷ ts) tree tokens = row_longer ts tree (drop 1 (after_tree t tokens))
 
 -- the arguments so far and the last one have their places
 pub record ArgumentsPlaced (tokens : List Token) (from : ℕ) (done : List RawExpr) (last : Taken) : Type 0 where
@@ -101,7 +101,7 @@ pub next_argument_placed : (names : Names) (limit : ℕ) (tokens : List Token) (
 next_argument_placed names limit tokens from done items last another a t p is = record {
   at = last.next + 1;
   row = subst (λ (x : List RawExpr). AreInRow x (drop from tokens)) (sym is) (last_in_row tokens from done last a);
-  ends = ap (λ (x : List RawExpr). after_row x (drop from tokens)) is ∙ row_longer done last.tree (drop from tokens) ∙ ap (λ (x : List Token). drop 1 (following last.tree.kind x)) a.ends ∙ ap (λ (x : List Token). drop 1 x) a.last_ends ∙ drop_one tokens last.next;
+  ends = ap (λ (x : List RawExpr). after_row x (drop from tokens)) is ∙ row_longer done last.tree (drop from tokens) ∙ ap (λ (x : List Token). drop 1 (after_tree last.tree x)) a.ends ∙ ap (λ (x : List Token). drop 1 x) a.last_ends ∙ drop_one tokens last.next;
   last_placed = p;
   last_ends = taken_ends names 1 limit tokens (last.next + 1) another t;
 }
@@ -111,11 +111,11 @@ arguments_placed tokens from done items last a is = subst (λ (x : List RawExpr)
 
 brackets_more : (trees : List RawExpr) (tree : RawExpr) (tokens : List Token) → AreInBrackets trees tokens → HasPlaces tree (drop 1 (after_brackets trees tokens)) → AreInBrackets (trees ++ tree ∷ []) tokens
 brackets_more [] tree tokens a p = (p, tt)
-brackets_more (t ∷ ts) tree tokens a p = (a.0, brackets_more ts tree (drop 1 (following t.kind (drop 1 tokens))) a.1 p)
+brackets_more (t ∷ ts) tree tokens a p = (a.0, brackets_more ts tree (drop 1 (after_tree t (drop 1 tokens))) a.1 p)
 
-brackets_longer : (trees : List RawExpr) (tree : RawExpr) (tokens : List Token) → after_brackets (trees ++ tree ∷ []) tokens ≡ drop 1 (following tree.kind (drop 1 (after_brackets trees tokens)))
+brackets_longer : (trees : List RawExpr) (tree : RawExpr) (tokens : List Token) → after_brackets (trees ++ tree ∷ []) tokens ≡ drop 1 (after_tree tree (drop 1 (after_brackets trees tokens)))
 brackets_longer [] tree tokens = refl
-brackets_longer (t ∷ ts) tree tokens = brackets_longer ts tree (drop 1 (following t.kind (drop 1 tokens)))
+brackets_longer (t ∷ ts) tree tokens = brackets_longer ts tree (drop 1 (after_tree t (drop 1 tokens)))
 
 -- the bounds so far have their places, and end before a token
 pub record BoundsPlaced (tokens : List Token) (from next : ℕ) (done : List RawExpr) : Type 0 where
@@ -131,7 +131,7 @@ next_bound_placed names limit tokens from next done items bound b t p is =
     record {
       brackets = subst (λ (x : List RawExpr). AreInBrackets x (drop from tokens)) (sym is) (brackets_more done bound.tree (drop from tokens) b.brackets (subst (HasPlaces bound.tree) (sym here) p));
       ends =
-          ap (λ (x : List RawExpr). after_brackets x (drop from tokens)) is ∙ brackets_longer done bound.tree (drop from tokens) ∙ ap (λ (x : List Token). drop 1 (following bound.tree.kind x)) here
+          ap (λ (x : List RawExpr). after_brackets x (drop from tokens)) is ∙ brackets_longer done bound.tree (drop from tokens) ∙ ap (λ (x : List Token). drop 1 (after_tree bound.tree x)) here
           ∙ ap (λ (x : List Token). drop 1 x) (taken_ends names 2 limit tokens (next + 1) bound t) ∙ drop_one tokens bound.next;
     }
 

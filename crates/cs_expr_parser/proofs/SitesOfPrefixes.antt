@@ -225,7 +225,7 @@ size_type_taken names limit tokens from taken whole least k opens t n =
     (omega arith)
     (size_type_took names limit least (parts_of taken) (kind_or_end tokens taken.next) t.exactly)
 
--- the answer where there is room for a type alone after the parenthesis
+-- the answer where the limit allows a type alone after the parenthesis
 pub size_full_answer : (names : Names) (limit : ℕ) (tokens : List Token) (from : ℕ) (answer : Result Taken Stop) → limit ≡ 2 → kind_or_end tokens from ≡ before_text before.Size → kind_or_end tokens (from + 1) ≡ open_parenthesis → opens_type names (kind_or_end tokens (from + 1)) (kind_or_end tokens (from + 1 + 1)) ≡ false → IsBounded 0 tokens (from + 2) answer → Answers names 0 0 tokens (from + 2) answer → Answers names 14 limit tokens from answer
 size_full_answer names limit tokens from (Ok taken) two k o none bound t = absurd (let l = bound.2 in let h = bound.3 in omega arith)
 size_full_answer names limit tokens from (Err s) two k o none bound r =
@@ -239,7 +239,7 @@ one_token [] k more e = inl refl
 one_token (f ∷ []) k more e = inr (cc)
 one_token (f ∷ g ∷ fs) k more e = absurd cc
 
--- where there is room for one token alone, none is taken before a refusal
+-- where the limit allows one token alone, none is taken before a refusal
 leaf_alone : (names : Names) (e : Written) → height e ≤ 1 → (k : TokenKind) × (text e [] ≡ k ∷ [])
 leaf_alone names (Named name) low = (token.Name name, refl)
 leaf_alone names (Numeral n) low = (token.Number n, refl)

@@ -251,7 +251,7 @@ word_stands tokens at next w sp =
     let f = word_first w (kinds (drop next tokens)) in
     kinds_first (drop at tokens) (first_of_word w) f.0 (sp.spelled ∙ f.1)
 
--- a word stands there, but no type goes on with it
+-- a word stands there, but no type continues with it
 pub unjoined_stuck : (names : Names) (tokens : List Token) (at : ℕ) (so_far : TypeSoFar) (words : List TypeWord) (found : NextWord) → Describes names so_far words → IsWordAt names tokens at so_far found → IsExtended names words found.word None → IsStuck names words (kind_or_end tokens at)
 unjoined_stuck names tokens at so_far words found d w none =
     subst (IsStuck names words) (sym (word_stands tokens at found.next found.word w.spelled))

@@ -47,7 +47,7 @@ near_list : (tokens : List Token) → Near (first_kind tokens) (kinds tokens)
 near_list [] = inl refl
 near_list (t ∷ ts) = inr (kinds ts, refl)
 
--- what stands from a number on is at its end, or goes on with its first token
+-- what stands from an index on is at its end, or continues with its first token
 pub near : (tokens : List Token) (at : ℕ) → Near (kind_or_end tokens at) (kinds (drop at tokens))
 near tokens at = near_list (drop at tokens)
 

@@ -23,12 +23,12 @@ not_deep false = refl
 pub plain_not_deep : (next : TokenKind) (after_type : Bool) → is_deep (plain_reason next after_type) ≡ false
 plain_not_deep next after_type = not_deep (is_unsupported next || (after_type && is_brace next))
 
--- the reason tells whether a higher phrase goes on
+-- the reason says whether a higher phrase continues
 pub deep_reason : (deep : Bool) (next : TokenKind) (after_type : Bool) → is_deep (reason_of deep next after_type) ≡ deep
 deep_reason true next after_type = refl
 deep_reason false next after_type = plain_not_deep next after_type
 
--- the token at a number is refused after these
+-- the token at an index is refused after these
 pub refused_at : (C : Class) (limit : ℕ) (tokens : List Token) (from at : ℕ) (reason : Reason) (deep : Bool) (front : Kinds) → Spells tokens from at (λ rest. front ++ rest) → is_deep reason ≡ deep → Refused C limit front (kind_or_end tokens at) deep → Stops C limit tokens from (stop.Refused at reason)
 refused_at C limit tokens from at reason deep front spelled is r = record { front = front; spelled = spelled; refused = subst (λ (d : Bool). Refused C limit front (kind_or_end tokens at) d) (sym is) r }
 
@@ -42,7 +42,7 @@ refused_after C limit tokens from taken s front is spelled r =
     subst (Stops C limit tokens from) (sym is)
     (refused_at C limit tokens from taken.next (reason_of taken.deep (kind_or_end tokens taken.next) (ends_in_type (written taken.tree))) taken.deep front spelled (deep_reason taken.deep (kind_or_end tokens taken.next) (ends_in_type (written taken.tree))) r)
 
--- the refusal of the token at a number
+-- the refusal of the token at an index
 abbrev pub IsRefusalAt : List Token → ℕ → Bool → Stop → Type 0
 IsRefusalAt tokens at deep s = s ≡ stop.Refused at (reason_of deep (kind_or_end tokens at) false)
 

@@ -98,7 +98,7 @@ type_after names before front t = record {
   spelled = ap (λ (x : Kinds). before ++ x) t.spelled ∙ sym (append_assoc before t.before (open_parenthesis ∷ type_text t.words t.pointers t.bounds (close_parenthesis ∷ [])));
 }
 
--- what is left out after some tokens is left out after others before them
+-- what is unsupported after some tokens is unsupported after others before them
 unsupported_after : (names : Names) (before front : Kinds) (next : TokenKind) → IsUnsupported names front next → IsUnsupported names (before ++ front) next
 unsupported_after names before front (token.Unsupported w) o = tt
 unsupported_after names before front (token.Punctuator punctuator.Ellipsis) o = tt
@@ -206,7 +206,7 @@ brace_unsupported names front (token.Number n) e b = absurd cc
 brace_unsupported names front (token.Character n) e b = absurd cc
 brace_unsupported names front (token.Text n) e b = absurd cc
 
--- the reason of a token that no higher phrase goes on with
+-- the reason of a token that no higher phrase continues with
 pub yields_plain : (names : Names) (front : Kinds) (next : TokenKind) (following : Bool) → (following ≡ true → EndsWithTag front ⊎ EndsWithType names front) → (following ≡ false → IsPlainEnd names front) → YieldsUnsupported names front next (plain_reason next following)
 yields_plain names front next following ends plain =
     brace_or_not names front next following (is_unsupported next) (is_brace next) refl refl (always_unsupported names front next) (λ b brace. brace_unsupported names front next (ends b) brace) plain

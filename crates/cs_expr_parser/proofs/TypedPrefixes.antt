@@ -183,7 +183,7 @@ size_took names limit least part next deep t =
     tail_took (Expressions names 14) (Expressions names 14) limit (limit - 1) (sizeof_token ∷ []) SizeOf (NoType names before.Size) (text_law names 14) (before_tail names limit before.Size least) part next deep
     (λ following near e parts rest ty same. no_type_inner names part following rest parts t.is_phrase ty same) t
 
--- a parenthesis after `sizeof` where there is room for a type alone
+-- a parenthesis after `sizeof` where the limit allows a type alone
 pub size_full : (names : Names) (front : Kinds) (next : TokenKind) (deep : Bool) → (front ≡ [] → begins_type names next ≡ false) → Refused (Expressions names 0) 0 front next deep → Refused (Expressions names 14) 2 (sizeof_token ∷ open_parenthesis ∷ front) next deep
 size_full names front next deep none r =
     let empty : front ≡ [] = elim r.begun [ inl e ↦ e | inr l ↦ absurd (let h = height_some l.phrase in let k : height l.phrase ≤ 0 = l.low in omega arith) ] in

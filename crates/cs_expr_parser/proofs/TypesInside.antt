@@ -101,7 +101,7 @@ pointers_marked [] bs after is = bounds_marked bs after
 pointers_marked (pointer.Star ∷ ps) bs after is = record { punctuator = punctuator.Star; others = pointers_text ps (closed_bounds_text bs after); are = refl }
 pointers_marked (pointer.Const ∷ ps) bs after is = absurd cc
 
--- words that begin so go on with others
+-- words that begin so continue with others
 pub words_go_on : (ws other : List TypeWord) (rest following : Kinds) → IsMarked rest → words_text other rest ≡ words_text ws following → (more : List TypeWord) × (other ≡ ws ++ more) × (words_text more rest ≡ following)
 words_go_on [] other rest following m same = (other, refl, same)
 words_go_on (w ∷ ws) [] rest following m same =
@@ -120,7 +120,7 @@ bounds_first_punctuator (More x xs) after m more same e = cc
 bounds_no_star : (bs : WrittenList) (after more : Kinds) → closed_bounds_text bs after ≡ token.Punctuator punctuator.Star ∷ more → ⊥
 bounds_no_star bs after more same = bounds_first_punctuator bs after punctuator.Star more same refl
 
--- pointers that begin so go on with others
+-- pointers that begin so continue with others
 pointers_go_on : (ps other : List PointerWord) (bs : WrittenList) (after following : Kinds) → pointers_text other (closed_bounds_text bs after) ≡ pointers_text ps following → (more : List PointerWord) × (other ≡ ps ++ more) × (pointers_text more (closed_bounds_text bs after) ≡ following)
 pointers_go_on [] other bs after following same = (other, refl, same)
 pointers_go_on (pointer.Star ∷ ps) [] bs after following same = absurd (bounds_no_star bs after (pointers_text ps following) same)

@@ -91,7 +91,7 @@ not_type_step names ws next other rest following none stuck is near (w ∷ more)
           both_ways (is_type names other) (ap (is_type names) o ∙ stuck w more e) is
     ]
 
--- words that name nothing, and no word that goes on with them
+-- words that name nothing, and no word that continues with them
 pub not_type_refused : (names : Names) (limit : ℕ) (ws : List TypeWord) (next : TokenKind) → named_by ws ≡ [] → IsStuck names ws next → Refused (Types names) limit (words_text ws []) next false
 not_type_refused names limit ws next none stuck = record {
   begun = inr (record {

@@ -43,7 +43,7 @@ abbrev pub GoesNoFurther : Names → ℕ → ℕ → Kinds → Option TokenKind 
 GoesNoFurther names level limit front (Some next) = BeginsLowPhrase names level limit (front ++ next ∷ []) → ⊥
 GoesNoFurther names level limit front None = Unit {0}
 
--- the tokens from a number on begin with this phrase of the level, and no phrase that is low enough goes further; `took` says
+-- the tokens from an index on begin with this phrase of the level, and no phrase that is low enough goes further; `took` says
 -- the same for parsers that go on
 pub record IsTaken (names : Names) (level limit : ℕ) (tokens : List Token) (from : ℕ) (phrase : Phrase) : Type 0 where
   pub is_phrase : IsPhrase names level (written phrase.tree)
@@ -57,7 +57,7 @@ pub record IsTaken (names : Names) (level limit : ℕ) (tokens : List Token) (fr
   pub otherwise : IsReason names level (text (written phrase.tree) []) (kind_at tokens phrase.next) phrase.otherwise
   pub took : Took (Expressions names level) limit (written phrase.tree) (kind_or_end tokens phrase.next) (is_deep phrase.otherwise)
 
--- the tokens from a number on, up to another one, begin a phrase of the level that is low enough, if there are any, but aren't
+-- the tokens from an index on, up to another index, begin a phrase of the level that is low enough, if there are any, but aren't
 -- one; with the next token they begin none, for this reason; `refused` says the same for parsers that go on
 pub record IsRefusedAt (names : Names) (level limit : ℕ) (tokens : List Token) (from at : ℕ) (reason : Reason) : Type 0 where
   pub front : Kinds

@@ -63,13 +63,13 @@ last_of names opened last (kind ∷ rest) = last_of names (opened_by names opene
 abbrev pub IsPlainEnd : Names → Kinds → Type 0
 IsPlainEnd names front = (opened : List Bool) → last_of names opened AnyToken front ≡ AnyToken
 
--- the reason tells whether the token is left out after these
+-- the reason says whether the token is unsupported after these
 abbrev pub YieldsUnsupported : Names → Kinds → TokenKind → Reason → Type 0
 YieldsUnsupported names front next TooDeep = Unit {0}
 YieldsUnsupported names front next Unsupported = IsUnsupported names front next
 YieldsUnsupported names front next Syntax = (is_unsupported next ≡ false) × (is_brace next ≡ true → IsPlainEnd names front)
 
--- the reason of a refusal is right after the tokens from a number on
+-- the reason of a refusal is right after the tokens from an index on
 pub record IsReportedAt (names : Names) (tokens : List Token) (from at : ℕ) (reason : Reason) : Type 0 where
   pub front : Kinds
   pub spelled : Spells tokens from at (λ rest. front ++ rest)
@@ -89,7 +89,7 @@ abbrev pub YieldsAfter : Names → Kinds → Bool → Type 0
 YieldsAfter names before true = EndsWithTag before
 YieldsAfter names before false = IsPlainEnd names before
 
--- the reason of a refusal is right after the tokens from a number on, and others before them
+-- the reason of a refusal is right after the tokens from an index on, and others before them
 pub record IsReportedAfterAt (names : Names) (before : Kinds) (tokens : List Token) (from at : ℕ) (reason : Reason) : Type 0 where
   pub front : Kinds
   pub spelled : Spells tokens from at (λ rest. front ++ rest)

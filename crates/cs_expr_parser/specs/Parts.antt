@@ -36,7 +36,7 @@ pub record Spells (tokens : List Token) (from next : ℕ) (spell : Kinds → Kin
   pub within : next ≤ length tokens
   pub spelled : kinds (drop from tokens) ≡ spell (kinds (drop next tokens))
 
--- a token is refused: no phrase of the class goes on with it that is low enough
+-- a token is refused: no phrase of the class continues with it that is low enough
 pub record IsRefused (C : Class) (limit : ℕ) (tokens : List Token) (from at : ℕ) (reason : Reason) : Type 0 where
   pub front : Kinds
   pub spelled : Spells tokens from at (λ rest. front ++ rest)

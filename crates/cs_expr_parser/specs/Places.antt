@@ -5,8 +5,10 @@ use Rattle.cs_ast.specs.declared.place.Place.{Place}
 use Rattle.cs_ast.specs.declared.token.Token.{Token}
 use Rattle.cs_ast.specs.declared.raw.expression.RawExpr.{RawExpr}
 use Rattle.cs_ast.specs.declared.raw.expression.RawExprKind.{RawExprKind}
+use Rattle.cs_ast.specs.declared.raw.name.RawName.{RawName}
 use Rattle.cs_ast.specs.declared.raw.written_type.TypeWord.{TypeWord}
-use Rattle.cs_grammar.specs.Places.{HasPlaces, HasTagPlace, StandsAt, IsPlaced, before_tag, following, after_words}
+use Rattle.cs_ast.specs.declared.raw.written_type.WrittenType.{WrittenType}
+use Rattle.cs_grammar.specs.Places.{HasPlaces, HasTagPlace, StandsAt, IsPlaced, before_tag, after_tree, after_words}
 use Rattle.cs_expr_parser.specs.declared.stop.Stop.{Stop}
 use Rattle.cs_expr_parser.specs.declared.stop.Taken.{Taken}
 use Rattle.cs_expr_parser.specs.declared.lists.Listed.{Listed}
@@ -23,17 +25,61 @@ IsOkPlaced tokens from (Err stop) = Unit {0}
 -- expressions with a punctuator after each have their places
 abbrev pub AreInRow : List RawExpr → List Token → Type 0
 AreInRow [] tokens = Unit {0}
-AreInRow (tree ∷ trees) tokens = HasPlaces tree tokens × AreInRow trees (drop 1 (following tree.kind tokens))
+AreInRow (tree ∷ trees) tokens = HasPlaces tree tokens × AreInRow trees (drop 1 (after_tree tree tokens))
 
 -- the tokens after expressions between brackets
 abbrev pub after_brackets : List RawExpr → List Token → List Token
 after_brackets [] tokens = tokens
-after_brackets (tree ∷ trees) tokens = after_brackets trees (drop 1 (following tree.kind (drop 1 tokens)))
+after_brackets (tree ∷ trees) tokens = after_brackets trees (drop 1 (after_tree tree (drop 1 tokens)))
 
 -- expressions between brackets have their places
 abbrev pub AreInBrackets : List RawExpr → List Token → Type 0
 AreInBrackets [] tokens = Unit {0}
-AreInBrackets (tree ∷ trees) tokens = HasPlaces tree (drop 1 tokens) × AreInBrackets trees (drop 1 (following tree.kind (drop 1 tokens)))
+AreInBrackets (tree ∷ trees) tokens = HasPlaces tree (drop 1 tokens) × AreInBrackets trees (drop 1 (after_tree tree (drop 1 tokens)))
+
+-- the expression has its places where one of this form at this place has
+abbrev pub PlacesForm : Place → RawExprKind → RawExpr → Type 0
+PlacesForm place form node = (tokens : List Token) → IsPlaced place form tokens → HasPlaces node tokens
+
+-- the node has its places where its operand has, after the token at this place
+abbrev pub PlacesBefore : Place → RawExpr → RawExpr → Type 0
+PlacesBefore place operand node = (tokens : List Token) → StandsAt place tokens → HasPlaces operand (drop 1 tokens) → HasPlaces node tokens
+
+-- the node has its places where its operand has, before the token at this place
+abbrev pub PlacesAfter : Place → RawExpr → RawExpr → Type 0
+PlacesAfter place operand node = (tokens : List Token) → HasPlaces operand tokens → StandsAt place (after_tree operand tokens) → HasPlaces node tokens
+
+-- the node has its places where its operands have, with the token at this place between them
+abbrev pub PlacesBetween : Place → RawExpr → RawExpr → RawExpr → Type 0
+PlacesBetween place left right node =
+    (tokens : List Token) → HasPlaces left tokens → StandsAt place (after_tree left tokens) → HasPlaces right (drop 1 (after_tree left tokens)) → HasPlaces node tokens
+
+-- the same where the right part is the name of a member
+abbrev pub PlacesMember : Place → RawExpr → RawName → RawExpr → Type 0
+PlacesMember place object name node =
+    (tokens : List Token) → HasPlaces object tokens → StandsAt place (after_tree object tokens) → StandsAt name.place (drop 1 (after_tree object tokens)) → HasPlaces node tokens
+
+-- the same where the right part is arguments
+abbrev pub PlacesCall : Place → RawExpr → List RawExpr → RawExpr → Type 0
+PlacesCall place function arguments node =
+    (tokens : List Token) → HasPlaces function tokens → StandsAt place (after_tree function tokens) → AreInRow arguments (drop 1 (after_tree function tokens)) → HasPlaces node tokens
+
+-- the choice has its places where its parts have, with a token after each of the first two
+abbrev pub PlacesChoice : Place → RawExpr → RawExpr → RawExpr → RawExpr → Type 0
+PlacesChoice place test one other node =
+    (tokens : List Token) → HasPlaces test tokens → StandsAt place (after_tree test tokens) → HasPlaces one (drop 1 (after_tree test tokens))
+    → HasPlaces other (drop 1 (after_tree one (drop 1 (after_tree test tokens)))) → HasPlaces node tokens
+
+-- `sizeof` a type has its places where the type has, after two tokens
+abbrev pub PlacesSizeOfType : Place → WrittenType → List RawExpr → RawExpr → Type 0
+PlacesSizeOfType place ty bounds node =
+    (tokens : List Token) → StandsAt place tokens → HasTagPlace ty (drop 2 tokens) → AreInBrackets bounds (after_words ty (drop 2 tokens)) → HasPlaces node tokens
+
+-- a cast has its places where the type has, after one token, and the operand after the parenthesis that closes the type
+abbrev pub PlacesCast : Place → WrittenType → List RawExpr → RawExpr → RawExpr → Type 0
+PlacesCast place ty bounds operand node =
+    (tokens : List Token) → StandsAt place tokens → HasTagPlace ty (drop 1 tokens) → AreInBrackets bounds (after_words ty (drop 1 tokens))
+    → HasPlaces operand (drop 1 (after_brackets bounds (after_words ty (drop 1 tokens)))) → HasPlaces node tokens
 
 abbrev pub IsRowPlaced : List Token → ℕ → Result Listed Stop → Type 0
 IsRowPlaced tokens from (Ok taken) = AreInRow taken.trees.items (drop from tokens)
@@ -53,9 +99,9 @@ abbrev pub IsFoundPlaced : Option RawExpr → List Token → Type 0
 IsFoundPlaced (Some tree) tokens = HasPlaces tree tokens
 IsFoundPlaced None tokens = Unit {0}
 
--- after the tokens of an expression, which begin at a number, stand those from another number on
+-- after the tokens of an expression, which begin at an index, stand those from another number on
 abbrev pub EndsAt : List Token → ℕ → RawExpr → ℕ → Type 0
-EndsAt tokens from tree next = following tree.kind (drop from tokens) ≡ drop next tokens
+EndsAt tokens from tree next = after_tree tree (drop from tokens) ≡ drop next tokens
 
 -- the node has its places where its operand has
 abbrev pub IsBuiltAfter : List Token → Taken → Taken → Type 0
@@ -87,6 +133,14 @@ pub record IsTypePlaced (tokens : List Token) (from : ℕ) (taken : TakenType) :
   pub bounds : AreInBrackets taken.bounds.items (after_words taken.ty (drop from tokens))
   pub following : drop 1 (after_brackets taken.bounds.items (after_words taken.ty (drop from tokens))) ≡ drop taken.next tokens
 
+-- `sizeof` the type has its places where the type has, after the word and the parenthesis
+abbrev pub IsTypeMeasured : List Token → ℕ → TakenType → Taken → Type 0
+IsTypeMeasured tokens from taken whole = IsTypePlaced tokens (from + 2) taken → HasPlaces whole.tree (drop from tokens)
+
+-- the cast has its places where the type and the operand have
+abbrev pub IsTypeConverting : List Token → ℕ → TakenType → Taken → Taken → Type 0
+IsTypeConverting tokens from taken operand whole = IsTypePlaced tokens (from + 1) taken → HasPlaces operand.tree (drop taken.next tokens) → HasPlaces whole.tree (drop from tokens)
+
 abbrev pub IsOkTypePlaced : List Token → ℕ → Result TakenType Stop → Type 0
 IsOkTypePlaced tokens from (Ok taken) = IsTypePlaced tokens from taken
 IsOkTypePlaced tokens from (Err stop) = Unit {0}
@@ -95,7 +149,7 @@ IsOkTypePlaced tokens from (Err stop) = Unit {0}
 abbrev pub IsTagPlaced : Option Place → List TypeWord → List Token → Type 0
 IsTagPlaced tag words tokens = tag ≡ option_map (λ (token : Token). token.place) (option_and_then (λ number. slice_get tokens number) (before_tag words))
 
--- the tag of a word, if it has one, is told with the place of its token; else the word is one token
+-- the tag of a word, if it has one, is given with the place of its token; else the word is one token
 abbrev pub IsTagGiven : Bool → List Token → ℕ → Option Place → ℕ → Type 0
 IsTagGiven true tokens at tag after = (place : Place) × (tag ≡ Some place) × StandsAt place (drop (at + 1) tokens)
 IsTagGiven false tokens at tag after = (tag ≡ None) × (after ≡ at + 1)

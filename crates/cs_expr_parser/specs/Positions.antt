@@ -37,7 +37,7 @@ abbrev pub name_of : TokenKind → Option (List ℕ)
 name_of (token.Name name) = Some name
 name_of other = None
 
--- the token is a word or punctuator that is left out wherever it stands in an expression
+-- the token is a word or punctuator that is unsupported wherever it stands in an expression
 abbrev pub is_unsupported : TokenKind → Bool
 is_unsupported (token.Unsupported word) = true
 is_unsupported (token.Punctuator punctuator.Ellipsis) = true

@@ -23,6 +23,6 @@ ends_in_type other = false
 abbrev pub plain_reason : TokenKind → Bool → Reason
 plain_reason next after_type = if is_unsupported next || (after_type && is_brace next) then Unsupported else Syntax
 
--- why a token is refused, if a higher phrase goes on with it and if not
+-- why a token is refused, if a higher phrase continues with it and if not
 abbrev pub reason_of : Bool → TokenKind → Bool → Reason
 reason_of deep next after_type = if deep then TooDeep else plain_reason next after_type

@@ -72,7 +72,7 @@ abbrev pub names_some : TypeSoFar → Bool
 names_some Nothing = false
 names_some other = true
 
--- a word of a type stands at a number; one with a tag only where the words so far name no type
+-- a word of a type is at an index; one with a tag only where the words so far name no type
 pub record IsWordAt (names : Names) (tokens : List Token) (at : ℕ) (so_far : TypeSoFar) (found : NextWord) : Type 0 where
   pub spelled : Spells tokens at found.next (type_word_text found.word)
   pub known : (name : List ℕ) → found.word ≡ word.Typedef name → is_among names name ≡ true
@@ -86,7 +86,7 @@ IsUnusable names so_far (word.Struct tag) = names_some so_far ≡ true
 IsUnusable names so_far (word.Enum tag) = names_some so_far ≡ true
 IsUnusable names so_far other = ⊥
 
--- no word of a type stands at a number, but perhaps one with a tag where the words so far name a type
+-- no word of a type is at an index, but perhaps one with a tag where the words so far name a type
 abbrev pub NoWord : Names → TypeSoFar → TokenKind → Type 0
 NoWord names so_far next = (one : TypeWord) → first_of_word one ≡ next → IsUnusable names so_far one
 
@@ -104,12 +104,12 @@ WordAnswer names tokens at so_far (Err stop.Memory) = Unit {0}
 WordAnswer names tokens at so_far (Err (stop.Refused refused reason)) =
     IsTagMissing tokens at refused × (names_some so_far ≡ false) × (reason ≡ plain_reason (kind_or_end tokens refused) true)
 
--- a word stands at a number that joins the words of a type so far
+-- a word is at an index that joins the words of a type so far
 pub record IsJoiningAt (names : Names) (words : List TypeWord) (tokens : List Token) (at : ℕ) (joining : JoiningWord) : Type 0 where
   pub spelled : Spells tokens at joining.found.next (type_word_text joining.found.word)
   pub described : Describes names joining.after (words ++ joining.found.word ∷ [])
 
--- the answer for a number: the word there that joins the words of a type so far, none where no type goes on with it
+-- the answer for a number: the word there that joins the words of a type so far, none where no type continues with it
 abbrev pub JoiningAnswer : Names → List TypeWord → List Token → ℕ → Result (Option JoiningWord) Stop → Type 0
 JoiningAnswer names words tokens at (Ok (Some joining)) = IsJoiningAt names words tokens at joining
 JoiningAnswer names words tokens at (Ok None) = IsStuck names words (kind_or_end tokens at)

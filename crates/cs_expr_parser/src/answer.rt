@@ -4,7 +4,7 @@ use cs_ast::raw::expression::RawExpr;
 use cs_grammar::Reason;
 
 /// The phrases that other phrases ask for.
-#[derive(Clone, Copy, Debug, PartialEq, Eq)]
+#[derive(Clone, Copy)]
 pub enum ExprLevel {
     /// Expressions with commas between them (C11 6.5.17).
     Expr,
@@ -20,8 +20,8 @@ pub struct Phrase {
     pub tree: RawExpr,
     /// The height of the tree.
     pub height: u32,
-    /// The number of the token after it.
+    /// The index of the token after it.
     pub next: usize,
-    /// Why the token after it is refused, if the caller can't go on with it either.
+    /// Why the token after it is refused, if the caller can't continue with it either.
     pub otherwise: Reason,
 }

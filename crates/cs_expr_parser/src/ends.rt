@@ -11,7 +11,7 @@ use cs_ast::raw::expression::{RawExpr, RawExprKind};
 pub fn ends_with_type(tree: &RawExpr) -> bool
     ensures { result ≡ ends_in_type (written tree.now) }
 {
-    kind_ends_with_type(&tree.kind)
+    kind_ends_with_type(&*tree.kind)
 }
 
 #[cycle(ends)]
@@ -32,7 +32,7 @@ fn kind_ends_with_type(kind: &RawExprKind) -> bool
 pub fn is_unary(tree: &RawExpr) -> bool
     ensures { result ≡ nat_le 14 (level_of (written tree.now)) }
 {
-    match &tree.kind {
+    match &*tree.kind {
         RawExprKind::Cast(_, _, _) | RawExprKind::Infix(_, _, _) => false,
         RawExprKind::Choice(_, _, _) | RawExprKind::Assign(_, _, _) => false,
         RawExprKind::Comma(_, _) => false,

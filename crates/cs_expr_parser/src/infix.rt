@@ -21,7 +21,7 @@ use std::alloc::{AllocError, Global};
 /// The level of casts, which are the operands of the tightest operators.
 const CASTS: u32 = 13;
 
-/// The expression with operators of this level or a tighter one that the tokens from a number on begin with.
+/// The expression with operators of this level or a tighter one that begins at an index.
 #[cycle(expression)]
 pub fn infix(
     alloc: Global,
@@ -54,7 +54,7 @@ pub fn infix(
     Ok(left)
 }
 
-/// The operator of this level that stands at a number, if one does.
+/// The operator of this level at an index, if there is one.
 fn operator_at(tokens: &[Token], at: usize, level: u32) -> Option<InfixOp>
     ensures within { IsSome result → at < length tokens.now }
     ensures operator { IsInfixAt level (kind_or_end tokens.now at) result }

@@ -22,7 +22,7 @@ pub struct Listed {
     pub trees: Vec<RawExpr>,
     /// The height of the highest, 0 where there is none.
     pub height: u32,
-    /// The number of the token after what closes them.
+    /// The index of the token after what closes them.
     pub next: usize,
 }
 
@@ -70,7 +70,7 @@ pub fn arguments(
 }
 
 /// The bounds of a type's arrays, each between brackets, to after the parenthesis that closes the type (C11 6.7.6.2). Whether
-/// a tag stands before them tells why a brace is refused.
+/// a tag stands before them says why a brace is refused.
 #[cycle(expression)]
 pub fn bounds(
     alloc: Global,

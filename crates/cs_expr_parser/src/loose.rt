@@ -23,7 +23,7 @@ use std::alloc::{AllocError, Global};
 /// The level of the loosest operators between two operands.
 const INFIX: u32 = 3;
 
-/// The choice, or the tighter expression, that the tokens from a number on begin with.
+/// The choice, or the tighter expression, that begins at an index.
 #[cycle(expression)]
 pub fn choice(
     alloc: Global,
@@ -77,7 +77,7 @@ fn chosen(
     })
 }
 
-/// The expression that stores, or the tighter one, that the tokens from a number on begin with.
+/// The expression that stores, or the tighter one, that begins at an index.
 #[cycle(expression)]
 pub fn assign(
     alloc: Global,
@@ -107,7 +107,7 @@ pub fn assign(
     Ok(stored(alloc, tokens, operator, object, value)?)
 }
 
-/// The operator that stores at a number, if one stands there.
+/// The operator that stores at an index, if one stands there.
 fn assign_operator_at(tokens: &[Token], at: usize) -> Option<AssignOp>
     ensures within { IsSome result → at < length tokens.now }
     ensures operator { IsAssignAt (kind_or_end tokens.now at) result }
@@ -138,7 +138,7 @@ fn stored(
     })
 }
 
-/// The expression with commas, or the tighter one, that the tokens from a number on begin with.
+/// The expression with commas, or the tighter one, that begins at an index.
 #[cycle(expression)]
 pub fn comma(
     alloc: Global,

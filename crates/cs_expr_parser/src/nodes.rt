@@ -1,10 +1,9 @@
 //! The nodes of trees, each made of its parts.
 ghost use Rattle.std.specs.Prelude.{◌≡◌, ◌<◌, ◌∷◌, List, drop, IfOk, IsSome, length};
 ghost use Rattle.cs_ast.specs.declared.token.Token.{Token as OneToken};
-ghost use Rattle.cs_grammar.specs.Places.{HasPlaces, HasTagPlace, StandsAt, following, after_words};
-ghost use Rattle.cs_expr_parser.specs.Places.{AreInRow, AreInBrackets, after_brackets, IsFoundPlaced, IsPlacedAnywhere};
+ghost use Rattle.cs_expr_parser.specs.Places.{IsFoundPlaced, IsPlacedAnywhere, PlacesForm, PlacesBefore, PlacesAfter, PlacesBetween, PlacesMember, PlacesCall, PlacesChoice, PlacesSizeOfType, PlacesCast};
 ghost use Rattle.cs_ast.specs.RawTree.{Enclosed, Index as IndexNode, Call as CallNode, Member as MemberNode, Arrow as ArrowNode, StepAfter as StepAfterNode, StepBefore as StepBeforeNode, Prefix as PrefixNode, SizeOf as SizeOfNode, SizeOfType as SizeOfTypeNode, Cast as CastNode, Infix as InfixNode, Choice as ChoiceNode, Assign as AssignNode, Comma as CommaNode};
-ghost use Rattle.cs_ast.specs.RawView.{written, written_list};
+ghost use Rattle.cs_ast.specs.RawView.{written, written_kind, written_list};
 ghost use Rattle.cs_expr_parser.specs.Leaves.{IsLeafOf, IsLeafKindOf};
 ghost use Rattle.cs_expr_parser.specs.Positions.{kind_or_end};
 
@@ -16,9 +15,10 @@ use cs_ast::{Place, Token, TokenKind};
 use cs_grammar::TypedefNames;
 use std::alloc::{AllocError, Global};
 
-/// The expression of the one token at a number, if that is one.
+/// The expression of the one token at an index, if that is one.
 #[tactic(auto, using(std::proofs::lemmas::Option::slice_get_within))]
 pub fn leaf_at(
+    alloc: Global,
     tokens: &[Token],
     names: &TypedefNames,
     at: usize,
@@ -28,23 +28,20 @@ pub fn leaf_at(
     ensures placed { IfOk result (λ found. IsFoundPlaced found (drop at tokens.now)) }
 {
     match tokens.get(at) {
-        Some(token) => leaf(token, names),
+        Some(token) => leaf(alloc, token, names),
         None => Ok(None),
     }
 }
 
 /// The expression of one token: a name that is no typedef name, a constant or a text.
-fn leaf(token: &Token, names: &TypedefNames) -> Result<Option<RawExpr>, AllocError>
+fn leaf(alloc: Global, token: &Token, names: &TypedefNames) -> Result<Option<RawExpr>, AllocError>
     ensures leaf { IfOk result (IsLeafOf names.now token.now.kind) }
     ensures placed { IfOk result (λ found. (others : List OneToken) → IsFoundPlaced found (token.now ∷ others)) }
 {
     let Some(kind) = leaf_kind(&token.kind, names)? else {
         return Ok(None);
     };
-    Ok(Some(RawExpr {
-        place: token.place,
-        kind,
-    }))
+    Ok(Some(node(alloc, token.place, kind)?))
 }
 
 fn leaf_kind(kind: &TokenKind, names: &TypedefNames) -> Result<Option<RawExprKind>, AllocError>
@@ -65,16 +62,21 @@ fn leaf_kind(kind: &TokenKind, names: &TypedefNames) -> Result<Option<RawExprKin
     }
 }
 
+/// The node of this form at this place.
+fn node(alloc: Global, place: Place, kind: RawExprKind) -> Result<RawExpr, AllocError>
+    ensures tree { IfOk result (λ tree. written tree ≡ written_kind kind) }
+    ensures placed { IfOk result (PlacesForm place kind) }
+{
+    let kind = Box::new(alloc, kind)?;
+    Ok(RawExpr { place, kind })
+}
+
 /// `( inner )`
 pub fn parenthesis(alloc: Global, place: Place, inner: RawExpr) -> Result<RawExpr, AllocError>
     ensures tree { IfOk result (λ tree. written tree ≡ Enclosed (written inner)) }
-    ensures placed { IfOk result (λ tree. (list : List OneToken) → StandsAt place list → HasPlaces inner (drop 1 list) → HasPlaces tree list) }
+    ensures placed { IfOk result (PlacesBefore place inner) }
 {
-    let inner = Box::new(alloc, inner)?;
-    Ok(RawExpr {
-        place,
-        kind: RawExprKind::Parenthesis(inner),
-    })
+    node(alloc, place, RawExprKind::Parenthesis(inner))
 }
 
 /// `array [ number ]`
@@ -85,14 +87,9 @@ pub fn index(
     number: RawExpr,
 ) -> Result<RawExpr, AllocError>
     ensures tree { IfOk result (λ tree. written tree ≡ IndexNode (written array) (written number)) }
-    ensures placed { IfOk result (λ tree. (list : List OneToken) → HasPlaces array list → StandsAt place (following array.kind list) → HasPlaces number (drop 1 (following array.kind list)) → HasPlaces tree list) }
+    ensures placed { IfOk result (PlacesBetween place array number) }
 {
-    let array = Box::new(alloc, array)?;
-    let number = Box::new(alloc, number)?;
-    Ok(RawExpr {
-        place,
-        kind: RawExprKind::Index(array, number),
-    })
+    node(alloc, place, RawExprKind::Index(array, number))
 }
 
 /// `function ( arguments )`
@@ -102,14 +99,11 @@ pub fn call(
     function: RawExpr,
     arguments: Vec<RawExpr>,
 ) -> Result<RawExpr, AllocError>
-    ensures tree { IfOk result (λ tree. written tree ≡ CallNode (written function) (written_list arguments.items)) }
-    ensures placed { IfOk result (λ tree. (list : List OneToken) → HasPlaces function list → StandsAt place (following function.kind list) → AreInRow arguments.items (drop 1 (following function.kind list)) → HasPlaces tree list) }
+    ensures tree { IfOk result
+        (λ tree. written tree ≡ CallNode (written function) (written_list arguments.items)) }
+    ensures placed { IfOk result (PlacesCall place function arguments.items) }
 {
-    let function = Box::new(alloc, function)?;
-    Ok(RawExpr {
-        place,
-        kind: RawExprKind::Call(function, arguments),
-    })
+    node(alloc, place, RawExprKind::Call(function, arguments))
 }
 
 /// `object . name`
@@ -120,13 +114,9 @@ pub fn member(
     name: RawName,
 ) -> Result<RawExpr, AllocError>
     ensures tree { IfOk result (λ tree. written tree ≡ MemberNode (written object) name.name) }
-    ensures placed { IfOk result (λ tree. (list : List OneToken) → HasPlaces object list → StandsAt place (following object.kind list) → StandsAt name.place (drop 1 (following object.kind list)) → HasPlaces tree list) }
+    ensures placed { IfOk result (PlacesMember place object name) }
 {
-    let object = Box::new(alloc, object)?;
-    Ok(RawExpr {
-        place,
-        kind: RawExprKind::Member(object, name),
-    })
+    node(alloc, place, RawExprKind::Member(object, name))
 }
 
 /// `pointer -> name`
@@ -137,13 +127,9 @@ pub fn arrow(
     name: RawName,
 ) -> Result<RawExpr, AllocError>
     ensures tree { IfOk result (λ tree. written tree ≡ ArrowNode (written pointer) name.name) }
-    ensures placed { IfOk result (λ tree. (list : List OneToken) → HasPlaces pointer list → StandsAt place (following pointer.kind list) → StandsAt name.place (drop 1 (following pointer.kind list)) → HasPlaces tree list) }
+    ensures placed { IfOk result (PlacesMember place pointer name) }
 {
-    let pointer = Box::new(alloc, pointer)?;
-    Ok(RawExpr {
-        place,
-        kind: RawExprKind::Arrow(pointer, name),
-    })
+    node(alloc, place, RawExprKind::Arrow(pointer, name))
 }
 
 /// `object ++` or `object --`
@@ -154,13 +140,9 @@ pub fn step_after(
     object: RawExpr,
 ) -> Result<RawExpr, AllocError>
     ensures tree { IfOk result (λ tree. written tree ≡ StepAfterNode step (written object)) }
-    ensures placed { IfOk result (λ tree. (list : List OneToken) → HasPlaces object list → StandsAt place (following object.kind list) → HasPlaces tree list) }
+    ensures placed { IfOk result (PlacesAfter place object) }
 {
-    let object = Box::new(alloc, object)?;
-    Ok(RawExpr {
-        place,
-        kind: RawExprKind::StepAfter(step, object),
-    })
+    node(alloc, place, RawExprKind::StepAfter(step, object))
 }
 
 /// `++ object` or `-- object`
@@ -171,13 +153,9 @@ pub fn step_before(
     object: RawExpr,
 ) -> Result<RawExpr, AllocError>
     ensures tree { IfOk result (λ tree. written tree ≡ StepBeforeNode step (written object)) }
-    ensures placed { IfOk result (λ tree. (list : List OneToken) → StandsAt place list → HasPlaces object (drop 1 list) → HasPlaces tree list) }
+    ensures placed { IfOk result (PlacesBefore place object) }
 {
-    let object = Box::new(alloc, object)?;
-    Ok(RawExpr {
-        place,
-        kind: RawExprKind::StepBefore(step, object),
-    })
+    node(alloc, place, RawExprKind::StepBefore(step, object))
 }
 
 /// An operator before its operand.
@@ -188,36 +166,31 @@ pub fn prefix(
     operand: RawExpr,
 ) -> Result<RawExpr, AllocError>
     ensures tree { IfOk result (λ tree. written tree ≡ PrefixNode operator (written operand)) }
-    ensures placed { IfOk result (λ tree. (list : List OneToken) → StandsAt place list → HasPlaces operand (drop 1 list) → HasPlaces tree list) }
+    ensures placed { IfOk result (PlacesBefore place operand) }
 {
-    let operand = Box::new(alloc, operand)?;
-    Ok(RawExpr {
-        place,
-        kind: RawExprKind::Prefix(operator, operand),
-    })
+    node(alloc, place, RawExprKind::Prefix(operator, operand))
 }
 
 /// `sizeof operand`
 pub fn size_of(alloc: Global, place: Place, operand: RawExpr) -> Result<RawExpr, AllocError>
     ensures tree { IfOk result (λ tree. written tree ≡ SizeOfNode (written operand)) }
-    ensures placed { IfOk result (λ tree. (list : List OneToken) → StandsAt place list → HasPlaces operand (drop 1 list) → HasPlaces tree list) }
+    ensures placed { IfOk result (PlacesBefore place operand) }
 {
-    let operand = Box::new(alloc, operand)?;
-    Ok(RawExpr {
-        place,
-        kind: RawExprKind::SizeOf(operand),
-    })
+    node(alloc, place, RawExprKind::SizeOf(operand))
 }
 
 /// `sizeof ( type )`
-pub fn size_of_type(place: Place, ty: WrittenType, bounds: Vec<RawExpr>) -> RawExpr
-    ensures tree { written result ≡ SizeOfTypeNode ty.words.items ty.pointers.items (written_list bounds.items) }
-    ensures placed { (list : List OneToken) → StandsAt place list → HasTagPlace ty (drop 2 list) → AreInBrackets bounds.items (after_words ty (drop 2 list)) → HasPlaces result list }
+pub fn size_of_type(
+    alloc: Global,
+    place: Place,
+    ty: WrittenType,
+    bounds: Vec<RawExpr>,
+) -> Result<RawExpr, AllocError>
+    ensures tree { IfOk result
+        (λ tree. written tree ≡ SizeOfTypeNode ty.words.items ty.pointers.items (written_list bounds.items)) }
+    ensures placed { IfOk result (PlacesSizeOfType place ty bounds.items) }
 {
-    RawExpr {
-        place,
-        kind: RawExprKind::SizeOfType(ty, bounds),
-    }
+    node(alloc, place, RawExprKind::SizeOfType(ty, bounds))
 }
 
 /// `( type ) operand`
@@ -228,14 +201,11 @@ pub fn cast(
     bounds: Vec<RawExpr>,
     operand: RawExpr,
 ) -> Result<RawExpr, AllocError>
-    ensures tree { IfOk result (λ tree. written tree ≡ CastNode ty.words.items ty.pointers.items (written_list bounds.items) (written operand)) }
-    ensures placed { IfOk result (λ tree. (list : List OneToken) → StandsAt place list → HasTagPlace ty (drop 1 list) → AreInBrackets bounds.items (after_words ty (drop 1 list)) → HasPlaces operand (drop 1 (after_brackets bounds.items (after_words ty (drop 1 list)))) → HasPlaces tree list) }
+    ensures tree { IfOk result
+        (λ tree. written tree ≡ CastNode ty.words.items ty.pointers.items (written_list bounds.items) (written operand)) }
+    ensures placed { IfOk result (PlacesCast place ty bounds.items operand) }
 {
-    let operand = Box::new(alloc, operand)?;
-    Ok(RawExpr {
-        place,
-        kind: RawExprKind::Cast(ty, bounds, operand),
-    })
+    node(alloc, place, RawExprKind::Cast(ty, bounds, operand))
 }
 
 /// An operator between its operands.
@@ -246,15 +216,11 @@ pub fn infix(
     left: RawExpr,
     right: RawExpr,
 ) -> Result<RawExpr, AllocError>
-    ensures tree { IfOk result (λ tree. written tree ≡ InfixNode operator (written left) (written right)) }
-    ensures placed { IfOk result (λ tree. (list : List OneToken) → HasPlaces left list → StandsAt place (following left.kind list) → HasPlaces right (drop 1 (following left.kind list)) → HasPlaces tree list) }
+    ensures tree { IfOk result
+        (λ tree. written tree ≡ InfixNode operator (written left) (written right)) }
+    ensures placed { IfOk result (PlacesBetween place left right) }
 {
-    let left = Box::new(alloc, left)?;
-    let right = Box::new(alloc, right)?;
-    Ok(RawExpr {
-        place,
-        kind: RawExprKind::Infix(operator, left, right),
-    })
+    node(alloc, place, RawExprKind::Infix(operator, left, right))
 }
 
 /// `test ? one : other`
@@ -265,16 +231,11 @@ pub fn choice(
     one: RawExpr,
     other: RawExpr,
 ) -> Result<RawExpr, AllocError>
-    ensures tree { IfOk result (λ tree. written tree ≡ ChoiceNode (written test) (written one) (written other)) }
-    ensures placed { IfOk result (λ tree. (list : List OneToken) → HasPlaces test list → StandsAt place (following test.kind list) → HasPlaces one (drop 1 (following test.kind list)) → HasPlaces other (drop 1 (following one.kind (drop 1 (following test.kind list)))) → HasPlaces tree list) }
+    ensures tree { IfOk result
+        (λ tree. written tree ≡ ChoiceNode (written test) (written one) (written other)) }
+    ensures placed { IfOk result (PlacesChoice place test one other) }
 {
-    let test = Box::new(alloc, test)?;
-    let one = Box::new(alloc, one)?;
-    let other = Box::new(alloc, other)?;
-    Ok(RawExpr {
-        place,
-        kind: RawExprKind::Choice(test, one, other),
-    })
+    node(alloc, place, RawExprKind::Choice(test, one, other))
 }
 
 /// An operator that stores, between its object and the value.
@@ -285,15 +246,11 @@ pub fn assign(
     object: RawExpr,
     value: RawExpr,
 ) -> Result<RawExpr, AllocError>
-    ensures tree { IfOk result (λ tree. written tree ≡ AssignNode operator (written object) (written value)) }
-    ensures placed { IfOk result (λ tree. (list : List OneToken) → HasPlaces object list → StandsAt place (following object.kind list) → HasPlaces value (drop 1 (following object.kind list)) → HasPlaces tree list) }
+    ensures tree { IfOk result
+        (λ tree. written tree ≡ AssignNode operator (written object) (written value)) }
+    ensures placed { IfOk result (PlacesBetween place object value) }
 {
-    let object = Box::new(alloc, object)?;
-    let value = Box::new(alloc, value)?;
-    Ok(RawExpr {
-        place,
-        kind: RawExprKind::Assign(operator, object, value),
-    })
+    node(alloc, place, RawExprKind::Assign(operator, object, value))
 }
 
 /// `first , second`
@@ -304,12 +261,7 @@ pub fn comma(
     second: RawExpr,
 ) -> Result<RawExpr, AllocError>
     ensures tree { IfOk result (λ tree. written tree ≡ CommaNode (written first) (written second)) }
-    ensures placed { IfOk result (λ tree. (list : List OneToken) → HasPlaces first list → StandsAt place (following first.kind list) → HasPlaces second (drop 1 (following first.kind list)) → HasPlaces tree list) }
+    ensures placed { IfOk result (PlacesBetween place first second) }
 {
-    let first = Box::new(alloc, first)?;
-    let second = Box::new(alloc, second)?;
-    Ok(RawExpr {
-        place,
-        kind: RawExprKind::Comma(first, second),
-    })
+    node(alloc, place, RawExprKind::Comma(first, second))
 }

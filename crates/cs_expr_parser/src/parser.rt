@@ -18,7 +18,7 @@ use cs_grammar::{Reason, SyntaxRefusal, TypedefNames, unsupported_text};
 use cs_names::Name;
 use std::alloc::Global;
 
-/// The expression of a level, no higher than the room, that the tokens from a number on begin with.
+/// The expression of a level, no higher than the limit, that begins at an index.
 ///
 /// It takes tokens while some such expression begins with them, and refuses the next one if what it took isn't one. The
 /// place of the end of input is `end`.
@@ -43,7 +43,7 @@ pub fn expression(
     }
 }
 
-/// The same for parsers that go on, which is told the number of the token that is refused.
+/// The same for parsers that continue, with the index of the token that is refused.
 pub fn expression_at(
     alloc: Global,
     tokens: &[Token],
@@ -83,7 +83,7 @@ fn part(
     }
 }
 
-/// The expression that was taken, with the reason for which the token after it is refused where nothing else goes on with it.
+/// The expression that was taken, with the reason for which the token after it is refused where nothing else continues with it.
 fn phrase(tokens: &[Token], taken: Taken) -> Phrase
     ensures tree { result.tree ≡ taken.tree }
     ensures height { result.height ≡ taken.height }

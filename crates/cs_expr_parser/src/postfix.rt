@@ -1,8 +1,7 @@
 //! Postfix expressions (C11 6.5.2).
-ghost use Rattle.std.specs.Prelude.{◌≡◌, ℕ, ◌≤◌, ◌<◌, ◌^◌, ◌+◌, ◌-◌, false, true, Some, length, max, IfOk, IsSome, drop, List, if◌then◌else◌};
-ghost use Rattle.cs_ast.specs.declared.token.Token.{Token as OneToken};
-ghost use Rattle.cs_grammar.specs.Places.{HasPlaces, StandsAt, following};
-ghost use Rattle.cs_expr_parser.specs.Places.{IsOkPlaced, IsBuiltAfter, IsBuiltWith, IsBuiltWithRow};
+ghost use Rattle.std.specs.Prelude.{◌≡◌, ℕ, ◌≤◌, ◌<◌, ◌^◌, ◌+◌, ◌-◌, false, true, Some, length, max, IfOk, IsSome, drop, if◌then◌else◌};
+ghost use Rattle.cs_grammar.specs.Places.{HasPlaces};
+ghost use Rattle.cs_expr_parser.specs.Places.{IsOkPlaced, IsBuiltAfter, IsBuiltWith, IsBuiltWithRow, PlacesMember};
 ghost use Rattle.cs_ast.specs.RawTree.{Index, Call, Member, Arrow, StepAfter};
 ghost use Rattle.cs_ast.specs.RawView.{written, written_list};
 ghost use Rattle.cs_grammar.specs.Levels.{POSTFIX};
@@ -24,7 +23,7 @@ use cs_ast::{Place, Punctuator, Token};
 use cs_grammar::TypedefNames;
 use std::alloc::{AllocError, Global};
 
-/// The postfix expression that the tokens from a number on begin with.
+/// The postfix expression that begins at an index.
 #[cycle(expression)]
 pub fn postfix(
     alloc: Global,
@@ -50,7 +49,7 @@ pub fn postfix(
     Ok(left)
 }
 
-/// The expression, of which it is told that a higher one goes on with the token after it.
+/// The expression, marked as one that a too high expression continues.
 pub fn deepened(taken: Taken) -> Taken
     ensures node { IsNode (written taken.tree) taken.height taken.next true result }
     ensures same { result.tree ≡ taken.tree }
@@ -63,7 +62,7 @@ pub fn deepened(taken: Taken) -> Taken
     }
 }
 
-/// The punctuator at a number, if it stands after an operand and belongs to it.
+/// The punctuator at an index, if it stands after an operand and belongs to it.
 fn suffix_at(tokens: &[Token], at: usize) -> Option<Punctuator>
     ensures within { IsSome result → at < length tokens.now }
     ensures punctuator { IsSuffixAt (kind_or_end tokens.now at) result }
@@ -193,7 +192,7 @@ fn selected_node(
     through: bool,
 ) -> Result<RawExpr, AllocError>
     ensures tree { IfOk result (λ tree. written tree ≡ (if through then Arrow (written object) name.name else Member (written object) name.name)) }
-    ensures placed { IfOk result (λ tree. (list : List OneToken) → HasPlaces object list → StandsAt place (following object.kind list) → StandsAt name.place (drop 1 (following object.kind list)) → HasPlaces tree list) }
+    ensures placed { IfOk result (PlacesMember place object name) }
 {
     if through {
         arrow(alloc, place, object, name)

@@ -15,7 +15,7 @@ use cs_ast::{Punctuator, Token};
 use cs_grammar::TypedefNames;
 use std::alloc::{AllocError, Global};
 
-/// The primary expression that the tokens from a number on begin with.
+/// The primary expression that begins at an index.
 #[cycle(expression)]
 pub fn primary(
     alloc: Global,
@@ -41,7 +41,7 @@ pub fn primary(
         }
         return Ok(enclosed(alloc, tokens, from, inner)?);
     }
-    let Some(tree) = leaf_at(tokens, names, from)? else {
+    let Some(tree) = leaf_at(alloc, tokens, names, from)? else {
         return Err(refuse(tokens, from, false));
     };
     if limit == 0 {
@@ -55,7 +55,7 @@ pub fn primary(
     })
 }
 
-/// The expression with parentheses around it, the first of which stands at a number.
+/// The expression with parentheses around it, the first of which is at an index.
 fn enclosed(alloc: Global, tokens: &[Token], from: usize, inner: Taken) -> Result<Taken, AllocError>
     requires within { from < length tokens.now }
     requires low { inner.height < 2 ^ 32 - 1 }

@@ -12,14 +12,14 @@ pub struct Taken {
     pub tree: RawExpr,
     /// The height of the tree.
     pub height: u32,
-    /// The number of the token after it.
+    /// The index of the token after it.
     pub next: usize,
-    /// Whether an expression of the same level that is too high goes on with the token after it.
+    /// Whether an expression of the same level that is too high continues with the token after it.
     pub deep: bool,
 }
 
 /// Why a part of the parser gives no expression.
-#[derive(Debug, Drop)]
+#[derive(Drop)]
 pub enum Stop {
     /// The token with this number is refused, for this reason.
     Refused(usize, Reason),

@@ -14,7 +14,7 @@ use cs_ast::{Keyword, Place, Punctuator, Token, TokenKind};
 use cs_grammar::{Reason, TypedefNames};
 use cs_names::Name;
 
-/// The punctuator that stands at a number, if one does.
+/// The punctuator at an index, if there is one.
 #[tactic(auto, using(std::proofs::lemmas::Option::slice_get_within))]
 pub fn punctuator_at(tokens: &[Token], at: usize) -> Option<Punctuator>
     ensures punctuator { result ≡ punctuator_of_kind (kind_or_end tokens.now at) }
@@ -35,7 +35,7 @@ fn punctuator_of(kind: &TokenKind) -> Option<Punctuator>
     }
 }
 
-/// Whether this punctuator stands at a number.
+/// Whether this punctuator is at an index.
 pub fn is_punctuator(tokens: &[Token], at: usize, punctuator: Punctuator) -> bool
     ensures punctuator { IsTrue result ↔ (kind_or_end tokens.now at ≡ token.Punctuator punctuator) }
     ensures within { IsTrue result → at < length tokens.now }
@@ -43,7 +43,7 @@ pub fn is_punctuator(tokens: &[Token], at: usize, punctuator: Punctuator) -> boo
     punctuator_at(tokens, at) == Some(punctuator)
 }
 
-/// The keyword that stands at a number, if one does.
+/// The keyword at an index, if there is one.
 #[tactic(auto, using(std::proofs::lemmas::Option::slice_get_within))]
 pub fn keyword_at(tokens: &[Token], at: usize) -> Option<Keyword>
     ensures within { IsSome result → at < length tokens.now }
@@ -64,7 +64,7 @@ fn keyword_of(kind: &TokenKind) -> Option<Keyword>
     }
 }
 
-/// The name that stands at a number, if one does.
+/// The name at an index, if there is one.
 #[tactic(auto, using(std::proofs::lemmas::Option::slice_get_within))]
 pub fn name_at(tokens: &[Token], at: usize) -> Option<&Name>
     ensures within { IsSome result → at < length tokens.now }
@@ -85,7 +85,7 @@ fn name_of(kind: &TokenKind) -> Option<&Name>
     }
 }
 
-/// Whether a type between parentheses may begin with the token at a number.
+/// Whether a type between parentheses may begin with the token at an index.
 pub fn begins_type(tokens: &[Token], names: &TypedefNames, at: usize) -> bool
     ensures { result ≡ starts_type names.now (kind_or_end tokens.now at) }
 {
@@ -116,7 +116,7 @@ fn is_type_keyword(keyword: Keyword) -> bool
     }
 }
 
-/// Whether the token at a number is left out wherever it stands in an expression.
+/// Whether the token at an index is unsupported wherever it stands in an expression.
 fn is_unsupported(tokens: &[Token], at: usize) -> bool
     ensures { result ≡ unsupported (kind_or_end tokens.now at) }
 {
@@ -138,7 +138,7 @@ fn is_unsupported_kind(kind: &TokenKind) -> bool
     }
 }
 
-/// Whether an opening brace stands at a number.
+/// Whether an opening brace is at an index.
 pub fn is_brace(tokens: &[Token], at: usize) -> bool
     ensures { result ≡ brace (kind_or_end tokens.now at) }
 {
@@ -148,7 +148,7 @@ pub fn is_brace(tokens: &[Token], at: usize) -> bool
     }
 }
 
-/// Why the token at a number is refused where no expression goes on with it, after a type or a tag or not.
+/// Why the token at an index is refused where no expression continues with it, after a type or a tag or not.
 pub fn reason_at(tokens: &[Token], at: usize, after_type: bool) -> Reason
     ensures { result ≡ plain_reason (kind_or_end tokens.now at) after_type }
 {
@@ -159,7 +159,7 @@ pub fn reason_at(tokens: &[Token], at: usize, after_type: bool) -> Reason
     }
 }
 
-/// The refusal of the token at a number, which no expression that is low enough goes on with.
+/// The refusal of the token at an index, which no expression that is low enough continues with.
 pub fn refuse(tokens: &[Token], at: usize, deep: bool) -> Stop
     ensures { result ≡ Stop.Refused at (reason_of deep (kind_or_end tokens.now at) false) }
 {
@@ -170,14 +170,14 @@ pub fn refuse(tokens: &[Token], at: usize, deep: bool) -> Stop
     }
 }
 
-/// The refusal of the token at a number, after a type between parentheses or a tag or not.
+/// The refusal of the token at an index, after a type between parentheses or a tag or not.
 pub fn refuse_in_type(tokens: &[Token], at: usize, after_type: bool) -> Stop
     ensures { result ≡ Stop.Refused at (plain_reason (kind_or_end tokens.now at) after_type) }
 {
     Stop::Refused(at, reason_at(tokens, at, after_type))
 }
 
-/// Why the token after an expression is refused, if nothing else goes on with it.
+/// Why the token after an expression is refused, if nothing else continues with it.
 pub fn reason_after(tokens: &[Token], taken: &Taken) -> Reason
     ensures { result ≡ reason_of taken.now.deep (kind_or_end tokens.now taken.now.next) (ends_in_type (written taken.now.tree)) }
 {
@@ -197,7 +197,7 @@ pub fn refuse_after(tokens: &[Token], taken: &Taken) -> Stop
     Stop::Refused(taken.next, reason_after(tokens, taken))
 }
 
-/// The place of the token at a number.
+/// The place of the token at an index.
 pub fn place_at(tokens: &[Token], at: usize) -> Place
     requires { at < length tokens.now }
     ensures { StandsAt result (drop at tokens.now) }

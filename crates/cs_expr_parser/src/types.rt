@@ -27,11 +27,11 @@ pub struct TakenType {
     pub bounds: Vec<RawExpr>,
     /// The height of the highest bound, 0 where there is none.
     pub height: u32,
-    /// The number of the token after the closing parenthesis.
+    /// The index of the token after the closing parenthesis.
     pub next: usize,
 }
 
-/// The words of a type, and the number of the token after them.
+/// The words of a type, and the index of the token after them.
 #[derive(Drop)]
 pub struct TypeWords {
     pub words: Vec<TypeWord>,
@@ -41,14 +41,14 @@ pub struct TypeWords {
     pub next: usize,
 }
 
-/// The words of pointers, and the number of the token after them.
+/// The words of pointers, and the index of the token after them.
 #[derive(Drop)]
 pub struct PointerWords {
     pub words: Vec<PointerWord>,
     pub next: usize,
 }
 
-/// A word of a type, with the place of its tag, and the number of the token after it.
+/// A word of a type, with the place of its tag, and the index of the token after it.
 #[derive(Drop)]
 pub struct NextWord {
     pub word: TypeWord,
@@ -134,7 +134,7 @@ fn type_words(
     })
 }
 
-/// The word of a type at a number, if one stands there that joins the words so far.
+/// The word of a type at an index, if one stands there that joins the words so far.
 fn joining_word_at(
     tokens: &[Token],
     names: &TypedefNames,
@@ -156,7 +156,7 @@ fn joining_word_at(
     Ok(Some(JoiningWord { found, after }))
 }
 
-/// The word of a type at a number, if one stands there; `struct` and `enum` begin one only where no word names a type yet.
+/// The word of a type at an index, if one stands there; `struct` and `enum` begin one only where no word names a type yet.
 fn word_at(
     tokens: &[Token],
     names: &TypedefNames,
@@ -196,7 +196,7 @@ fn integer_at(keyword: Keyword, at: usize) -> Option<NextWord>
     Some(untagged(TypeWord::Integer(word), at))
 }
 
-/// A word of one token, at a number.
+/// A word of one token, at an index.
 fn untagged(word: TypeWord, at: usize) -> NextWord
     requires { at < 2 ^ 32 }
     ensures word { result.word ≡ word }
@@ -210,7 +210,7 @@ fn untagged(word: TypeWord, at: usize) -> NextWord
     }
 }
 
-/// `struct` or `enum`, at a number, with the tag after it.
+/// `struct` or `enum`, at an index, with the tag after it.
 fn tagged(
     tokens: &[Token],
     at: usize,

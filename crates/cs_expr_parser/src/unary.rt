@@ -1,8 +1,6 @@
 //! Casts and unary expressions (C11 6.5.3, 6.5.4).
-ghost use Rattle.std.specs.Prelude.{◌≡◌, ◌↔◌, ◌≤◌, ◌<◌, ◌^◌, ◌+◌, ◌-◌, false, length, max, IfOk, IsSome, IsTrue, drop, List};
-ghost use Rattle.cs_ast.specs.declared.token.Token.{Token as OneToken};
-ghost use Rattle.cs_grammar.specs.Places.{HasPlaces, StandsAt};
-ghost use Rattle.cs_expr_parser.specs.Places.{IsOkPlaced, IsBuiltBefore, IsTypePlaced};
+ghost use Rattle.std.specs.Prelude.{◌≡◌, ◌↔◌, ◌≤◌, ◌<◌, ◌^◌, ◌+◌, ◌-◌, false, length, max, IfOk, IsSome, IsTrue};
+ghost use Rattle.cs_expr_parser.specs.Places.{IsOkPlaced, IsBuiltBefore, IsTypeConverting, IsTypeMeasured, PlacesBefore};
 ghost use Rattle.cs_ast.specs.RawTree.{Cast, SizeOfType};
 ghost use Rattle.cs_ast.specs.RawView.{written, written_list};
 ghost use Rattle.cs_grammar.specs.Levels.{CAST, UNARY};
@@ -30,7 +28,7 @@ use cs_grammar::{TypedefNames, prefix_operator, step};
 use std::alloc::{AllocError, Global};
 
 /// What stands before the operand of a unary expression.
-#[derive(Clone, Copy, Debug, PartialEq, Eq)]
+#[derive(Clone, Copy)]
 pub enum Before {
     /// `++` or `--`, before a unary expression.
     Step(Step),
@@ -40,7 +38,7 @@ pub enum Before {
     Size,
 }
 
-/// Whether an opening parenthesis and a type after it stand at a number.
+/// Whether an opening parenthesis and a type after it are at an index.
 fn opens_type(tokens: &[Token], names: &TypedefNames, at: usize) -> bool
     requires few { at < 2 ^ 33 }
     ensures opens { result ≡ type_opens names.now (kind_or_end tokens.now at) (kind_or_end tokens.now (at + 1)) }
@@ -49,7 +47,7 @@ fn opens_type(tokens: &[Token], names: &TypedefNames, at: usize) -> bool
     is_punctuator(tokens, at, Punctuator::OpenParenthesis) && begins_type(tokens, names, at + 1)
 }
 
-/// The cast, or the unary expression, that the tokens from a number on begin with.
+/// The cast, or the unary expression, that begins at an index.
 #[cycle(expression)]
 pub fn cast(
     alloc: Global,
@@ -79,7 +77,7 @@ pub fn cast(
     Ok(converted(alloc, tokens, from, taken, operand)?)
 }
 
-/// The operand with a type between parentheses before it, which stands at a number.
+/// The operand with a type between parentheses before it, which is at an index.
 fn converted(
     alloc: Global,
     tokens: &[Token],
@@ -90,7 +88,7 @@ fn converted(
     requires within { from < length tokens.now }
     requires low { (taken.height < 2 ^ 32 - 1) × (operand.height < 2 ^ 32 - 1) }
     ensures node { IfOk result (IsNode (Cast taken.ty.words.items taken.ty.pointers.items (written_list taken.bounds.items) (written operand.tree)) (max taken.height operand.height + 1) operand.next operand.deep) }
-    ensures placed { IfOk result (λ whole. IsTypePlaced tokens.now (from + 1) taken → HasPlaces operand.tree (drop taken.next tokens.now) → HasPlaces whole.tree (drop from tokens.now)) }
+    ensures placed { IfOk result (IsTypeConverting tokens.now from taken operand) }
 {
     let place = place_at(tokens, from);
     let tree = cast_node(alloc, place, taken.ty, taken.bounds, operand.tree)?;
@@ -102,7 +100,7 @@ fn converted(
     })
 }
 
-/// The unary expression that the tokens from a number on begin with.
+/// The unary expression that begins at an index.
 #[cycle(expression)]
 pub fn unary(
     alloc: Global,
@@ -137,7 +135,7 @@ pub fn unary(
     }
 }
 
-/// What stands at a number, if an operand may stand after it.
+/// What is at an index, if an operand may stand after it.
 fn operator_at(tokens: &[Token], at: usize) -> Option<Before>
     ensures within { IsSome result → at < length tokens.now }
     ensures operator { IsOperatorAt (kind_or_end tokens.now at) result }
@@ -193,7 +191,7 @@ fn prefixed_node(
     operand: RawExpr,
 ) -> Result<RawExpr, AllocError>
     ensures tree { IfOk result (λ tree. written tree ≡ prefixed_tree before (written operand)) }
-    ensures placed { IfOk result (λ tree. (list : List OneToken) → StandsAt place list → HasPlaces operand (drop 1 list) → HasPlaces tree list) }
+    ensures placed { IfOk result (PlacesBefore place operand) }
 {
     match before {
         Before::Step(by) => step_before(alloc, place, by, operand),
@@ -222,9 +220,9 @@ fn sized(
 {
     if opens_type(tokens, names, from + 1) {
         let taken = parenthesised_type(alloc, tokens, names, from + 2, limit - 1)?;
-        return Ok(measured(tokens, from, taken));
+        return Ok(measured(alloc, tokens, from, taken)?);
     }
-    // At a room of 2 the parenthesis may stand for that of a type alone, so that the token after it is refused.
+    // At a limit of 2 the parenthesis may stand for that of a type alone, so that the token after it is refused.
     if is_narrow(tokens, from + 1, limit) {
         return comma(alloc, tokens, names, from + 2, 0);
     }
@@ -232,24 +230,31 @@ fn sized(
     Ok(prefixed(alloc, tokens, from, Before::Size, operand)?)
 }
 
-/// Whether an opening parenthesis stands at a number, and there is room for a type alone after it.
+/// Whether an opening parenthesis is at an index, and the limit allows a type alone after it.
 fn is_narrow(tokens: &[Token], at: usize, limit: u32) -> bool
     ensures { IsTrue result ↔ ((limit ≡ 2) × (kind_or_end tokens.now at ≡ token.Punctuator OpenParenthesis)) }
 {
     limit == 2 && is_punctuator(tokens, at, Punctuator::OpenParenthesis)
 }
 
-/// The `sizeof`, at a number, of a type.
-fn measured(tokens: &[Token], from: usize, taken: TakenType) -> Taken
+/// The `sizeof`, at an index, of a type.
+fn measured(
+    alloc: Global,
+    tokens: &[Token],
+    from: usize,
+    taken: TakenType,
+) -> Result<Taken, AllocError>
     requires within { from < length tokens.now }
     requires low { taken.height < 2 ^ 32 - 1 }
-    ensures node { IsNode (SizeOfType taken.ty.words.items taken.ty.pointers.items (written_list taken.bounds.items)) (max taken.height 1 + 1) taken.next false result }
-    ensures placed { IsTypePlaced tokens.now (from + 2) taken → HasPlaces result.tree (drop from tokens.now) }
+    ensures node { IfOk result (IsNode (SizeOfType taken.ty.words.items taken.ty.pointers.items (written_list taken.bounds.items)) (max taken.height 1 + 1) taken.next false) }
+    ensures placed { IfOk result (IsTypeMeasured tokens.now from taken) }
 {
-    Taken {
-        tree: size_of_type(place_at(tokens, from), taken.ty, taken.bounds),
+    let place = place_at(tokens, from);
+    let tree = size_of_type(alloc, place, taken.ty, taken.bounds)?;
+    Ok(Taken {
+        tree,
         height: taken.height.max(1) + 1,
         next: taken.next,
         deep: false,
-    }
+    })
 }

@@ -81,7 +81,7 @@ module _ (Is : Place → Type 0) where
 
   after_all : {n : _} (row : Row_of-RawExpr n) (tokens : List Token) → TokensAmong Is tokens → TokensAmong Is (after_bounds row tokens)
   after_all end_of-RawExpr tokens all = all
-  after_all (more_of-RawExpr at first others) tokens all = after_all others _ (later 1 (past_expression first (later 1 all)))
+  after_all (more_of-RawExpr at p first others) tokens all = after_all others _ (later 1 (past_expression first (later 1 all)))
 
   mutual
     written-among : (at : Place) (e : RawExprKind) (tokens : List Token) → TokensAmong Is tokens → IsPlaced at e tokens → WrittenAmong Is at e
@@ -89,39 +89,39 @@ module _ (Is : Place → Type 0) where
     written-among at (kind.Number constant) tokens all h = among at tokens all h
     written-among at (kind.Character value) tokens all h = among at tokens all h
     written-among at (kind.Text bytes) tokens all h = among at tokens all h
-    written-among at (kind.Parenthesis' p place inner) tokens all h = (among at tokens all h.0, written-among place inner _ (later 1 all) h.1)
-    written-among at (kind.Index' p place array q place' number) tokens all h =
+    written-among at (kind.Parenthesis' place p inner) tokens all h = (among at tokens all h.0, written-among place inner _ (later 1 all) h.1)
+    written-among at (kind.Index' place p array place' q number) tokens all h =
         (among at _ (past_expression array all) h.1, written-among place array tokens all h.0, written-among place' number _ (later 1 (past_expression array all)) h.2)
-    written-among at (kind.Call' p place function shape row) tokens all h =
+    written-among at (kind.Call' place p function shape row) tokens all h =
         (among at _ (past_expression function all) h.1, written-among place function tokens all h.0, row-among row _ (later 1 (past_expression function all)) h.2)
-    written-among at (kind.Member' p place object name) tokens all h = (among at _ (past_expression object all) h.1, written-among place object tokens all h.0)
-    written-among at (kind.Arrow' p place pointer name) tokens all h = (among at _ (past_expression pointer all) h.1, written-among place pointer tokens all h.0)
-    written-among at (kind.StepAfter' step p place object) tokens all h = (among at _ (past_expression object all) h.1, written-among place object tokens all h.0)
-    written-among at (kind.StepBefore' step p place object) tokens all h = (among at tokens all h.0, written-among place object _ (later 1 all) h.1)
-    written-among at (kind.Prefix' operator p place operand) tokens all h = (among at tokens all h.0, written-among place operand _ (later 1 all) h.1)
-    written-among at (kind.SizeOf' p place operand) tokens all h = (among at tokens all h.0, written-among place operand _ (later 1 all) h.1)
+    written-among at (kind.Member' place p object name) tokens all h = (among at _ (past_expression object all) h.1, written-among place object tokens all h.0)
+    written-among at (kind.Arrow' place p pointer name) tokens all h = (among at _ (past_expression pointer all) h.1, written-among place pointer tokens all h.0)
+    written-among at (kind.StepAfter' step place p object) tokens all h = (among at _ (past_expression object all) h.1, written-among place object tokens all h.0)
+    written-among at (kind.StepBefore' step place p object) tokens all h = (among at tokens all h.0, written-among place object _ (later 1 all) h.1)
+    written-among at (kind.Prefix' operator place p operand) tokens all h = (among at tokens all h.0, written-among place operand _ (later 1 all) h.1)
+    written-among at (kind.SizeOf' place p operand) tokens all h = (among at tokens all h.0, written-among place operand _ (later 1 all) h.1)
     written-among at (kind.SizeOfType' ty shape row) tokens all h = among at tokens all h.0
-    written-among at (kind.Cast' ty shape row p place operand) tokens all h =
+    written-among at (kind.Cast' ty shape row place p operand) tokens all h =
         (among at tokens all h.0, written-among place operand _ (later 1 (after_all row (after_words ty (drop 1 tokens)) (past_words ty (later 1 all)))) h.3)
-    written-among at (kind.Infix' operator p place left q place' right) tokens all h =
+    written-among at (kind.Infix' operator place p left place' q right) tokens all h =
         (among at _ (past_expression left all) h.1, written-among place left tokens all h.0, written-among place' right _ (later 1 (past_expression left all)) h.2)
-    written-among at (kind.Choice' p place test q place' one r place'' other) tokens all h = (
+    written-among at (kind.Choice' place p test place' q one place'' r other) tokens all h = (
       among at _ (past_expression test all) h.1,
       written-among place test tokens all h.0,
       written-among place' one _ (later 1 (past_expression test all)) h.2,
       written-among place'' other _ (later 1 (past_expression one (later 1 (past_expression test all)))) h.3,
     )
-    written-among at (kind.Assign' operator p place object q place' value) tokens all h =
+    written-among at (kind.Assign' operator place p object place' q value) tokens all h =
         (among at _ (past_expression object all) h.1, written-among place object tokens all h.0, written-among place' value _ (later 1 (past_expression object all)) h.2)
-    written-among at (kind.Comma' p place first q place' second) tokens all h =
+    written-among at (kind.Comma' place p first place' q second) tokens all h =
         (among at _ (past_expression first all) h.1, written-among place first tokens all h.0, written-among place' second _ (later 1 (past_expression first all)) h.2)
 
     row-among : {n : _} (row : Row_of-RawExpr n) (tokens : List Token) → TokensAmong Is tokens → ArePlaced row tokens → RowAmong Is row
     row-among end_of-RawExpr tokens all h = tt
-    row-among (more_of-RawExpr at first others) tokens all h = (written-among at first tokens all h.0, row-among others _ (later 1 (past_expression first all)) h.1)
+    row-among (more_of-RawExpr at p first others) tokens all h = (written-among at first tokens all h.0, row-among others _ (later 1 (past_expression first all)) h.1)
 
   expression-among : (e : RawExpr) (tokens : List Token) → TokensAmong Is tokens → HasPlaces e tokens → ExpressionAmong Is e
-  expression-among e tokens all h = written-among e.place e.kind tokens all h
+  expression-among e tokens all h = written-among e.place e.kind.value tokens all h
 
   some-among : (e : Option RawExpr) (tokens : List Token) → TokensAmong Is tokens → IsSomePlaced e tokens → IfSome e (ExpressionAmong Is)
   some-among None tokens all h = tt
@@ -171,19 +171,19 @@ module _ (Is : Place → Type 0) where
     sentence-among at (statement.Block' shape row) tokens all h = (among at tokens all h.0, items-among row _ (later 1 all) h.1)
     sentence-among at statement.Empty tokens all h = among at tokens all h.0
     sentence-among at (statement.Run e) tokens all h = (among at tokens all h.0, expression-among e tokens all h.1)
-    sentence-among at (statement.If' test p place body) tokens all h =
+    sentence-among at (statement.If' test place p body) tokens all h =
         (among at tokens all h.0, expression-among test _ (later 2 all) h.1.0, sentence-among place body _ (past_test_text test (later 1 all)) h.1.1)
-    sentence-among at (statement.IfElse' test p place body q place' other) tokens all h = (
+    sentence-among at (statement.IfElse' test place p body place' q other) tokens all h = (
       among at tokens all h.0,
       expression-among test _ (later 2 all) h.1.0,
       sentence-among place body _ (past_test_text test (later 1 all)) h.1.1,
       sentence-among place' other _ (later 1 (past_text (sentence_text (sentence body)) (past_test_text test (later 1 all)))) h.1.2,
     )
-    sentence-among at (statement.While' test p place body) tokens all h =
+    sentence-among at (statement.While' test place p body) tokens all h =
         (among at tokens all h.0, expression-among test _ (later 2 all) h.1.0, sentence-among place body _ (past_test_text test (later 1 all)) h.1.1)
-    sentence-among at (statement.Do' p place body test) tokens all h =
+    sentence-among at (statement.Do' place p body test) tokens all h =
         (among at tokens all h.0, sentence-among place body _ (later 1 all) h.1.0, expression-among test _ (later 2 (past_text (sentence_text (sentence body)) (later 1 all))) h.1.1)
-    sentence-among at (statement.For' first test last p place body) tokens all h =
+    sentence-among at (statement.For' first test last place p body) tokens all h =
         let following_first = past_text (first_text (first_of first)) (later 2 all) in
         let following_test = later 1 (past_text (some_text (option_map written test)) following_first) in (
           among at tokens all h.0,
@@ -198,11 +198,11 @@ module _ (Is : Place → Type 0) where
     sentence-among at statement.Continue tokens all h = among at tokens all h.0
     sentence-among at statement.Break tokens all h = among at tokens all h.0
     sentence-among at (statement.Return value) tokens all h = (among at tokens all h.0, some-among value _ (later 1 all) h.1)
-    sentence-among at (statement.Label' name p place body) tokens all h = (among at tokens all h.0, sentence-among place body _ (later 2 all) h.1)
+    sentence-among at (statement.Label' name place p body) tokens all h = (among at tokens all h.0, sentence-among place body _ (later 2 all) h.1)
 
     item-among : (i : RawItem) (tokens : List Token) → TokensAmong Is tokens → IsItemPlaced i tokens → ItemAmong Is i
     item-among (items.TheVariants.Declare s objects) tokens all h = declaration-among s objects.items tokens all h
-    item-among (items.TheVariants.Run' place body) tokens all h = sentence-among place body tokens all h
+    item-among (items.TheVariants.Run' place p body) tokens all h = sentence-among place body tokens all h
 
     items-among : {n : _} (row : statements.Row_of-RawItem n) (tokens : List Token) → TokensAmong Is tokens → AreItemsPlaced row tokens → ItemsAmong Is row
     items-among statements.end_of-RawItem tokens all h = tt

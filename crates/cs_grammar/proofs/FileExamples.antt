@@ -82,7 +82,7 @@ static_outside = ((refl, (tt, (tt, tt))), (tt, (record { declarator = record { p
 static_inside : AreBlockSpecs [] (MoreSpecs Static int) → ⊥
 static_inside are = are
 
--- `int (`: where a name may stand, a parenthesis is left out
+-- `int (`: where a name may stand, a parenthesis is unsupported
 abbrev plain_x : List External
 plain_x = Objects int (declared_of (declarator_of [] x []) None ∷ []) ∷ []
 
@@ -92,7 +92,7 @@ plain_is = (((refl, (tt, tt)), (tt, (record { declarator = record { pointers = r
 parenthesis_out : IsUnsupportedOfFile (token.Keyword keyword.Int ∷ []) (token.Punctuator punctuator.OpenParenthesis)
 parenthesis_out = record { file = plain_x; more = token.Name x ∷ token.Punctuator punctuator.Semicolon ∷ []; is_file = plain_is; spelled = refl; there = refl }
 
--- `int x = .`: where an initial value may begin, a dot is left out
+-- `int x = .`: where an initial value may begin, a dot is unsupported
 abbrev listed_x : List External
 listed_x = Objects int (declared_of (declarator_of [] x []) (Some (Listed (MoreItems (Single nought) NoMore) false)) ∷ []) ∷ []
 
@@ -102,7 +102,7 @@ listed_is = (((refl, (tt, tt)), (tt, (record { declarator = record { pointers = 
 dot_out : IsUnsupportedOfFile (token.Keyword keyword.Int ∷ token.Name x ∷ token.Punctuator punctuator.Equal ∷ []) (token.Punctuator punctuator.Dot)
 dot_out = record { file = listed_x; more = token.Punctuator punctuator.OpenBrace ∷ text nought (token.Punctuator punctuator.CloseBrace ∷ token.Punctuator punctuator.Semicolon ∷ []); is_file = listed_is; spelled = refl; there = refl }
 
--- `struct { int x :`: after a member's declarator a colon is left out
+-- `struct { int x :`: after a member's declarator a colon is unsupported
 abbrev struct_x : List External
 struct_x = TypeAlone (MoreSpecs (StructBody None (MoreMembers int (declarator_of [] x [] ∷ []) NoMember)) NoSpec) ∷ []
 

@@ -16,13 +16,13 @@ use Rattle.cs_grammar.specs.FilePhrases.{IsFile}
 use Rattle.cs_grammar.specs.FileRefusals.{IsUnsupportedOfFile, IsFileReason}
 use Rattle.cs_grammar.proofs.FileRules.{FileRefused}
 
--- the keyword is left out at some places
+-- the keyword is unsupported at some places
 abbrev pub is_placed_word : Keyword → Bool
 is_placed_word keyword.Static = true
 is_placed_word keyword.Typedef = true
 is_placed_word other = false
 
--- the punctuator is left out at some places, or anywhere
+-- the punctuator is unsupported at some places, or anywhere
 abbrev pub is_placed_punctuator : Punctuator → Bool
 is_placed_punctuator punctuator.Ellipsis = true
 is_placed_punctuator punctuator.OpenBrace = true
@@ -32,7 +32,7 @@ is_placed_punctuator punctuator.Dot = true
 is_placed_punctuator punctuator.OpenBracket = true
 is_placed_punctuator other = false
 
--- the token is left out at some places, or anywhere
+-- the token is unsupported at some places, or anywhere
 abbrev pub is_placed : TokenKind → Bool
 is_placed (token.Unsupported word) = true
 is_placed (token.Keyword word) = is_placed_word word
@@ -53,7 +53,7 @@ placed_punctuator front punctuator.Dot e out = false≢true (sym e)
 placed_punctuator front punctuator.OpenBracket e out = false≢true (sym e)
 placed_punctuator front _ e out = out
 
--- a token that is left out nowhere
+-- a token that is unsupported nowhere
 pub not_placed : (front : Kinds) (next : TokenKind) → is_placed next ≡ false → IsUnsupportedOfFile front next → ⊥
 not_placed front (token.Unsupported w) e out = false≢true (sym e)
 not_placed front (token.Keyword k) e out = placed_word front k e out
@@ -64,11 +64,11 @@ not_placed front (token.Character v) e out = out
 not_placed front (token.Text b) e out = out
 not_placed front token.Attribute e out = out
 
--- a higher file goes on with the token
+-- a higher file continues with the token
 pub deep_reason : (limit : ℕ) (front : Kinds) (next : TokenKind) → FileRefused limit front next true → IsFileReason front (Some next) reason.TooDeep
 deep_reason limit front next r = r.further refl
 
--- none does, and the token is left out there
+-- none does, and the token is unsupported there
 pub unsupported_reason : (limit : ℕ) (front : Kinds) (next : TokenKind) → FileRefused limit front next false → IsUnsupportedOfFile front next → IsFileReason front (Some next) reason.Unsupported
 unsupported_reason limit front next r out = (r.nothing refl, out)
 
@@ -76,11 +76,11 @@ unsupported_reason limit front next r out = (r.nothing refl, out)
 pub syntax_reason : (limit : ℕ) (front : Kinds) (next : TokenKind) → FileRefused limit front next false → (IsUnsupportedOfFile front next → ⊥) → IsFileReason front (Some next) reason.Syntax
 syntax_reason limit front next r kept = (r.nothing refl, kept)
 
--- none does, and the token is left out nowhere
+-- none does, and the token is unsupported nowhere
 pub plain_reason : (limit : ℕ) (front : Kinds) (next : TokenKind) → FileRefused limit front next false → is_placed next ≡ false → IsFileReason front (Some next) reason.Syntax
 plain_reason limit front next r e = syntax_reason limit front next r (not_placed front next e)
 
--- a left-out word, or the punctuator of three dots
+-- an unsupported word, or the punctuator of three dots
 pub word_reason : (limit : ℕ) (front : Kinds) (w : Unsupported) → FileRefused limit front (token.Unsupported w) false → IsFileReason front (Some (token.Unsupported w)) reason.Unsupported
 word_reason limit front w r = unsupported_reason limit front (token.Unsupported w) r tt
 

@@ -179,7 +179,7 @@ rows_took names limit list next other t = record {
   joined = λ reported more shut. false≢true reported;
 }
 
--- parameters that are refused: the tokens before may go on with another list than `void` alone
+-- parameters that are refused: the tokens before may continue with another list than `void` alone
 pub rows_refused : (names : Names) (limit : ℕ) (front : Kinds) (next : TokenKind) (deep : Bool) → ((front ≡ []) ⊎ BeginsLow (ParameterRows names) limit front) → (deep ≡ true → Begins (ParameterRows names) (front ++ next ∷ [])) → Refused (Separated (ParameterClass names) close_parenthesis) limit front next deep → Refused (ParameterRows names) limit front next deep
 rows_refused names limit front next deep begun further r = record {
   begun = begun;

@@ -91,7 +91,7 @@ value_row names = record { law = values_law names; least = values_least names; c
 pub no_value_closes : (names : Names) → NoneCloses (Values names) close_brace
 no_value_closes names = λ i after more is same. value_first names i after close_brace more is refl (λ e. cc) same
 
--- what ends a value goes on with no expression
+-- what ends a value continues with no expression
 pub value_shut : (after : Kinds) → Follows ends_value after → join_of after ≤ 1
 value_shut [] f = omega arith
 value_shut (token.Punctuator punctuator.Comma ∷ x) f = omega arith

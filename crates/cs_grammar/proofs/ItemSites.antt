@@ -96,7 +96,7 @@ item_two : (names : Names) (i : Item) (after : Kinds) (t : TokenKind) (more : Ki
 item_two names (Does s) after t more is same l = two_high names s after t more same l
 item_two names (Declares specs objects) after t more is same l = let h = block_specs_height names specs is.0 in omega (arith, h)
 
--- there is room for a statement without parts alone, and the token begins none
+-- the limit allows a statement without parts alone, and the token begins none
 pub item_low : (names : Names) (limit : ℕ) (next : TokenKind) → limit < 2 → begins_item names next ≡ true → begins_low next ≡ false → Refused (BlockItems names) limit [] next true
 item_low names limit next full e l = full_refused (BlockItems names) limit next (item_has names) (λ i after more is same. let h = item_two names i after next more is same l in omega (arith, h, full)) (item_example names next e)
 

@@ -1,4 +1,4 @@
--- An expression that may be left out, before what closes it: for the contracts of the parser of declarations and statements.
+-- An optional expression, before what closes it: for the contracts of the parser of declarations and statements.
 use Rattle.std.proofs.Common.{◌≡◌, ℕ, ◌<◌, ◌≤◌, inl, inr, Bool, false, [], ◌∷◌, ◌++◌, Option, Some, None, refl, sym, ap, ◌∙◌, subst, arith, append_assoc}
 use Rattle.std.proofs.lemmas.Bool.{false≢true}
 use Rattle.cs_ast.specs.declared.token.TokenKind.{TokenKind}
@@ -23,7 +23,7 @@ some_law names level MayLack close (Some e) x y = text_append e (close ∷ x) y
 abbrev pub some_least : (names : Names) (level : ℕ) (MayLack : Type 0) (close : TokenKind) → MayLack → Least (ClosedSome names level MayLack close)
 some_least names level MayLack close lack = record { tree = None; is_phrase = lack; below = λ other is. omega arith }
 
--- what closes an expression of the level: it goes on with none, and begins none
+-- what closes an expression of the level: it continues with none, and begins none
 pub record Closes (names : Names) (level : ℕ) (close : TokenKind) : Type 0 where
   pub shut : join close ≤ level
   pub begins_none : begins_expression names close ≡ false

@@ -18,7 +18,7 @@ pub record Pair (S C D : Class) (plus : ℕ) (before : Kinds) (build : C.Tree ×
   pub least_first : Least C
   pub least_second : Least D
 
--- there is room for the least of both
+-- the limit allows the least of both
 abbrev pub HasLimit : {S C D : Class} {plus : ℕ} {before : Kinds} {build : C.Tree × D.Tree → S.Tree} → Pair S C D plus before build → ℕ → ℕ → Type 0
 HasLimit {S} {C} {D} {plus} pair limit inner = (limit ≡ plus + inner) × (C.tall pair.least_first.tree ≤ inner) × (D.tall pair.least_second.tree ≤ inner)
 
@@ -66,7 +66,7 @@ pub record Single (S D : Class) (plus : ℕ) (before : Kinds) (build : D.Tree �
   pub law : Lawful D
   pub least : Least D
 
--- there is room for the least of them
+-- the limit allows the least of them
 abbrev pub HasPlace : {S D : Class} {plus : ℕ} {before : Kinds} {build : D.Tree → S.Tree} {Fit : Kinds → Type 0} → Single S D plus before build Fit → ℕ → ℕ → Type 0
 HasPlace {S} {D} {plus} single limit inner = (limit ≡ plus + inner) × (D.tall single.least.tree ≤ inner)
 

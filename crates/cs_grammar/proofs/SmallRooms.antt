@@ -31,7 +31,7 @@ use Rattle.cs_grammar.proofs.Bodies.{MemberGroup, constant_of, constant_some, fi
 use Rattle.cs_grammar.proofs.ExternalSites.{begins_spec, first_begins, specs_first}
 use Rattle.cs_grammar.proofs.FileRules.{specs_has}
 
--- where no word goes on with others, none with a body and no `static` does, if the next token is no `static`
+-- where no word continues with others, none with a body and no `static` does, if the next token is no `static`
 pub stuck_after : (names : Names) (ws : List TypeWord) (next : TokenKind) → IsStuckAt names ws next → (next ≡ token.Keyword keyword.Static → ⊥) → IsStuckAfter names ws next
 stuck_after names ws next stuck none Static more e = absurd (none (sym e))
 stuck_after names ws next stuck none (Plain w) more e = stuck w more e

@@ -252,7 +252,7 @@ spec_ends (Plain (word.Enum tag)) e = absurd (false≢true e)
 spec_ends (StructBody tag members) e = absurd (false≢true e)
 spec_ends (EnumBody tag constants comma) e = absurd (false≢true e)
 
--- what stands before declarators and begins as these goes on with more of them
+-- what stands before declarators and begins as these continues with more of them
 pub specs_go_on : (names : Names) (before : List TypeWord) (done other : Specs) (after following : Kinds) → MayGoOn names (before ++ words_of done) → is_type names (before ++ words_of other) ≡ true → HaveBodies names other → AreExact names done → Follows ends_specs after → EndsQuiet done following → specs_text other after ≡ specs_text done following → (more : Specs) × (other ≡ joined_specs done more) × (specs_text more after ≡ following)
 specs_go_on names before NoSpec other after following go type has exact f quiet same = (other, refl, same)
 specs_go_on names before (MoreSpecs s ds) NoSpec after following go type has exact f quiet same =
@@ -268,7 +268,7 @@ specs_go_on names before (MoreSpecs s ds) (MoreSpecs t ts) after following go ty
     let r = specs_go_on names (before ++ spec_words s) ds ts after following go' type' has.1 exact.2 f (quiet_rest s ds following quiet) k.1 in
     (r.0, ap (λ (x : Spec). MoreSpecs x ts) k.0 ∙ ap (MoreSpecs s) r.1, r.2)
 
--- none that begins with the token goes on with these
+-- none that begins with the token continues with these
 abbrev pub IsStuckAfter : Names → List TypeWord → TokenKind → Type 0
 IsStuckAfter names ws next = (one : Spec) (more : List TypeWord) → first_of one ≡ next → is_type names (ws ++ (spec_words one ++ more)) ≡ false
 
@@ -300,7 +300,7 @@ specs_took names limit done next low type exact stuck quiet = record {
   joined = λ reported more shut. false≢true reported;
 }
 
--- words that name no type yet, and none that goes on with them
+-- words that name no type yet, and none that continues with them
 pub specs_refused : (names : Names) (limit : ℕ) (done : Specs) (next : TokenKind) → specs_height done ≤ limit → 1 ≤ limit → is_type names (words_of done) ≡ false → named_by (words_of done) ≡ [] → AreExact names done → IsStuckAfter names (words_of done) next → ((following : Kinds) → Near next following → EndsQuiet done following) → Refused (FileSpecs names) limit (specs_text done []) next false
 specs_refused names limit done next low some none unnamed exact stuck quiet =
     let void : Specs = MoreSpecs (Plain word.Void) NoSpec in

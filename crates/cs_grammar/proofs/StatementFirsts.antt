@@ -159,7 +159,7 @@ two_high names Continue after t more same l = absurd (not_low (word keyword.Cont
 two_high names Break after t more same l = absurd (not_low (word keyword.Break) t (semicolon ∷ after) more same l refl)
 two_high names (Return v) after t more same l = absurd (not_low (word keyword.Return) t (some_text v (semicolon ∷ after)) more same l refl)
 
--- there is room for a statement without parts alone, and the token begins none
+-- the limit allows a statement without parts alone, and the token begins none
 pub sentence_low : (names : Names) (limit : ℕ) (next : TokenKind) → limit < 2 → begins_sentence next ≡ true → begins_low next ≡ false → Refused (Sentences names) limit [] next true
 sentence_low names limit next full e l =
     full_refused (Sentences names) limit next (sentence_has names) (λ s after more is same. let h = two_high names s after next more same l in omega (arith, h, full)) (sentence_example names next e)

@@ -99,7 +99,7 @@ pub record Production (C D : Class) (plus : ℕ) (before : Kinds) (build : D.Tre
   pub is_phrase : (part : D.Tree) → D.Is part → C.Is (build part)
   pub taller : (part : D.Tree) → C.tall (build part) ≡ plus + D.tall part
 
--- where there is room for the least of them, they are a tail
+-- where the limit allows the least of them, they are a tail
 pub production_tail : (C D : Class) (plus : ℕ) (before : Kinds) (build : D.Tree → C.Tree) (Fit : Kinds → Type 0) (limit inner : ℕ) → limit ≡ plus + inner → Production C D plus before build Fit → (least : Least D) → D.tall least.tree ≤ inner → Tail C D limit inner before build Fit
 production_tail C D plus before build Fit limit inner less p least fits = record {
   started = inr (record {

@@ -128,7 +128,7 @@ MayGoOn names ws = (more : List TypeWord) × (is_type names (ws ++ more) ≡ tru
 follows_first : (after : Kinds) (t : TokenKind) (more : Kinds) → Follows ends_specs after → after ≡ t ∷ more → ends_specs t ≡ true
 follows_first after t more f same = subst (Follows ends_specs) same f
 
--- words of a type that begin as others go on with more
+-- words of a type that begin as others continue with more
 words_go_on : (names : Names) (before ws other : List TypeWord) (after following : Kinds) → MayGoOn names (before ++ ws) → is_type names (before ++ other) ≡ true → Follows ends_specs after → words_text other after ≡ words_text ws following → (more : List TypeWord) × (other ≡ ws ++ more) × (words_text more after ≡ following)
 words_go_on names before [] other after following go type f same = (other, refl, same)
 words_go_on names before (w ∷ ws) [] after following go type f same =
@@ -143,7 +143,7 @@ words_go_on names before (w ∷ ws) (v ∷ vs) after following go type f same =
     let r = words_go_on names (before ++ w ∷ []) ws vs after following go' type' f k.1 in
     (r.0, ap (λ (x : TypeWord). x ∷ vs) k.0 ∙ ap (λ (x : List TypeWord). w ∷ x) r.1, r.2)
 
--- no word that begins with the token goes on with these
+-- no word that begins with the token continues with these
 abbrev pub IsStuckAt : Names → List TypeWord → TokenKind → Type 0
 IsStuckAt names ws next = (one : TypeWord) (more : List TypeWord) → first_token one ≡ next → is_type names (ws ++ one ∷ more) ≡ false
 
@@ -215,7 +215,7 @@ block_words_never names ws next none go stuck other after following is f near sa
     let e = stuck_near names ws next r.0 after following stuck (ap (is_type names) (sym r.1) ∙ o.type) near r.2 in
     both_ways (is_type names ws) none (ap (is_type names) (sym (r.1 ∙ ap (λ (x : List TypeWord). ws ++ x) e.0 ∙ append-nil ws)) ∙ o.type)
 
--- words that name no type yet, and no word that goes on with them
+-- words that name no type yet, and no word that continues with them
 pub block_specs_refused : (names : Names) (limit : ℕ) (ws : List TypeWord) (next : TokenKind) → 1 ≤ limit → is_type names ws ≡ false → MayGoOn names ws → IsStuckAt names ws next → Refused (BlockSpecs names) limit (words_text ws []) next false
 block_specs_refused names limit ws next some none go stuck = record {
   begun = inr (record {

@@ -1,4 +1,4 @@
--- Which tokens go on with an expression, by the level of the expression that they make.
+-- Which tokens continue with an expression, by the level of the expression that they make.
 use Rattle.std.specs.Prelude.{ℕ, [], ◌∷◌}
 use Rattle.cs_ast.specs.declared.token.TokenKind.{TokenKind}
 use Rattle.cs_ast.specs.declared.token.TokenKind.TheVariants as token
@@ -6,7 +6,7 @@ use Rattle.cs_ast.specs.declared.token.Punctuator.{Punctuator}
 use Rattle.cs_ast.specs.declared.token.Punctuator.TheVariants as punctuator
 use Rattle.cs_grammar.specs.Text.{Kinds}
 
--- one more than the level of the expressions that go on with this punctuator after an operand, 0 where none does
+-- one more than the level of the expressions that continue with this punctuator after an operand, 0 where none does
 abbrev pub punctuator_join : Punctuator → ℕ
 punctuator_join punctuator.Comma = 1
 punctuator_join punctuator.Equal = 2

@@ -223,7 +223,7 @@ abbrev pub IsFile : Names → List External → Type 0
 IsFile names [] = Unit {0}
 IsFile names (external ∷ externals) = IsExternal names external × IsFile (names_after names external) externals
 
--- each part of a file is no higher than the room
+-- each part of a file is no higher than the limit
 abbrev pub AreLow : ℕ → List External → Type 0
 AreLow limit externals = AreAll (λ external. external_height external ≤ limit) externals
 
@@ -234,7 +234,7 @@ pub record BeginsFile (front : Kinds) : Type 0 where
   pub is_file : IsFile [] file
   pub spelled : file_text file ≡ front ++ more
 
--- a file with parts no higher than the room, whose tokens these begin
+-- a file with parts no higher than the limit, whose tokens these begin
 pub record BeginsLowFile (limit : ℕ) (front : Kinds) : Type 0 where
   pub file : List External
   pub more : Kinds

@@ -49,7 +49,7 @@ pub record IsAfterType (front : Kinds) : Type 0 where
   pub number : length front ≡ suc last
   pub closes : HasRole front last closes_type
 
--- the token is a word or punctuator of C that is left out after these tokens: a left-out word or the punctuator of three dots anywhere; inside
+-- the token is a word or punctuator of C that is unsupported after these tokens: an unsupported word or the punctuator of three dots anywhere; inside
 -- a block or an expression `static`, `typedef`, and a brace after `struct` or `enum` or its tag; a brace after a type between
 -- parentheses; a parenthesis where a declarator's name may stand; a colon after a member's declarator; a dot or a bracket where an
 -- initial value may begin, and so a list of them may
@@ -70,13 +70,13 @@ abbrev pub GoesOn : Kinds → Option TokenKind → Type 0
 GoesOn front (Some next) = BeginsFile (front ++ next ∷ [])
 GoesOn front None = (file : List External) × IsFile [] file × (file_text file ≡ front)
 
--- the same of left-out tokens: the end of input is none
+-- the same of unsupported tokens: the end of input is none
 abbrev pub IsUnsupportedNext : Kinds → Option TokenKind → Type 0
 IsUnsupportedNext front (Some next) = IsUnsupportedOfFile front next
 IsUnsupportedNext front None = ⊥
 
 -- why the next token, or the end of input where none is next, is refused after these tokens, where no file that is low enough goes
--- on with it: too deep where a higher one does; left out where none does and the token is left out there
+-- on with it: too deep where a higher one does; left out where none does and the token is unsupported there
 abbrev pub IsFileReason : Kinds → Option TokenKind → Reason → Type 0
 IsFileReason front next TooDeep = GoesOn front next
 IsFileReason front next Unsupported = (GoesOn front next → ⊥) × IsUnsupportedNext front next

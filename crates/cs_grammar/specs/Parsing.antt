@@ -17,15 +17,15 @@ pub record Class : Type 1 where
   pub Is : Tree → Type 0
   pub Shut : Tree → Kinds → Type 0
 
--- the expressions of a level: none that goes on with it stands after
+-- the expressions of a level: none that continues with it stands after
 abbrev pub Expressions : Names → ℕ → Class
 Expressions names level = record { Tree = Written; spell = text; tall = height; Is = IsPhrase names level; Shut = λ tree following. join_of following ≤ level }
 
--- the tokens are at an end, or go on with this one
+-- the tokens are at an end, or continue with this one
 abbrev pub Near : TokenKind → Kinds → Type 0
 Near next following = (following ≡ []) ⊎ ((more : Kinds) × (following ≡ next ∷ more))
 
--- the phrase is higher than the room, there is a token for it, and it was told that one is
+-- the phrase is higher than the limit, there is a token for it, and it is marked that one is
 pub record IsOver (C : Class) (limit : ℕ) (deep : Bool) (phrase : C.Tree) (following : Kinds) : Type 0 where
   pub reported : deep ≡ true
   pub high : limit < C.tall phrase
@@ -46,7 +46,7 @@ pub record BeginsLow (C : Class) (limit : ℕ) (front : Kinds) : Type 0 where
   pub low : C.tall phrase ≤ limit
   pub spelled : C.spell phrase [] ≡ front ++ more
 
--- a phrase was taken before this token: it is the only one that begins so, but for those that are too high, which go on with
+-- a phrase was taken before this token: it is the only one that begins so, but for those that are too high, which continue with
 -- the token exactly where that is told
 pub record Took (C : Class) (limit : ℕ) (phrase : C.Tree) (next : TokenKind) (deep : Bool) : Type 0 where
   pub is_phrase : C.Is phrase

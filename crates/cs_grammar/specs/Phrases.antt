@@ -51,7 +51,7 @@ pub record BeginsPhrase (names : Names) (level : ℕ) (front : Kinds) : Type 0 w
   pub is_phrase : IsPhrase names level phrase
   pub spelled : text phrase [] ≡ front ++ more
 
--- a phrase of the level that is no higher than the room, and tokens that begin its text
+-- a phrase of the level that is no higher than the limit, and tokens that begin its text
 pub record BeginsLowPhrase (names : Names) (level limit : ℕ) (front : Kinds) : Type 0 where
   pub phrase : Written
   pub more : Kinds
@@ -59,7 +59,7 @@ pub record BeginsLowPhrase (names : Names) (level limit : ℕ) (front : Kinds) :
   pub low : height phrase ≤ limit
   pub spelled : text phrase [] ≡ front ++ more
 
--- the tokens are those of a phrase of the level that is no higher than the room
+-- the tokens are those of a phrase of the level that is no higher than the limit
 pub record IsLowPhrase (names : Names) (level limit : ℕ) (front : Kinds) : Type 0 where
   pub phrase : Written
   pub is_phrase : IsPhrase names level phrase

@@ -23,6 +23,9 @@ StandsAt at (token ∷ tokens) = at ≡ token.place
 abbrev pub following : RawExprKind → List Token → List Token
 following e tokens = drop (size (written_kind e)) tokens
 
+abbrev pub after_tree : RawExpr → List Token → List Token
+after_tree e = following e.kind.value
+
 -- the tokens after those of a type's words and pointers
 abbrev pub after_words : WrittenType → List Token → List Token
 after_words ty tokens = drop (length (words_text ty.words.items (pointers_text ty.pointers.items []))) tokens
@@ -42,7 +45,7 @@ HasTagPlace ty tokens =
 -- the tokens after the bounds of a type
 abbrev pub after_bounds : {n : _} → Row_of-RawExpr n → List Token → List Token
 after_bounds end_of-RawExpr tokens = tokens
-after_bounds (more_of-RawExpr at first others) tokens = after_bounds others (drop 1 (following first (drop 1 tokens)))
+after_bounds (more_of-RawExpr at p first others) tokens = after_bounds others (drop 1 (following first (drop 1 tokens)))
 
 abbrev mutual
   -- an expression at a place begins these tokens, and each of its nodes has the place of its token
@@ -51,44 +54,44 @@ abbrev mutual
   IsPlaced at (kind.Number constant) tokens = StandsAt at tokens
   IsPlaced at (kind.Character value) tokens = StandsAt at tokens
   IsPlaced at (kind.Text bytes) tokens = StandsAt at tokens
-  IsPlaced at (kind.Parenthesis' p place inner) tokens = StandsAt at tokens × IsPlaced place inner (drop 1 tokens)
-  IsPlaced at (kind.Index' p place array q place' number) tokens =
+  IsPlaced at (kind.Parenthesis' place p inner) tokens = StandsAt at tokens × IsPlaced place inner (drop 1 tokens)
+  IsPlaced at (kind.Index' place p array place' q number) tokens =
       IsPlaced place array tokens × StandsAt at (following array tokens) × IsPlaced place' number (drop 1 (following array tokens))
-  IsPlaced at (kind.Call' p place function shape row) tokens =
+  IsPlaced at (kind.Call' place p function shape row) tokens =
       IsPlaced place function tokens × StandsAt at (following function tokens) × ArePlaced row (drop 1 (following function tokens))
-  IsPlaced at (kind.Member' p place object name) tokens =
+  IsPlaced at (kind.Member' place p object name) tokens =
       IsPlaced place object tokens × StandsAt at (following object tokens) × StandsAt name.place (drop 1 (following object tokens))
-  IsPlaced at (kind.Arrow' p place pointer name) tokens =
+  IsPlaced at (kind.Arrow' place p pointer name) tokens =
       IsPlaced place pointer tokens × StandsAt at (following pointer tokens) × StandsAt name.place (drop 1 (following pointer tokens))
-  IsPlaced at (kind.StepAfter' step p place object) tokens = IsPlaced place object tokens × StandsAt at (following object tokens)
-  IsPlaced at (kind.StepBefore' step p place object) tokens = StandsAt at tokens × IsPlaced place object (drop 1 tokens)
-  IsPlaced at (kind.Prefix' operator p place operand) tokens = StandsAt at tokens × IsPlaced place operand (drop 1 tokens)
-  IsPlaced at (kind.SizeOf' p place operand) tokens = StandsAt at tokens × IsPlaced place operand (drop 1 tokens)
+  IsPlaced at (kind.StepAfter' step place p object) tokens = IsPlaced place object tokens × StandsAt at (following object tokens)
+  IsPlaced at (kind.StepBefore' step place p object) tokens = StandsAt at tokens × IsPlaced place object (drop 1 tokens)
+  IsPlaced at (kind.Prefix' operator place p operand) tokens = StandsAt at tokens × IsPlaced place operand (drop 1 tokens)
+  IsPlaced at (kind.SizeOf' place p operand) tokens = StandsAt at tokens × IsPlaced place operand (drop 1 tokens)
   IsPlaced at (kind.SizeOfType' ty shape row) tokens = StandsAt at tokens × HasTagPlace ty (drop 2 tokens) × AreBoundsPlaced row (after_words ty (drop 2 tokens))
-  IsPlaced at (kind.Cast' ty shape row p place operand) tokens =
+  IsPlaced at (kind.Cast' ty shape row place p operand) tokens =
       StandsAt at tokens × HasTagPlace ty (drop 1 tokens) × AreBoundsPlaced row (after_words ty (drop 1 tokens))
       × IsPlaced place operand (drop 1 (after_bounds row (after_words ty (drop 1 tokens))))
-  IsPlaced at (kind.Infix' operator p place left q place' right) tokens =
+  IsPlaced at (kind.Infix' operator place p left place' q right) tokens =
       IsPlaced place left tokens × StandsAt at (following left tokens) × IsPlaced place' right (drop 1 (following left tokens))
-  IsPlaced at (kind.Choice' p place test q place' one r place'' other) tokens =
+  IsPlaced at (kind.Choice' place p test place' q one place'' r other) tokens =
       IsPlaced place test tokens × StandsAt at (following test tokens) × IsPlaced place' one (drop 1 (following test tokens))
       × IsPlaced place'' other (drop 1 (following one (drop 1 (following test tokens))))
-  IsPlaced at (kind.Assign' operator p place object q place' value) tokens =
+  IsPlaced at (kind.Assign' operator place p object place' q value) tokens =
       IsPlaced place object tokens × StandsAt at (following object tokens) × IsPlaced place' value (drop 1 (following object tokens))
-  IsPlaced at (kind.Comma' p place first q place' second) tokens =
+  IsPlaced at (kind.Comma' place p first place' q second) tokens =
       IsPlaced place first tokens × StandsAt at (following first tokens) × IsPlaced place' second (drop 1 (following first tokens))
 
   -- the same of expressions with a punctuator after each
   pub ArePlaced : {n : _} → Row_of-RawExpr n → List Token → Type 0
   ArePlaced end_of-RawExpr tokens = Unit {0}
-  ArePlaced (more_of-RawExpr at first others) tokens = IsPlaced at first tokens × ArePlaced others (drop 1 (following first tokens))
+  ArePlaced (more_of-RawExpr at p first others) tokens = IsPlaced at first tokens × ArePlaced others (drop 1 (following first tokens))
 
   -- the same of expressions between brackets
   pub AreBoundsPlaced : {n : _} → Row_of-RawExpr n → List Token → Type 0
   AreBoundsPlaced end_of-RawExpr tokens = Unit {0}
-  AreBoundsPlaced (more_of-RawExpr at first others) tokens =
+  AreBoundsPlaced (more_of-RawExpr at p first others) tokens =
       IsPlaced at first (drop 1 tokens) × AreBoundsPlaced others (drop 1 (following first (drop 1 tokens)))
 
 -- the tokens begin with an expression whose nodes have the places of their tokens
 abbrev pub HasPlaces : RawExpr → List Token → Type 0
-HasPlaces e tokens = IsPlaced e.place e.kind tokens
+HasPlaces e tokens = IsPlaced e.place e.kind.value tokens

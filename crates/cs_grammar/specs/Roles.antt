@@ -1,4 +1,4 @@
--- What each token of a file is there, as far as it matters for words and punctuators that are left out. The lists run beside those of
+-- What each token of a file is there, as far as it matters for words and punctuators that aren't supported. The lists run beside those of
 -- the tokens.
 use Rattle.std.specs.Prelude.{ℕ, Bool, List, [], ◌∷◌, Option, Some, None, if◌then◌else◌}
 use Rattle.cs_ast.specs.declared.raw.written_type.TypeWord.{TypeWord}

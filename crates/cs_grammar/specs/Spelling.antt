@@ -1,4 +1,4 @@
--- How the words and punctuators of C that are left out are spelled.
+-- How the words and punctuators of C that aren't supported are spelled.
 use Rattle.std.specs.Prelude.{ℕ, List, [], codes}
 use Rattle.cs_ast.specs.declared.token.TokenKind.{TokenKind}
 use Rattle.cs_ast.specs.declared.token.TokenKind.TheVariants as token
@@ -7,7 +7,7 @@ use Rattle.cs_ast.specs.declared.token.Punctuator.TheVariants as punctuator
 use Rattle.cs_ast.specs.declared.token.Unsupported.{Unsupported}
 use Rattle.cs_ast.specs.declared.token.Unsupported.TheVariants as left
 
--- the bytes of a word that is left out
+-- the bytes of a word that is unsupported
 abbrev pub word_spelling : Unsupported → List ℕ
 word_spelling left.Float = codes "float"
 word_spelling left.Double = codes "double"
@@ -24,13 +24,13 @@ word_spelling left.StaticAssert = codes "_Static_assert"
 word_spelling left.ThreadLocal = codes "_Thread_local"
 word_spelling left.Int128 = codes "__int128"
 word_spelling left.Asm = codes "asm"
-word_spelling left.AsmBetween = codes "__asm__"
-word_spelling left.AsmAfter = codes "__asm"
+word_spelling left.AsmUnderscored = codes "__asm__"
+word_spelling left.AsmPrefixed = codes "__asm"
 word_spelling left.Typeof = codes "typeof"
-word_spelling left.TypeofBetween = codes "__typeof__"
+word_spelling left.TypeofUnderscored = codes "__typeof__"
 word_spelling left.Auto = codes "auto"
 
--- the bytes of a token that is left out somewhere, none of any other
+-- the bytes of a token that is unsupported somewhere, none of any other
 abbrev pub unsupported_spelling : TokenKind → List ℕ
 unsupported_spelling (token.Unsupported word) = word_spelling word
 unsupported_spelling (token.Punctuator punctuator.Ellipsis) = codes "..."

@@ -3,25 +3,25 @@
 use cs_ast::Place;
 use cs_names::Name;
 
-/// Why a token is refused where no phrase that is low enough goes on with it.
-#[derive(Clone, Copy, Debug, PartialEq, Eq)]
+/// Why a token is refused where no phrase that is low enough continues with it.
+#[derive(Clone, Copy)]
 pub enum Reason {
-    /// No phrase of any height goes on with it.
+    /// No phrase of any height continues with it.
     Syntax,
-    /// The same, and it is a word or punctuator of C that is left out there.
+    /// The same, and it is a word or punctuator of C that isn't supported there.
     Unsupported,
-    /// A higher phrase goes on with it.
+    /// A higher phrase continues with it.
     TooDeep,
 }
 
-/// The refusal of a file's tokens, at the place of the first token with which no file goes on.
-#[derive(Debug, Drop, PartialEq, Eq)]
+/// The refusal of a file's tokens, at the place of the first token that can't continue a translation unit.
+#[derive(Drop)]
 pub enum SyntaxRefusal {
-    /// No file goes on with the token.
+    /// The token can't continue a translation unit.
     Syntax(Place),
-    /// The same, and the token is this word or punctuator, which is left out there.
+    /// The same, and the token is this word or punctuator, which isn't supported there.
     Unsupported(Place, Name),
-    /// A file that is too high goes on with the token.
+    /// A translation unit that is nested too deeply continues with the token.
     TooDeep(Place),
     /// Want of memory.
     Memory,

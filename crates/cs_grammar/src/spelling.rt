@@ -1,10 +1,10 @@
-//! How the words and punctuators of C that are left out are spelled.
+//! How the words and punctuators of C that aren't supported are spelled.
 ghost use Rattle.std.specs.Prelude.{◌≡◌};
 ghost use Rattle.cs_grammar.specs.Spelling.{unsupported_spelling, word_spelling};
 
 use cs_ast::{Keyword, Punctuator, TokenKind, Unsupported};
 
-/// The spelling of a token that is left out somewhere, and of no other.
+/// The spelling of a token that is unsupported somewhere, and of no other.
 pub fn unsupported_text(kind: &TokenKind) -> &'static [u8]
     ensures { result.now ≡ unsupported_spelling kind.now }
 {
@@ -41,10 +41,10 @@ fn word_text(word: Unsupported) -> &'static [u8]
         Unsupported::ThreadLocal => b"_Thread_local",
         Unsupported::Int128 => b"__int128",
         Unsupported::Asm => b"asm",
-        Unsupported::AsmBetween => b"__asm__",
-        Unsupported::AsmAfter => b"__asm",
+        Unsupported::AsmUnderscored => b"__asm__",
+        Unsupported::AsmPrefixed => b"__asm",
         Unsupported::Typeof => b"typeof",
-        Unsupported::TypeofBetween => b"__typeof__",
+        Unsupported::TypeofUnderscored => b"__typeof__",
         Unsupported::Auto => b"auto",
     }
 }

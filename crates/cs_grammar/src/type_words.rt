@@ -8,7 +8,7 @@ use cs_ast::Keyword;
 use cs_ast::raw::written_type::{IntegerWord, TypeWord};
 
 /// How often each word of an integer type stands in a type so far.
-#[derive(Clone, Copy, Debug, PartialEq, Eq)]
+#[derive(Clone, Copy)]
 pub struct IntegerWords {
     pub char: u8,
     pub short: u8,
@@ -19,7 +19,7 @@ pub struct IntegerWords {
 }
 
 /// What the words of a type so far leave open.
-#[derive(Clone, Copy, Debug, PartialEq, Eq)]
+#[derive(Clone, Copy)]
 pub enum TypeSoFar {
     /// They name no type yet.
     Nothing,

@@ -87,7 +87,7 @@ one_deeper true closing depth = omega arith
 one_deeper false true depth = omega arith
 one_deeper false false depth = omega arith
 
--- a token of an attribute is left out
+-- a token of an attribute is unsupported
 pub sift_skipped : (tokens old left : List Token) (closings : List Bool) (depth later : ℕ) (kept : List Token) (token : Token) → Sifted tokens old closings (suc depth) kept → old ≡ left ++ token ∷ [] → later ≡ depth_after token (suc depth) → Sifted tokens left closings later kept
 sift_skipped tokens old left closings depth later kept token so_far is step =
     let turned = turned_round old left token is in
@@ -143,7 +143,7 @@ front_of left group = front_turned left group.inside group.opening group.is
 front_is : (left : List Token) → take (length left - 1) left ++ drop (length left - 1) left ≡ left
 front_is left = take-append-drop (length left - 1) left
 
--- an attribute's word and the parenthesis after it are left out
+-- an attribute's word and the parenthesis after it are unsupported
 pub sift_group : (tokens old left inner : List Token) (closings : List Bool) (kept : List Token) (token : Token) → Sifted tokens old closings 0 kept → old ≡ left ++ token ∷ [] → has_group token (reverse left) ≡ true → inner ≡ take (length left - 1) left → Sifted tokens inner closings 1 kept
 sift_group tokens old left inner closings kept token so_far is begins cut =
     let group = group_of_list left (reverse left) refl (and_parts (is_attribute token.kind) (begins_group (reverse left)) begins).1 in

@@ -26,7 +26,7 @@ next_text bytes more place left [] is text = absurd cc
 next_text bytes more place left (token ∷ tokens) is text =
     ap (λ ts. text_before bytes place (joined ts)) is ∙ step_on bytes more place token (joined tokens) text ∙ ap (λ ts. text_before (bytes ++ more) place (joined ts)) (sym (front_turned left tokens token is))
 
--- a text goes on with the next token's bytes
+-- a text continues with the next token's bytes
 pub gather_next : (first : List ℕ) (before : List Token) (bytes more whole : List ℕ) (left inner : List Token) → Gathered first before bytes left → first_text (reverse left) ≡ Some more → whole ≡ bytes ++ more → inner ≡ take (length left - 1) left → Gathered first before whole inner
 gather_next first before bytes more whole left inner so_far text pushed cut = record {
   same = λ place. so_far.same place ∙ next_text bytes more place left (reverse left) refl text ∙ ap (λ bs. text_before bs place (joined (reverse (take (length left - 1) left)))) (sym pushed) ∙ ap (λ ts. text_before whole place (joined (reverse ts))) (sym cut);

@@ -26,7 +26,7 @@ abbrev all_keywords : List keywords.Keyword
 all_keywords = Break ∷ Case ∷ Char ∷ Const ∷ Continue ∷ Default ∷ Do ∷ Else ∷ Enum ∷ For ∷ Goto ∷ If ∷ Int ∷ Long ∷ Return ∷ Short ∷ Signed ∷ Sizeof ∷ Static ∷ Struct ∷ Switch ∷ Typedef ∷ Unsigned ∷ Void ∷ While ∷ []
 
 abbrev all_left_outs : List left_outs.Unsupported
-all_left_outs = left.Float ∷ left.Double ∷ left.Union ∷ left.Bool ∷ left.Complex ∷ left.Imaginary ∷ left.Atomic ∷ left.Alignas ∷ left.Alignof ∷ left.Generic ∷ left.Noreturn ∷ left.StaticAssert ∷ left.ThreadLocal ∷ left.Int128 ∷ left.Asm ∷ left.AsmBetween ∷ left.AsmAfter ∷ left.Typeof ∷ left.TypeofBetween ∷ left.Auto ∷ []
+all_left_outs = left.Float ∷ left.Double ∷ left.Union ∷ left.Bool ∷ left.Complex ∷ left.Imaginary ∷ left.Atomic ∷ left.Alignas ∷ left.Alignof ∷ left.Generic ∷ left.Noreturn ∷ left.StaticAssert ∷ left.ThreadLocal ∷ left.Int128 ∷ left.Asm ∷ left.AsmUnderscored ∷ left.AsmPrefixed ∷ left.Typeof ∷ left.TypeofUnderscored ∷ left.Auto ∷ []
 
 abbrev all_punctuators : List punctuators.Punctuator
 all_punctuators = punctuator.OpenBracket ∷ punctuator.CloseBracket ∷ punctuator.OpenParenthesis ∷ punctuator.CloseParenthesis ∷ punctuator.OpenBrace ∷ punctuator.CloseBrace ∷ punctuator.Dot ∷ punctuator.Arrow ∷ punctuator.Increment ∷ punctuator.Decrement ∷ punctuator.Ampersand ∷ punctuator.Star ∷ punctuator.Plus ∷ punctuator.Minus ∷ punctuator.Tilde ∷ punctuator.Exclamation ∷ punctuator.Slash ∷ punctuator.Percent ∷ punctuator.ShiftLeft ∷ punctuator.ShiftRight ∷ punctuator.Less ∷ punctuator.More ∷ punctuator.AtMost ∷ punctuator.AtLeast ∷ punctuator.EqualEqual ∷ punctuator.Differs ∷ punctuator.Caret ∷ punctuator.Bar ∷ punctuator.AndAnd ∷ punctuator.BarBar ∷ punctuator.Question ∷ punctuator.Colon ∷ punctuator.Semicolon ∷ punctuator.Equal ∷ punctuator.StarEqual ∷ punctuator.SlashEqual ∷ punctuator.PercentEqual ∷ punctuator.PlusEqual ∷ punctuator.MinusEqual ∷ punctuator.ShiftLeftEqual ∷ punctuator.ShiftRightEqual ∷ punctuator.AmpersandEqual ∷ punctuator.CaretEqual ∷ punctuator.BarEqual ∷ punctuator.Comma ∷ punctuator.Ellipsis ∷ []

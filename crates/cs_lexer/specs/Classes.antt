@@ -22,7 +22,7 @@ is_octal_digit b = nat_le 48 b && nat_le b 55
 abbrev pub is_hexadecimal_digit : ℕ → Bool
 is_hexadecimal_digit b = is_digit b || ((nat_le 97 b && nat_le b 102) || (nat_le 65 b && nat_le b 70))
 
--- a byte that a name goes on with
+-- a byte that a name continues with
 abbrev pub is_name_byte : ℕ → Bool
 is_name_byte b = is_letter b || is_digit b
 

@@ -12,7 +12,7 @@ use Rattle.cs_lexer.specs.Attributes.{without_attributes}
 use Rattle.cs_lexer.specs.Texts.{joined}
 use Rattle.cs_lexer.specs.Cuttings.{IsWhole, IsRefusedAt, EndsAs}
 
--- the tokens of a cutting: attributes are left out, then texts that stand side by side are one
+-- the tokens of a cutting: attributes are unsupported, then texts that stand side by side are one
 abbrev pub tokens_of : List Token → List Token
 tokens_of pieces = joined (without_attributes 0 pieces)
 

@@ -1,9 +1,9 @@
--- How keywords, left-out words and punctuators are spelled.
+-- How keywords, unsupported words and punctuators are spelled.
 use Rattle.std.specs.Prelude.{◌≢◌, ℕ, List, codes}
 use Rattle.cs_ast.specs.declared.token.Keyword.{Keyword}
 use Rattle.cs_ast.specs.declared.token.Keyword.TheVariants.{Break, Case, Char, Const, Continue, Default, Do, Else, Enum, For, Goto, If, Int, Long, Return, Short, Signed, Sizeof, Static, Struct, Switch, Typedef, Unsigned, Void, While}
 use Rattle.cs_ast.specs.declared.token.Unsupported.{Unsupported}
-use Rattle.cs_ast.specs.declared.token.Unsupported.TheVariants.{Float, Double, Union, Bool, Complex, Imaginary, Atomic, Alignas, Alignof, Generic, Noreturn, StaticAssert, ThreadLocal, Int128, Asm, AsmBetween, AsmAfter, Typeof, TypeofBetween, Auto}
+use Rattle.cs_ast.specs.declared.token.Unsupported.TheVariants.{Float, Double, Union, Bool, Complex, Imaginary, Atomic, Alignas, Alignof, Generic, Noreturn, StaticAssert, ThreadLocal, Int128, Asm, AsmUnderscored, AsmPrefixed, Typeof, TypeofUnderscored, Auto}
 use Rattle.cs_ast.specs.declared.token.Punctuator.{Punctuator}
 use Rattle.cs_ast.specs.declared.token.Punctuator.TheVariants.{OpenBracket, CloseBracket, OpenParenthesis, CloseParenthesis, OpenBrace, CloseBrace, Dot, Arrow, Increment, Decrement, Ampersand, Star, Plus, Minus, Tilde, Exclamation, Slash, Percent, ShiftLeft, ShiftRight, Less, More, AtMost, AtLeast, EqualEqual, Differs, Caret, Bar, AndAnd, BarBar, Question, Colon, Semicolon, Equal, StarEqual, SlashEqual, PercentEqual, PlusEqual, MinusEqual, ShiftLeftEqual, ShiftRightEqual, AmpersandEqual, CaretEqual, BarEqual, Comma, Ellipsis}
 
@@ -50,10 +50,10 @@ unsupported_text StaticAssert = codes "_Static_assert"
 unsupported_text ThreadLocal = codes "_Thread_local"
 unsupported_text Int128 = codes "__int128"
 unsupported_text Asm = codes "asm"
-unsupported_text AsmBetween = codes "__asm__"
-unsupported_text AsmAfter = codes "__asm"
+unsupported_text AsmUnderscored = codes "__asm__"
+unsupported_text AsmPrefixed = codes "__asm"
 unsupported_text Typeof = codes "typeof"
-unsupported_text TypeofBetween = codes "__typeof__"
+unsupported_text TypeofUnderscored = codes "__typeof__"
 unsupported_text Auto = codes "auto"
 
 abbrev pub punctuator_text : Punctuator → List ℕ
@@ -104,7 +104,21 @@ punctuator_text BarEqual = codes "|="
 punctuator_text Comma = codes ","
 punctuator_text Ellipsis = codes "..."
 
--- not one of the two left-out words that are longer than ten bytes
+-- not one of the two unsupported words that are longer than ten bytes
 pub record NoLongUnsupported (text : List ℕ) : Type 0 where
   pub no_assertion : codes "_Static_assert" ≢ text
   pub no_thread_local : codes "_Thread_local" ≢ text
+
+-- not one of the punctuators that assign
+pub record IsNoAssignment (text : List ℕ) : Type 0 where
+  pub no_equal : codes "=" ≢ text
+  pub no_star_equal : codes "*=" ≢ text
+  pub no_slash_equal : codes "/=" ≢ text
+  pub no_percent_equal : codes "%=" ≢ text
+  pub no_plus_equal : codes "+=" ≢ text
+  pub no_minus_equal : codes "-=" ≢ text
+  pub no_shift_left_equal : codes "<<=" ≢ text
+  pub no_shift_right_equal : codes ">>=" ≢ text
+  pub no_ampersand_equal : codes "&=" ≢ text
+  pub no_caret_equal : codes "^=" ≢ text
+  pub no_bar_equal : codes "|=" ≢ text

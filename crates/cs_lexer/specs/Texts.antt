@@ -27,12 +27,12 @@ abbrev pub joined_to : Option (List ℕ) → Token → List Token → List Token
 joined_to None token tokens = token ∷ tokens
 joined_to (Some bytes) token tokens = text_before bytes token.place tokens
 
--- each text that stands directly after a text goes on with it
+-- each text that stands directly after a text continues with it
 abbrev pub joined : List Token → List Token
 joined [] = []
 joined (token ∷ tokens) = joined_to (text_of_kind token.kind) token (joined tokens)
 
--- a text before tokens is one with those of them that go on with it, after which the others stand
+-- a text before tokens is one with those of them that continue with it, after which the others stand
 abbrev pub IsWholeText : List ℕ → List Token → List ℕ → List Token → Type 0
 IsWholeText first tokens bytes others = (place : Place) → text_before first place (joined tokens) ≡ (record { kind = Text bytes; place = place }) ∷ joined others
 

@@ -27,7 +27,7 @@ attribute_words = codes "__attribute__" ∷ codes "__attribute" ∷ []
 abbrev pub is_attribute : List ℕ → Bool
 is_attribute word = list_any (pointwise nat_eq word) attribute_words
 
--- no keyword, no left-out word, not dropped, and no attribute
+-- no keyword, no unsupported word, not dropped, and no attribute
 pub record IsPlain (word : List ℕ) : Type 0 where
   pub no_keyword : (k : keywords.Keyword) → keyword_text k ≢ word
   pub no_unsupported : (l : left_outs.Unsupported) → unsupported_text l ≢ word

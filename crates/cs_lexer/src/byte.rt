@@ -44,7 +44,7 @@ pub fn is_hexadecimal_digit(byte: u8) -> bool
     matches!(byte, b'0'..=b'9' | b'a'..=b'f' | b'A'..=b'F')
 }
 
-/// Whether a name goes on with a byte.
+/// Whether a name continues with a byte.
 pub fn is_name_byte(byte: u8) -> bool
     ensures { result ≡ classes.is_name_byte byte }
 {

@@ -19,7 +19,7 @@ use std::str;
 const MOST_LINE: u64 = 2_147_483_647;
 
 /// What a linemarker says of its file.
-#[derive(Debug, Drop)]
+#[derive(Drop)]
 enum FileName {
     Absent,
     Given(Name),

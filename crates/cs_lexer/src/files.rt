@@ -11,7 +11,7 @@ use std::collections::BTreeMap;
 use std::marker::Model;
 
 /// The names of files, each once, in order of first sight. A contract sees them as the list of the names.
-#[derive(Debug, Drop)]
+#[derive(Drop)]
 pub struct Files {
     names: Vec<Name>,
     // The place of each name in the list, so that a text with many names takes no longer for each.

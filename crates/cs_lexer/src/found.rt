@@ -4,7 +4,7 @@ use cs_ast::TokenKind;
 use cs_names::Name;
 
 /// Why a text has no tokens, at a place of it. The order decides between two that have one place.
-#[derive(Clone, Copy, Debug, PartialEq, Eq)]
+#[derive(Clone, Copy)]
 pub enum Fault {
     /// A byte that begins no token, or that may not stand where it stands.
     BadByte,
@@ -17,7 +17,7 @@ pub enum Fault {
 }
 
 /// The piece that bytes begin with, with the number of its bytes, or the fault in it.
-#[derive(Debug, Drop)]
+#[derive(Drop)]
 pub enum Found {
     /// White space, a comment, a pragma or a dropped word.
     Gap(usize),

@@ -14,7 +14,7 @@ use std::alloc::{AllocError, Global};
 const MOST_TOKENS: usize = 400_000;
 
 /// The tokens of a text in order, the names of its files by their numbers, and the place of its end.
-#[derive(Debug, Drop)]
+#[derive(Drop)]
 pub struct Lexed {
     pub list: Vec<Token>,
     pub files: Vec<Name>,

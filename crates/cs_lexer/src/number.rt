@@ -123,7 +123,7 @@ fn suffix_at(bytes: &[u8]) -> Suffix
     }
 }
 
-// Whether a number or a name would go on with the first byte.
+// Whether a number or a name would continue with the first byte.
 fn goes_on(bytes: &[u8]) -> bool
     ensures { result ≡ spec.goes_on bytes.now }
 {

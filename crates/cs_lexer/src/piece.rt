@@ -75,7 +75,7 @@ fn space_length(bytes: &[u8]) -> usize
     bytes.iter().take_while(|byte| is_space(**byte)).count()
 }
 
-// How many bytes at the front a name goes on with.
+// How many bytes at the front a name continues with.
 fn word_length(bytes: &[u8]) -> usize
     ensures { result ≡ length (take_while classes.is_name_byte bytes.now) }
 {

@@ -1,6 +1,6 @@
-//! Keywords, left-out words and punctuators by their bytes.
+//! Keywords, unsupported words and punctuators by their bytes.
 ghost use Rattle.std.specs.Prelude.{◌≡◌, ◌≢◌, MatchOption};
-ghost use Rattle.cs_lexer.specs.Spellings.{keyword_text, unsupported_text, punctuator_text, NoLongUnsupported};
+ghost use Rattle.cs_lexer.specs.Spellings.{keyword_text, unsupported_text, punctuator_text, NoLongUnsupported, IsNoAssignment};
 
 use cs_ast::{Keyword, Punctuator, Unsupported};
 
@@ -38,7 +38,7 @@ pub fn keyword_spelled(text: &[u8]) -> Option<Keyword>
     }
 }
 
-// The left-out word of more than ten bytes that is spelled so.
+// The unsupported word of more than ten bytes that is spelled so.
 fn long_unsupported_spelled(text: &[u8]) -> Option<Unsupported>
     ensures { MatchOption result (NoLongUnsupported text.now) (λ found. unsupported_text found ≡ text.now) }
 {
@@ -51,7 +51,7 @@ fn long_unsupported_spelled(text: &[u8]) -> Option<Unsupported>
     }
 }
 
-/// The left-out word that is spelled so.
+/// The unsupported word that is spelled so.
 pub fn unsupported_spelled(text: &[u8]) -> Option<Unsupported>
     ensures { MatchOption result ((other : Unsupported) → unsupported_text other ≢ text.now) (λ found. unsupported_text found ≡ text.now) }
 {
@@ -72,11 +72,31 @@ pub fn unsupported_spelled(text: &[u8]) -> Option<Unsupported>
         b"_Noreturn" => Some(Unsupported::Noreturn),
         b"__int128" => Some(Unsupported::Int128),
         b"asm" => Some(Unsupported::Asm),
-        b"__asm__" => Some(Unsupported::AsmBetween),
-        b"__asm" => Some(Unsupported::AsmAfter),
+        b"__asm__" => Some(Unsupported::AsmUnderscored),
+        b"__asm" => Some(Unsupported::AsmPrefixed),
         b"typeof" => Some(Unsupported::Typeof),
-        b"__typeof__" => Some(Unsupported::TypeofBetween),
+        b"__typeof__" => Some(Unsupported::TypeofUnderscored),
         b"auto" => Some(Unsupported::Auto),
+        _ => None,
+    }
+}
+
+// The punctuator that assigns and is spelled so (C11 6.5.16).
+fn assignment_spelled(text: &[u8]) -> Option<Punctuator>
+    ensures { MatchOption result (IsNoAssignment text.now) (λ found. punctuator_text found ≡ text.now) }
+{
+    match text {
+        b"=" => Some(Punctuator::Equal),
+        b"*=" => Some(Punctuator::StarEqual),
+        b"/=" => Some(Punctuator::SlashEqual),
+        b"%=" => Some(Punctuator::PercentEqual),
+        b"+=" => Some(Punctuator::PlusEqual),
+        b"-=" => Some(Punctuator::MinusEqual),
+        b"<<=" => Some(Punctuator::ShiftLeftEqual),
+        b">>=" => Some(Punctuator::ShiftRightEqual),
+        b"&=" => Some(Punctuator::AmpersandEqual),
+        b"^=" => Some(Punctuator::CaretEqual),
+        b"|=" => Some(Punctuator::BarEqual),
         _ => None,
     }
 }
@@ -85,6 +105,9 @@ pub fn unsupported_spelled(text: &[u8]) -> Option<Unsupported>
 pub fn punctuator_spelled(text: &[u8]) -> Option<Punctuator>
     ensures { MatchOption result ((other : Punctuator) → punctuator_text other ≢ text.now) (λ found. punctuator_text found ≡ text.now) }
 {
+    if let Some(found) = assignment_spelled(text) {
+        return Some(found);
+    }
     match text {
         b"[" => Some(Punctuator::OpenBracket),
         b"]" => Some(Punctuator::CloseBracket),
@@ -119,17 +142,6 @@ pub fn punctuator_spelled(text: &[u8]) -> Option<Punctuator>
         b"?" => Some(Punctuator::Question),
         b":" => Some(Punctuator::Colon),
         b";" => Some(Punctuator::Semicolon),
-        b"=" => Some(Punctuator::Equal),
-        b"*=" => Some(Punctuator::StarEqual),
-        b"/=" => Some(Punctuator::SlashEqual),
-        b"%=" => Some(Punctuator::PercentEqual),
-        b"+=" => Some(Punctuator::PlusEqual),
-        b"-=" => Some(Punctuator::MinusEqual),
-        b"<<=" => Some(Punctuator::ShiftLeftEqual),
-        b">>=" => Some(Punctuator::ShiftRightEqual),
-        b"&=" => Some(Punctuator::AmpersandEqual),
-        b"^=" => Some(Punctuator::CaretEqual),
-        b"|=" => Some(Punctuator::BarEqual),
         b"," => Some(Punctuator::Comma),
         b"..." => Some(Punctuator::Ellipsis),
         _ => None,

@@ -1,4 +1,4 @@
-//! Words: keywords, left-out words, words that are dropped, names.
+//! Words: keywords, unsupported words, words that are dropped, names.
 ghost use Rattle.std.specs.Prelude.{◌≡◌, IfOk};
 ghost use Rattle.std.specs.List.{list_any};
 ghost use Rattle.std.specs.Prelude.{nat_eq};

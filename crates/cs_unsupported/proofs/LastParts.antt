@@ -187,7 +187,7 @@ front_in names front from less b split = (
       last_in names front from c.file following.last less following.number c.is_file (split c.file c.more c.is_file c.spelled) c.there,
 )
 
--- the tokens from a number on
+-- the tokens from an index on
 pub kinds_sliced : (from : ℕ) (tokens : List Token) → kinds (take (length tokens - from) (drop from tokens)) ≡ drop from (kinds tokens)
 kinds_sliced from tokens =
     let l = length-drop from tokens in

@@ -42,7 +42,7 @@ abbrev pub AreNamesWithin : ℕ → Kinds → Type 0
 AreNamesWithin most [] = Unit {0}
 AreNamesWithin most (kind ∷ kinds) = IsNameWithin most kind × AreNamesWithin most kinds
 
--- a declarator's name may stand after the tokens exactly where a file goes on with the one that is asked for; none may where none is
+-- a declarator's name may stand after the tokens exactly where a file continues with the one that is asked for; none may where none is
 abbrev pub IsAskedFor : Kinds → Option TokenKind → Type 0
 IsAskedFor front None = MayHave front declared_name → ⊥
 IsAskedFor front (Some next) = MayHave front declared_name ↔ BeginsFile (front ++ next ∷ [])

@@ -12,7 +12,7 @@ use cs_names::Name;
 use std::alloc::{AllocError, Global};
 
 /// What the last of some tokens tells of a declarator after it.
-#[derive(Clone, Copy, Debug, PartialEq, Eq)]
+#[derive(Clone, Copy)]
 pub enum Joint {
     /// After a dot, an arrow, `goto`, `struct`, `enum` and an opening brace none begins.
     Barred,
@@ -74,8 +74,8 @@ fn new_name(alloc: Global, tokens: &[Token]) -> Result<Name, AllocError>
     Ok(Name::from_vec(bytes))
 }
 
-/// The token by which one asks whether a declarator's name may stand after these, where no file goes on with an opening parenthesis:
-/// one may exactly where a file goes on with that token, and none may where there is none.
+/// The token by which one asks whether a declarator's name may stand after these, where no file continues with an opening parenthesis:
+/// one may exactly where a file continues with that token, and none may where there is none.
 ///
 /// A name that is new is no typedef name, and where it stands for an expression or as a label, a parenthesis might stand too. So it is
 /// a declarator's, unless it is a tag, a member or a label after `goto`, or an enumeration constant, as the token before tells but for

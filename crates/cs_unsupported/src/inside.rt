@@ -11,7 +11,7 @@ use cs_ast::{Keyword, Punctuator, Token, TokenKind};
 use std::alloc::{AllocError, Global};
 
 /// A place inside a block or an expression.
-#[derive(Clone, Copy, Debug, PartialEq, Eq)]
+#[derive(Clone, Copy)]
 pub enum Part {
     /// The value of an object.
     Value,
@@ -30,7 +30,7 @@ pub enum Part {
 }
 
 /// What the tokens after the innermost opening bracket have come to.
-#[derive(Clone, Copy, Debug, PartialEq, Eq)]
+#[derive(Clone, Copy)]
 pub enum Where {
     /// A declaration, outside of expressions.
     Declaration,
@@ -44,7 +44,7 @@ pub enum Where {
 }
 
 /// What the last tokens are.
-#[derive(Clone, Copy, Debug, PartialEq, Eq)]
+#[derive(Clone, Copy)]
 pub enum Tagging {
     Struct,
     StructTag,

@@ -1,4 +1,4 @@
-//! Which punctuators are left out where they stand in a file, told by the tokens before them.
+//! Which punctuators are unsupported where they stand in a file, told by the tokens before them.
 #![tactic(auto)]
 
 mod declarators;

@@ -23,7 +23,7 @@ fn following(kind: &TokenKind, awaits: bool) -> bool
     }
 }
 
-/// Whether a brace after these tokens would open a list of initial values, where a file goes on with one.
+/// Whether a brace after these tokens would open a list of initial values, where a file continues with one.
 pub fn awaits_list(before: &[Token]) -> bool
     ensures { MayHave (kinds before.now) opens_list ↔ (IsTrue result × BeginsFile (kinds before.now ++ token.Punctuator punctuator.OpenBrace ∷ [])) }
 {

@@ -10,7 +10,7 @@ use cs_ast::{Keyword, Punctuator, Token, TokenKind};
 use std::alloc::{AllocError, Global};
 
 /// What the tokens after the innermost opening bracket have come to.
-#[derive(Clone, Copy, Debug, PartialEq, Eq)]
+#[derive(Clone, Copy)]
 pub enum Phase {
     /// They are no members of a structure.
     Outside,
@@ -23,7 +23,7 @@ pub enum Phase {
 }
 
 /// What the last tokens are.
-#[derive(Clone, Copy, Debug, PartialEq, Eq)]
+#[derive(Clone, Copy)]
 pub enum Last {
     Struct,
     StructTag,

@@ -12,7 +12,7 @@ use cs_grammar::TypedefNames;
 use std::alloc::{AllocError, Global};
 
 /// What stands last.
-#[derive(Clone, Copy, Debug, PartialEq, Eq)]
+#[derive(Clone, Copy)]
 pub enum Following {
     /// An opening parenthesis that a type may follow.
     Opening,

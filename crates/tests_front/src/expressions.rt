@@ -69,7 +69,7 @@ fn name_of(kind: &RawExprKind) -> &'static str {
 
 // A node's kind and the column of its place.
 fn head(out: &mut String, tree: &RawExpr) -> Result<(), AllocError> {
-    let name = name_of(&tree.kind);
+    let name = name_of(&*tree.kind);
     let column = tree.place.column;
     write!(out, "{name}@{column}")
 }
@@ -136,7 +136,7 @@ fn show_reason(reason: Reason) -> &'static str {
 
 // What the parser says of the words: the tree, its height, the number after it and why the token there is refused, or the
 // refusal.
-fn answer(alloc: Global, words: &str, room: u32, level: ExprLevel) -> Result<String, AllocError> {
+fn answer(alloc: Global, words: &str, limit: u32, level: ExprLevel) -> Result<String, AllocError> {
     let Some(tokens) = tokens_of(alloc, words)? else {
         return String::from_str(alloc, "no tokens");
     };
@@ -151,7 +151,7 @@ fn answer(alloc: Global, words: &str, room: u32, level: ExprLevel) -> Result<Str
         line: 1,
         column: 99,
     };
-    let said = expression(alloc, tokens.as_slice(), end, 0, &names, room, level);
+    let said = expression(alloc, tokens.as_slice(), end, 0, &names, limit, level);
     match &said {
         Ok(phrase) => phrase_text(alloc, phrase),
         Err(refusal) => refusal_text(alloc, refusal),
@@ -161,7 +161,7 @@ fn answer(alloc: Global, words: &str, room: u32, level: ExprLevel) -> Result<Str
 fn phrase_text(alloc: Global, phrase: &Phrase) -> Result<String, AllocError> {
     let mut out = String::new(alloc);
     head(&mut out, &phrase.tree)?;
-    parts(&mut out, &phrase.tree.kind)?;
+    parts(&mut out, &*phrase.tree.kind)?;
     let why = show_reason(phrase.otherwise);
     let height = phrase.height;
     let next = phrase.next;
@@ -189,8 +189,8 @@ fn answered_otherwise(
     table: &[(&str, u32, ExprLevel, &str)],
 ) -> Result<String, AllocError> {
     let mut found = String::new(alloc);
-    for (words, room, level, expected) in table {
-        let given = answer(alloc, words, *room, *level)?;
+    for (words, limit, level, expected) in table {
+        let given = answer(alloc, words, *limit, *level)?;
         if given.as_str() != *expected {
             let reported = format!(in alloc; "{words} gives {given}")?;
             found.push_str(reported.as_str())?;
@@ -360,7 +360,7 @@ fn expressions_have_these_trees(rt: HostRuntime) -> Result<(), Fail> {
     Ok(())
 }
 
-/// Texts that are refused or end early, each with the room for its tree.
+/// Texts that are refused or end early, each with the limit for its tree.
 const REFUSED: [(&str, u32, ExprLevel, &str); 54] = [
     ("+", 200, ExprLevel::Expr, "syntax 99"),
     ("T", 200, ExprLevel::Expr, "syntax 0"),

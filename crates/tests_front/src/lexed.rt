@@ -80,7 +80,7 @@ fn a_token_has_its_kind(rt: HostRuntime) -> Result<(), Fail> {
         let found = lexed(rt.alloc(), text.as_bytes())?;
         let place = at(1, 1);
         let list = [Token { kind, place }];
-        assert_eq!(rt; found.list.as_slice(), list.as_slice(), "{text}");
+        assert!(rt; found.list.as_slice() == list.as_slice(), "{text}");
         assert_eq!(rt; found.end.column as usize, 1 + text.len(), "{text}");
     }
     Ok(())

@@ -1,8 +1,10 @@
-//! Tables of single layers of the front end: words, tokens, punctuators and expressions, with ample memory.
+//! Tests of single layers of the front end, with ample memory: tables of words, tokens, punctuators and expressions, and heights of small trees.
 #![tactic(auto)]
 
 #[cfg(test)]
 mod expressions;
+#[cfg(test)]
+mod heights;
 #[cfg(test)]
 mod lexed;
 #[cfg(test)]

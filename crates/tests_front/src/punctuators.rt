@@ -22,9 +22,14 @@ fn typedef_names_are_found_again(rt: HostRuntime) -> Result<(), Fail> {
 
 #[test]
 fn punctuators_stand_for_operators(rt: HostRuntime) -> Result<(), Fail> {
-    assert!(rt; infix_operator(Punctuator::Ampersand) == Some(InfixOp::BitAnd));
-    assert!(rt; prefix_operator(Punctuator::Ampersand) == Some(PrefixOp::Address));
-    assert!(rt; step(Punctuator::Decrement) == Some(Step::Down));
+    assert!(rt; matches!(infix_operator(Punctuator::Ampersand), Some(InfixOp::BitAnd)));
+    assert!(rt;
+        matches!(
+            prefix_operator(Punctuator::Ampersand),
+            Some(PrefixOp::Address)
+        )
+    );
+    assert!(rt; matches!(step(Punctuator::Decrement), Some(Step::Down)));
     assert!(rt; infix_operator(Punctuator::Equal).is_none());
     assert!(rt; infix_level(InfixOp::Or) < infix_level(InfixOp::And));
     assert_eq!(rt;

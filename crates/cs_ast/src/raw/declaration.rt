@@ -25,7 +25,7 @@ pub enum SpecWord {
     Plain(TypeWord),
     /// `struct`, a tag, and the members between braces (C11 6.7.2.1).
     Struct(Option<Name>, Vec<RawMember>),
-    /// `enum`, a tag, and the constants between braces (C11 6.7.2.2); the truth value tells whether a comma ends the list.
+    /// `enum`, a tag, and the constants between braces (C11 6.7.2.2); the flag says whether a comma ends the list.
     Enum(Option<Name>, Vec<RawEnumerator>, bool),
 }
 
@@ -77,7 +77,7 @@ pub struct RawFirstValue {
 pub enum RawInitial {
     /// An expression without a comma.
     Value(RawExpr),
-    /// Items between braces; the truth value tells whether a comma ends the list.
+    /// Items between braces; the flag says whether a comma ends the list.
     List(Vec<RawInitial>, bool),
 }
 
@@ -102,7 +102,7 @@ pub enum RawParameters {
     List(Vec<RawParameter>),
 }
 
-/// A parameter, whose name a declaration may leave out.
+/// A parameter, whose name may be absent in a declaration.
 #[derive(Drop)]
 pub struct RawParameter {
     /// The place of its first token.

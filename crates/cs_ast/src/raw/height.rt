@@ -54,7 +54,7 @@ pub fn highest(list: &[RawExpr]) -> u32
     best
 }
 
-/// The height of an expression that may be left out, 0 where it is.
+/// The height of an optional expression, 0 where it is.
 pub fn height_of_some(expression: &Option<RawExpr>) -> u32
     requires { file.height_of_some (option_map written expression.now) < 2 ^ 32 }
     ensures { result ≡ file.height_of_some (option_map written expression.now) }

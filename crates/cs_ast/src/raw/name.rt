@@ -4,7 +4,7 @@ use crate::place::Place;
 use cs_names::Name;
 
 /// A name at its place.
-#[derive(Debug, Drop, PartialEq, Eq)]
+#[derive(Drop)]
 pub struct RawName {
     pub place: Place,
     pub name: Name,

@@ -1,7 +1,7 @@
 //! The operators of written expressions (C11 6.5).
 
 /// `++` or `--`, before or after its operand (C11 6.5.2.4, 6.5.3.1).
-#[derive(Clone, Copy, Debug, PartialEq, Eq)]
+#[derive(Clone, Copy)]
 pub enum Step {
     /// `++`
     Up,
@@ -10,7 +10,7 @@ pub enum Step {
 }
 
 /// The operators before one operand (C11 6.5.3).
-#[derive(Clone, Copy, Debug, PartialEq, Eq)]
+#[derive(Clone, Copy)]
 pub enum PrefixOp {
     /// `&`
     Address,
@@ -27,7 +27,7 @@ pub enum PrefixOp {
 }
 
 /// The operators between two operands that group from the left (C11 6.5.5 to 6.5.14).
-#[derive(Clone, Copy, Debug, PartialEq, Eq)]
+#[derive(Clone, Copy)]
 pub enum InfixOp {
     /// `||`
     Or,
@@ -68,7 +68,7 @@ pub enum InfixOp {
 }
 
 /// The operators that store (C11 6.5.16).
-#[derive(Clone, Copy, Debug, PartialEq, Eq)]
+#[derive(Clone, Copy)]
 pub enum AssignOp {
     /// `=`
     Plain,

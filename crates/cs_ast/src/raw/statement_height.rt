@@ -9,7 +9,7 @@ use crate::raw::height::height_of_some;
 use crate::raw::statement::{RawFirst, RawItem, RawStmt, RawStmtKind, RawSwitchItem};
 
 impl RawFirst {
-    /// The height of the first part of a `for`, 0 where it is left out.
+    /// The height of the first part of a `for`, 0 where it is absent.
     pub fn height(&self) -> u32
         requires { file.first_height (first_of self.now) < 2 ^ 32 }
         ensures { result ≡ file.first_height (first_of self.now) }

@@ -4,7 +4,7 @@ use crate::place::Place;
 use cs_names::Name;
 
 /// A word of a type that names no body: `const`, a word of an integer type, or what stands for a whole type.
-#[derive(Clone, Debug, Drop, PartialEq, Eq)]
+#[derive(Drop)]
 pub enum TypeWord {
     /// `const`
     Const,
@@ -21,7 +21,7 @@ pub enum TypeWord {
 }
 
 /// The words of integer types.
-#[derive(Clone, Copy, Debug, PartialEq, Eq)]
+#[derive(Clone, Copy)]
 pub enum IntegerWord {
     Char,
     Short,
@@ -32,7 +32,7 @@ pub enum IntegerWord {
 }
 
 /// A word of a pointer.
-#[derive(Clone, Copy, Debug, PartialEq, Eq)]
+#[derive(Clone, Copy)]
 pub enum PointerWord {
     /// `*`
     Star,
@@ -41,7 +41,7 @@ pub enum PointerWord {
 }
 
 /// A type's words and its pointers, without the bounds of arrays.
-#[derive(Debug, Drop)]
+#[derive(Drop)]
 pub struct WrittenType {
     pub words: Vec<TypeWord>,
     /// The place of the tag, where `struct` or `enum` and a tag name the type.

@@ -61,7 +61,7 @@ pub struct Case {
 pub enum Initial {
     /// A value.
     Value(Expr),
-    /// The initializers of elements or members, in order; what is left out is zero.
+    /// The initializers of elements or members, in order; what isn't listed is zero.
     List(Vec<Initial>),
     /// The bytes of a string literal.
     Text(Bytes),

@@ -136,7 +136,7 @@ statement::statement-returns-in-Empty-clause-parsed t c =
     let l : least c.form_at-form.result ≡ 1 = ap least c.in-Empty.is in
     let h = c.least_height.ensures in
     let f = c.if-limit-least_height.false in
-    nothing_taken c.args.source.now.names.now c.args.limit c.args.source.now.tokens.now c.args.from c.leaf.result (omega arith) (reported_form c.args.source.now.names.now c.args.source.now.tokens.now c.args.from form.Empty (sym c.form_at-form.ensures.form ∙ c.in-Empty.is)) c.leaf.ensures.node
+    nothing_taken c.args.source.now.names.now c.args.limit c.args.source.now.tokens.now c.args.from c.in_ok-leaf.field-0 (omega arith) (reported_form c.args.source.now.names.now c.args.source.now.tokens.now c.args.from form.Empty (sym c.form_at-form.ensures.form ∙ c.in-Empty.is)) c.in_ok-leaf.ensures.node
 
 pub statement::statement-returns-in-Goto-clause-parsed : goal.statement::statement-returns-in-Goto-clause-parsed
 statement::statement-returns-in-Goto-clause-parsed t c =
@@ -167,7 +167,7 @@ block::block-returns-in_err-items-clause-parsed t c =
 
 pub block::block-returns-clause-parsed : goal.block::block-returns-clause-parsed
 block::block-returns-clause-parsed t c =
-    block_taken c.args.source.now.names.now c.args.limit c.args.source.now.tokens.now c.args.from c.in_ok-items.items c.node.result c.requires.some c.requires.stands c.in_ok-items.ensures.parsed c.node.ensures.node
+    block_taken c.args.source.now.names.now c.args.limit c.args.source.now.tokens.now c.args.from c.in_ok-items.items c.in_ok-node.field-0 c.requires.some c.requires.stands c.in_ok-items.ensures.parsed c.in_ok-node.ensures.node
 
 pub block::items-items-init : goal.block::items-items-init
 block::items-items-init t c =
@@ -234,7 +234,7 @@ branches::switch_statement-returns-in_err-items-clause-parsed t c =
 
 pub branches::switch_statement-returns-clause-parsed : goal.branches::switch_statement-returns-clause-parsed
 branches::switch_statement-returns-clause-parsed t c =
-    switch_taken c.args.source.now.names.now c.args.limit c.args.source.now.tokens.now c.args.from c.in_ok-value.value c.in_ok-items.items c.node.result c.requires.enough c.requires.stands c.in_ok-value.ensures.parsed (c.is_punctuator.ensures.punctuator.0 c.if-not-is_punctuator.false) c.in_ok-items.ensures.parsed (subst (λ (n : ℕ). IsNode (sentence (kind.Switch c.in_ok-value.value.tree c.in_ok-items.items.tree)) (n + 1) c.in_ok-items.items.next c.node.result) c.max-height.ensures c.node.ensures.node)
+    switch_taken c.args.source.now.names.now c.args.limit c.args.source.now.tokens.now c.args.from c.in_ok-value.value c.in_ok-items.items c.in_ok-node.field-0 c.requires.enough c.requires.stands c.in_ok-value.ensures.parsed (c.is_punctuator.ensures.punctuator.0 c.if-not-is_punctuator.false) c.in_ok-items.ensures.parsed (subst (λ (n : ℕ). IsNode (sentence (kind.Switch c.in_ok-value.value.tree c.in_ok-items.items.tree)) (n + 1) c.in_ok-items.items.next c.in_ok-node.field-0) c.max-height.ensures c.in_ok-node.ensures.node)
 
 pub branches::switch_items-items-init : goal.branches::switch_items-items-init
 branches::switch_items-items-init t c =
@@ -279,7 +279,7 @@ branches::switch_item-returns-clause-parsed t c =
 
 pub statement::statement-returns-in-Empty-clause-placed : goal.statement::statement-returns-in-Empty-clause-placed
 statement::statement-returns-in-Empty-clause-placed t c =
-    c.leaf.ensures.placed tt
+    c.in_ok-leaf.ensures.placed tt
 
 pub statement::label-returns-clause-placed : goal.statement::label-returns-clause-placed
 statement::label-returns-clause-placed t c =
@@ -288,7 +288,7 @@ statement::label-returns-clause-placed t c =
 
 pub block::block-returns-clause-placed : goal.block::block-returns-clause-placed
 block::block-returns-clause-placed t c =
-    block_placed c.args.source.now.tokens.now c.args.from c.place_at.result c.in_ok-items.items.tree c.node.result.tree c.node.ensures.placed c.place_at.ensures c.in_ok-items.ensures.placed
+    block_placed c.args.source.now.tokens.now c.args.from c.place_at.result c.in_ok-items.items.tree c.in_ok-node.field-0.tree c.in_ok-node.ensures.placed c.place_at.ensures c.in_ok-items.ensures.placed
 
 pub block::items-returns-clause-placed : goal.block::items-returns-clause-placed
 block::items-returns-clause-placed t c = c.items.invariant.placed.row
@@ -306,7 +306,7 @@ branches::if_statement-returns-clause-placed t c =
 
 pub branches::switch_statement-returns-clause-placed : goal.branches::switch_statement-returns-clause-placed
 branches::switch_statement-returns-clause-placed t c =
-    switch_placed c.args.source.now.tokens.now c.args.from c.place_at.result c.in_ok-value.value.tree c.in_ok-value.value.next c.in_ok-items.items.tree c.node.result.tree c.node.ensures.placed c.place_at.ensures c.in_ok-value.ensures.parsed.spelled c.in_ok-value.ensures.placed c.in_ok-items.ensures.placed
+    switch_placed c.args.source.now.tokens.now c.args.from c.place_at.result c.in_ok-value.value.tree c.in_ok-value.value.next c.in_ok-items.items.tree c.in_ok-node.field-0.tree c.in_ok-node.ensures.placed c.place_at.ensures c.in_ok-value.ensures.parsed.spelled c.in_ok-value.ensures.placed c.in_ok-items.ensures.placed
 
 pub loops::while_statement-returns-clause-placed : goal.loops::while_statement-returns-clause-placed
 loops::while_statement-returns-clause-placed t c =

@@ -402,7 +402,7 @@ unary::sized-returns-in_err-taken-clause-parsed t c =
 
 pub unary::sized-returns-then-opens_type-clause-parsed : goal.unary::sized-returns-then-opens_type-clause-parsed
 unary::sized-returns-then-opens_type-clause-parsed t c =
-    size_type_taken c.args.names.now c.args.limit c.args.tokens.now c.args.from c.in_ok-taken.taken c.measured.result c.requires.least c.requires.stands (sym c.opens_type.ensures.opens ∙ c.if-opens_type.true) c.in_ok-taken.ensures.parsed c.measured.ensures.node
+    size_type_taken c.args.names.now c.args.limit c.args.tokens.now c.args.from c.in_ok-taken.taken c.in_ok-measured.field-0 c.requires.least c.requires.stands (sym c.opens_type.ensures.opens ∙ c.if-opens_type.true) c.in_ok-taken.ensures.parsed c.in_ok-measured.ensures.node
 
 pub unary::sized-returns-in_err-operand-clause-parsed : goal.unary::sized-returns-in_err-operand-clause-parsed
 unary::sized-returns-in_err-operand-clause-parsed t c =
@@ -808,7 +808,7 @@ unary::cast-returns-clause-placed t c =
 
 pub unary::sized-returns-then-opens_type-clause-placed : goal.unary::sized-returns-then-opens_type-clause-placed
 unary::sized-returns-then-opens_type-clause-placed t c =
-    c.measured.ensures.placed c.in_ok-taken.ensures.placed
+    c.in_ok-measured.ensures.placed c.in_ok-taken.ensures.placed
 
 pub unary::sized-returns-then-is_narrow-clause-placed : goal.unary::sized-returns-then-is_narrow-clause-placed
 unary::sized-returns-then-is_narrow-clause-placed t c =

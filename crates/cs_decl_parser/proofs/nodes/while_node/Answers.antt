@@ -1,6 +1,4 @@
-use Rattle.cs_decl_parser.proofs.PlacingStatements.{while_made}
 use Rattle.cs_decl_parser.proofs.nodes.while_node.Goals as goal
 
 pub returns-clause-placed : goal.returns-clause-placed
-returns-clause-placed c =
-    λ list at test body. c.node.ensures.placed list at (while_made c.args.test.tree c.in_ok-body.body c.args.body.tree list c.in_ok-body.ensures.ok test body)
+returns-clause-placed c = λ list at test body. c.in_ok-node.ensures.placed list at (test, body)

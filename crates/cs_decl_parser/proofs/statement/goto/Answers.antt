@@ -22,7 +22,7 @@ pub returns-clause-parsed : goal.returns-clause-parsed
 returns-clause-parsed c =
     λ limit some.
     let name = subst (IsNameAt (λ name. Unit {0}) (kind_or_end c.args.source.now.tokens.now (c.args.from + 1))) c.in-Some.is c.in_ok-name.ensures.name in
-    goto_taken c.args.source.now.names.now limit c.args.source.now.tokens.now c.args.from c.in-Some.name.name c.leaf.result some c.requires.stands name.0 (c.is_punctuator.ensures.punctuator.0 c.if-not-is_punctuator.false) c.leaf.ensures.node
+    goto_taken c.args.source.now.names.now limit c.args.source.now.tokens.now c.args.from c.in-Some.name.name c.in_ok-leaf.field-0 some c.requires.stands name.0 (c.is_punctuator.ensures.punctuator.0 c.if-not-is_punctuator.false) c.in_ok-leaf.ensures.node
 
 pub returns-clause-placed : goal.returns-clause-placed
-returns-clause-placed c = c.leaf.ensures.placed tt
+returns-clause-placed c = c.in_ok-leaf.ensures.placed tt

@@ -15,8 +15,8 @@ returns-in_err-value-clause-parsed c =
 
 pub returns-clause-parsed : goal.returns-clause-parsed
 returns-clause-parsed c =
-    return_taken c.args.source.now.names.now c.args.limit c.args.source.now.tokens.now c.args.from c.in_ok-value.value c.node.result c.requires.some c.requires.stands c.in_ok-value.ensures.parsed c.node.ensures.node
+    return_taken c.args.source.now.names.now c.args.limit c.args.source.now.tokens.now c.args.from c.in_ok-value.value c.in_ok-node.field-0 c.requires.some c.requires.stands c.in_ok-value.ensures.parsed c.in_ok-node.ensures.node
 
 pub returns-clause-placed : goal.returns-clause-placed
 returns-clause-placed c =
-    return_placed c.args.source.now.tokens.now c.args.from c.place_at.result c.in_ok-value.value.tree c.node.result.tree c.node.ensures.placed c.place_at.ensures c.in_ok-value.ensures.placed
+    return_placed c.args.source.now.tokens.now c.args.from c.place_at.result c.in_ok-value.value.tree c.in_ok-node.field-0.tree c.in_ok-node.ensures.placed c.place_at.ensures c.in_ok-value.ensures.placed

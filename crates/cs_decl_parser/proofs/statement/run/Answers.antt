@@ -15,7 +15,7 @@ returns-in_err-value-clause-parsed c =
 
 pub returns-clause-parsed : goal.returns-clause-parsed
 returns-clause-parsed c =
-    run_taken c.args.source.now.names.now c.args.limit c.saturating_sub.result c.args.source.now.tokens.now c.args.from c.in_ok-value.value c.node.result (let h = c.saturating_sub.ensures in omega arith) c.requires.within c.in_ok-value.ensures.parsed c.node.ensures.node
+    run_taken c.args.source.now.names.now c.args.limit c.saturating_sub.result c.args.source.now.tokens.now c.args.from c.in_ok-value.value c.in_ok-node.field-0 (let h = c.saturating_sub.ensures in omega arith) c.requires.within c.in_ok-value.ensures.parsed c.in_ok-node.ensures.node
 
 pub returns-clause-placed : goal.returns-clause-placed
-returns-clause-placed c = c.node.ensures.placed (drop c.args.from c.args.source.now.tokens.now) c.place_at.ensures c.in_ok-value.ensures.placed
+returns-clause-placed c = c.in_ok-node.ensures.placed (drop c.args.from c.args.source.now.tokens.now) c.place_at.ensures c.in_ok-value.ensures.placed

@@ -1,5 +1,8 @@
-use Rattle.cs_expr_parser.proofs.PlacedNodes.{arrow_placed}
+use Rattle.std.proofs.lemmas.Result.{IfOk-weaker}
+use Rattle.cs_ast.specs.declared.raw.expression.RawExprKind.TheVariants as kind
+use Rattle.cs_expr_parser.specs.Places.{PlacesForm, PlacesMember}
 use Rattle.cs_expr_parser.proofs.nodes.arrow.Goals as goal
 
 pub returns-clause-placed : goal.returns-clause-placed
-returns-clause-placed c = λ list. arrow_placed c.args.name c.in_ok-pointer.pointer c.args.place c.args.pointer list c.in_ok-pointer.ensures.ok
+returns-clause-placed c =
+    IfOk-weaker c.node.result (PlacesForm c.args.place (kind.Arrow c.args.pointer c.args.name)) (PlacesMember c.args.place c.args.pointer c.args.name) (λ tree here tokens a b d. here tokens (a, b, d)) c.node.ensures.placed

@@ -1,5 +1,8 @@
-use Rattle.cs_expr_parser.proofs.PlacedNodes.{assign_placed}
+use Rattle.std.proofs.lemmas.Result.{IfOk-weaker}
+use Rattle.cs_ast.specs.declared.raw.expression.RawExprKind.TheVariants as kind
+use Rattle.cs_expr_parser.specs.Places.{PlacesForm, PlacesBetween}
 use Rattle.cs_expr_parser.proofs.nodes.assign.Goals as goal
 
 pub returns-clause-placed : goal.returns-clause-placed
-returns-clause-placed c = λ list. assign_placed c.args.operator c.in_ok-object.object c.in_ok-value.value c.args.place c.args.object c.args.value list c.in_ok-object.ensures.ok c.in_ok-value.ensures.ok
+returns-clause-placed c =
+    IfOk-weaker c.node.result (PlacesForm c.args.place (kind.Assign c.args.operator c.args.object c.args.value)) (PlacesBetween c.args.place c.args.object c.args.value) (λ tree here tokens a b d. here tokens (a, b, d)) c.node.ensures.placed

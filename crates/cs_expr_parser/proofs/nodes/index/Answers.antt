@@ -1,5 +1,8 @@
-use Rattle.cs_expr_parser.proofs.PlacedNodes.{index_placed}
+use Rattle.std.proofs.lemmas.Result.{IfOk-weaker}
+use Rattle.cs_ast.specs.declared.raw.expression.RawExprKind.TheVariants as kind
+use Rattle.cs_expr_parser.specs.Places.{PlacesForm, PlacesBetween}
 use Rattle.cs_expr_parser.proofs.nodes.index.Goals as goal
 
 pub returns-clause-placed : goal.returns-clause-placed
-returns-clause-placed c = λ list. index_placed c.in_ok-array.array c.in_ok-number.number c.args.place c.args.array c.args.number list c.in_ok-array.ensures.ok c.in_ok-number.ensures.ok
+returns-clause-placed c =
+    IfOk-weaker c.node.result (PlacesForm c.args.place (kind.Index c.args.array c.args.number)) (PlacesBetween c.args.place c.args.array c.args.number) (λ tree here tokens a b d. here tokens (a, b, d)) c.node.ensures.placed

@@ -1,5 +1,8 @@
-use Rattle.cs_expr_parser.proofs.PlacedNodes.{infix_placed}
+use Rattle.std.proofs.lemmas.Result.{IfOk-weaker}
+use Rattle.cs_ast.specs.declared.raw.expression.RawExprKind.TheVariants as kind
+use Rattle.cs_expr_parser.specs.Places.{PlacesForm, PlacesBetween}
 use Rattle.cs_expr_parser.proofs.nodes.infix.Goals as goal
 
 pub returns-clause-placed : goal.returns-clause-placed
-returns-clause-placed c = λ list. infix_placed c.args.operator c.in_ok-left.left c.in_ok-right.right c.args.place c.args.left c.args.right list c.in_ok-left.ensures.ok c.in_ok-right.ensures.ok
+returns-clause-placed c =
+    IfOk-weaker c.node.result (PlacesForm c.args.place (kind.Infix c.args.operator c.args.left c.args.right)) (PlacesBetween c.args.place c.args.left c.args.right) (λ tree here tokens a b d. here tokens (a, b, d)) c.node.ensures.placed

@@ -1,5 +1,8 @@
-use Rattle.cs_expr_parser.proofs.PlacedNodes.{member_placed}
+use Rattle.std.proofs.lemmas.Result.{IfOk-weaker}
+use Rattle.cs_ast.specs.declared.raw.expression.RawExprKind.TheVariants as kind
+use Rattle.cs_expr_parser.specs.Places.{PlacesForm, PlacesMember}
 use Rattle.cs_expr_parser.proofs.nodes.member.Goals as goal
 
 pub returns-clause-placed : goal.returns-clause-placed
-returns-clause-placed c = λ list. member_placed c.args.name c.in_ok-object.object c.args.place c.args.object list c.in_ok-object.ensures.ok
+returns-clause-placed c =
+    IfOk-weaker c.node.result (PlacesForm c.args.place (kind.Member c.args.object c.args.name)) (PlacesMember c.args.place c.args.object c.args.name) (λ tree here tokens a b d. here tokens (a, b, d)) c.node.ensures.placed

@@ -1,5 +1,8 @@
-use Rattle.cs_expr_parser.proofs.PlacedNodes.{prefix_placed}
+use Rattle.std.proofs.lemmas.Result.{IfOk-weaker}
+use Rattle.cs_ast.specs.declared.raw.expression.RawExprKind.TheVariants as kind
+use Rattle.cs_expr_parser.specs.Places.{PlacesForm, PlacesBefore}
 use Rattle.cs_expr_parser.proofs.nodes.prefix.Goals as goal
 
 pub returns-clause-placed : goal.returns-clause-placed
-returns-clause-placed c = λ list. prefix_placed c.args.operator c.in_ok-operand.operand c.args.place c.args.operand list c.in_ok-operand.ensures.ok
+returns-clause-placed c =
+    IfOk-weaker c.node.result (PlacesForm c.args.place (kind.Prefix c.args.operator c.args.operand)) (PlacesBefore c.args.place c.args.operand) (λ tree here tokens a b. here tokens (a, b)) c.node.ensures.placed

@@ -1,5 +1,8 @@
-use Rattle.cs_expr_parser.proofs.PlacedNodes.{step_after_placed}
+use Rattle.std.proofs.lemmas.Result.{IfOk-weaker}
+use Rattle.cs_ast.specs.declared.raw.expression.RawExprKind.TheVariants as kind
+use Rattle.cs_expr_parser.specs.Places.{PlacesForm, PlacesAfter}
 use Rattle.cs_expr_parser.proofs.nodes.step_after.Goals as goal
 
 pub returns-clause-placed : goal.returns-clause-placed
-returns-clause-placed c = λ list. step_after_placed c.args.step c.in_ok-object.object c.args.place c.args.object list c.in_ok-object.ensures.ok
+returns-clause-placed c =
+    IfOk-weaker c.node.result (PlacesForm c.args.place (kind.StepAfter c.args.step c.args.object)) (PlacesAfter c.args.place c.args.object) (λ tree here tokens a b. here tokens (a, b)) c.node.ensures.placed

@@ -2,7 +2,7 @@ use Rattle.std.proofs.Common.{◌+◌, refl, ap, ◌∙◌, None}
 use Rattle.cs_ast.specs.RawDeclarationView.{members_list}
 use Rattle.cs_ast.specs.RawFileHeight.{members_height}
 use Rattle.cs_ast.proofs.HeightsOfNodes.{spec_height-Struct}
-use Rattle.cs_ast.proofs.raw.tests.body.Goals as goal
+use Rattle.tests_front.proofs.heights.body.Goals as goal
 
 pub returns : goal.returns
 returns c =

@@ -6,14 +6,14 @@ ghost use Rattle.cs_ast.specs.RawDeclarationView as view;
 ghost use Rattle.cs_ast.specs.RawStatementView.{external, sentence};
 ghost use Rattle.cs_ast.specs.RawFileHeight as file;
 
-use crate::place::Place;
-use crate::raw::declaration::{
+use cs_ast::Place;
+use cs_ast::raw::declaration::{
     RawDeclarator, RawFunction, RawMember, RawParameter, RawParameters, RawSpecs, SpecWord,
 };
-use crate::raw::expression::{RawExpr, RawExprKind};
-use crate::raw::external::{RawBody, RawExternal, RawExternalKind};
-use crate::raw::statement::{RawItem, RawStmt, RawStmtKind, RawSwitchItem};
-use crate::raw::written_type::{IntegerWord, TypeWord};
+use cs_ast::raw::expression::{RawExpr, RawExprKind};
+use cs_ast::raw::external::{RawBody, RawExternal, RawExternalKind};
+use cs_ast::raw::statement::{RawItem, RawStmt, RawStmtKind, RawSwitchItem};
+use cs_ast::raw::written_type::{IntegerWord, TypeWord};
 use cs_names::Name;
 use std::alloc::{AllocError, Global};
 use std::test::Fail;
@@ -24,24 +24,25 @@ const PLACE: Place = Place {
     column: 1,
 };
 
-fn at(kind: RawExprKind) -> RawExpr
-    ensures { result.kind ≡ kind }
+fn at(alloc: Global, kind: RawExprKind) -> Result<RawExpr, AllocError>
+    ensures { IfOk result (λ e. e.kind.value ≡ kind) }
 {
-    RawExpr { place: PLACE, kind }
+    let kind = Box::new(alloc, kind)?;
+    Ok(RawExpr { place: PLACE, kind })
 }
 
 /// `'0'`
-fn leaf() -> RawExpr
-    ensures { tree.height (written result) ≡ 1 }
+fn leaf(alloc: Global) -> Result<RawExpr, AllocError>
+    ensures { IfOk result (λ e. tree.height (written e) ≡ 1) }
 {
-    at(RawExprKind::Character(48))
+    Ok(at(alloc, RawExprKind::Character(48))?)
 }
 
 /// `( inner )`
 fn parenthesis(alloc: Global, inner: RawExpr) -> Result<RawExpr, AllocError>
     ensures { IfOk result (λ e. tree.height (written e) ≡ 1 + tree.height (written inner)) }
 {
-    Ok(at(RawExprKind::Parenthesis(Box::new(alloc, inner)?)))
+    Ok(at(alloc, RawExprKind::Parenthesis(inner))?)
 }
 
 /// `function ( arguments )`
@@ -50,14 +51,14 @@ fn call(alloc: Global, function: RawExpr, arguments: Vec<RawExpr>) -> Result<Raw
         (λ e. tree.height (written e)
         ≡ 1 + max (tree.height (written function)) (1 + tree.highest (written_list arguments.items))) }
 {
-    Ok(at(RawExprKind::Call(Box::new(alloc, function)?, arguments)))
+    Ok(at(alloc, RawExprKind::Call(function, arguments))?)
 }
 
 /// `'0'` between so many parentheses.
 fn enclosed(alloc: Global, parentheses: u32) -> Result<RawExpr, AllocError>
     ensures { IfOk result (λ e. tree.height (written e) ≡ 1 + parentheses) }
 {
-    let mut inner = leaf();
+    let mut inner = leaf(alloc)?;
     for _ in 0..parentheses {
         inner = parenthesis(alloc, inner)?;
     }
@@ -70,7 +71,8 @@ fn leaves(alloc: Global, number: u32) -> Result<Vec<RawExpr>, AllocError>
 {
     let mut list = Vec::new(alloc);
     for _ in 0..number {
-        list.push(leaf())?;
+        let next = leaf(alloc)?;
+        list.push(next)?;
     }
     Ok(list)
 }
@@ -119,7 +121,7 @@ fn definition(alloc: Global, body: RawStmtKind) -> Result<RawExternal, AllocErro
 {
     let body = RawStmt {
         place: PLACE,
-        kind: body,
+        kind: Box::new(alloc, body)?,
     };
     Ok(RawExternal {
         place: PLACE,
@@ -144,7 +146,8 @@ fn switch_on(alloc: Global, value: RawExpr) -> Result<RawStmtKind, AllocError>
         RawSwitchItem::Case(PLACE, value),
         RawSwitchItem::Default(PLACE),
     ]?;
-    Ok(RawStmtKind::Switch(leaf(), items))
+    let test = leaf(alloc)?;
+    Ok(RawStmtKind::Switch(test, items))
 }
 
 /// `int a[bound]`
@@ -188,13 +191,14 @@ fn structure(alloc: Global, bound: RawExpr) -> Result<RawExternal, AllocError>
 fn called(alloc: Global, arguments: Vec<RawExpr>) -> Result<u32, AllocError>
     requires { tree.highest (written_list arguments.items) ≤ 1000 }
 {
-    Ok(call(alloc, leaf(), arguments)?.height())
+    let function = leaf(alloc)?;
+    Ok(call(alloc, function, arguments)?.height())
 }
 
 #[test]
 fn an_argument_list_is_a_node(rt: HostRuntime) -> Result<(), Fail> {
     let alloc = rt.alloc();
-    assert_eq!(rt; leaf().height(), 1);
+    assert_eq!(rt; leaf(alloc)?.height(), 1);
     assert_eq!(rt; called(alloc, Vec::new(alloc))?, 2);
     assert_eq!(rt; called(alloc, leaves(alloc, 1000)?)?, 3);
     Ok(())

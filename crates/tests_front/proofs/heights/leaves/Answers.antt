@@ -2,7 +2,7 @@ use Rattle.std.proofs.Common.{◌≡◌, max, List, [], ◌∷◌, ◌++◌, ari
 use Rattle.cs_ast.specs.declared.raw.expression.RawExpr.{RawExpr}
 use Rattle.cs_ast.specs.RawView.{written, written_list}
 use Rattle.cs_ast.specs.RawHeight.{height, highest}
-use Rattle.cs_ast.proofs.raw.tests.leaves.Goals as goal
+use Rattle.tests_front.proofs.heights.leaves.Goals as goal
 
 highest-push : (list : List RawExpr) (e : RawExpr) → highest (written_list (list ++ (e ∷ []))) ≡ max (highest (written_list list)) (height (written e))
 highest-push [] e = omega arith
@@ -10,5 +10,5 @@ highest-push (first ∷ others) e = omega (arith, highest-push others e)
 
 pub loop-preserved : goal.loop-preserved
 loop-preserved c =
-    let e = highest-push c.loop.list.items c.leaf.result in
+    let e = highest-push c.loop.list.items c.in_ok-next.next in
     grind arith
