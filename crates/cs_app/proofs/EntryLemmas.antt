@@ -6,11 +6,11 @@ use Rattle.std.proofs.lemmas.List.{take_more, map-append}
 use Rattle.std.proofs.lemmas.List.Folds.{list_any-append}
 use Rattle.std.proofs.lemmas.List.Elements.{All-head, All-tail}
 use Rattle.std.proofs.lemmas.Grind.{common_steps}
-use Rattle.cs_ast.specs.declared.function.Function.{Function}
-use Rattle.cs_ast.specs.Tree.{Definition}
-use Rattle.cs_ast.specs.View.{definition}
-use Rattle.cs_model.specs.declared.finding.EntryResult.{EntryResult}
-use Rattle.cs_model.specs.Texts.{entry_lines}
+use Rattle.cs_small_meaning.specs.declared.function.SmallFunction.{SmallFunction}
+use Rattle.cs_small_meaning.specs.Tree.{Definition}
+use Rattle.cs_small_meaning.specs.View.{definition}
+use Rattle.cs_small_meaning.specs.declared.finding.EntryResult.{EntryResult}
+use Rattle.cs_small_meaning.specs.Texts.{entry_lines}
 use Rattle.cs_app.specs.declared.status.Status.{Status}
 use Rattle.cs_app.specs.declared.status.Status.TheVariants.{Clean, Found}
 use Rattle.cs_app.specs.Entries.{IsAnalyzable, IsResultOf, AreResultsFrom, entries_text, has_report, found_if, status_of, IsAnalysisOf}
@@ -57,14 +57,14 @@ length_taken : {X Y : Type 0} (f : X → Y) (xs : List X) (n : ℕ) → n ≤ le
 length_taken f xs n h = grind (arith, common_steps)
 
 -- one more of the functions was analyzed
-pub one_more : (files : List (List ℕ)) (functions : List Function) (n : ℕ) (f : Function) (reported : EntryResult) (before now : Status) (text more : List ℕ) → n < length functions → IsAnalysisOf files (map definition (take n functions)) before text → IsResultOf n (definition (get_or functions n f)) reported → now ≡ found_if before reported.reports.items → more ≡ text ++ entry_lines files (definition (get_or functions n f)).name reported → IsAnalysisOf files (map definition (take (n + 1) functions)) now more
+pub one_more : (files : List (List ℕ)) (functions : List SmallFunction) (n : ℕ) (f : SmallFunction) (reported : EntryResult) (before now : Status) (text more : List ℕ) → n < length functions → IsAnalysisOf files (map definition (take n functions)) before text → IsResultOf n (definition (get_or functions n f)) reported → now ≡ found_if before reported.reports.items → more ≡ text ++ entry_lines files (definition (get_or functions n f)).name reported → IsAnalysisOf files (map definition (take (n + 1) functions)) now more
 one_more files functions n f reported before now text more inside h one status lines =
     let taken : map definition (take (n + 1) functions) ≡ map definition (take n functions) ++ definition (get_or functions n f) ∷ [] = ap (map definition) (take_more functions n f inside) ∙ map-append definition (take n functions) (get_or functions n f ∷ []) in
     let numbered = subst (λ k. IsResultOf k (definition (get_or functions n f)) reported) (length_taken definition functions n (omega (arith, inside))) one in
     subst (λ fs. IsAnalysisOf files fs now more) (sym taken) (analysis_push files (map definition (take n functions)) (definition (get_or functions n f)) reported before now text more h numbered status lines)
 
 -- each of the functions can be analyzed
-pub covered_at : (functions : List Function) (n : ℕ) (f : Function) → n < length functions → All IsAnalyzable (map definition functions) → IsAnalyzable (definition (get_or functions n f))
+pub covered_at : (functions : List SmallFunction) (n : ℕ) (f : SmallFunction) → n < length functions → All IsAnalyzable (map definition functions) → IsAnalyzable (definition (get_or functions n f))
 covered_at [] n f inside all = absurd (omega (arith, inside))
 covered_at (x ∷ xs) zero f inside all = All-head IsAnalyzable (definition x) (map definition xs) all
 covered_at (x ∷ xs) (suc n) f inside all = covered_at xs n f (omega (arith, inside)) (All-tail IsAnalyzable (definition x) (map definition xs) all)

@@ -6,7 +6,7 @@ use Rattle.cs_io.specs.Count.{Rose}
 use Rattle.cs_io.specs.Reported.{AppendsPart}
 use Rattle.cs_types.specs.declared.data_model.DataModel.{DataModel}
 use Rattle.cs_ast.specs.declared.raw.external.RawExternal.{RawExternal}
-use Rattle.cs_ast.specs.Tree.{Definition}
+use Rattle.cs_small_meaning.specs.Tree.{Definition}
 use Rattle.cs_ast.specs.TypedProgram.{TypedProgram}
 use Rattle.cs_lexer.specs.declared.lexer.Lexed.{Lexed}
 use Rattle.cs_consts.specs.Verdicts.{Fine}

@@ -1,12 +1,12 @@
 -- The results of functions, and their text.
 use Rattle.std.specs.Prelude.{◌≡◌, ℕ, ◌+◌, Bool, true, false, List, [], ◌∷◌, ◌++◌, if◌then◌else◌}
 use Rattle.std.specs.List.{list_any}
-use Rattle.cs_ast.specs.Tree.{Definition}
-use Rattle.cs_model.specs.declared.finding.Finding.{Finding}
-use Rattle.cs_model.specs.declared.finding.EntryResult.{EntryResult}
-use Rattle.cs_model.specs.declared.outcome.Budgets.{Budgets}
-use Rattle.cs_model.specs.Findings.{IsGoodEntry}
-use Rattle.cs_model.specs.Texts.{entry_lines}
+use Rattle.cs_small_meaning.specs.Tree.{Definition}
+use Rattle.cs_small_meaning.specs.declared.finding.Finding.{Finding}
+use Rattle.cs_small_meaning.specs.declared.finding.EntryResult.{EntryResult}
+use Rattle.cs_small_meaning.specs.declared.budgets.Budgets.{Budgets}
+use Rattle.cs_small_meaning.specs.Findings.{IsGoodEntry}
+use Rattle.cs_small_meaning.specs.Texts.{entry_lines}
 use Rattle.cs_small_analysis.specs.Shape.{IsCoverable, LeavesRoom}
 use Rattle.cs_app.specs.declared.status.Status.{Status}
 use Rattle.cs_app.specs.declared.status.Status.TheVariants.{Clean, Found}

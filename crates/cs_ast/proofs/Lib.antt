@@ -2,5 +2,4 @@ pub mod HeightsOfNodes
 pub mod RawDeclarationRows
 pub mod RawRows
 pub mod RawStatementRows
-pub mod RowLemmas
 pub mod TypedRows

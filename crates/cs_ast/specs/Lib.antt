@@ -1,5 +1,3 @@
-pub mod Tree
-pub mod View
 pub mod RawTree
 pub mod RawView
 pub mod RawHeight

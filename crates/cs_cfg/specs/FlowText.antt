@@ -5,7 +5,7 @@ use Rattle.std.specs.Fmt.{decimal}
 use Rattle.cs_ast.specs.declared.place.Place.{Place}
 use Rattle.cs_ast.specs.TypedTree.{Statement}
 use Rattle.cs_ast.specs.TypedProgram.{TypedProgram, Routine}
-use Rattle.cs_model.specs.Texts.{place_text}
+use Rattle.cs_model.specs.Places.{place_text}
 use Rattle.cs_events.specs.declared.point.PointKind.{PointKind}
 use Rattle.cs_events.specs.declared.point.PointKind.TheVariants.{Enter, Head, Label, Branch, Switch, Return, End}
 use Rattle.cs_cfg.specs.ControlPoints.{Exit, Onward, TruthOf, CaseOf, Next, Way, ControlPoint, control_points}

@@ -1,3 +1,4 @@
+pub mod Budgets
 pub mod Objects
 pub mod Operations
 pub mod Touches

@@ -1,4 +1,6 @@
 //! How a run ends, and the budgets that it ends by.
+ghost use Rattle.std.specs.Prelude.{◌≡◌};
+ghost use Rattle.cs_events.specs.Budgets.{budget_name};
 
 use cs_ast::Place;
 use cs_model::Kind;
@@ -30,6 +32,19 @@ pub enum Budget {
     Visits,
     Depth,
     Events,
+}
+
+impl Budget {
+    /// The word for this budget in reports.
+    pub fn name(self) -> &'static str
+        ensures { result.now ≡ budget_name self }
+    {
+        match self {
+            Budget::Visits => "visits",
+            Budget::Depth => "depth",
+            Budget::Events => "events",
+        }
+    }
 }
 
 /// How far a run goes.

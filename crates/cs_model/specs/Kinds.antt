@@ -1,7 +1,5 @@
--- The tables of fault kinds and of budgets.
+-- The table of fault kinds.
 use Rattle.std.specs.Prelude.{ℕ, List, codes}
-use Rattle.cs_model.specs.declared.outcome.Budget.{Budget}
-use Rattle.cs_model.specs.declared.outcome.Budget.TheVariants.{Visits, Depth, Events}
 use Rattle.cs_model.specs.declared.kind.Kind.{Kind}
 use Rattle.cs_model.specs.declared.kind.Kind.TheVariants.{Null, Divide, Unset, Bounds, DoubleFree, Freed, BadFree, DeadLocal, Shift, Unrelated, ConstWrite}
 
@@ -32,15 +30,3 @@ kind_number DeadLocal = 8
 kind_number Shift = 9
 kind_number Unrelated = 10
 kind_number ConstWrite = 11
-
--- the word for a budget
-abbrev pub budget_name : Budget → List ℕ
-budget_name Visits = codes "visits"
-budget_name Depth = codes "depth"
-budget_name Events = codes "events"
-
--- the number of a budget, by which budgets are ordered
-abbrev pub budget_number : Budget → ℕ
-budget_number Visits = 1
-budget_number Depth = 2
-budget_number Events = 3

@@ -1,9 +1,2 @@
 pub mod Kinds
-pub mod Integers
-pub mod Memory
-pub mod Machine
-pub mod Expressions
-pub mod Statements
-pub mod Runs
-pub mod Findings
-pub mod Texts
+pub mod Places

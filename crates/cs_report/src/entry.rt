@@ -1,12 +1,12 @@
 //! Results of entries as text.
 ghost use Rattle.std.specs.Prelude.{◌≡◌, ◌++◌, OnOk};
 ghost use Rattle.std.specs.List.{flat_map};
-ghost use Rattle.cs_model.specs.Texts.{verdict_name, finding_lines, entry_lines};
+ghost use Rattle.cs_small_meaning.specs.Texts.{verdict_name, finding_lines, entry_lines};
 
 use crate::finding::append_finding;
 use crate::text::append;
-use cs_model::{EntryResult, Finding, Verdict};
 use cs_names::Name;
+use cs_small_meaning::{EntryResult, Finding, Verdict};
 use std::alloc::AllocError;
 
 /// Appends the lines of an entry of this name: its verdict, then its reports, then the budgets

@@ -1,14 +1,14 @@
 //! Findings as text.
 ghost use Rattle.std.specs.Prelude.{◌≡◌, ◌++◌, OnOk};
 ghost use Rattle.std.specs.List.{flat_map};
-ghost use Rattle.cs_model.specs.declared.event.Event.{Event};
-ghost use Rattle.cs_model.specs.Kinds.{budget_name};
-ghost use Rattle.cs_model.specs.Texts.{outcome_text, input_line, step_line, finding_lines};
+ghost use Rattle.cs_events.specs.declared.event.Event.{Event};
+ghost use Rattle.cs_small_meaning.specs.Texts.{outcome_text, input_line, step_line, finding_lines};
 
 use crate::place::append_place;
 use crate::text::append;
-use cs_model::{Budget, Event, Finding, Input, Label, Outcome};
+use cs_events::{Event, Label, Outcome};
 use cs_names::Name;
+use cs_small_meaning::{Finding, Input};
 use std::alloc::AllocError;
 
 /// Appends the lines of a finding: its outcome, its inputs and its steps.
@@ -35,21 +35,10 @@ fn append_outcome(text: &mut Vec<u8>, files: &[Name], outcome: Outcome) -> Resul
             append_place(text, files, place)
         }
         Outcome::Over(budget, place) => {
-            append(text, format_args!("over {} ", budget_name(budget)))?;
+            append(text, format_args!("over {} ", budget.name()))?;
             append_place(text, files, place)
         }
         Outcome::Done(_) => Ok(()),
-    }
-}
-
-/// The word for a budget.
-fn budget_name(budget: Budget) -> &'static str
-    ensures { result.now ≡ budget_name budget }
-{
-    match budget {
-        Budget::Visits => "visits",
-        Budget::Depth => "depth",
-        Budget::Events => "events",
     }
 }
 
@@ -92,6 +81,6 @@ fn append_step(text: &mut Vec<u8>, files: &[Name], event: Event) -> Result<(), A
             append_place(text, files, event.place)?;
             append(text, format_args!(" branch {way}\n"))
         }
-        Label::Truth(_) | Label::Wrap(_) => Ok(()),
+        _ => Ok(()),
     }
 }

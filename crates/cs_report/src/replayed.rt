@@ -1,10 +1,10 @@
 //! How a replayed run ends, as text.
 ghost use Rattle.std.specs.Prelude.{◌≡◌, ◌++◌, OnOk};
-ghost use Rattle.cs_report.specs.ReplayLines.{returned_text, budget_word, replay_line};
+ghost use Rattle.cs_report.specs.ReplayLines.{returned_text, replay_line};
 
 use crate::place::append_place;
 use crate::text::append;
-use cs_events::{Budget, Outcome, Returned};
+use cs_events::{Outcome, Returned};
 use cs_names::Name;
 use std::alloc::AllocError;
 
@@ -26,7 +26,7 @@ pub fn append_replayed(
             append_place(text, files, place)?;
         }
         Outcome::Over(budget, place) => {
-            append(text, format_args!("over {} ", budget_word(budget)))?;
+            append(text, format_args!("over {} ", budget.name()))?;
             append_place(text, files, place)?;
         }
     }
@@ -43,16 +43,5 @@ fn append_returned(text: &mut Vec<u8>, returned: Returned) -> Result<(), AllocEr
         Returned::Null => append(text, " null"),
         Returned::Object => append(text, " object"),
         Returned::Unset => append(text, " unset"),
-    }
-}
-
-/// The word for a budget.
-fn budget_word(budget: Budget) -> &'static str
-    ensures { result.now ≡ budget_word budget }
-{
-    match budget {
-        Budget::Visits => "visits",
-        Budget::Depth => "depth",
-        Budget::Events => "events",
     }
 }

@@ -2,11 +2,10 @@
 use super::*;
 use cs_ast::Place;
 use cs_events as runs;
-use cs_events::Returned;
-use cs_model::{
-    Budget, EntryResult, Event, Finding, Input, Kind, Label, Outcome, Run, Verdict, Wrap,
-};
+use cs_events::{Budget, Event, Label, Outcome, Returned, Wrap};
+use cs_model::Kind;
 use cs_names::Name;
+use cs_small_meaning::{EntryResult, Finding, Input, Run, Verdict};
 use std::alloc::{AllocError, Global};
 use std::test::Fail;
 

@@ -1,16 +1,16 @@
 -- A path through a body, from its start to its end: for `follow`.
 use Rattle.std.proofs.Common.{◌≡◌, ℕ, ◌+◌, ◌*◌, ◌<◌, ◌≤◌, ℤ, pos, Bool, true, false, IsTrue, List, [], ◌∷◌, length, refl, sym, ap, ◌∙◌, subst, inl, inr, ◌⊎◌, ⊎_elim, arith}
 use Rattle.cs_ast.specs.declared.place.Place.{Place}
-use Rattle.cs_ast.specs.Tree.{Statement, Block, If, Return, Statements, Empty, Then, Definition}
+use Rattle.cs_small_meaning.specs.Tree.{SmallStatement, Block, If, Return, SmallStatements, Empty, Then, Definition}
 use Rattle.cs_ranges.specs.RangeSet.{contains}
-use Rattle.cs_model.specs.declared.event.Event.{Event}
-use Rattle.cs_model.specs.declared.finding.Finding.{Finding}
-use Rattle.cs_model.specs.declared.outcome.Budgets.{Budgets}
-use Rattle.cs_model.specs.Integers.{is_int, int_input}
-use Rattle.cs_model.specs.Memory.{Inputs, start_memory}
-use Rattle.cs_model.specs.Machine.{Machine, Item, Execute}
-use Rattle.cs_model.specs.Statements.{executes}
-use Rattle.cs_model.specs.Runs.{Leads, stays, goes}
+use Rattle.cs_events.specs.declared.event.Event.{Event}
+use Rattle.cs_small_meaning.specs.declared.finding.Finding.{Finding}
+use Rattle.cs_small_meaning.specs.declared.budgets.Budgets.{Budgets}
+use Rattle.cs_small_meaning.specs.Integers.{is_int, int_input}
+use Rattle.cs_small_meaning.specs.Memory.{Inputs, start_memory}
+use Rattle.cs_small_meaning.specs.Machine.{Machine, Item, Execute}
+use Rattle.cs_small_meaning.specs.Statements.{executes}
+use Rattle.cs_small_meaning.specs.Runs.{Leads, stays, goes}
 use Rattle.cs_small_analysis.specs.Shape.{IsCoverable, IsBody, IsBlock, IsStep, IsPassable, LeavesRoom, count_of, body_count}
 use Rattle.cs_small_analysis.specs.Reports.{Keeps}
 use Rattle.cs_small_analysis.specs.Paths.{Ranges, range_of, Fits, IsKnown, Comes, IsReported, AreGood, Reaches, IsFollowed, PassesOn, ready, number_in}
@@ -24,12 +24,12 @@ int_input_is_int z = by_test (is_int z) refl
     by_test false e = rw e refl
 
 -- a body that is a block begins with its statements
-begins_block : (budgets : Budgets) (function : Definition) (inputs : Inputs) (at : Place) (body : Statements) (whole : Statement) → whole ≡ Block at body → Leads budgets (ready function inputs (Execute whole ∷ []) [] 0) [] (ready function inputs (executes body []) [] 0)
+begins_block : (budgets : Budgets) (function : Definition) (inputs : Inputs) (at : Place) (body : SmallStatements) (whole : SmallStatement) → whole ≡ Block at body → Leads budgets (ready function inputs (Execute whole ∷ []) [] 0) [] (ready function inputs (executes body []) [] 0)
 begins_block budgets function inputs at body whole is =
     subst (λ s. Leads budgets (ready function inputs (Execute s ∷ []) [] 0) [] (ready function inputs (executes body []) [] 0)) (sym is) (goes refl (stays refl))
 
 -- the path at the start: each parameter can have each number
-pub followed_at_start : (function : Definition) (ranges : Ranges) (at : Place) (body : Statements) → IsCoverable function → function.body ≡ Block at body → length ranges ≡ length function.locals → ((k : ℕ) (x : ℤ) → k < length function.locals → contains (range_of ranges k) x ≡ is_int x) → IsFollowed function ranges [] body []
+pub followed_at_start : (function : Definition) (ranges : Ranges) (at : Place) (body : SmallStatements) → IsCoverable function → function.body ≡ Block at body → length ranges ≡ length function.locals → ((k : ℕ) (x : ℤ) → k < length function.locals → contains (range_of ranges k) x ≡ is_int x) → IsFollowed function ranges [] body []
 followed_at_start function ranges at body shape is each_one all =
     record {
       known = record {
@@ -44,16 +44,16 @@ followed_at_start function ranges at body shape is each_one all =
     }
 
 -- the path comes to its next statement
-pub reaches_first : (function : Definition) (ranges : Ranges) (events : List Event) (first : Statement) (others : Statements) (reports : List Finding) → IsFollowed function ranges events (Then first others) reports → Reaches function ranges events first
+pub reaches_first : (function : Definition) (ranges : Ranges) (events : List Event) (first : SmallStatement) (others : SmallStatements) (reports : List Finding) → IsFollowed function ranges events (Then first others) reports → Reaches function ranges events first
 reaches_first function ranges events first others reports followed =
     record { known = followed.known; room = omega (arith, followed.room); arrives = (executes others [], followed.comes) }
 
-pub step_of_body : (count : ℕ) (first : Statement) (others : Statements) → IsBody count (Then first others) → IsStep count first
+pub step_of_body : (count : ℕ) (first : SmallStatement) (others : SmallStatements) → IsBody count (Then first others) → IsStep count first
 step_of_body count (Return at value) others shape = shape
 step_of_body count (If at test body) others shape = (shape.0, shape.1)
 step_of_body count (Block at statements) others shape = shape
 
-rest_of_body : (count : ℕ) (first : Statement) (others : Statements) → IsPassable first → IsBody count (Then first others) → IsBody count others
+rest_of_body : (count : ℕ) (first : SmallStatement) (others : SmallStatements) → IsPassable first → IsBody count (Then first others) → IsBody count others
 rest_of_body count (If at test body) others passable shape = shape.2
 rest_of_body count (Return at value) others passable shape = absurd passable
 rest_of_body count (Block at statements) others passable shape = absurd passable
@@ -63,7 +63,7 @@ reported_still : (function : Definition) (old new : List Finding) (inputs : Inpu
 reported_still function old new inputs keeps reported budgets events outcome leaves ends bad = keeps outcome (reported budgets events outcome leaves ends bad)
 
 -- the path after a statement
-pub followed_on : (function : Definition) (ranges : Ranges) (events : List Event) (first : Statement) (others : Statements) (old : List Finding) (ranges' : Ranges) (events' : List Event) (new : List Finding) → IsFollowed function ranges events (Then first others) old → PassesOn function ranges events first ranges' events' new → Keeps old new → IsFollowed function ranges' events' others new
+pub followed_on : (function : Definition) (ranges : Ranges) (events : List Event) (first : SmallStatement) (others : SmallStatements) (old : List Finding) (ranges' : Ranges) (events' : List Event) (new : List Finding) → IsFollowed function ranges events (Then first others) old → PassesOn function ranges events first ranges' events' new → Keeps old new → IsFollowed function ranges' events' others new
 followed_on function ranges events first others old ranges' events' new followed passes keeps =
     record {
       known = passes.known;
@@ -74,7 +74,7 @@ followed_on function ranges events first others old ranges' events' new followed
     }
 
 -- a path that ends here leaves nothing untold
-pub reported_at_end : (function : Definition) (ranges : Ranges) (events : List Event) (rest : Statements) (old new : List Finding) → IsFollowed function ranges events rest old → Keeps old new → ((inputs : Inputs) → Fits function ranges inputs → IsReported function new inputs) → (inputs : Inputs) → IsReported function new inputs
+pub reported_at_end : (function : Definition) (ranges : Ranges) (events : List Event) (rest : SmallStatements) (old new : List Finding) → IsFollowed function ranges events rest old → Keeps old new → ((inputs : Inputs) → Fits function ranges inputs → IsReported function new inputs) → (inputs : Inputs) → IsReported function new inputs
 reported_at_end function ranges events rest old new followed keeps reported inputs =
     ⊎_elim (λ fits. reported inputs fits) (λ is_reported. reported_still function old new inputs keeps is_reported) (followed.others inputs)
 

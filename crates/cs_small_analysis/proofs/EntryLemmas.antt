@@ -3,16 +3,16 @@ use Rattle.std.proofs.Common.{◌≡◌, ℕ, ◌<◌, List, [], ◌∷◌, ◌+
 use Rattle.std.specs.Prelude.{Any}
 use Rattle.std.proofs.lemmas.List.{append-nil}
 use Rattle.cs_ast.specs.declared.place.Place.{Place}
-use Rattle.cs_ast.specs.Tree.{Definition}
-use Rattle.cs_model.specs.declared.event.Event.{Event}
-use Rattle.cs_model.specs.declared.finding.Finding.{Finding}
-use Rattle.cs_model.specs.declared.finding.EntryResult.{EntryResult}
-use Rattle.cs_model.specs.declared.finding.Verdict.TheVariants.{Complete}
-use Rattle.cs_model.specs.declared.outcome.Budgets.{Budgets}
-use Rattle.cs_model.specs.declared.outcome.Outcome.{Outcome}
-use Rattle.cs_model.specs.Memory.{Inputs}
-use Rattle.cs_model.specs.Runs.{RunEnds}
-use Rattle.cs_model.specs.Findings.{IsBefore, IsFault, IsOver, IsReportedBefore, IsGoodEntry, verdict_of}
+use Rattle.cs_small_meaning.specs.Tree.{Definition}
+use Rattle.cs_events.specs.declared.event.Event.{Event}
+use Rattle.cs_small_meaning.specs.declared.finding.Finding.{Finding}
+use Rattle.cs_small_meaning.specs.declared.finding.EntryResult.{EntryResult}
+use Rattle.cs_small_meaning.specs.declared.finding.Verdict.TheVariants.{Complete}
+use Rattle.cs_small_meaning.specs.declared.budgets.Budgets.{Budgets}
+use Rattle.cs_events.specs.declared.outcome.Outcome.{Outcome}
+use Rattle.cs_small_meaning.specs.Memory.{Inputs}
+use Rattle.cs_small_meaning.specs.Runs.{RunEnds}
+use Rattle.cs_small_meaning.specs.Findings.{IsBefore, IsFault, IsOver, IsReportedBefore, IsGoodEntry, verdict_of}
 use Rattle.cs_small_analysis.specs.Shape.{LeavesRoom}
 use Rattle.cs_small_analysis.specs.Reports.{Yields, divides, division_place}
 use Rattle.cs_small_analysis.specs.Paths.{IsReported, AreGood}

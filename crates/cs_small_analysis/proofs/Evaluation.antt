@@ -4,23 +4,23 @@ use Rattle.std.proofs.lemmas.Option.{slice_get-get_or}
 use Rattle.std.specs.Prelude.{slice_get, slice_index_or, if◌then◌else◌, not}
 use Rattle.std.specs.Ordering.{int_eq}
 use Rattle.cs_ast.specs.declared.place.Place.{Place}
-use Rattle.cs_ast.specs.declared.expression.BinOp.TheVariants.{Div}
-use Rattle.cs_ast.specs.declared.expression.CmpOp.TheVariants.{Equal}
-use Rattle.cs_ast.specs.Tree.{place_of, Expression, Number, Local, Load, Binary, Compare, Statement, Block, If, Return, Statements, Empty, Then, Definition}
-use Rattle.cs_model.specs.declared.event.Event.{Event}
-use Rattle.cs_model.specs.declared.event.Label.TheVariants.{Truth, Branch, Wrap}
+use Rattle.cs_small_meaning.specs.declared.expression.SmallBinOp.TheVariants.{Div}
+use Rattle.cs_small_meaning.specs.declared.expression.SmallCmpOp.TheVariants.{Equal}
+use Rattle.cs_small_meaning.specs.Tree.{place_of, SmallExpression, Number, Local, Load, Binary, Compare, SmallStatement, Block, If, Return, SmallStatements, Empty, Then, Definition}
+use Rattle.cs_events.specs.declared.event.Event.{Event}
+use Rattle.cs_events.specs.declared.event.Label.TheVariants.{Truth, Branch, Wrap}
 use Rattle.cs_model.specs.declared.kind.Kind.TheVariants.{Divide}
-use Rattle.cs_model.specs.declared.outcome.Budgets.{Budgets}
-use Rattle.cs_model.specs.declared.outcome.Outcome.{Outcome}
-use Rattle.cs_model.specs.declared.outcome.Outcome.TheVariants.{Done, Fault}
-use Rattle.cs_model.specs.declared.outcome.Returned.TheVariants as returned
-use Rattle.cs_model.specs.Integers.{int_quotient, quotient_wrap}
-use Rattle.cs_model.specs.Expressions.{truth_number, divide, read_cell}
-use Rattle.cs_model.specs.Memory.{Inputs, Object, LocalObject, Cell, NumberCell, UnsetCell, start_memory, parameter_cell, parameter_names}
-use Rattle.cs_model.specs.Machine.{Machine, Operand, Value, At, Item, Evaluate, Act, Execute, Decide, Leave, Step, Goes, Passes, Stops, pass, start}
-use Rattle.cs_model.specs.Statements.{step, executes, chosen}
-use Rattle.cs_model.specs.Runs.{Leads, stays, goes, passes, Ends, RunEnds}
-use Rattle.cs_model.proofs.RunLemmas.{leads_on, ends_after, left_after, one_end}
+use Rattle.cs_small_meaning.specs.declared.budgets.Budgets.{Budgets}
+use Rattle.cs_events.specs.declared.outcome.Outcome.{Outcome}
+use Rattle.cs_events.specs.declared.outcome.Outcome.TheVariants.{Done, Fault}
+use Rattle.cs_events.specs.declared.outcome.Returned.TheVariants as returned
+use Rattle.cs_small_meaning.specs.Integers.{int_quotient, quotient_wrap}
+use Rattle.cs_small_meaning.specs.Expressions.{truth_number, divide, read_cell}
+use Rattle.cs_small_meaning.specs.Memory.{Inputs, Object, LocalObject, Cell, NumberCell, UnsetCell, start_memory, parameter_cell, parameter_names}
+use Rattle.cs_small_meaning.specs.Machine.{Machine, Operand, Value, At, Item, Evaluate, Act, Execute, Decide, Leave, Step, Goes, Passes, Stops, pass, start}
+use Rattle.cs_small_meaning.specs.Statements.{step, executes, chosen}
+use Rattle.cs_small_meaning.specs.Runs.{Leads, stays, goes, passes, Ends, RunEnds}
+use Rattle.cs_small_meaning.proofs.RunLemmas.{leads_on, ends_after, left_after, one_end}
 use Rattle.cs_small_analysis.specs.Shape.{IsAtom, IsAnswer, IsTest, LeavesRoom, tested_parameter, tested_literal}
 use Rattle.cs_small_analysis.specs.Paths.{number_in, ready, test_events}
 
@@ -29,7 +29,7 @@ abbrev pub number : ℤ → Operand
 number n = Value (NumberCell n)
 
 -- the value of an operand of the shape
-abbrev pub atom_value : Definition → Inputs → Expression → ℤ
+abbrev pub atom_value : Definition → Inputs → SmallExpression → ℤ
 atom_value function inputs (Number at n) = n
 atom_value function inputs (Load at (Local at' declaration)) = number_in function inputs declaration
 atom_value function inputs _ = pos 0
@@ -53,19 +53,19 @@ passes_event : (budgets : Budgets) (event : Event) (m : Machine) → m.passed < 
 passes_event budgets event m within = rw (lt_true m.passed budgets.events within) refl
 
 -- an operand is evaluated with nothing to show
-pub atom_leads : (budgets : Budgets) (function : Definition) (inputs : Inputs) (e : Expression) → function.parameters ≡ length function.locals → IsAtom (length function.locals) e → (following : List Item) (stack : List Operand) (n : ℕ) → Leads budgets (ready function inputs (Evaluate e ∷ following) stack n) [] (ready function inputs following (number (atom_value function inputs e) ∷ stack) n)
+pub atom_leads : (budgets : Budgets) (function : Definition) (inputs : Inputs) (e : SmallExpression) → function.parameters ≡ length function.locals → IsAtom (length function.locals) e → (following : List Item) (stack : List Operand) (n : ℕ) → Leads budgets (ready function inputs (Evaluate e ∷ following) stack n) [] (ready function inputs following (number (atom_value function inputs e) ∷ stack) n)
 atom_leads budgets function inputs (Number at value) alone there following stack n = goes refl (goes refl (stays refl))
 atom_leads budgets function inputs (Load at (Local at' declaration)) alone there following stack n =
     goes refl (goes refl (goes refl (goes (simp (parameter_holds function inputs declaration alone there)) (stays refl))))
 atom_leads budgets function inputs _ alone there following stack n = absurd there
 
 -- whether a test of the shape holds
-abbrev pub test_holds : Definition → Inputs → Expression → Bool
+abbrev pub test_holds : Definition → Inputs → SmallExpression → Bool
 test_holds function inputs (Compare at op l r) = int_eq (atom_value function inputs l) (atom_value function inputs r)
 test_holds function inputs _ = false
 
 -- the way that a truth chooses
-branch_leads : (budgets : Budgets) (function : Definition) (inputs : Inputs) (at : Place) (test : Expression) (body : Statement) (holds : Bool) (following : List Item) (n : ℕ) → n + 1 < budgets.events → Leads budgets (ready function inputs (Decide (If at test body) ∷ following) (number (truth_number holds) ∷ []) (n + 1)) (record { place = at; label = Branch holds } ∷ []) (ready function inputs (chosen holds body following) [] (n + 2))
+branch_leads : (budgets : Budgets) (function : Definition) (inputs : Inputs) (at : Place) (test : SmallExpression) (body : SmallStatement) (holds : Bool) (following : List Item) (n : ℕ) → n + 1 < budgets.events → Leads budgets (ready function inputs (Decide (If at test body) ∷ following) (number (truth_number holds) ∷ []) (n + 1)) (record { place = at; label = Branch holds } ∷ []) (ready function inputs (chosen holds body following) [] (n + 2))
 branch_leads budgets function inputs at test body true following n within =
     let counted : n + 1 + 1 ≡ n + 2 = omega arith in
     passes (passes_event budgets (record { place = at; label = Branch true }) (ready function inputs (Execute body ∷ following) [] (n + 1)) within) (stays (ap (ready function inputs (Execute body ∷ following) []) counted))
@@ -74,7 +74,7 @@ branch_leads budgets function inputs at test body false following n within =
     passes (passes_event budgets (record { place = at; label = Branch false }) (ready function inputs following [] (n + 1)) within) (stays (ap (ready function inputs following []) counted))
 
 -- a test leads to what it chooses
-pub test_leads : (budgets : Budgets) (function : Definition) (inputs : Inputs) (at : Place) (test : Expression) (body : Statement) → function.parameters ≡ length function.locals → IsTest (length function.locals) test → (following : List Item) (n : ℕ) → n + 1 < budgets.events → Leads budgets (ready function inputs (Execute (If at test body) ∷ following) [] n) (test_events (place_of test) at (test_holds function inputs test)) (ready function inputs (chosen (test_holds function inputs test) body following) [] (n + 2))
+pub test_leads : (budgets : Budgets) (function : Definition) (inputs : Inputs) (at : Place) (test : SmallExpression) (body : SmallStatement) → function.parameters ≡ length function.locals → IsTest (length function.locals) test → (following : List Item) (n : ℕ) → n + 1 < budgets.events → Leads budgets (ready function inputs (Execute (If at test body) ∷ following) [] n) (test_events (place_of test) at (test_holds function inputs test)) (ready function inputs (chosen (test_holds function inputs test) body following) [] (n + 2))
 test_leads budgets function inputs at (Compare compared Equal (Load at' (Local at'' declaration)) (Number at''' literal)) body alone there following n within =
     let variable = Load at' (Local at'' declaration) in
     let constant = Number at''' literal in
@@ -88,19 +88,19 @@ test_leads budgets function inputs at (Compare compared Equal (Load at' (Local a
 test_leads budgets function inputs at _ body alone there following n within = absurd there
 
 -- how a run ends that returns an answer
-abbrev pub answer_outcome : Definition → Inputs → Expression → Outcome
+abbrev pub answer_outcome : Definition → Inputs → SmallExpression → Outcome
 answer_outcome function inputs (Binary at op l r) =
     if int_eq (atom_value function inputs r) (pos 0) then Fault Divide at else Done (returned.Number (int_quotient (atom_value function inputs l) (atom_value function inputs r)))
 answer_outcome function inputs e = Done (returned.Number (atom_value function inputs e))
 
 -- what shows on the way to that end
-abbrev pub answer_events : Definition → Inputs → Expression → List Event
+abbrev pub answer_events : Definition → Inputs → SmallExpression → List Event
 answer_events function inputs (Binary at op l r) =
     if int_eq (atom_value function inputs r) (pos 0) then [] else (record { place = at; label = Wrap (quotient_wrap (atom_value function inputs l) (atom_value function inputs r)) } ∷ [])
 answer_events function inputs e = []
 
 -- the end of a division by what is zero or not
-divide_ends : (budgets : Budgets) (function : Definition) (inputs : Inputs) (at : Place) (l r : Expression) (x y : ℤ) (zero : Bool) (following : List Item) (n : ℕ) → int_eq y (pos 0) ≡ zero → n < budgets.events → Ends budgets (ready function inputs (Act (Binary at Div l r) ∷ (Leave ∷ following)) (number y ∷ number x ∷ []) n) (if zero then [] else (record { place = at; label = Wrap (quotient_wrap x y) } ∷ [])) (if zero then Fault Divide at else Done (returned.Number (int_quotient x y)))
+divide_ends : (budgets : Budgets) (function : Definition) (inputs : Inputs) (at : Place) (l r : SmallExpression) (x y : ℤ) (zero : Bool) (following : List Item) (n : ℕ) → int_eq y (pos 0) ≡ zero → n < budgets.events → Ends budgets (ready function inputs (Act (Binary at Div l r) ∷ (Leave ∷ following)) (number y ∷ number x ∷ []) n) (if zero then [] else (record { place = at; label = Wrap (quotient_wrap x y) } ∷ [])) (if zero then Fault Divide at else Done (returned.Number (int_quotient x y)))
 divide_ends budgets function inputs at l r x y true following n zero within =
     record { last = ready function inputs (Act (Binary at Div l r) ∷ (Leave ∷ following)) (number y ∷ number x ∷ []) n; leads = stays refl; stops = simp zero }
 divide_ends budgets function inputs at l r x y false following n zero within =
@@ -113,7 +113,7 @@ divide_ends budgets function inputs at l r x y false following n zero within =
     }
 
 -- the end of a run that returns an operand
-atom_ends : (budgets : Budgets) (function : Definition) (inputs : Inputs) (at : Place) (e : Expression) → function.parameters ≡ length function.locals → IsAtom (length function.locals) e → (following : List Item) (n : ℕ) → Ends budgets (ready function inputs (Execute (Return at e) ∷ following) [] n) [] (Done (returned.Number (atom_value function inputs e)))
+atom_ends : (budgets : Budgets) (function : Definition) (inputs : Inputs) (at : Place) (e : SmallExpression) → function.parameters ≡ length function.locals → IsAtom (length function.locals) e → (following : List Item) (n : ℕ) → Ends budgets (ready function inputs (Execute (Return at e) ∷ following) [] n) [] (Done (returned.Number (atom_value function inputs e)))
 atom_ends budgets function inputs at e alone there following n =
     record {
       last = ready function inputs (Leave ∷ following) (number (atom_value function inputs e) ∷ []) n;
@@ -122,7 +122,7 @@ atom_ends budgets function inputs at e alone there following n =
     }
 
 -- the end of a run that returns an answer
-pub return_ends : (budgets : Budgets) (function : Definition) (inputs : Inputs) (at : Place) (e : Expression) → function.parameters ≡ length function.locals → IsAnswer (length function.locals) e → (following : List Item) (n : ℕ) → n < budgets.events → Ends budgets (ready function inputs (Execute (Return at e) ∷ following) [] n) (answer_events function inputs e) (answer_outcome function inputs e)
+pub return_ends : (budgets : Budgets) (function : Definition) (inputs : Inputs) (at : Place) (e : SmallExpression) → function.parameters ≡ length function.locals → IsAnswer (length function.locals) e → (following : List Item) (n : ℕ) → n < budgets.events → Ends budgets (ready function inputs (Execute (Return at e) ∷ following) [] n) (answer_events function inputs e) (answer_outcome function inputs e)
 return_ends budgets function inputs at (Binary at' Div l r) alone there following n within =
     let x = atom_value function inputs l in
     let y = atom_value function inputs r in

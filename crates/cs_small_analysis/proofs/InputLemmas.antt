@@ -12,12 +12,12 @@ use Rattle.cs_ranges.specs.declared.range_set.Interval.{Interval}
 use Rattle.std.proofs.lemmas.List.Elements.{Contains-get_or}
 use Rattle.std.proofs.lemmas.List.Sorted.{Contains-permutation, IsPermutation-sym, IsPermutation-map}
 use Rattle.cs_names.proofs.Comparisons.{same_bytes, equal_to_same}
-use Rattle.cs_ast.specs.Tree.{Definition}
+use Rattle.cs_small_meaning.specs.Tree.{Definition}
 use Rattle.cs_ranges.specs.RangeSet.{contains, IsLeastAbs, IsInhabited}
-use Rattle.cs_model.specs.declared.finding.Input.{Input}
-use Rattle.cs_model.specs.Integers.{is_int, int_input}
-use Rattle.cs_model.specs.Memory.{listed, parameter_names}
-use Rattle.cs_model.specs.Findings.{input_names, ListsParameters}
+use Rattle.cs_small_meaning.specs.declared.finding.Input.{Input}
+use Rattle.cs_small_meaning.specs.Integers.{is_int, int_input}
+use Rattle.cs_small_meaning.specs.Memory.{listed, parameter_names}
+use Rattle.cs_small_meaning.specs.Findings.{input_names, ListsParameters}
 use Rattle.cs_small_analysis.specs.Paths.{Ranges, IsKnown, AreLeast, GiveLeast, range_of, number_in}
 
 -- no two inputs of one parameter have different numbers

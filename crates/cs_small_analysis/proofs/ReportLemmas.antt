@@ -6,9 +6,9 @@ use Rattle.std.proofs.lemmas.List.Edits.{length-insert, get_or-insert_below, get
 use Rattle.std.proofs.lemmas.List.Elements.{All-cons, Contains-get_or}
 use Rattle.std.proofs.lemmas.List.Sorted.{All-permutation, IsPermutation-insert}
 use Rattle.cs_ast.specs.declared.place.Place.{Place}
-use Rattle.cs_model.specs.declared.finding.Finding.{Finding}
-use Rattle.cs_model.specs.declared.outcome.Outcome.{Outcome}
-use Rattle.cs_model.specs.Findings.{IsBefore}
+use Rattle.cs_small_meaning.specs.declared.finding.Finding.{Finding}
+use Rattle.cs_events.specs.declared.outcome.Outcome.{Outcome}
+use Rattle.cs_small_meaning.specs.Findings.{IsBefore}
 use Rattle.cs_small_analysis.specs.Reports.{AreDivisions, AreInOrder, Yields, Keeps, TakesIn, division_place, divides}
 
 -- a place before one that is before a third

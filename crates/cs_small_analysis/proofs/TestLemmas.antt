@@ -7,16 +7,16 @@ use Rattle.std.proofs.lemmas.Int.{ints}
 use Rattle.std.proofs.lemmas.List.{get_or-set_same, get_or-set_other}
 use Rattle.std.proofs.lemmas.Bool.Decides.{Decides-int_eq}
 use Rattle.cs_ast.specs.declared.place.Place.{Place}
-use Rattle.cs_ast.specs.Tree.{place_of, Expression, Number, Local, Load, Binary, Compare, Statement, If, Definition}
-use Rattle.cs_ast.specs.declared.expression.CmpOp.TheVariants.{Equal}
+use Rattle.cs_small_meaning.specs.Tree.{place_of, SmallExpression, Number, Local, Load, Binary, Compare, SmallStatement, If, Definition}
+use Rattle.cs_small_meaning.specs.declared.expression.SmallCmpOp.TheVariants.{Equal}
 use Rattle.cs_ranges.specs.declared.range_set.Interval.{Interval}
 use Rattle.cs_ranges.specs.RangeSet.{contains, IsInhabited, IsEmpty}
-use Rattle.cs_model.specs.declared.event.Event.{Event}
-use Rattle.cs_model.specs.declared.finding.Finding.{Finding}
-use Rattle.cs_model.specs.Integers.{is_int}
-use Rattle.cs_model.specs.Memory.{Inputs}
-use Rattle.cs_model.specs.Machine.{Item, Execute}
-use Rattle.cs_model.specs.Statements.{chosen}
+use Rattle.cs_events.specs.declared.event.Event.{Event}
+use Rattle.cs_small_meaning.specs.declared.finding.Finding.{Finding}
+use Rattle.cs_small_meaning.specs.Integers.{is_int}
+use Rattle.cs_small_meaning.specs.Memory.{Inputs}
+use Rattle.cs_small_meaning.specs.Machine.{Item, Execute}
+use Rattle.cs_small_meaning.specs.Statements.{chosen}
 use Rattle.cs_small_analysis.specs.declared.path.Test.{Test}
 use Rattle.cs_small_analysis.specs.Shape.{IsTest, tested_parameter, tested_literal, body_count, IsCoverable}
 use Rattle.cs_small_analysis.specs.Paths.{Ranges, range_of, Fits, IsKnown, Comes, Reaches, ReachesBody, PassesOn, IsReported, number_in, test_events}
@@ -121,7 +121,7 @@ known_narrowed function ranges k part holds literal known there is inhabited =
     }
 
 -- the inputs that fit then are those for which the test comes out so
-narrows : (function : Definition) (ranges : Ranges) (test : Expression) (part : List Interval) (holds : Bool) → IsTest (length function.locals) test → IsKnown function ranges → IsPart part (range_of ranges (tested_parameter test)) holds (tested_literal test) → Narrows function ranges (slice_set ranges (tested_parameter test) part) test holds
+narrows : (function : Definition) (ranges : Ranges) (test : SmallExpression) (part : List Interval) (holds : Bool) → IsTest (length function.locals) test → IsKnown function ranges → IsPart part (range_of ranges (tested_parameter test)) holds (tested_literal test) → Narrows function ranges (slice_set ranges (tested_parameter test) part) test holds
 narrows function ranges (Compare at op (Load at1 (Local at2 k)) (Number at3 literal)) part holds shape known is =
     let there : k < length ranges = omega (arith, known.each_one, shape.0) in
     let at_k : (inputs : Inputs) → Fits function (slice_set ranges k part) inputs → IsTrue (contains (range_of ranges k) (number_in function inputs k)) × (int_eq (number_in function inputs k) literal ≡ holds) = λ inputs fits. part_of (range_of ranges k) part holds literal (number_in function inputs k) is (subst (λ r. IsTrue (contains r (number_in function inputs k))) (set_same ranges k part there) (fits k shape.0)) in
@@ -142,24 +142,24 @@ narrows function ranges (Compare at op (Load at1 (Local at2 k)) (Number at3 lite
 narrows function ranges _ part holds shape known is = absurd shape
 
 -- the parameter that a test compares is there
-pub tested_there : (count : ℕ) (test : Expression) → IsTest count test → tested_parameter test < count
+pub tested_there : (count : ℕ) (test : SmallExpression) → IsTest count test → tested_parameter test < count
 tested_there count (Compare at op (Load at1 (Local at2 k)) (Number at3 literal)) shape = shape.0
 tested_there count _ shape = absurd shape
 
 -- a test as it is followed
-pub record IsTested (test : Expression) (at : Place) (tested : Test) : Type 0 where
+pub record IsTested (test : SmallExpression) (at : Place) (tested : Test) : Type 0 where
   pub parameter : tested.parameter ≡ tested_parameter test
   pub compared : tested.compared ≡ place_of test
   pub placed : tested.at ≡ at
 
 -- after a test: what is known, how long it took, and where the path comes to
-pub record Following (function : Definition) (ranges : Ranges) (events : List Event) (at : Place) (test : Expression) (body : Statement) (holds : Bool) (ranges' : Ranges) (events' : List Event) : Type 0 where
+pub record Following (function : Definition) (ranges : Ranges) (events : List Event) (at : Place) (test : SmallExpression) (body : SmallStatement) (holds : Bool) (ranges' : Ranges) (events' : List Event) : Type 0 where
   pub known : IsKnown function ranges'
   pub counted : length events' ≡ length events + 2
   pub narrows : Narrows function ranges ranges' test holds
   pub comes : (following : List Item) → Comes function ranges events (Execute (If at test body) ∷ following) → Comes function ranges' events' (chosen holds body following)
 
-pub following_test : (function : Definition) (ranges : Ranges) (events : List Event) (at : Place) (test : Expression) (body : Statement) (holds : Bool) (tested : Test) (part : List Interval) (ranges' : Ranges) (events' : List Event) → function.parameters ≡ length function.locals → IsTest (length function.locals) test → IsKnown function ranges → length events + 2 ≤ 2 * body_count function.body → IsTested test at tested → IsPart part (range_of ranges tested.parameter) holds (tested_literal test) → IsAfter ranges events tested part holds ranges' events' → Following function ranges events at test body holds ranges' events'
+pub following_test : (function : Definition) (ranges : Ranges) (events : List Event) (at : Place) (test : SmallExpression) (body : SmallStatement) (holds : Bool) (tested : Test) (part : List Interval) (ranges' : Ranges) (events' : List Event) → function.parameters ≡ length function.locals → IsTest (length function.locals) test → IsKnown function ranges → length events + 2 ≤ 2 * body_count function.body → IsTested test at tested → IsPart part (range_of ranges tested.parameter) holds (tested_literal test) → IsAfter ranges events tested part holds ranges' events' → Following function ranges events at test body holds ranges' events'
 following_test function ranges events at test body holds tested part ranges' events' alone shape known room is_tested is following =
     let part_is : IsPart part (range_of ranges (tested_parameter test)) holds (tested_literal test) = subst (λ k. IsPart part (range_of ranges k) holds (tested_literal test)) is_tested.parameter is in
     let set : ranges' ≡ slice_set ranges (tested_parameter test) part = following.narrowed ∙ ap (λ k. slice_set ranges k part) is_tested.parameter in
@@ -173,7 +173,7 @@ following_test function ranges events at test body holds tested part ranges' eve
     }
 
 -- inputs for which a test comes out so have a number in that part
-pub part_is_there : (function : Definition) (ranges : Ranges) (test : Expression) (part : List Interval) (holds : Bool) → IsTest (length function.locals) test → IsPart part (range_of ranges (tested_parameter test)) holds (tested_literal test) → IsEmpty part → (inputs : Inputs) → Fits function ranges inputs → test_holds function inputs test ≡ holds → ⊥
+pub part_is_there : (function : Definition) (ranges : Ranges) (test : SmallExpression) (part : List Interval) (holds : Bool) → IsTest (length function.locals) test → IsPart part (range_of ranges (tested_parameter test)) holds (tested_literal test) → IsEmpty part → (inputs : Inputs) → Fits function ranges inputs → test_holds function inputs test ≡ holds → ⊥
 part_is_there function ranges (Compare at op (Load at1 (Local at2 k)) (Number at3 literal)) part holds shape is empty inputs fits so =
     let has : contains part (number_in function inputs k) ≡ true = is (number_in function inputs k) ∙ both_true _ _ (fits k shape.0) (so_comes_out holds literal (number_in function inputs k) so) in
     let has_not = empty (number_in function inputs k) in

@@ -1,22 +1,22 @@
 -- What is known of a path through a function: the numbers that its parameters may have, and its events.
 use Rattle.std.specs.Prelude.{◌≡◌, ℕ, ◌+◌, ◌*◌, ◌<◌, ◌≤◌, ℤ, pos, Bool, false, IsTrue, List, [], ◌∷◌, length, slice_index_or, All, Any, ◌⊎◌}
 use Rattle.std.specs.Ordering.{int_eq}
-use Rattle.cs_ast.specs.Tree.{Definition, Expression, Number, Local, Load, Binary, Statement, Return, Statements}
+use Rattle.cs_small_meaning.specs.Tree.{Definition, SmallExpression, Number, Local, Load, Binary, SmallStatement, Return, SmallStatements}
 use Rattle.cs_ranges.specs.declared.range_set.Interval.{Interval}
 use Rattle.cs_ranges.specs.RangeSet.{contains, IsLeastAbs}
 use Rattle.cs_ast.specs.declared.place.Place.{Place}
-use Rattle.cs_model.specs.declared.event.Event.{Event}
-use Rattle.cs_model.specs.declared.event.Label.TheVariants.{Truth, Branch}
-use Rattle.cs_model.specs.declared.finding.Finding.{Finding}
-use Rattle.cs_model.specs.declared.finding.Input.{Input}
-use Rattle.cs_model.specs.declared.outcome.Outcome.{Outcome}
-use Rattle.cs_model.specs.declared.outcome.Budgets.{Budgets}
-use Rattle.cs_model.specs.Integers.{is_int, int_input}
-use Rattle.cs_model.specs.Memory.{Inputs, start_memory}
-use Rattle.cs_model.specs.Machine.{Machine, Item, Execute, Operand, start}
-use Rattle.cs_model.specs.Statements.{executes}
-use Rattle.cs_model.specs.Runs.{Leads, RunEnds}
-use Rattle.cs_model.specs.Findings.{IsFault, IsOver, IsGoodFinding, input_names}
+use Rattle.cs_events.specs.declared.event.Event.{Event}
+use Rattle.cs_events.specs.declared.event.Label.TheVariants.{Truth, Branch}
+use Rattle.cs_small_meaning.specs.declared.finding.Finding.{Finding}
+use Rattle.cs_small_meaning.specs.declared.finding.Input.{Input}
+use Rattle.cs_events.specs.declared.outcome.Outcome.{Outcome}
+use Rattle.cs_small_meaning.specs.declared.budgets.Budgets.{Budgets}
+use Rattle.cs_small_meaning.specs.Integers.{is_int, int_input}
+use Rattle.cs_small_meaning.specs.Memory.{Inputs, start_memory}
+use Rattle.cs_small_meaning.specs.Machine.{Machine, Item, Execute, Operand, start}
+use Rattle.cs_small_meaning.specs.Statements.{executes}
+use Rattle.cs_small_meaning.specs.Runs.{Leads, RunEnds}
+use Rattle.cs_small_meaning.specs.Findings.{IsFault, IsOver, IsGoodFinding, input_names}
 use Rattle.cs_small_analysis.specs.Shape.{LeavesRoom, IsBody, IsPassable, count_of, body_count}
 use Rattle.cs_small_analysis.specs.Reports.{Yields, AreDivisions, AreInOrder}
 
@@ -29,13 +29,13 @@ abbrev pub range_of : Ranges → ℕ → List Interval
 range_of ranges k = slice_index_or ranges k []
 
 -- whether an operand is 0 for some of these numbers
-abbrev pub may_be_zero : Ranges → Expression → Bool
+abbrev pub may_be_zero : Ranges → SmallExpression → Bool
 may_be_zero ranges (Number at n) = int_eq n (pos 0)
 may_be_zero ranges (Load at (Local at' declaration)) = contains (range_of ranges declaration) (pos 0)
 may_be_zero ranges _ = false
 
 -- whether an answer divides by 0 for some of these numbers
-abbrev pub may_divide_by_zero : Ranges → Expression → Bool
+abbrev pub may_divide_by_zero : Ranges → SmallExpression → Bool
 may_divide_by_zero ranges (Binary at op l r) = may_be_zero ranges r
 may_divide_by_zero ranges _ = false
 
@@ -82,27 +82,27 @@ abbrev pub test_events : Place → Place → Bool → List Event
 test_events compared at holds = record { place = compared; label = Truth holds } ∷ (record { place = at; label = Branch holds } ∷ [])
 
 -- the path comes to a statement
-abbrev pub ArrivesAt : Definition → Ranges → List Event → Statement → Type 0
+abbrev pub ArrivesAt : Definition → Ranges → List Event → SmallStatement → Type 0
 ArrivesAt function ranges events s = (following : List Item) × Comes function ranges events (Execute s ∷ following)
 
 -- the path comes to a return of this value
-abbrev pub ArrivesAtReturn : Definition → Ranges → List Event → Expression → Type 0
+abbrev pub ArrivesAtReturn : Definition → Ranges → List Event → SmallExpression → Type 0
 ArrivesAtReturn function ranges events value = (at : Place) × ArrivesAt function ranges events (Return at value)
 
 -- a path that comes to a statement, with room for the events of a test
-pub record Reaches (function : Definition) (ranges : Ranges) (events : List Event) (s : Statement) : Type 0 where
+pub record Reaches (function : Definition) (ranges : Ranges) (events : List Event) (s : SmallStatement) : Type 0 where
   pub known : IsKnown function ranges
   pub room : length events + 2 ≤ 2 * body_count function.body
   pub arrives : ArrivesAt function ranges events s
 
 -- a path that comes to a return of a value
-pub record ReachesReturn (function : Definition) (ranges : Ranges) (events : List Event) (value : Expression) : Type 0 where
+pub record ReachesReturn (function : Definition) (ranges : Ranges) (events : List Event) (value : SmallExpression) : Type 0 where
   pub known : IsKnown function ranges
   pub room : length events ≤ 2 * body_count function.body
   pub arrives : ArrivesAtReturn function ranges events value
 
 -- a path that comes to the body of a test
-pub record ReachesBody (function : Definition) (ranges : Ranges) (events : List Event) (body : Statement) : Type 0 where
+pub record ReachesBody (function : Definition) (ranges : Ranges) (events : List Event) (body : SmallStatement) : Type 0 where
   pub known : IsKnown function ranges
   pub room : length events ≤ 2 * body_count function.body
   pub arrives : ArrivesAt function ranges events body
@@ -123,7 +123,7 @@ pub record AreGood (function : Definition) (reports : List Finding) : Type 0 whe
   pub good : All (IsGood function) reports
 
 -- a path through a body, before these statements: the runs that are not on it are told already
-pub record IsFollowed (function : Definition) (ranges : Ranges) (events : List Event) (rest : Statements) (reports : List Finding) : Type 0 where
+pub record IsFollowed (function : Definition) (ranges : Ranges) (events : List Event) (rest : SmallStatements) (reports : List Finding) : Type 0 where
   pub known : IsKnown function ranges
   pub shape : IsBody (length function.locals) rest
   pub room : length events + 2 * count_of rest ≤ 2 * body_count function.body
@@ -131,7 +131,7 @@ pub record IsFollowed (function : Definition) (ranges : Ranges) (events : List E
   pub others : (inputs : Inputs) → Fits function ranges inputs ⊎ IsReported function reports inputs
 
 -- after a statement the path goes on so: the runs that are on it no more are told
-pub record PassesOn (function : Definition) (ranges : Ranges) (events : List Event) (s : Statement) (ranges' : Ranges) (events' : List Event) (reports : List Finding) : Type 0 where
+pub record PassesOn (function : Definition) (ranges : Ranges) (events : List Event) (s : SmallStatement) (ranges' : Ranges) (events' : List Event) (reports : List Finding) : Type 0 where
   pub passable : IsPassable s
   pub known : IsKnown function ranges'
   pub counted : length events' ≡ length events + 2

@@ -1,11 +1,11 @@
 -- Reports of divisions by zero.
 use Rattle.std.specs.Prelude.{◌≡◌, ℕ, ◌<◌, ◌⊎◌, List, length, slice_index_or, All, Any, AllPairs, Contains}
 use Rattle.cs_ast.specs.declared.place.Place.{Place}
-use Rattle.cs_model.specs.declared.finding.Finding.{Finding}
+use Rattle.cs_small_meaning.specs.declared.finding.Finding.{Finding}
 use Rattle.cs_model.specs.declared.kind.Kind.TheVariants.{Divide}
-use Rattle.cs_model.specs.declared.outcome.Outcome.{Outcome}
-use Rattle.cs_model.specs.declared.outcome.Outcome.TheVariants.{Done, Fault, Over}
-use Rattle.cs_model.specs.Findings.{IsBefore}
+use Rattle.cs_events.specs.declared.outcome.Outcome.{Outcome}
+use Rattle.cs_events.specs.declared.outcome.Outcome.TheVariants.{Done, Fault, Over}
+use Rattle.cs_small_meaning.specs.Findings.{IsBefore}
 
 -- the outcome of a division by zero at a place
 abbrev pub divides : Place → Outcome

@@ -2,7 +2,7 @@
 use Rattle.std.specs.Prelude.{◌≡◌, ◌++◌, Bool, List, slice_set}
 use Rattle.cs_ranges.specs.declared.range_set.Interval.{Interval}
 use Rattle.cs_ranges.specs.RangeSet.{IsInhabited}
-use Rattle.cs_model.specs.declared.event.Event.{Event}
+use Rattle.cs_events.specs.declared.event.Event.{Event}
 use Rattle.cs_small_analysis.specs.declared.path.Test.{Test}
 use Rattle.cs_small_analysis.specs.Paths.{Ranges, test_events}
 

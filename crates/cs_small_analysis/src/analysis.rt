@@ -1,12 +1,12 @@
 //! The analysis of one function: its paths in the order of its statements.
 ghost use Rattle.std.specs.Prelude.{◌≡◌, ℕ, ◌+◌, ◌*◌, ◌<◌, ◌≤◌, [], length, IfOk, OnOk, IfSome, None};
 ghost use Rattle.std.specs.Option.{ForSome};
-ghost use Rattle.cs_ast.specs.View.{definition, statement, statements, expression};
-ghost use Rattle.cs_ast.specs.Tree.{Block, If};
-ghost use Rattle.cs_model.specs.declared.outcome.Budgets.{Budgets};
-ghost use Rattle.cs_model.specs.Memory.{Inputs, listed};
-ghost use Rattle.cs_model.specs.Machine.{Item};
-ghost use Rattle.cs_model.specs.Findings.{IsGoodEntry, ListsParameters};
+ghost use Rattle.cs_small_meaning.specs.View.{definition, statement, statements, expression};
+ghost use Rattle.cs_small_meaning.specs.Tree.{Block, If};
+ghost use Rattle.cs_small_meaning.specs.declared.budgets.Budgets.{Budgets};
+ghost use Rattle.cs_small_meaning.specs.Memory.{Inputs, listed};
+ghost use Rattle.cs_small_meaning.specs.Machine.{Item};
+ghost use Rattle.cs_small_meaning.specs.Findings.{IsGoodEntry, ListsParameters};
 ghost use Rattle.cs_small_analysis.specs.Shape.{IsCoverable, LeavesRoom, IsTest, IsReturn, IsAnswer, IsStep, body_count};
 ghost use Rattle.cs_small_analysis.specs.Reports.{Keeps, divides};
 ghost use Rattle.cs_small_analysis.specs.Paths.{Fits, IsKnown, IsReported, AreGood, AreLeast, Reaches, ReachesReturn, ReachesBody, PassesOn};
@@ -16,15 +16,23 @@ use crate::order::add_report;
 use crate::path::{Path, Test};
 use crate::ranges::{full_ranges, may_divide_by_zero};
 use crate::shape::{tested_literal, tested_parameter};
-use cs_ast::{Expr, Function, Place, Stmt, StmtKind};
-use cs_model::{EntryResult, Finding, Kind, Outcome, Run, Verdict};
+use cs_ast::Place;
+use cs_events::Outcome;
+use cs_model::Kind;
 use cs_ranges::RangeSet;
+use cs_small_meaning::{
+    EntryResult, Finding, Run, SmallExpr, SmallFunction, SmallStmt, SmallStmtKind, Verdict,
+};
 use std::alloc::{AllocError, Global};
 
 /// What the analyzer says of a function: each division that some run makes by zero, with the inputs of one.
 ///
 /// It is the whole truth under every budget of events that is past twice the number of statements.
-pub fn analyze(alloc: Global, entry: u32, function: &Function) -> Result<EntryResult, AllocError>
+pub fn analyze(
+    alloc: Global,
+    entry: u32,
+    function: &SmallFunction,
+) -> Result<EntryResult, AllocError>
     requires { IsCoverable (definition function.now) }
     ensures good { IfOk result (λ reported. (budgets : Budgets) → LeavesRoom (definition function.now) budgets
         → IsGoodEntry (definition function.now) budgets reported) }
@@ -41,19 +49,23 @@ pub fn analyze(alloc: Global, entry: u32, function: &Function) -> Result<EntryRe
 }
 
 /// The reports of a function.
-fn reports_of(alloc: Global, function: &Function) -> Result<Vec<Finding>, AllocError>
+fn reports_of(alloc: Global, function: &SmallFunction) -> Result<Vec<Finding>, AllocError>
     requires { IsCoverable (definition function.now) }
     ensures good { IfOk result (λ reports. AreGood (definition function.now) reports.items) }
     ensures reported { IfOk result (λ reports. (inputs : Inputs) → IsReported (definition function.now) reports.items inputs) }
 {
     match &function.body.kind {
-        StmtKind::Block(body) => follow(alloc, function, body.as_slice()),
-        StmtKind::If(..) | StmtKind::Return(_) => Ok(Vec::new(alloc)),
+        SmallStmtKind::Block(body) => follow(alloc, function, body.as_slice()),
+        SmallStmtKind::If(..) | SmallStmtKind::Return(_) => Ok(Vec::new(alloc)),
     }
 }
 
 /// The reports of a function with this body.
-fn follow(alloc: Global, function: &Function, body: &[Stmt]) -> Result<Vec<Finding>, AllocError>
+fn follow(
+    alloc: Global,
+    function: &SmallFunction,
+    body: &[SmallStmt],
+) -> Result<Vec<Finding>, AllocError>
     requires shape { IsCoverable (definition function.now) }
     requires body { (definition function.now).body ≡ Block function.now.body.place (statements body.now) }
     ensures good { IfOk result (λ reports. AreGood (definition function.now) reports.items) }
@@ -78,9 +90,9 @@ fn follow(alloc: Global, function: &Function, body: &[Stmt]) -> Result<Vec<Findi
 /// The path after a statement, if any run gets there, with the reports of the runs that do not.
 fn follow_statement(
     alloc: Global,
-    function: &Function,
+    function: &SmallFunction,
     path: &Path,
-    first: &Stmt,
+    first: &SmallStmt,
     reports: &mut Vec<Finding>,
 ) -> Result<Option<Path>, AllocError>
     requires shape { IsCoverable (definition function.now) }
@@ -96,25 +108,25 @@ fn follow_statement(
         reports.new.items)) }
 {
     match &first.kind {
-        StmtKind::Return(value) => {
+        SmallStmtKind::Return(value) => {
             report_return(alloc, function, path, value, reports)?;
             Ok(None)
         }
-        StmtKind::If(test, body) => {
+        SmallStmtKind::If(test, body) => {
             follow_test(alloc, function, path, first.place, test, body, reports)
         }
-        StmtKind::Block(_) => Ok(None),
+        SmallStmtKind::Block(_) => Ok(None),
     }
 }
 
 /// The path where a test does not hold, with the reports of its body, where it holds.
 fn follow_test(
     alloc: Global,
-    function: &Function,
+    function: &SmallFunction,
     path: &Path,
     at: Place,
-    test: &Expr,
-    body: &Stmt,
+    test: &SmallExpr,
+    body: &SmallStmt,
     reports: &mut Vec<Finding>,
 ) -> Result<Option<Path>, AllocError>
     requires shape { IsCoverable (definition function.now) }
@@ -150,9 +162,9 @@ fn follow_test(
 /// Adds the reports of a test's body, if a path gets there.
 fn report_taken(
     alloc: Global,
-    function: &Function,
+    function: &SmallFunction,
     taken: Option<Path>,
-    body: &Stmt,
+    body: &SmallStmt,
     reports: &mut Vec<Finding>,
 ) -> Result<(), AllocError>
     requires shape { IsCoverable (definition function.now) }
@@ -166,7 +178,7 @@ fn report_taken(
         → IsReported (definition function.now) reports.new.items inputs)) }
 {
     match (taken, &body.kind) {
-        (Some(path), StmtKind::Return(value)) => report_return(
+        (Some(path), SmallStmtKind::Return(value)) => report_return(
             alloc, function, &path, value, reports,
         ),
         _ => Ok(()),
@@ -176,9 +188,9 @@ fn report_taken(
 /// Adds the report of a returned quotient whose divisor can be 0.
 fn report_return(
     alloc: Global,
-    function: &Function,
+    function: &SmallFunction,
     path: &Path,
-    value: &Expr,
+    value: &SmallExpr,
     reports: &mut Vec<Finding>,
 ) -> Result<(), AllocError>
     requires shape { IsCoverable (definition function.now) }
@@ -201,7 +213,7 @@ fn report_return(
 /// The finding of a division by zero at a place that a path comes to with nothing more to show.
 fn division(
     alloc: Global,
-    function: &Function,
+    function: &SmallFunction,
     path: &Path,
     at: Place,
 ) -> Result<Finding, AllocError>

@@ -2,22 +2,21 @@
 ghost use Rattle.std.specs.Prelude.{IfOk, OnOk, IsPermutation, IsSorted};
 ghost use Rattle.std.specs.Ordering.{nat_cmp};
 ghost use Rattle.std.specs.Cmp.Lexicographic.{slice_cmp};
-ghost use Rattle.cs_ast.specs.View.{definition};
+ghost use Rattle.cs_small_meaning.specs.View.{definition};
 ghost use Rattle.cs_ranges.specs.RangeSet.{IsLeastAbs, IsInhabited};
-ghost use Rattle.cs_model.specs.Memory.{listed};
-ghost use Rattle.cs_model.specs.Findings.{ListsParameters, input_names};
+ghost use Rattle.cs_small_meaning.specs.Memory.{listed};
+ghost use Rattle.cs_small_meaning.specs.Findings.{ListsParameters, input_names};
 ghost use Rattle.cs_small_analysis.specs.Shape.{IsCoverable};
 ghost use Rattle.cs_small_analysis.specs.Paths.{IsKnown, AreLeast, GiveLeast};
 
-use cs_ast::Function;
-use cs_model::Input;
 use cs_ranges::RangeSet;
+use cs_small_meaning::{Input, SmallFunction};
 use std::alloc::{AllocError, Global};
 
 /// The inputs of least numbers that fit the ranges, in the order of the parameters' names.
 pub fn least_inputs(
     alloc: Global,
-    function: &Function,
+    function: &SmallFunction,
     ranges: &[RangeSet],
 ) -> Result<Vec<Input>, AllocError>
     requires shape { IsCoverable (definition function.now) }
@@ -33,7 +32,7 @@ pub fn least_inputs(
 /// The same in the order of the parameter list.
 fn inputs_of(
     alloc: Global,
-    function: &Function,
+    function: &SmallFunction,
     ranges: &[RangeSet],
 ) -> Result<Vec<Input>, AllocError>
     requires { IsKnown (definition function.now) ranges.now }

@@ -1,10 +1,12 @@
 //! Reports in the order of their places, one for each place.
 ghost use Rattle.std.specs.Prelude.{◌≡◌, ℕ, ◌<◌, ◌≤◌, ◌↔◌, IsTrue, length, slice_index_or, OnOk, OnErr};
-ghost use Rattle.cs_model.specs.Findings.{IsBefore};
+ghost use Rattle.cs_small_meaning.specs.Findings.{IsBefore};
 ghost use Rattle.cs_small_analysis.specs.Reports.{AreDivisions, AreInOrder, Keeps, Yields, TakesIn, division_place, divides};
 
 use cs_ast::Place;
-use cs_model::{Finding, Kind, Outcome};
+use cs_events::Outcome;
+use cs_model::Kind;
+use cs_small_meaning::Finding;
 use std::alloc::AllocError;
 
 /// Adds a division by zero to the reports, unless one at its place is there already.

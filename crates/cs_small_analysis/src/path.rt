@@ -4,7 +4,7 @@ ghost use Rattle.cs_ranges.specs.RangeSet.{IsEmpty};
 ghost use Rattle.cs_small_analysis.specs.Tests.{IsAfter};
 
 use cs_ast::Place;
-use cs_model::{Event, Label};
+use cs_events::{Event, Label};
 use cs_ranges::RangeSet;
 use std::alloc::{AllocError, Global};
 

@@ -1,13 +1,13 @@
 //! The numbers that each parameter may have on a path.
 ghost use Rattle.std.specs.Prelude.{◌≡◌, ℕ, ◌<◌, ℤ, length, vec_len, IfOk};
-ghost use Rattle.cs_ast.specs.View.{expression};
+ghost use Rattle.cs_small_meaning.specs.View.{expression};
 ghost use Rattle.cs_ranges.specs.RangeSet.{contains};
-ghost use Rattle.cs_model.specs.Integers.{is_int};
+ghost use Rattle.cs_small_meaning.specs.Integers.{is_int};
 ghost use Rattle.cs_small_analysis.specs.Shape.{IsAtom, IsAnswer};
 ghost use Rattle.cs_small_analysis.specs.Paths.{range_of, may_be_zero, may_divide_by_zero};
 
-use cs_ast::{Expr, ExprKind};
 use cs_ranges::RangeSet;
+use cs_small_meaning::{SmallExpr, SmallExprKind};
 use std::alloc::{AllocError, Global};
 
 /// The least number of `int`.
@@ -30,25 +30,25 @@ pub fn full_ranges(alloc: Global, count: usize) -> Result<Vec<RangeSet>, AllocEr
 }
 
 /// Whether an answer divides by 0 for some numbers of its parameters.
-pub fn may_divide_by_zero(answer: &Expr, ranges: &[RangeSet]) -> bool
+pub fn may_divide_by_zero(answer: &SmallExpr, ranges: &[RangeSet]) -> bool
     requires { IsAnswer (length ranges.now) (expression answer.now) }
     ensures { result ≡ may_divide_by_zero ranges.now (expression answer.now) }
 {
     match &answer.kind {
-        ExprKind::Binary(_, _, divisor) => may_be_zero(divisor, ranges),
+        SmallExprKind::Binary(_, _, divisor) => may_be_zero(divisor, ranges),
         _ => false,
     }
 }
 
 /// Whether an operand is 0 for some numbers of its parameters.
-fn may_be_zero(operand: &Expr, ranges: &[RangeSet]) -> bool
+fn may_be_zero(operand: &SmallExpr, ranges: &[RangeSet]) -> bool
     requires { IsAtom (length ranges.now) (expression operand.now) }
     ensures { result ≡ may_be_zero ranges.now (expression operand.now) }
 {
     match &operand.kind {
-        ExprKind::Number(number) => *number == 0,
-        ExprKind::Load(object) => match &object.kind {
-            ExprKind::Local(declaration) => ranges[*declaration as usize].contains(0),
+        SmallExprKind::Number(number) => *number == 0,
+        SmallExprKind::Load(object) => match &object.kind {
+            SmallExprKind::Local(declaration) => ranges[*declaration as usize].contains(0),
             _ => false,
         },
         _ => false,

@@ -6,11 +6,11 @@ use Rattle.std.specs.Prelude.{option_map, option_and_then, nat_eq}
 use Rattle.std.specs.List.{position}
 use Rattle.std.specs.Cmp.Lexicographic.{pointwise}
 use Rattle.cs_ast.specs.declared.place.Place.{Place}
-use Rattle.cs_ast.specs.declared.function.Function.{Function}
-use Rattle.cs_ast.specs.declared.function.Local.{Local}
+use Rattle.cs_small_meaning.specs.declared.function.SmallFunction.{SmallFunction}
+use Rattle.cs_small_meaning.specs.declared.function.SmallLocal.{SmallLocal}
 use Rattle.cs_ast.specs.declared.typed.statement.Stmt.{Stmt}
-use Rattle.cs_ast.specs.Tree.{Definition}
-use Rattle.cs_ast.specs.View.{definition}
+use Rattle.cs_small_meaning.specs.Tree.{Definition}
+use Rattle.cs_small_meaning.specs.View.{definition}
 use Rattle.cs_ast.specs.TypedView.{statement, statement_list}
 use Rattle.cs_ast.specs.TypedProgram.{Variable, Routine}
 use Rattle.cs_small_form.proofs.Bodies.{map_push}
@@ -58,17 +58,17 @@ name_read : (before : Names) (v : Variable) (rest : List Variable) (name : List 
 name_read before v rest name is = ap (λ o. option_and_then (λ name. where_new (number_of before name) (parameters (before ++ name ∷ []) rest)) o) is
 
 -- a parameter has the name of one before it
-pub named_twice : (all left rest : List Variable) (v : Variable) (locals : List Local) (name : List ℕ) (number : ℕ) → left ≡ v ∷ rest → parameter v ≡ Some name → position (λ (local : Local). pointwise nat_eq local.name name) locals ≡ Some number → parameters [] all ≡ parameters (names_of locals) left → parameters [] all ≡ None
+pub named_twice : (all left rest : List Variable) (v : Variable) (locals : List SmallLocal) (name : List ℕ) (number : ℕ) → left ≡ v ∷ rest → parameter v ≡ Some name → position (λ (local : SmallLocal). pointwise nat_eq local.name name) locals ≡ Some number → parameters [] all ≡ parameters (names_of locals) left → parameters [] all ≡ None
 named_twice all left rest v locals name number l is old so_far =
     so_far ∙ ap (parameters (names_of locals)) l ∙ name_read (names_of locals) v rest name is
     ∙ ap (λ n. where_new n (parameters (names_of locals ++ name ∷ []) rest)) (position_of_names locals name ∙ old)
 
 -- the loop goes on after a parameter with a new name
-pub named_new : (all left rest : List Variable) (v : Variable) (locals more : List Local) (local : Local) (name : List ℕ) → left ≡ v ∷ rest → parameter v ≡ Some name → position (λ (local : Local). pointwise nat_eq local.name name) locals ≡ None → local.name ≡ name → more ≡ locals ++ local ∷ [] → parameters [] all ≡ parameters (names_of locals) left → parameters [] all ≡ parameters (names_of more) rest
+pub named_new : (all left rest : List Variable) (v : Variable) (locals more : List SmallLocal) (local : SmallLocal) (name : List ℕ) → left ≡ v ∷ rest → parameter v ≡ Some name → position (λ (local : SmallLocal). pointwise nat_eq local.name name) locals ≡ None → local.name ≡ name → more ≡ locals ++ local ∷ [] → parameters [] all ≡ parameters (names_of locals) left → parameters [] all ≡ parameters (names_of more) rest
 named_new all left rest v locals more local name l is new same m so_far =
     so_far ∙ ap (parameters (names_of locals)) l ∙ name_read (names_of locals) v rest name is
     ∙ ap (λ n. where_new n (parameters (names_of locals ++ name ∷ []) rest)) (position_of_names locals name ∙ new)
-    ∙ ap (λ names. parameters names rest) (ap (λ x. names_of locals ++ x ∷ []) (sym same) ∙ sym (map_push (λ (local : Local). local.name) locals local) ∙ ap names_of (sym m))
+    ∙ ap (λ names. parameters names rest) (ap (λ x. names_of locals ++ x ∷ []) (sym same) ∙ sym (map_push (λ (local : SmallLocal). local.name) locals local) ∙ ap names_of (sym m))
 
 pub length_more : {X : Type 0} (xs ys : List X) (x : X) (n : ℕ) → ys ≡ xs ++ x ∷ [] → length xs ≡ n → length ys ≡ n + 1
 length_more xs ys x n is count = omega (arith, ap length is, length-append xs (x ∷ []), count)
@@ -88,7 +88,7 @@ function_after read r rest next is =
     ∙ tree_after read next (functions rest)
 
 -- the loop goes on after a function that was built
-pub goes_on : (all left rest : List Routine) (r : Routine) (read more : List Function) (one : Function) (next : Small) → left ≡ r ∷ rest → more ≡ read ++ one ∷ [] → definition one ≡ tree next → function r ≡ Some next → option_map (map tree) (functions all) ≡ trees_after (map definition read) (functions left) → option_map (map tree) (functions all) ≡ trees_after (map definition more) (functions rest)
+pub goes_on : (all left rest : List Routine) (r : Routine) (read more : List SmallFunction) (one : SmallFunction) (next : Small) → left ≡ r ∷ rest → more ≡ read ++ one ∷ [] → definition one ≡ tree next → function r ≡ Some next → option_map (map tree) (functions all) ≡ trees_after (map definition read) (functions left) → option_map (map tree) (functions all) ≡ trees_after (map definition more) (functions rest)
 goes_on all left rest r read more one next l m d is so_far =
     so_far ∙ ap (λ x. trees_after (map definition read) (functions x)) l
     ∙ function_after (map definition read) r rest next is

@@ -10,7 +10,7 @@ use Rattle.cs_names.proofs.Comparisons.{equal_to_same}
 use Rattle.cs_ast.specs.declared.place.Place.{Place}
 use Rattle.cs_ast.specs.declared.typed.operator.BinOp.TheVariants.{Div}
 use Rattle.cs_ast.specs.declared.typed.operator.CmpOp.TheVariants.{Equal}
-use Rattle.cs_ast.specs.Tree.{Definition}
+use Rattle.cs_small_meaning.specs.Tree.{Definition}
 use Rattle.cs_ast.specs.TypedTree.{Typed, Of, Number, Local, Load, Binary, Compare, Statement, If, Return, Statements, Empty, Then}
 use Rattle.cs_ast.specs.TypedProgram.{Variable, Routine, TypedProgram}
 use Rattle.cs_small_form.specs.declared.small.Atom.{Atom}

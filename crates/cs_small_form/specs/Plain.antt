@@ -1,9 +1,9 @@
 -- Functions of the form seen as plain data.
-use Rattle.cs_small_form.specs.declared.small.SmallFunction.{SmallFunction}
+use Rattle.cs_small_form.specs.declared.small.FunctionParts.{FunctionParts}
 use Rattle.cs_small_form.specs.Small.{Small}
 use Rattle.cs_small_form.specs.Reading.{names_of}
 
-abbrev pub plain : SmallFunction → Small
+abbrev pub plain : FunctionParts → Small
 plain function = record {
   name = function.name;
   at = function.at;

@@ -6,12 +6,12 @@ use Rattle.std.specs.Cmp.Lexicographic.{pointwise}
 use Rattle.cs_types.specs.declared.int_type.IntType.TheVariants.{Int}
 use Rattle.cs_types.specs.Shape.{Shape, integer}
 use Rattle.cs_ast.specs.declared.place.Place.{Place}
-use Rattle.cs_ast.specs.declared.function.Local as objects
+use Rattle.cs_small_meaning.specs.declared.function.SmallLocal as objects
 use Rattle.cs_ast.specs.declared.typed.operator.BinOp.TheVariants.{Div}
 use Rattle.cs_ast.specs.declared.typed.operator.CmpOp.TheVariants.{Equal}
 use Rattle.cs_ast.specs.TypedTree.{Typed, Of, Number, Local, Load, Binary, Compare, Statement, Block, If, Return, Statements, Empty, Then}
 use Rattle.cs_ast.specs.TypedProgram.{Variable, Routine, TypedProgram}
-use Rattle.cs_ast.specs.Tree.{Definition}
+use Rattle.cs_small_meaning.specs.Tree.{Definition}
 use Rattle.cs_small_form.specs.declared.refusal.FormRefusal.{FormRefusal}
 use Rattle.cs_small_form.specs.declared.refusal.FormRefusal.TheVariants.{NotOfForm, Memory}
 use Rattle.cs_small_form.specs.declared.small.Atom.{Atom}

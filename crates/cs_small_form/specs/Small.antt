@@ -1,9 +1,9 @@
 -- The functions that are analyzed so far: tests of one parameter against a literal, and quotients.
 use Rattle.std.specs.Prelude.{ℕ, pos, ◌≢◌, ◌≤◌, ◌<◌, ◌^◌, List, [], ◌∷◌, length, All, AllPairs}
 use Rattle.cs_ast.specs.declared.place.Place.{Place}
-use Rattle.cs_ast.specs.declared.expression.BinOp.TheVariants.{Div}
-use Rattle.cs_ast.specs.declared.expression.CmpOp.TheVariants.{Equal}
-use Rattle.cs_ast.specs.Tree.{Expression, Number, Local, Load, Binary, Compare, Statement, Block, If, Return, Statements, Empty, Then, Definition}
+use Rattle.cs_small_meaning.specs.declared.expression.SmallBinOp.TheVariants.{Div}
+use Rattle.cs_small_meaning.specs.declared.expression.SmallCmpOp.TheVariants.{Equal}
+use Rattle.cs_small_meaning.specs.Tree.{SmallExpression, Number, Local, Load, Binary, Compare, SmallStatement, Block, If, Return, SmallStatements, Empty, Then, Definition}
 use Rattle.cs_small_form.specs.declared.small.Atom.{Atom}
 use Rattle.cs_small_form.specs.declared.small.Atom.TheVariants.{Parameter, Literal}
 use Rattle.cs_small_form.specs.declared.small.Answer.{Answer}
@@ -21,19 +21,19 @@ pub record Small : Type 0 where
   pub answer : Answer
 
 -- the trees of these parts: a name stands for the value of its object
-abbrev pub atom_tree : Atom → Expression
+abbrev pub atom_tree : Atom → SmallExpression
 atom_tree (Parameter at declaration) = Load at (Local at declaration)
 atom_tree (Literal at value) = Number at (pos value)
 
-abbrev pub answer_tree : Answer → Expression
+abbrev pub answer_tree : Answer → SmallExpression
 answer_tree (Single atom) = atom_tree atom
 answer_tree (Quotient at left right) = Binary at Div (atom_tree left) (atom_tree right)
 
-abbrev pub guard_tree : Guard → Statement
+abbrev pub guard_tree : Guard → SmallStatement
 guard_tree guard =
     If guard.at (Compare guard.equal_at Equal (Load guard.tested_at (Local guard.tested_at guard.tested)) (Number guard.literal_at (pos guard.literal))) (Return guard.return_at (answer_tree guard.answer))
 
-abbrev pub body_trees : List Guard → Place → Answer → Statements
+abbrev pub body_trees : List Guard → Place → Answer → SmallStatements
 body_trees [] at answer = Then (Return at (answer_tree answer)) Empty
 body_trees (guard ∷ guards) at answer = Then (guard_tree guard) (body_trees guards at answer)
 

@@ -2,7 +2,7 @@
 ghost use Rattle.std.specs.Prelude.{◌≡◌, ◌≤◌, [], map, length, option_map, vec_len, nat_eq, IfOk};
 ghost use Rattle.std.specs.List.{position};
 ghost use Rattle.std.specs.Cmp.Lexicographic.{pointwise};
-ghost use Rattle.cs_ast.specs.View.{definition};
+ghost use Rattle.cs_small_meaning.specs.View.{definition};
 ghost use Rattle.cs_ast.specs.TypedView.{statement, statement_list};
 ghost use Rattle.cs_ast.specs.TypedProgram.{variable, routine, typed_program};
 ghost use Rattle.cs_small_form.specs.Plain.{plain};
@@ -13,11 +13,12 @@ ghost use Rattle.cs_small_form.specs.Reading.{Reads, names_of};
 use crate::build::function;
 use crate::phrase::{guard, is_int, parameter, returned};
 use crate::refusal::FormRefusal;
-use crate::small::{Answer, Guard, SmallFunction};
+use crate::small::{Answer, FunctionParts, Guard};
+use cs_ast::Place;
 use cs_ast::typed::program::{Function as Routine, Local as Variable, Program};
 use cs_ast::typed::statement::{Stmt, StmtKind};
-use cs_ast::{Function, Local, Place};
 use cs_names::Name;
+use cs_small_meaning::{SmallFunction, SmallLocal};
 use std::alloc::{AllocError, Global};
 
 /// The most parameters that a function of the form has.
@@ -78,14 +79,14 @@ fn body(
 fn block(s: &Stmt) -> Option<(Place, &[Stmt])>
     ensures { option_map (λ found. (found.0, statement_list found.1.now)) result ≡ reading.block (statement s.now) }
 {
-    match &s.kind {
+    match &*s.kind {
         StmtKind::Block(items) => Some((s.place, items.as_slice())),
         _ => None,
     }
 }
 
 /// The locals of parameters, all of whose names differ.
-fn parameters(alloc: Global, variables: &[Variable]) -> Result<Vec<Local>, FormRefusal>
+fn parameters(alloc: Global, variables: &[Variable]) -> Result<Vec<SmallLocal>, FormRefusal>
     requires { length variables.now ≤ 8 }
     ensures few { IfOk result (λ locals. vec_len locals ≤ 8) }
     ensures read { Reads (λ v. names_of v.items) result (reading.parameters [] (map variable variables.now)) }
@@ -98,20 +99,20 @@ fn parameters(alloc: Global, variables: &[Variable]) -> Result<Vec<Local>, FormR
         if let Some(_) = index_of(locals.as_slice(), name) {
             return Err(FormRefusal::NotOfForm);
         }
-        locals.push(Local { name: name.copy()? })?;
+        locals.push(SmallLocal { name: name.copy()? })?;
     }
     Ok(locals)
 }
 
 /// The index of the first parameter with this name.
-fn index_of(parameters: &[Local], name: &Name) -> Option<usize>
+fn index_of(parameters: &[SmallLocal], name: &Name) -> Option<usize>
     ensures { result ≡ position (λ local. pointwise nat_eq local.name name.now) parameters.now }
 {
     parameters.iter().position(|local| local.name == *name)
 }
 
 /// The parts of the function of the form that a function is.
-fn small_of(alloc: Global, f: &Routine) -> Result<SmallFunction, FormRefusal>
+fn small_of(alloc: Global, f: &Routine) -> Result<FunctionParts, FormRefusal>
     ensures few { IfOk result (λ small. vec_len small.parameters ≤ 8) }
     ensures read { Reads plain result (reading.function (routine f.now)) }
 {
@@ -127,7 +128,7 @@ fn small_of(alloc: Global, f: &Routine) -> Result<SmallFunction, FormRefusal>
     };
     let parameters = parameters(alloc, f.locals.as_slice())?;
     let (guards, (return_at, answer)) = body(alloc, f.parameters, items)?;
-    Ok(SmallFunction {
+    Ok(FunctionParts {
         name: f.name.copy()?,
         at: f.place,
         parameters,
@@ -141,7 +142,7 @@ fn small_of(alloc: Global, f: &Routine) -> Result<SmallFunction, FormRefusal>
 /// The functions of a program, in order.
 ///
 /// It is `NotOfForm` where one of them is no function of the form.
-pub fn functions_of(alloc: Global, program: &Program) -> Result<Vec<Function>, FormRefusal>
+pub fn functions_of(alloc: Global, program: &Program) -> Result<Vec<SmallFunction>, FormRefusal>
     ensures { Reads (λ v. map definition v.items) result (option_map (map small.tree) (reading.functions (typed_program program.now).routines)) }
 {
     let mut functions = Vec::new(alloc);

@@ -28,8 +28,8 @@ pub fn is_int(ty: &CType) -> bool
 fn used(count: u32, e: &Expr) -> Option<(Place, u32)>
     ensures { result ≡ reading.used count (typed e.now) }
 {
-    match &e.kind {
-        ExprKind::Load(object) if is_int(&e.ty) => match &object.kind {
+    match &*e.kind {
+        ExprKind::Load(object) if is_int(&e.ty) => match &*object.kind {
             ExprKind::Local(number) if *number < count => Some((e.place, *number)),
             _ => None,
         },
@@ -41,7 +41,7 @@ fn used(count: u32, e: &Expr) -> Option<(Place, u32)>
 fn constant(e: &Expr) -> Option<(Place, u32)>
     ensures { result ≡ reading.constant (typed e.now) }
 {
-    match &e.kind {
+    match &*e.kind {
         ExprKind::Number(value) if is_int(&e.ty) => match u32::try_from(*value) {
             Ok(value) if value < INT_END => Some((e.place, value)),
             _ => None,
@@ -65,7 +65,7 @@ fn atom(count: u32, e: &Expr) -> Option<Atom>
 fn answer(count: u32, e: &Expr) -> Option<Answer>
     ensures { result ≡ reading.answer count (typed e.now) }
 {
-    match &e.kind {
+    match &*e.kind {
         ExprKind::Binary(BinOp::Div, left, right) if is_int(&e.ty) => {
             let left = atom(count, left)?;
             let right = atom(count, right)?;
@@ -82,7 +82,7 @@ fn answer(count: u32, e: &Expr) -> Option<Answer>
 pub fn returned(count: u32, s: &Stmt) -> Option<(Place, Answer)>
     ensures { result ≡ reading.returned count (statement s.now) }
 {
-    match &s.kind {
+    match &*s.kind {
         StmtKind::Return(Some(value)) => {
             let answer = answer(count, value)?;
             Some((s.place, answer))
@@ -95,7 +95,7 @@ pub fn returned(count: u32, s: &Stmt) -> Option<(Place, Answer)>
 fn compared(count: u32, e: &Expr) -> Option<(Place, (Place, u32), (Place, u32))>
     ensures { result ≡ reading.compared count (typed e.now) }
 {
-    match &e.kind {
+    match &*e.kind {
         ExprKind::Compare(CmpOp::Equal, left, right) => {
             let tested = used(count, left)?;
             let literal = constant(right)?;
@@ -109,7 +109,7 @@ fn compared(count: u32, e: &Expr) -> Option<(Place, (Place, u32), (Place, u32))>
 pub fn guard(count: u32, s: &Stmt) -> Option<Guard>
     ensures { result ≡ reading.guard count (statement s.now) }
 {
-    match &s.kind {
+    match &*s.kind {
         StmtKind::If(test, body) => {
             let (equal_at, (tested_at, tested), (literal_at, literal)) = compared(count, test)?;
             let (return_at, answer) = returned(count, body)?;

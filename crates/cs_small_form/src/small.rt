@@ -1,6 +1,7 @@
 //! The parts of a function of the form.
-use cs_ast::{Local, Place};
+use cs_ast::Place;
 use cs_names::Name;
+use cs_small_meaning::SmallLocal;
 
 /// An operand: a parameter, by its number, or a decimal literal.
 #[derive(Clone, Copy, Debug)]
@@ -31,10 +32,10 @@ pub struct Guard {
 
 /// `int NAME(int PARAMETER, ..) { GUARD .. return ANSWER; }`, with the places of NAME, `{` and `return`.
 #[derive(Drop)]
-pub struct SmallFunction {
+pub struct FunctionParts {
     pub name: Name,
     pub at: Place,
-    pub parameters: Vec<Local>,
+    pub parameters: Vec<SmallLocal>,
     pub block_at: Place,
     pub guards: Vec<Guard>,
     pub return_at: Place,

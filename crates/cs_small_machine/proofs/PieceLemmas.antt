@@ -1,14 +1,14 @@
 -- How pieces of a run make larger ones: for the contracts of `evaluate`, `execute` and what they call.
 use Rattle.std.proofs.Common.{◌≡◌, List, [], ◌∷◌, Result, Ok, Err, refl, sym, ap, subst, ◌∙◌, append_assoc}
 use Rattle.std.proofs.lemmas.List.{append-nil}
-use Rattle.cs_ast.specs.Tree.{Expression}
-use Rattle.cs_model.specs.declared.event.Event.{Event}
-use Rattle.cs_model.specs.declared.outcome.Budgets.{Budgets}
-use Rattle.cs_model.specs.declared.outcome.Outcome.{Outcome}
-use Rattle.cs_model.specs.Machine.{Machine, Operand, Item, Evaluate, Act, Step, Goes, Passes, Stops}
-use Rattle.cs_model.specs.Expressions.{evaluates, act}
-use Rattle.cs_model.specs.Statements.{step, perform}
-use Rattle.cs_model.specs.Runs.{stays, goes, passes}
+use Rattle.cs_small_meaning.specs.Tree.{SmallExpression}
+use Rattle.cs_events.specs.declared.event.Event.{Event}
+use Rattle.cs_small_meaning.specs.declared.budgets.Budgets.{Budgets}
+use Rattle.cs_events.specs.declared.outcome.Outcome.{Outcome}
+use Rattle.cs_small_meaning.specs.Machine.{Machine, Operand, Item, Evaluate, Act, Step, Goes, Passes, Stops}
+use Rattle.cs_small_meaning.specs.Expressions.{evaluates, act}
+use Rattle.cs_small_meaning.specs.Statements.{step, perform}
+use Rattle.cs_small_meaning.specs.Runs.{stays, goes, passes}
 use Rattle.cs_small_machine.specs.declared.interpreter.Interpreter.{Interpreter}
 use Rattle.cs_small_machine.specs.declared.interpreter.Stop.{Stop}
 use Rattle.cs_small_machine.specs.declared.interpreter.Stop.TheVariants as stop
@@ -69,7 +69,7 @@ by_event {new = new} given operand h here same back = record {
 }
 
 -- an expression without parts gives its operand
-pub by_act : (old : Interpreter) (e : Expression) (given : HeldOperand) → ((following : List Item) → evaluates e following ≡ Act e ∷ following) → ((todo : List Item) (stack : List Operand) → act old.budgets e (machine_of old todo stack) ≡ Goes (machine_of old todo (operand_of given ∷ stack))) → Follows operand_on (puts (Evaluate e)) old old (Ok given)
+pub by_act : (old : Interpreter) (e : SmallExpression) (given : HeldOperand) → ((following : List Item) → evaluates e following ≡ Act e ∷ following) → ((todo : List Item) (stack : List Operand) → act old.budgets e (machine_of old todo stack) ≡ Goes (machine_of old todo (operand_of given ∷ stack))) → Follows operand_on (puts (Evaluate e)) old old (Ok given)
 by_act old e given begins acts = record {
   goes_on = λ value is todo stack events outcome k.
       let same : given ≡ value = cc in

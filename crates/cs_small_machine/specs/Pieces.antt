@@ -1,12 +1,12 @@
 -- What a piece of a run does, told by the runs that it is the beginning of.
 use Rattle.std.specs.Prelude.{◌≡◌, List, [], ◌∷◌, ◌++◌, Result, Ok, Err}
-use Rattle.cs_ast.specs.Tree.{Statements}
-use Rattle.cs_model.specs.declared.event.Event.{Event}
-use Rattle.cs_model.specs.declared.outcome.Budgets.{Budgets}
-use Rattle.cs_model.specs.declared.outcome.Outcome.{Outcome}
-use Rattle.cs_model.specs.Machine.{Machine, Operand, Item, Step, Goes, Passes, Stops}
-use Rattle.cs_model.specs.Statements.{executes}
-use Rattle.cs_model.specs.Runs.{Ends}
+use Rattle.cs_small_meaning.specs.Tree.{SmallStatements}
+use Rattle.cs_events.specs.declared.event.Event.{Event}
+use Rattle.cs_small_meaning.specs.declared.budgets.Budgets.{Budgets}
+use Rattle.cs_events.specs.declared.outcome.Outcome.{Outcome}
+use Rattle.cs_small_meaning.specs.Machine.{Machine, Operand, Item, Step, Goes, Passes, Stops}
+use Rattle.cs_small_meaning.specs.Statements.{executes}
+use Rattle.cs_small_meaning.specs.Runs.{Ends}
 use Rattle.cs_small_machine.specs.declared.interpreter.Interpreter.{Interpreter}
 use Rattle.cs_small_machine.specs.declared.interpreter.Stop.{Stop}
 use Rattle.cs_small_machine.specs.declared.interpreter.Stop.TheVariants as stop
@@ -61,5 +61,5 @@ abbrev pub puts : Item → Machine → Step
 puts item m = Goes (record m { todo = item ∷ m.todo })
 
 -- the step that puts statements before what is to be done
-abbrev pub puts_all : Statements → Machine → Step
+abbrev pub puts_all : SmallStatements → Machine → Step
 puts_all statements m = Goes (record m { todo = executes statements m.todo })

@@ -1,13 +1,13 @@
 -- The interpreter's values and its state, seen as those of the reference machine.
 use Rattle.std.specs.Prelude.{List, [], ◌∷◌, length, Option, Some, None, ◌==◌, ◌&&◌, if◌then◌else◌, slice_get, map, take}
-use Rattle.cs_ast.specs.declared.statement.Stmt.{Stmt}
-use Rattle.cs_ast.specs.declared.function.Function.{Function}
-use Rattle.cs_ast.specs.declared.function.Local.{Local as Object}
-use Rattle.cs_ast.specs.Tree.{Statements, Empty, Then}
-use Rattle.cs_ast.specs.View.{statement}
-use Rattle.cs_model.specs.Integers.{int_input}
-use Rattle.cs_model.specs.Memory.{LocalObject, Cell, NumberCell, UnsetCell, Memory, Inputs}
-use Rattle.cs_model.specs.Machine.{Machine, Operand, Value, At, Item}
+use Rattle.cs_small_meaning.specs.declared.statement.SmallStmt.{SmallStmt}
+use Rattle.cs_small_meaning.specs.declared.function.SmallFunction.{SmallFunction}
+use Rattle.cs_small_meaning.specs.declared.function.SmallLocal.{SmallLocal as Object}
+use Rattle.cs_small_meaning.specs.Tree.{SmallStatements, Empty, Then}
+use Rattle.cs_small_meaning.specs.View.{statement}
+use Rattle.cs_small_meaning.specs.Integers.{int_input}
+use Rattle.cs_small_meaning.specs.Memory.{LocalObject, Cell, NumberCell, UnsetCell, Memory, Inputs}
+use Rattle.cs_small_meaning.specs.Machine.{Machine, Operand, Value, At, Item}
 use Rattle.cs_small_machine.specs.declared.operand.Cell.{Cell as HeldCell}
 use Rattle.cs_small_machine.specs.declared.operand.Cell.TheVariants as held
 use Rattle.cs_small_machine.specs.declared.operand.Operand.{Operand as HeldOperand}
@@ -45,11 +45,11 @@ machine_of state todo stack = record {
 }
 
 -- the statements of a list
-abbrev pub statements_in : List Stmt → Statements
+abbrev pub statements_in : List SmallStmt → SmallStatements
 statements_in [] = Empty
 statements_in (first ∷ others) = Then (statement first) (statements_in others)
 
 -- the cells that an entry's parameters begin with
-abbrev pub start_cells : Function → Inputs → List HeldCell
+abbrev pub start_cells : SmallFunction → Inputs → List HeldCell
 start_cells function inputs =
     map (λ (object : Object). held.Number (int_input (inputs object.name))) (take function.parameters function.locals.items)

@@ -1,34 +1,36 @@
 //! Evaluating expressions (C11 6.5).
 ghost use Rattle.std.specs.Prelude.{◌≡◌};
-ghost use Rattle.cs_ast.specs.View.{expression};
-ghost use Rattle.cs_model.specs.Machine.{Evaluate};
-ghost use Rattle.cs_model.specs.Expressions.{compares, compare, divide, operate};
+ghost use Rattle.cs_small_meaning.specs.View.{expression};
+ghost use Rattle.cs_small_meaning.specs.Machine.{Evaluate};
+ghost use Rattle.cs_small_meaning.specs.Expressions.{compares, compare, divide, operate};
 ghost use Rattle.cs_small_machine.specs.Pieces.{Gives, puts};
 
 use crate::integer::{int_quotient, quotient_wrap};
 use crate::interpreter::{Interpreter, Stop};
 use crate::operand::{Cell, Operand};
-use cs_ast::{BinOp, CmpOp, Expr, ExprKind, Place};
-use cs_model::{Event, Kind, Label, Outcome};
+use cs_ast::Place;
+use cs_events::{Event, Label, Outcome};
+use cs_model::Kind;
+use cs_small_meaning::{SmallBinOp, SmallCmpOp, SmallExpr, SmallExprKind};
 
 impl Interpreter {
     /// Evaluates an expression, the left operand before the right one.
-    pub fn evaluate(&mut self, expr: &Expr) -> Result<Operand, Stop>
+    pub fn evaluate(&mut self, expr: &SmallExpr) -> Result<Operand, Stop>
         ensures { Gives (puts (Evaluate (expression expr.now))) self.old self.new result }
     {
         match &expr.kind {
-            ExprKind::Number(number) => Ok(Operand::Value(Cell::Number(*number))),
-            ExprKind::Local(declaration) => Ok(Operand::Local(*declaration)),
-            ExprKind::Load(object) => {
+            SmallExprKind::Number(number) => Ok(Operand::Value(Cell::Number(*number))),
+            SmallExprKind::Local(declaration) => Ok(Operand::Local(*declaration)),
+            SmallExprKind::Load(object) => {
                 let operand = self.evaluate(object)?;
                 self.read(expr.place, operand)
             }
-            ExprKind::Binary(operator, left, right) => {
+            SmallExprKind::Binary(operator, left, right) => {
                 let left = self.evaluate(left)?;
                 let right = self.evaluate(right)?;
                 self.operate(expr.place, *operator, left.number(), right.number())
             }
-            ExprKind::Compare(operator, left, right) => {
+            SmallExprKind::Compare(operator, left, right) => {
                 let left = self.evaluate(left)?;
                 let right = self.evaluate(right)?;
                 let holds = compares(*operator, left.number(), right.number());
@@ -41,14 +43,14 @@ impl Interpreter {
     fn operate(
         &mut self,
         place: Place,
-        operator: BinOp,
+        operator: SmallBinOp,
         left: i128,
         right: i128,
     ) -> Result<Operand, Stop>
         ensures { Gives (operate self.old.budgets place operator left right) self.old self.new result }
     {
         match operator {
-            BinOp::Div => self.divide(place, left, right),
+            SmallBinOp::Div => self.divide(place, left, right),
         }
     }
 
@@ -79,10 +81,10 @@ impl Interpreter {
 }
 
 /// Whether two numbers compare so.
-fn compares(operator: CmpOp, left: i128, right: i128) -> bool
+fn compares(operator: SmallCmpOp, left: i128, right: i128) -> bool
     ensures { result ≡ compares operator left right }
 {
     match operator {
-        CmpOp::Equal => left == right,
+        SmallCmpOp::Equal => left == right,
     }
 }

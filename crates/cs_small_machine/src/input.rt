@@ -1,14 +1,13 @@
 //! The memory that a run begins with.
 ghost use Rattle.std.specs.Prelude.{◌≡◌, IfOk};
-ghost use Rattle.cs_model.specs.Integers.{int_input};
-ghost use Rattle.cs_model.specs.Memory.{listed};
+ghost use Rattle.cs_small_meaning.specs.Integers.{int_input};
+ghost use Rattle.cs_small_meaning.specs.Memory.{listed};
 ghost use Rattle.cs_small_machine.specs.View.{start_cells};
 
 use crate::integer::int_input;
 use crate::operand::Cell;
-use cs_ast::Function;
-use cs_model::Input;
 use cs_names::Name;
+use cs_small_meaning::{Input, SmallFunction};
 use std::alloc::{AllocError, Global};
 
 /// The number that a list of inputs gives a parameter: 0 if the list does not name it.
@@ -33,7 +32,7 @@ fn parameter_cell(inputs: &[Input], name: &Name) -> Cell
 /// The cells of the parameters, in their order.
 pub fn parameter_cells(
     alloc: Global,
-    function: &Function,
+    function: &SmallFunction,
     inputs: &[Input],
 ) -> Result<Vec<Cell>, AllocError>
     ensures { IfOk result (λ cells. cells.items ≡ start_cells function.now (listed inputs.now)) }

@@ -1,9 +1,9 @@
 //! The numbers of int (C11 6.2.5, 6.5.5): two's complement of 32 bits, where a quotient wraps.
 ghost use Rattle.std.specs.Prelude.{◌≡◌, pos, ◌≢◌};
 ghost use Rattle.std.specs.Int.{int_wrap, w32};
-ghost use Rattle.cs_model.specs.Integers.{is_int, int_input, int_quotient, quotient_wrap};
+ghost use Rattle.cs_small_meaning.specs.Integers.{is_int, int_input, int_quotient, quotient_wrap};
 
-use cs_model::Wrap;
+use cs_events::Wrap;
 
 /// Whether int has this number (C11 5.2.4.2.1).
 fn is_int(number: i128) -> bool

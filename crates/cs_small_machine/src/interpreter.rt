@@ -1,15 +1,17 @@
 //! The state of the interpreter, its events and its memory.
 ghost use Rattle.std.specs.Prelude.{◌≡◌, ℕ};
-ghost use Rattle.cs_model.specs.Machine.{pass};
-ghost use Rattle.cs_model.specs.Memory.{LocalObject};
-ghost use Rattle.cs_model.specs.Expressions.{read};
+ghost use Rattle.cs_small_meaning.specs.Machine.{pass};
+ghost use Rattle.cs_small_meaning.specs.Memory.{LocalObject};
+ghost use Rattle.cs_small_meaning.specs.Expressions.{read};
 ghost use Rattle.cs_small_machine.specs.View.{cell_of, operand_of, memory_of};
 ghost use Rattle.cs_small_machine.specs.Pieces.{Does, Gives};
 ghost use Rattle.cs_small_machine.specs.declared.interpreter.Stop.TheVariants.{OutOfMemory};
 
 use crate::operand::{Cell, Operand};
 use cs_ast::Place;
-use cs_model::{Budget, Budgets, Event, Kind, Label, Outcome};
+use cs_events::{Budget, Event, Label, Outcome};
+use cs_model::Kind;
+use cs_small_meaning::Budgets;
 use std::alloc::AllocFailed;
 
 /// What the interpreter knows of a run that goes on. The operands are Rust's own values, and what is

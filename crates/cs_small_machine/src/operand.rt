@@ -1,11 +1,11 @@
 //! Values on their way: what a cell holds, and what an evaluated expression gives.
 ghost use Rattle.std.specs.Prelude.{◌≡◌, pos, not};
 ghost use Rattle.std.specs.Ordering.{int_eq};
-ghost use Rattle.cs_model.specs.Machine.{number_of};
-ghost use Rattle.cs_model.specs.Statements.{returned_of};
+ghost use Rattle.cs_small_meaning.specs.Machine.{number_of};
+ghost use Rattle.cs_small_meaning.specs.Statements.{returned_of};
 ghost use Rattle.cs_small_machine.specs.View.{operand_of};
 
-use cs_model::Returned;
+use cs_events::Returned;
 
 /// What a cell of memory holds.
 #[derive(Clone, Copy)]

@@ -1,13 +1,13 @@
 //! Whole runs.
 ghost use Rattle.std.specs.Prelude.{IfOk};
-ghost use Rattle.cs_ast.specs.View.{definition};
-ghost use Rattle.cs_model.specs.Memory.{listed};
-ghost use Rattle.cs_model.specs.Runs.{RunEnds};
+ghost use Rattle.cs_small_meaning.specs.View.{definition};
+ghost use Rattle.cs_small_meaning.specs.Memory.{listed};
+ghost use Rattle.cs_small_meaning.specs.Runs.{RunEnds};
 
 use crate::input::parameter_cells;
 use crate::interpreter::{Interpreter, Stop};
-use cs_ast::Function;
-use cs_model::{Budgets, Event, Input, Outcome, Returned};
+use cs_events::{Event, Outcome, Returned};
+use cs_small_meaning::{Budgets, Input, SmallFunction};
 use std::alloc::{AllocError, Global};
 
 /// A run that has ended: how, and the events that it passed.
@@ -22,7 +22,7 @@ pub struct Ended {
 /// It takes every tree, also one that no C program has.
 pub fn run(
     alloc: Global,
-    function: &Function,
+    function: &SmallFunction,
     inputs: &[Input],
     budgets: &Budgets,
 ) -> Result<Ended, AllocError>

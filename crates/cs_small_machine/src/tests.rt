@@ -1,8 +1,13 @@
 //! Runs of small functions, with what C gives for them.
 use super::*;
-use cs_ast::{BinOp, CmpOp, Expr, ExprKind, Function, Local, Place, Stmt, StmtKind};
-use cs_model::{Budget, Budgets, Input, Kind, Label, Outcome, Returned, Wrap};
+use cs_ast::Place;
+use cs_events::{Budget, Label, Outcome, Returned, Wrap};
+use cs_model::Kind;
 use cs_names::Name;
+use cs_small_meaning::{
+    Budgets, Input, SmallBinOp, SmallCmpOp, SmallExpr, SmallExprKind, SmallFunction, SmallLocal,
+    SmallStmt, SmallStmtKind,
+};
 use std::alloc::{AllocError, Global};
 use std::test::Fail;
 
@@ -20,69 +25,84 @@ fn at(column: u32) -> Place {
     }
 }
 
-fn number(number: i128) -> Expr {
-    Expr {
+fn number(number: i128) -> SmallExpr {
+    SmallExpr {
         place: at(1),
-        kind: ExprKind::Number(number),
+        kind: SmallExprKind::Number(number),
     }
 }
 
-fn value(alloc: Global, column: u32, declaration: u32) -> Result<Expr, AllocError> {
-    let object = Expr {
+fn value(alloc: Global, column: u32, declaration: u32) -> Result<SmallExpr, AllocError> {
+    let object = SmallExpr {
         place: at(column),
-        kind: ExprKind::Local(declaration),
+        kind: SmallExprKind::Local(declaration),
     };
-    Ok(Expr {
+    Ok(SmallExpr {
         place: at(column),
-        kind: ExprKind::Load(Box::new(alloc, object)?),
+        kind: SmallExprKind::Load(Box::new(alloc, object)?),
     })
 }
 
-fn quotient(alloc: Global, column: u32, left: Expr, right: Expr) -> Result<Expr, AllocError> {
+fn quotient(
+    alloc: Global,
+    column: u32,
+    left: SmallExpr,
+    right: SmallExpr,
+) -> Result<SmallExpr, AllocError> {
     let (left, right) = (Box::new(alloc, left)?, Box::new(alloc, right)?);
-    Ok(Expr {
+    Ok(SmallExpr {
         place: at(column),
-        kind: ExprKind::Binary(BinOp::Div, left, right),
+        kind: SmallExprKind::Binary(SmallBinOp::Div, left, right),
     })
 }
 
-fn equal(alloc: Global, column: u32, left: Expr, right: Expr) -> Result<Expr, AllocError> {
+fn equal(
+    alloc: Global,
+    column: u32,
+    left: SmallExpr,
+    right: SmallExpr,
+) -> Result<SmallExpr, AllocError> {
     let (left, right) = (Box::new(alloc, left)?, Box::new(alloc, right)?);
-    Ok(Expr {
+    Ok(SmallExpr {
         place: at(column),
-        kind: ExprKind::Compare(CmpOp::Equal, left, right),
+        kind: SmallExprKind::Compare(SmallCmpOp::Equal, left, right),
     })
 }
 
-fn returns(value: Expr) -> Stmt {
-    Stmt {
+fn returns(value: SmallExpr) -> SmallStmt {
+    SmallStmt {
         place: at(1),
-        kind: StmtKind::Return(value),
+        kind: SmallStmtKind::Return(value),
     }
 }
 
-fn when(alloc: Global, column: u32, test: Expr, body: Stmt) -> Result<Stmt, AllocError> {
-    Ok(Stmt {
+fn when(
+    alloc: Global,
+    column: u32,
+    test: SmallExpr,
+    body: SmallStmt,
+) -> Result<SmallStmt, AllocError> {
+    Ok(SmallStmt {
         place: at(column),
-        kind: StmtKind::If(test, Box::new(alloc, body)?),
+        kind: SmallStmtKind::If(test, Box::new(alloc, body)?),
     })
 }
 
 /// `int f(int x, int y) { int z; STATEMENTS }`
-fn function(alloc: Global, statements: Vec<Stmt>) -> Result<Function, AllocError> {
+fn function(alloc: Global, statements: Vec<SmallStmt>) -> Result<SmallFunction, AllocError> {
     let mut locals = Vec::new(alloc);
     for name in ["x", "y", "z"] {
         let name = Name::from_slice(alloc, name.as_bytes())?;
-        locals.push(Local { name })?;
+        locals.push(SmallLocal { name })?;
     }
-    Ok(Function {
+    Ok(SmallFunction {
         name: Name::from_slice(alloc, b"f".as_slice())?,
         place: at(5),
         parameters: 2,
         locals,
-        body: Stmt {
+        body: SmallStmt {
             place: at(20),
-            kind: StmtKind::Block(statements),
+            kind: SmallStmtKind::Block(statements),
         },
     })
 }
@@ -97,7 +117,7 @@ fn input(alloc: Global, parameter: &str, number: i128) -> Result<Input, AllocErr
 /// Runs the function, and gives how it ends and what shows.
 fn outcome_of(
     alloc: Global,
-    function: &Function,
+    function: &SmallFunction,
     x: i128,
     y: i128,
     events: u64,

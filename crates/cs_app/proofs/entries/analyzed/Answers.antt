@@ -1,6 +1,6 @@
 use Rattle.std.proofs.Common.{◌++◌, sym, subst, ap, ◌∙◌, arith}
-use Rattle.cs_ast.specs.View.{definition}
-use Rattle.cs_model.specs.Texts.{entry_lines}
+use Rattle.cs_small_meaning.specs.View.{definition}
+use Rattle.cs_small_meaning.specs.Texts.{entry_lines}
 use Rattle.cs_small_analysis.specs.Shape.{IsCoverable, LeavesRoom}
 use Rattle.cs_app.specs.Entries.{DEFAULT_BUDGETS, IsResultOf, found_if}
 use Rattle.cs_app.proofs.EntryLemmas.{covered_at, one_more}

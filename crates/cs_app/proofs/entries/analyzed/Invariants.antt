@@ -1,5 +1,5 @@
 use Rattle.std.proofs.Common.{map, take}
-use Rattle.cs_ast.specs.View.{definition}
+use Rattle.cs_small_meaning.specs.View.{definition}
 use Rattle.cs_app.specs.Entries.{IsAnalysisOf}
 use Rattle.cs_app.proofs.entries.analyzed.Given as goal
 

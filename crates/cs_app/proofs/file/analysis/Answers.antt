@@ -1,6 +1,6 @@
 use Rattle.std.proofs.Common.{map}
 use Rattle.cs_ast.specs.TypedProgram.{typed_program}
-use Rattle.cs_ast.specs.View.{definition}
+use Rattle.cs_small_meaning.specs.View.{definition}
 use Rattle.cs_app.proofs.ShapeLemmas.{form_is_analyzable}
 use Rattle.cs_app.proofs.file.analysis.Goals as goal
 

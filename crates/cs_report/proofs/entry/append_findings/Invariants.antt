@@ -1,7 +1,7 @@
 -- Printed so far: the lines of the findings before the index.
 use Rattle.std.proofs.Common.{◌≡◌, ◌++◌, take}
 use Rattle.std.specs.List.{flat_map}
-use Rattle.cs_model.specs.Texts.{finding_lines}
+use Rattle.cs_small_meaning.specs.Texts.{finding_lines}
 use Rattle.cs_report.proofs.entry.append_findings.Given as goal
 
 abbrev pub invariant-loop-finding : goal.invariant-loop-finding

@@ -1,7 +1,7 @@
 -- Printed so far: the lines of the inputs before the index.
 use Rattle.std.proofs.Common.{◌≡◌, ◌++◌, take}
 use Rattle.std.specs.List.{flat_map}
-use Rattle.cs_model.specs.Texts.{input_line}
+use Rattle.cs_small_meaning.specs.Texts.{input_line}
 use Rattle.cs_report.proofs.finding.append_inputs.Given as goal
 
 abbrev pub invariant-loop-input : goal.invariant-loop-input

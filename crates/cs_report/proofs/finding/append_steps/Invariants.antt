@@ -1,8 +1,8 @@
 -- Printed so far: the lines of the events before the index.
 use Rattle.std.proofs.Common.{◌≡◌, ◌++◌, take}
 use Rattle.std.specs.List.{flat_map}
-use Rattle.cs_model.specs.declared.event.Event.{Event}
-use Rattle.cs_model.specs.Texts.{step_line}
+use Rattle.cs_events.specs.declared.event.Event.{Event}
+use Rattle.cs_small_meaning.specs.Texts.{step_line}
 use Rattle.cs_report.proofs.finding.append_steps.Given as goal
 
 abbrev pub invariant-loop-event : goal.invariant-loop-event

@@ -1,5 +1,5 @@
 use Rattle.std.proofs.Common.{refl}
-use Rattle.cs_ast.specs.View.{definition}
+use Rattle.cs_small_meaning.specs.View.{definition}
 use Rattle.cs_small_analysis.proofs.EntryLemmas.{good_entry}
 use Rattle.cs_small_analysis.proofs.analysis.analyze.Goals as goal
 

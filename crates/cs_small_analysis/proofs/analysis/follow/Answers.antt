@@ -1,11 +1,11 @@
 use Rattle.std.proofs.Common.{◌≡◌, ℕ, ◌<◌, List, [], ◌∷◌, Ok, length, ap, ◌∙◌, sym, subst, arith}
 use Rattle.std.proofs.lemmas.List.{length-map}
-use Rattle.cs_ast.specs.declared.statement.Stmt.{Stmt}
-use Rattle.cs_ast.specs.declared.function.Local.{Local}
-use Rattle.cs_ast.specs.Tree.{Then}
-use Rattle.cs_ast.specs.View.{definition, statement, statements}
-use Rattle.cs_model.specs.declared.event.Event.{Event}
-use Rattle.cs_model.specs.declared.finding.Finding.{Finding}
+use Rattle.cs_small_meaning.specs.declared.statement.SmallStmt.{SmallStmt}
+use Rattle.cs_small_meaning.specs.declared.function.SmallLocal.{SmallLocal}
+use Rattle.cs_small_meaning.specs.Tree.{Then}
+use Rattle.cs_small_meaning.specs.View.{definition, statement, statements}
+use Rattle.cs_events.specs.declared.event.Event.{Event}
+use Rattle.cs_small_meaning.specs.declared.finding.Finding.{Finding}
 use Rattle.cs_small_analysis.specs.Paths.{IsFollowed, AreGood, PassesOn}
 use Rattle.cs_small_analysis.proofs.BodyLemmas.{followed_at_start, good_at_start, reaches_first, step_of_body, followed_on, reported_at_end}
 use Rattle.cs_small_analysis.proofs.FollowLemmas.{of_some}
@@ -20,8 +20,8 @@ pub loop-first-init : goal.loop-first-init
 loop-first-init c =
     let function = definition c.args.function.now in
     let ranges = c.in_ok-full_ranges.field-0.items in
-    let count : length ranges ≡ length function.locals = omega (arith, c.in_ok-full_ranges.ensures.each_one, length-map c.args.function.now.locals.items (λ (x : Local). x.name)) in
-    let within : (k : ℕ) → k < length function.locals → k < c.len.result = λ k there. omega (arith, length-map c.args.function.now.locals.items (λ (x : Local). x.name)) in
+    let count : length ranges ≡ length function.locals = omega (arith, c.in_ok-full_ranges.ensures.each_one, length-map c.args.function.now.locals.items (λ (x : SmallLocal). x.name)) in
+    let within : (k : ℕ) → k < length function.locals → k < c.len.result = λ k there. omega (arith, length-map c.args.function.now.locals.items (λ (x : SmallLocal). x.name)) in
     record {
       followed = subst (λ es. IsFollowed function ranges es (statements c.args.body.now) c.new-reports.result.items) (sym c.new.ensures.items) (subst (λ rs. IsFollowed function ranges [] (statements c.args.body.now) rs) (sym c.new-reports.ensures.items) (followed_at_start function ranges c.args.function.now.body.place (statements c.args.body.now) c.requires.shape c.requires.body count (λ k x there. c.in_ok-full_ranges.ensures.all k x (within k there))));
       good = subst (AreGood function) (sym c.new-reports.ensures.items) (good_at_start function);

@@ -1,5 +1,5 @@
 use Rattle.std.proofs.Common.{length}
-use Rattle.cs_ast.specs.View.{definition, statements}
+use Rattle.cs_small_meaning.specs.View.{definition, statements}
 use Rattle.cs_small_analysis.specs.Paths.{IsFollowed, AreGood}
 use Rattle.cs_small_analysis.proofs.analysis.follow.Given as goal
 

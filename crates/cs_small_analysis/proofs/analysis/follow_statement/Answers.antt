@@ -1,5 +1,5 @@
 use Rattle.std.proofs.Common.{ap}
-use Rattle.cs_ast.specs.View.{definition, statement, statement_at, expression}
+use Rattle.cs_small_meaning.specs.View.{definition, statement, statement_at, expression}
 use Rattle.cs_small_analysis.proofs.FollowLemmas.{statement_returns}
 use Rattle.cs_small_analysis.proofs.analysis.follow_statement.Goals as goal
 

@@ -3,8 +3,8 @@ use Rattle.std.specs.Prelude.{◌&&◌, not, int_le, FitsSigned, IfSome}
 use Rattle.std.specs.Int.{w128}
 use Rattle.std.proofs.lemmas.Int.{to_z-of_z}
 use Rattle.std.proofs.lemmas.Option.{IfSome_then}
-use Rattle.cs_ast.specs.View.{definition, statement, expression}
-use Rattle.cs_ast.specs.Tree.{place_of}
+use Rattle.cs_small_meaning.specs.View.{definition, statement, expression}
+use Rattle.cs_small_meaning.specs.Tree.{place_of}
 use Rattle.cs_ranges.specs.declared.range_set.Interval.{Interval}
 use Rattle.cs_ranges.specs.RangeSet.{contains, IsEmpty}
 use Rattle.cs_small_analysis.specs.declared.path.Path.{Path}

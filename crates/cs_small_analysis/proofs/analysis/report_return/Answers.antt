@@ -1,13 +1,13 @@
 use Rattle.std.proofs.Common.{◌≡◌, Bool, false, true, List, ap, ◌∙◌, sym, subst}
-use Rattle.cs_ast.specs.View.{definition, expression}
-use Rattle.cs_ast.specs.Tree.{Expression, place_of}
+use Rattle.cs_small_meaning.specs.View.{definition, expression}
+use Rattle.cs_small_meaning.specs.Tree.{SmallExpression, place_of}
 use Rattle.cs_small_analysis.specs.Paths.{Ranges, may_divide_by_zero}
 use Rattle.cs_small_analysis.specs.Reports.{divides, Yields}
 use Rattle.cs_small_analysis.proofs.FollowLemmas.{reported_if_safe, reported_if_reported, good_report, good_with, place_of-expression_at}
 use Rattle.cs_small_analysis.proofs.analysis.report_return.Goals as goal
 
 -- what the test answered, of the ranges of the path
-answered : (ranges seen : Ranges) (e : Expression) (answer held : Bool) → seen ≡ ranges → answer ≡ may_divide_by_zero seen e → answer ≡ held → may_divide_by_zero ranges e ≡ held
+answered : (ranges seen : Ranges) (e : SmallExpression) (answer held : Bool) → seen ≡ ranges → answer ≡ may_divide_by_zero seen e → answer ≡ held → may_divide_by_zero ranges e ≡ held
 answered ranges seen e answer held same by is = subst (λ r. may_divide_by_zero r e ≡ held) same (sym by ∙ is)
 
 pub returns-then-not-may_divide_by_zero-clause-reported : goal.returns-then-not-may_divide_by_zero-clause-reported

@@ -1,7 +1,7 @@
 use Rattle.std.proofs.Common.{◌≡◌, ap, ◌∙◌, sym, refl}
-use Rattle.cs_ast.specs.Tree.{Block}
-use Rattle.cs_ast.specs.View.{definition, statement_at, statements}
-use Rattle.cs_ast.proofs.RowLemmas.{statement_at-Block}
+use Rattle.cs_small_meaning.specs.Tree.{Block}
+use Rattle.cs_small_meaning.specs.View.{definition, statement_at, statements}
+use Rattle.cs_small_meaning.proofs.BlockRows.{statement_at-Block}
 use Rattle.cs_small_analysis.proofs.analysis.reports_of.Goals as goal
 
 pub follow-requires-clause-body : goal.follow-requires-clause-body

@@ -3,21 +3,21 @@ use Rattle.std.proofs.lemmas.Int.{to_z-of_z}
 use Rattle.std.specs.Prelude.{FitsSigned}
 use Rattle.std.specs.Int.{w128}
 use Rattle.std.proofs.lemmas.List.{length-map, get_or-map}
-use Rattle.cs_ast.specs.declared.function.Function.{Function}
-use Rattle.cs_ast.specs.declared.function.Local.{Local}
-use Rattle.cs_ast.specs.View.{definition}
+use Rattle.cs_small_meaning.specs.declared.function.SmallFunction.{SmallFunction}
+use Rattle.cs_small_meaning.specs.declared.function.SmallLocal.{SmallLocal}
+use Rattle.cs_small_meaning.specs.View.{definition}
 use Rattle.cs_small_analysis.proofs.InputLemmas.{GiveFirst, give_more, range_read}
 use Rattle.cs_ranges.specs.RangeSet.{IsInhabited, IsLeastAbs}
-use Rattle.cs_model.specs.declared.finding.Input.{Input}
+use Rattle.cs_small_meaning.specs.declared.finding.Input.{Input}
 use Rattle.cs_small_analysis.specs.Paths.{range_of}
 use Rattle.cs_small_analysis.proofs.inputs.inputs_of.Goals as goal
 
 -- a declaration that is there has a name
-named : (function : Function) (k : ℕ) → k < length function.locals.items → k < length (definition function).locals
-named function k there = omega (arith, length-map function.locals.items (λ (x : Local). x.name))
+named : (function : SmallFunction) (k : ℕ) → k < length function.locals.items → k < length (definition function).locals
+named function k there = omega (arith, length-map function.locals.items (λ (x : SmallLocal). x.name))
 
-name_at : (function : Function) (k : ℕ) (local : Local) → k < length function.locals.items → local ≡ get_or function.locals.items k local → local.name ≡ get_or (definition function).locals k []
-name_at function k local there is = ap (λ (x : Local). x.name) is ∙ sym (get_or-map (λ (x : Local). x.name) function.locals.items k local [] there)
+name_at : (function : SmallFunction) (k : ℕ) (local : SmallLocal) → k < length function.locals.items → local ≡ get_or function.locals.items k local → local.name ≡ get_or (definition function).locals k []
+name_at function k local there is = ap (λ (x : SmallLocal). x.name) is ∙ sym (get_or-map (λ (x : SmallLocal). x.name) function.locals.items k local [] there)
 
 pub least_number-number-requires : goal.least_number-number-requires
 least_number-number-requires c =

@@ -1,4 +1,4 @@
-use Rattle.cs_ast.specs.View.{definition}
+use Rattle.cs_small_meaning.specs.View.{definition}
 use Rattle.cs_small_analysis.proofs.InputLemmas.{GiveFirst}
 use Rattle.cs_small_analysis.proofs.inputs.inputs_of.Given as goal
 

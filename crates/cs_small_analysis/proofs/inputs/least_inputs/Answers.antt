@@ -1,4 +1,4 @@
-use Rattle.cs_ast.specs.View.{definition}
+use Rattle.cs_small_meaning.specs.View.{definition}
 use Rattle.cs_small_analysis.proofs.InputLemmas.{least_listed, lists_parameters}
 use Rattle.cs_small_analysis.proofs.inputs.least_inputs.Goals as goal
 

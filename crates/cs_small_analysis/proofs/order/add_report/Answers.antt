@@ -1,8 +1,8 @@
 use Rattle.std.proofs.Common.{◌≡◌, ℕ, ◌<◌, ◌≤◌, IsTrue, List, length, get_or, sym, ap, ◌∙◌, subst, rules, arith}
 use Rattle.std.proofs.lemmas.List.{get_or_read}
 use Rattle.cs_ast.specs.declared.place.Place.{Place}
-use Rattle.cs_model.specs.declared.finding.Finding.{Finding}
-use Rattle.cs_model.specs.Findings.{IsBefore}
+use Rattle.cs_small_meaning.specs.declared.finding.Finding.{Finding}
+use Rattle.cs_small_meaning.specs.Findings.{IsBefore}
 use Rattle.cs_small_analysis.specs.Reports.{AreDivisions, AreInOrder, Keeps, Yields, TakesIn, division_place, divides}
 use Rattle.cs_small_analysis.proofs.ReportLemmas.{same_place, AreInOrder-insert, AreDivisions-insert, TakesIn-insert, Keeps-insert, Yields-insert}
 use Rattle.cs_small_analysis.proofs.order.add_report.Goals as goal

@@ -1,7 +1,7 @@
 use Rattle.std.proofs.Common.{ℕ, ◌<◌}
 use Rattle.std.specs.Prelude.{slice_index_or}
-use Rattle.cs_model.specs.declared.finding.Finding.{Finding}
-use Rattle.cs_model.specs.Findings.{IsBefore}
+use Rattle.cs_small_meaning.specs.declared.finding.Finding.{Finding}
+use Rattle.cs_small_meaning.specs.Findings.{IsBefore}
 use Rattle.cs_small_analysis.specs.Reports.{division_place}
 use Rattle.cs_small_analysis.proofs.order.first_not_before.Given as goal
 

@@ -1,6 +1,6 @@
 use Rattle.std.proofs.Common.{◌≡◌, ℕ, ◌-◌, ◌<◌, ◌≤◌, ℤ, vec_len}
 use Rattle.cs_ranges.specs.RangeSet.{contains}
-use Rattle.cs_model.specs.Integers.{is_int}
+use Rattle.cs_small_meaning.specs.Integers.{is_int}
 use Rattle.cs_small_analysis.specs.Paths.{range_of}
 use Rattle.cs_small_analysis.proofs.ranges.full_ranges.Given as goal
 

@@ -1,5 +1,5 @@
 use Rattle.std.proofs.Common.{length, ap, sym, ◌∙◌}
-use Rattle.cs_ast.specs.Tree as trees
+use Rattle.cs_small_meaning.specs.Tree as trees
 use Rattle.cs_small_form.specs.Reading.{names_of}
 use Rattle.cs_small_form.proofs.Bodies.{body_is, same_definition}
 use Rattle.cs_small_form.proofs.Positions.{length-names}

@@ -1,5 +1,5 @@
 use Rattle.std.proofs.Common.{◌≡◌, map, take}
-use Rattle.cs_ast.specs.View.{statement}
+use Rattle.cs_small_meaning.specs.View.{statement}
 use Rattle.cs_small_form.specs.Small.{guard_tree}
 use Rattle.cs_small_form.proofs.build.tests.Given as goal
 

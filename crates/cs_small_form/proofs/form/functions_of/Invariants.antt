@@ -1,6 +1,6 @@
 use Rattle.std.proofs.Common.{◌≡◌, drop, map}
 use Rattle.std.specs.Prelude.{option_map}
-use Rattle.cs_ast.specs.View.{definition}
+use Rattle.cs_small_meaning.specs.View.{definition}
 use Rattle.cs_ast.specs.TypedProgram.{routine}
 use Rattle.cs_small_form.specs.Small.{tree}
 use Rattle.cs_small_form.specs.Reading.{functions}

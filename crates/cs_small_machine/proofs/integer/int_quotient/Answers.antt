@@ -3,7 +3,7 @@ use Rattle.std.proofs.Math.Nat.{div-le_self}
 use Rattle.std.proofs.lemmas.Int.{ints, to_z-of_z}
 use Rattle.std.specs.Int.{int_wrap, w32, w128, cast_signed, cast_unsigned, int_wrapping_div}
 use Rattle.std.specs.Int.RustNames.{int_div, unsigned_abs}
-use Rattle.cs_model.specs.Integers.{int_quotient}
+use Rattle.cs_small_meaning.specs.Integers.{int_quotient}
 use Rattle.cs_small_machine.proofs.integer.int_quotient.Goals as goal
 
 -- a number that is at most one past 128 bits, cut to 128 bits first, is cut to int alike

@@ -1,5 +1,5 @@
 use Rattle.std.proofs.Common.{ap, ◌∙◌, Err}
-use Rattle.cs_model.specs.Memory.{listed}
+use Rattle.cs_small_meaning.specs.Memory.{listed}
 use Rattle.cs_small_machine.proofs.StartLemmas.{run_falls_through, run_stops}
 use Rattle.cs_small_machine.proofs.runs.run.Goals as goal
 use Rattle.cs_small_machine.proofs.runs.run.Goals.{in-Ok, in-Err-Outcome}

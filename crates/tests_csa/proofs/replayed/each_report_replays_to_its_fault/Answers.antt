@@ -1,7 +1,7 @@
 use Rattle.std.proofs.Common.{map, sym, subst, arith}
 use Rattle.std.specs.List.{All}
 use Rattle.cs_ast.specs.TypedProgram.{typed_program}
-use Rattle.cs_ast.specs.View.{definition}
+use Rattle.cs_small_meaning.specs.View.{definition}
 use Rattle.cs_small_analysis.specs.Shape.{IsCoverable}
 use Rattle.cs_app.specs.Entries.{IsAnalyzable}
 use Rattle.cs_app.proofs.ShapeLemmas.{form_is_analyzable}

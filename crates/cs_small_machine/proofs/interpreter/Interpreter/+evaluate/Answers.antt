@@ -1,9 +1,9 @@
 use Rattle.std.proofs.Common.{◌≡◌, ℤ, ap, ◌∙◌, ◌∷◌, Err, FitsSigned, rules, refl}
 use Rattle.std.proofs.lemmas.Int.{to_z-of_z}
 use Rattle.std.specs.Int.{w128, cast_signed, cast_unsigned}
-use Rattle.cs_ast.specs.View.{expression_at, expression}
-use Rattle.cs_model.specs.Machine.{Evaluate, Act, number_of}
-use Rattle.cs_model.specs.Expressions.{operate, compares}
+use Rattle.cs_small_meaning.specs.View.{expression_at, expression}
+use Rattle.cs_small_meaning.specs.Machine.{Evaluate, Act, number_of}
+use Rattle.cs_small_meaning.specs.Expressions.{operate, compares}
 use Rattle.cs_small_machine.specs.View.{operand_of}
 use Rattle.cs_small_machine.proofs.PieceLemmas.{by_stop, by_last}
 use Rattle.cs_small_machine.proofs.ExpressionLemmas.{load_part, binary_parts, compare_parts, to_part, from_part, to_left, to_right, from_parts, load_acts, binary_acts, compare_acts, number_given, local_given}

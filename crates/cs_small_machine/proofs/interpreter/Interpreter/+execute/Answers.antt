@@ -1,8 +1,8 @@
 use Rattle.std.proofs.Common.{◌≡◌, ◌+◌, [], drop, arith, ap, ◌∙◌, ◌∷◌, Err, rules}
 use Rattle.std.proofs.lemmas.List.{drop_all}
-use Rattle.cs_ast.specs.View.{statement_at, statement}
-use Rattle.cs_model.specs.Machine.{Decide, Leave}
-use Rattle.cs_model.specs.Statements.{chosen, executes}
+use Rattle.cs_small_meaning.specs.View.{statement_at, statement}
+use Rattle.cs_small_meaning.specs.Machine.{Decide, Leave}
+use Rattle.cs_small_meaning.specs.Statements.{chosen, executes}
 use Rattle.cs_small_machine.specs.View.{statements_in}
 use Rattle.cs_small_machine.proofs.PieceLemmas.{by_stop, by_last}
 use Rattle.cs_small_machine.proofs.RowLemmas.{statement_at-Block, statements_in-drop}

@@ -1,9 +1,9 @@
 -- The statements before the index were executed: what is left of the list is next.
 use Rattle.std.proofs.Common.{List, drop}
-use Rattle.cs_model.specs.declared.event.Event.{Event}
-use Rattle.cs_model.specs.declared.outcome.Outcome.{Outcome}
-use Rattle.cs_model.specs.Machine.{Operand, Item}
-use Rattle.cs_model.specs.Statements.{executes}
+use Rattle.cs_events.specs.declared.event.Event.{Event}
+use Rattle.cs_events.specs.declared.outcome.Outcome.{Outcome}
+use Rattle.cs_small_meaning.specs.Machine.{Operand, Item}
+use Rattle.cs_small_meaning.specs.Statements.{executes}
 use Rattle.cs_small_machine.specs.View.{statements_in}
 use Rattle.cs_small_machine.specs.Pieces.{EndsFrom}
 use Rattle.cs_small_machine.proofs.interpreter.Interpreter.+execute.Given as goal

@@ -1,8 +1,8 @@
 use Rattle.std.proofs.Common.{◌≡◌, Bool, true, false, pos, ◌∷◌, Err, rules, refl}
 use Rattle.std.specs.Int.{w128, cast_signed, cast_unsigned, from_bool}
-use Rattle.cs_model.specs.Memory.{NumberCell}
-use Rattle.cs_model.specs.Machine.{Value}
-use Rattle.cs_model.specs.Expressions.{truth_number}
+use Rattle.cs_small_meaning.specs.Memory.{NumberCell}
+use Rattle.cs_small_meaning.specs.Machine.{Value}
+use Rattle.cs_small_meaning.specs.Expressions.{truth_number}
 use Rattle.cs_small_machine.proofs.PieceLemmas.{by_stop, by_event}
 use Rattle.cs_small_machine.proofs.interpreter.Interpreter.compare.Goals as goal
 

@@ -3,15 +3,15 @@ use Rattle.std.proofs.lemmas.Int.{ints, to_z-of_z}
 use Rattle.std.specs.Int.{w128, cast_signed, cast_unsigned}
 use Rattle.std.specs.Ordering.{int_eq}
 use Rattle.cs_ast.specs.declared.place.Place.{Place}
-use Rattle.cs_model.specs.declared.event.Event.{Event}
-use Rattle.cs_model.specs.declared.event.Label.TheVariants as label
-use Rattle.cs_model.specs.declared.event.Wrap.{Wrap}
-use Rattle.cs_model.specs.declared.outcome.Budgets.{Budgets}
-use Rattle.cs_model.specs.declared.outcome.Outcome.{Outcome}
-use Rattle.cs_model.specs.Integers.{int_quotient, quotient_wrap}
-use Rattle.cs_model.specs.Memory.{NumberCell}
-use Rattle.cs_model.specs.Machine.{Operand, Value, Item, pass}
-use Rattle.cs_model.specs.Expressions.{divide}
+use Rattle.cs_events.specs.declared.event.Event.{Event}
+use Rattle.cs_events.specs.declared.event.Label.TheVariants as label
+use Rattle.cs_events.specs.declared.event.Wrap.{Wrap}
+use Rattle.cs_small_meaning.specs.declared.budgets.Budgets.{Budgets}
+use Rattle.cs_events.specs.declared.outcome.Outcome.{Outcome}
+use Rattle.cs_small_meaning.specs.Integers.{int_quotient, quotient_wrap}
+use Rattle.cs_small_meaning.specs.Memory.{NumberCell}
+use Rattle.cs_small_meaning.specs.Machine.{Operand, Value, Item, pass}
+use Rattle.cs_small_meaning.specs.Expressions.{divide}
 use Rattle.cs_small_machine.specs.declared.interpreter.Interpreter.{Interpreter}
 use Rattle.cs_small_machine.specs.Pieces.{EndsBy}
 use Rattle.cs_small_machine.proofs.PieceLemmas.{by_stop, by_event}

@@ -3,20 +3,21 @@ use Rattle.std.specs.Prelude.{◌≡◌, ◌≢◌, ℕ, ◌<◌, Bool, true, fa
 use Rattle.std.specs.Ordering.{nat_cmp}
 use Rattle.std.specs.Cmp.Lexicographic.{slice_cmp}
 use Rattle.cs_ast.specs.declared.place.Place.{Place}
-use Rattle.cs_ast.specs.Tree.{Definition}
-use Rattle.cs_model.specs.declared.event.Event.{Event}
-use Rattle.cs_model.specs.declared.finding.Input.{Input}
-use Rattle.cs_model.specs.declared.finding.Finding.{Finding}
-use Rattle.cs_model.specs.declared.finding.Verdict.{Verdict}
-use Rattle.cs_model.specs.declared.finding.Verdict.TheVariants.{Complete, Bounded}
-use Rattle.cs_model.specs.declared.finding.EntryResult.{EntryResult}
+use Rattle.cs_small_meaning.specs.Tree.{Definition}
+use Rattle.cs_events.specs.declared.event.Event.{Event}
+use Rattle.cs_small_meaning.specs.declared.finding.Input.{Input}
+use Rattle.cs_small_meaning.specs.declared.finding.Finding.{Finding}
+use Rattle.cs_small_meaning.specs.declared.finding.Verdict.{Verdict}
+use Rattle.cs_small_meaning.specs.declared.finding.Verdict.TheVariants.{Complete, Bounded}
+use Rattle.cs_small_meaning.specs.declared.finding.EntryResult.{EntryResult}
 use Rattle.cs_model.specs.declared.kind.Kind.{Kind}
-use Rattle.cs_model.specs.declared.outcome.Budgets.{Budgets}
-use Rattle.cs_model.specs.declared.outcome.Outcome.{Outcome}
-use Rattle.cs_model.specs.declared.outcome.Outcome.TheVariants.{Done, Fault, Over}
-use Rattle.cs_model.specs.Kinds.{kind_number, budget_number}
-use Rattle.cs_model.specs.Memory.{Inputs, listed, parameter_names}
-use Rattle.cs_model.specs.Runs.{RunEnds}
+use Rattle.cs_small_meaning.specs.declared.budgets.Budgets.{Budgets}
+use Rattle.cs_events.specs.declared.outcome.Outcome.{Outcome}
+use Rattle.cs_events.specs.declared.outcome.Outcome.TheVariants.{Done, Fault, Over}
+use Rattle.cs_model.specs.Kinds.{kind_number}
+use Rattle.cs_events.specs.Budgets.{budget_number}
+use Rattle.cs_small_meaning.specs.Memory.{Inputs, listed, parameter_names}
+use Rattle.cs_small_meaning.specs.Runs.{RunEnds}
 
 abbrev pub IsFault : Outcome → Type 0
 IsFault (Done returned) = ⊥

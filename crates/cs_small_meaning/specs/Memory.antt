@@ -1,9 +1,9 @@
 -- The memory of the reference machine, and the inputs that it begins with.
 use Rattle.std.specs.Prelude.{ℕ, ℤ, pos, Bool, List, [], ◌∷◌, Option, Some, None, nat_eq, ◌==◌, ◌&&◌, if◌then◌else◌, slice_get, take}
 use Rattle.std.specs.Cmp.Lexicographic.{pointwise}
-use Rattle.cs_ast.specs.Tree.{Definition}
-use Rattle.cs_model.specs.declared.finding.Input.{Input}
-use Rattle.cs_model.specs.Integers.{int_input}
+use Rattle.cs_small_meaning.specs.Tree.{Definition}
+use Rattle.cs_small_meaning.specs.declared.finding.Input.{Input}
+use Rattle.cs_small_meaning.specs.Integers.{int_input}
 
 -- what a place may lie in
 pub data Object : Type 0 where

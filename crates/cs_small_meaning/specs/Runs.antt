@@ -1,12 +1,12 @@
 -- Runs of the reference machine.
 use Rattle.std.specs.Prelude.{◌≡◌, List, [], ◌∷◌}
-use Rattle.cs_ast.specs.Tree.{Definition}
-use Rattle.cs_model.specs.declared.event.Event.{Event}
-use Rattle.cs_model.specs.declared.outcome.Outcome.{Outcome}
-use Rattle.cs_model.specs.declared.outcome.Budgets.{Budgets}
-use Rattle.cs_model.specs.Memory.{Inputs}
-use Rattle.cs_model.specs.Machine.{Machine, Goes, Passes, Stops, start}
-use Rattle.cs_model.specs.Statements.{step}
+use Rattle.cs_small_meaning.specs.Tree.{Definition}
+use Rattle.cs_events.specs.declared.event.Event.{Event}
+use Rattle.cs_events.specs.declared.outcome.Outcome.{Outcome}
+use Rattle.cs_small_meaning.specs.declared.budgets.Budgets.{Budgets}
+use Rattle.cs_small_meaning.specs.Memory.{Inputs}
+use Rattle.cs_small_meaning.specs.Machine.{Machine, Goes, Passes, Stops, start}
+use Rattle.cs_small_meaning.specs.Statements.{step}
 
 -- from one machine the steps lead to another, and pass these events on the way
 pub data Leads (budgets : Budgets) : Machine → List Event → Machine → Type 0 where

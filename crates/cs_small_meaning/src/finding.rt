@@ -1,7 +1,6 @@
 //! What the analyzer says of an entry: findings with the run that shows each.
 
-use crate::event::Event;
-use crate::outcome::Outcome;
+use cs_events::{Event, Outcome};
 use cs_names::Name;
 
 /// The number that an entry's parameter receives. Inputs are ordered by the parameters' names.

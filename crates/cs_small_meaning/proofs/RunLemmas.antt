@@ -1,12 +1,12 @@
 -- Runs are determined, and go on from where they have come to: for every crate that follows a run.
 use Rattle.std.proofs.Common.{◌≡◌, List, [], ◌∷◌, ◌++◌, refl, sym, ap, ◌∙◌, subst}
 use Rattle.std.proofs.lemmas.List.{append-nil}
-use Rattle.cs_model.specs.declared.event.Event.{Event}
-use Rattle.cs_model.specs.declared.outcome.Outcome.{Outcome}
-use Rattle.cs_model.specs.declared.outcome.Budgets.{Budgets}
-use Rattle.cs_model.specs.Machine.{Machine, Step, Goes, Passes, Stops}
-use Rattle.cs_model.specs.Statements.{step}
-use Rattle.cs_model.specs.Runs.{Leads, stays, goes, passes, Ends}
+use Rattle.cs_events.specs.declared.event.Event.{Event}
+use Rattle.cs_events.specs.declared.outcome.Outcome.{Outcome}
+use Rattle.cs_small_meaning.specs.declared.budgets.Budgets.{Budgets}
+use Rattle.cs_small_meaning.specs.Machine.{Machine, Step, Goes, Passes, Stops}
+use Rattle.cs_small_meaning.specs.Statements.{step}
+use Rattle.cs_small_meaning.specs.Runs.{Leads, stays, goes, passes, Ends}
 
 -- two ways, one after the other
 pub leads_on : (budgets : Budgets) {m middle last : Machine} {events more : List Event} → Leads budgets m events middle → Leads budgets middle more last → Leads budgets m (events ++ more) last

@@ -1,8 +1,8 @@
 -- The integers of C: two's complement, where arithmetic wraps.
 use Rattle.std.specs.Prelude.{ℕ, ◌^◌, ℤ, pos, negsuc, Bool, nat_lt, if◌then◌else◌, int_div}
 use Rattle.std.specs.Int.{int_wrap, w32}
-use Rattle.cs_model.specs.declared.event.Wrap.{Wrap}
-use Rattle.cs_model.specs.declared.event.Wrap.TheVariants.{Same, Past}
+use Rattle.cs_events.specs.declared.event.Wrap.{Wrap}
+use Rattle.cs_events.specs.declared.event.Wrap.TheVariants.{Same, Past}
 
 -- whether int has this number: -2147483648 to 2147483647 (C11 5.2.4.2.1)
 abbrev pub is_int : ℤ → Bool

@@ -3,22 +3,20 @@ use Rattle.std.specs.Prelude.{ℕ, Bool, true, false, List, [], ◌∷◌, ◌++
 use Rattle.std.specs.List.{flat_map}
 use Rattle.std.specs.Fmt.{decimal, signed_decimal}
 use Rattle.cs_ast.specs.declared.place.Place.{Place}
-use Rattle.cs_ast.specs.Tree.{Definition}
-use Rattle.cs_model.specs.declared.event.Event.{Event}
-use Rattle.cs_model.specs.declared.event.Label.{Label}
-use Rattle.cs_model.specs.declared.event.Label.TheVariants.{Truth, Branch, Wrap}
-use Rattle.cs_model.specs.declared.finding.Input.{Input}
-use Rattle.cs_model.specs.declared.finding.Finding.{Finding}
-use Rattle.cs_model.specs.declared.finding.Verdict.{Verdict}
-use Rattle.cs_model.specs.declared.finding.Verdict.TheVariants.{Complete, Bounded, Cut}
-use Rattle.cs_model.specs.declared.finding.EntryResult.{EntryResult}
-use Rattle.cs_model.specs.declared.outcome.Outcome.{Outcome}
-use Rattle.cs_model.specs.declared.outcome.Outcome.TheVariants.{Done, Fault, Over}
-use Rattle.cs_model.specs.Kinds.{kind_name, budget_name}
-
--- `FILE:LINE:COLUMN`, the files by their numbers
-abbrev pub place_text : List (List ℕ) → Place → List ℕ
-place_text files at = slice_index_or files at.file [] ++ codes ":" ++ decimal at.line ++ codes ":" ++ decimal at.column
+use Rattle.cs_small_meaning.specs.Tree.{Definition}
+use Rattle.cs_events.specs.declared.event.Event.{Event}
+use Rattle.cs_events.specs.declared.event.Label.{Label}
+use Rattle.cs_events.specs.declared.event.Label.TheVariants.{Branch}
+use Rattle.cs_small_meaning.specs.declared.finding.Input.{Input}
+use Rattle.cs_small_meaning.specs.declared.finding.Finding.{Finding}
+use Rattle.cs_small_meaning.specs.declared.finding.Verdict.{Verdict}
+use Rattle.cs_small_meaning.specs.declared.finding.Verdict.TheVariants.{Complete, Bounded, Cut}
+use Rattle.cs_small_meaning.specs.declared.finding.EntryResult.{EntryResult}
+use Rattle.cs_events.specs.declared.outcome.Outcome.{Outcome}
+use Rattle.cs_events.specs.declared.outcome.Outcome.TheVariants.{Done, Fault, Over}
+use Rattle.cs_model.specs.Kinds.{kind_name}
+use Rattle.cs_model.specs.Places.{place_text}
+use Rattle.cs_events.specs.Budgets.{budget_name}
 
 -- `report KIND PLACE` or `over BUDGET PLACE`
 abbrev pub outcome_text : List (List ℕ) → Outcome → List ℕ
@@ -37,8 +35,7 @@ truth_text false = codes "false"
 -- `  step PLACE branch WAY`: of the events only the ways of tests are steps
 abbrev pub step_line : List (List ℕ) → Place → Label → List ℕ
 step_line files at (Branch holds) = codes "  step " ++ place_text files at ++ codes " branch " ++ truth_text holds ++ codes "\n"
-step_line files at (Truth holds) = []
-step_line files at (Wrap wrap) = []
+step_line files at label = []
 
 -- a finding: its outcome, its inputs, its steps. It is confirmed: its run lists no guess
 abbrev pub finding_lines : List (List ℕ) → Finding → List ℕ

@@ -1,24 +1,24 @@
 //! Statements (C11 6.8).
 
-use crate::expression::Expr;
-use crate::place::Place;
+use crate::expression::SmallExpr;
+use cs_ast::Place;
 
 /// A statement at the place of its first token.
 #[cycle(statement)]
 #[derive(Drop)]
-pub struct Stmt {
+pub struct SmallStmt {
     pub place: Place,
-    pub kind: StmtKind,
+    pub kind: SmallStmtKind,
 }
 
 /// What a statement is.
 #[cycle(statement)]
 #[derive(Drop)]
-pub enum StmtKind {
+pub enum SmallStmtKind {
     /// Statements one after another (C11 6.8.2).
-    Block(Vec<Stmt>),
+    Block(Vec<SmallStmt>),
     /// `if` without `else` (C11 6.8.4.1).
-    If(Expr, Box<Stmt>),
+    If(SmallExpr, Box<SmallStmt>),
     /// `return` with a value (C11 6.8.6.4).
-    Return(Expr),
+    Return(SmallExpr),
 }

@@ -1,33 +1,4 @@
-//! How a run ends, and the budgets that it ends by.
-
-use crate::kind::Kind;
-use cs_ast::Place;
-
-/// How a run ends.
-#[derive(Clone, Copy, PartialEq, Eq, Debug)]
-pub enum Outcome {
-    /// The entry returned.
-    Done(Returned),
-    /// A fault of this kind at this place.
-    Fault(Kind, Place),
-    /// A budget was met at this place.
-    Over(Budget, Place),
-}
-
-/// What an entry returned.
-#[derive(Clone, Copy, PartialEq, Eq, Debug)]
-pub enum Returned {
-    Number(i128),
-    Unset,
-}
-
-/// The budgets that end a run.
-#[derive(Clone, Copy, PartialEq, Eq, Debug)]
-pub enum Budget {
-    Visits,
-    Depth,
-    Events,
-}
+//! How far the analysis goes.
 
 /// How far runs and explorations go.
 #[derive(Clone, Copy, PartialEq, Eq, Debug)]

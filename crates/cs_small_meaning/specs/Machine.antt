@@ -1,12 +1,12 @@
 -- The reference machine: what it has to do, and what it does at each step.
 use Rattle.std.specs.Prelude.{ℕ, ◌+◌, ℤ, pos, List, [], ◌∷◌, nat_lt, if◌then◌else◌}
-use Rattle.cs_ast.specs.Tree.{Expression, Statement, Definition}
-use Rattle.cs_model.specs.declared.event.Event.{Event}
-use Rattle.cs_model.specs.declared.outcome.Outcome.{Outcome}
-use Rattle.cs_model.specs.declared.outcome.Outcome.TheVariants.{Over}
-use Rattle.cs_model.specs.declared.outcome.Budget.TheVariants.{Events}
-use Rattle.cs_model.specs.declared.outcome.Budgets.{Budgets}
-use Rattle.cs_model.specs.Memory.{Object, Cell, NumberCell, UnsetCell, Memory, Inputs, start_memory}
+use Rattle.cs_small_meaning.specs.Tree.{SmallExpression, SmallStatement, Definition}
+use Rattle.cs_events.specs.declared.event.Event.{Event}
+use Rattle.cs_events.specs.declared.outcome.Outcome.{Outcome}
+use Rattle.cs_events.specs.declared.outcome.Outcome.TheVariants.{Over}
+use Rattle.cs_events.specs.declared.outcome.Budget.TheVariants.{Events}
+use Rattle.cs_small_meaning.specs.declared.budgets.Budgets.{Budgets}
+use Rattle.cs_small_meaning.specs.Memory.{Object, Cell, NumberCell, UnsetCell, Memory, Inputs, start_memory}
 
 -- what an evaluated expression leaves on the stack: what a cell may hold, or the place of an object
 pub data Operand : Type 0 where
@@ -16,12 +16,12 @@ pub data Operand : Type 0 where
 -- what is still to be done
 pub data Item : Type 0 where
   -- evaluate the parts of an expression, and then act on them
-  Evaluate : Expression → Item
+  Evaluate : SmallExpression → Item
   -- do what an expression does with its parts, which are on the stack
-  Act : Expression → Item
-  Execute : Statement → Item
+  Act : SmallExpression → Item
+  Execute : SmallStatement → Item
   -- go the way that the test of a statement says, which is on the stack
-  Decide : Statement → Item
+  Decide : SmallStatement → Item
   -- leave the frame with the value on the stack
   Leave : Item
 

@@ -1,0 +1,10 @@
+pub mod Tree
+pub mod View
+pub mod Integers
+pub mod Memory
+pub mod Machine
+pub mod Expressions
+pub mod Statements
+pub mod Runs
+pub mod Findings
+pub mod Texts
