@@ -17,12 +17,12 @@ use Rattle.cs_run_state.proofs.StatementForms.{count_all-list}
 
 module _ (program : TypedProgram) (budgets : RunBudgets) (e : Expr) (m : State) where
   -- a call, with so many arguments
-  pub call_act : (function : ℕ) (arguments : Vec Expr Global) (count : ℕ) → e.kind ≡ kind.Call function arguments → count ≡ length arguments.items → act program budgets (typed e) m ≡ call program budgets e.place function count m
+  pub call_act : (function : ℕ) (arguments : Vec Expr Global) (count : ℕ) → e.kind.value ≡ kind.Call function arguments → count ≡ length arguments.items → act program budgets (typed e) m ≡ call program budgets e.place function count m
   call_act function arguments count is counted =
       ap (λ (f : Form). act_form program budgets e.place (shape_of e.ty) f m) (ap form is ∙ form-Call function arguments)
       ∙ ap (λ (n : ℕ). call program budgets e.place function n m) (count_all-list arguments.items ∙ sym counted)
 
   -- a call of `malloc` or `calloc`
-  pub allocate_act : (allocator : Allocator) (arguments : Vec Expr Global) (element : CType) → e.kind ≡ kind.Allocate allocator arguments element → act program budgets (typed e) m ≡ allocate program e.place allocator (shape_of element) m
+  pub allocate_act : (allocator : Allocator) (arguments : Vec Expr Global) (element : CType) → e.kind.value ≡ kind.Allocate allocator arguments element → act program budgets (typed e) m ≡ allocate program e.place allocator (shape_of element) m
   allocate_act allocator arguments element is =
       ap (λ (f : Form). act_form program budgets e.place (shape_of e.ty) f m) (ap form is ∙ form-Allocate allocator arguments element)

@@ -6,7 +6,6 @@ pub mod Locals
 pub mod Statics
 pub mod InRows
 pub mod Remaining
-pub mod Loading
 pub mod Declaring
 pub mod ExpressionForms
 pub mod Functions

@@ -32,7 +32,7 @@ longer (b ∷ row) more =
     let e = longer row more in
     omega arith
 
-module _ (wanted : ℕ → Option plain.Block) (row : List Block) (count : ℕ) (long : length row ≡ count) (are : (n : ℕ) → n < count → block_at row n ≡ wanted n) where
+module _ (wanted : ℕ → Option meaning.Block) (row : List Block) (count : ℕ) (long : length row ≡ count) (are : (n : ℕ) → n < count → block_at row n ≡ wanted n) where
   -- one more object, which is as it should be
   pub one_more_block : (more : Block) → Some (block_of more) ≡ wanted count → (n : ℕ) → n < count + 1 → block_at (row ++ more ∷ []) n ≡ wanted n
   one_more_block more new n h = at (nat_lt n count) refl

@@ -40,10 +40,6 @@ index_act program at ty order m =
 abbrev pub arrow_act : Place → ℕ → State → Act State
 arrow_act at offset m = arrow at (cell_at m 0) offset (λ cell. Goes (push_cell cell (pop m)))
 
--- a load from what an expression names
-abbrev pub load_act : TypedProgram → Typed → State → Act State
-load_act program object m = load program m.memory m.frame.number object (cell_at m 0) (λ memory operand. Goes (push operand (with_memory memory (pop m))))
-
 -- a conversion
 abbrev pub convert_act : TypedProgram → Place → Shape → Shape → State → Act State
 convert_act program at from to m = convert program.model at from to (operand_at m 0) (λ operand. Goes (push operand (pop m)))
@@ -70,18 +66,9 @@ abbrev pub difference_act : TypedProgram → Place → Shape → State → Act S
 difference_act program at ty m =
     difference at (cell_at m 1) (cell_at m 0) (size_of program (target_of ty)) (λ number. Goes (push_cell (NumberCell number) (pop_many 2 m)))
 
--- an assignment, an update of a number, and that of a pointer
-abbrev pub assign_act : TypedProgram → Place → Typed → State → Act State
-assign_act program at object m = stores program at object 1 (operand_at m 0) 2 (operand_at m 0) m
-
-abbrev pub update_act : TypedProgram → Place → BinOp → Typed → IntType → Gives → State → Act State
-update_act program at op object works_in gives m =
-    operate program.model at op works_in (number_at m 1) (number_at m 0) (λ number.
-    convert_number program.model at (integer works_in) (integer_of (type_of object)) number (λ stored. updates program at object gives stored m))
-
-abbrev pub move_act : TypedProgram → Place → Typed → Direction → Gives → State → Act State
-move_act program at object direction gives m =
-    sum program.model at (cell_at m 1) (directed direction (number_at m 0)) (size_of program (target_of (type_of object))) (λ cell. moves program at object gives cell m)
+-- the bytes of what a pointer that an expression names points to
+abbrev pub size_of_target : TypedProgram → Typed → ℕ
+size_of_target program object = size_of program (target_of (type_of object))
 
 -- a call of `free`
 abbrev pub free_act : Place → State → Act State

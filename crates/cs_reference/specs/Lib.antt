@@ -1,6 +1,5 @@
 pub mod RunnerView
 pub mod Acting
-pub mod Fetching
 pub mod Calling
 pub mod Jumping
 pub mod Deciding

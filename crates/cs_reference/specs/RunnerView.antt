@@ -1,4 +1,5 @@
 -- A run on its way, seen as the reference machine's: its state, its program and its budgets, and what an act does to it.
+use Rattle.std.specs.Prelude.{◌≡◌, Result, ⊤, OnOk, IfErr}
 use Rattle.cs_types.specs.Layout.{IsLaidOut}
 use Rattle.cs_ast.specs.TypedProgram.{TypedProgram, typed_program}
 use Rattle.cs_events.specs.declared.outcome.RunBudgets.{RunBudgets}
@@ -33,3 +34,9 @@ module _ (old new : Runner) where
   -- an act ends the run
   abbrev pub Ends : Act State → Stop → Type 0
   Ends act stop = pieces.EndsBy old.setting.now old.log new.log act stop
+
+  -- what a call comes to that performs an act: the act leads the run on, by the same program, inputs and budgets, or has ended it
+  pub record Performs (result : Result ⊤ Stop) (act : Act State) : Type 0 where
+    pub ok : OnOk result (LeadsOn act)
+    pub err : IfErr result (Ends act)
+    pub kept : OnOk result (new.setting ≡ old.setting)

@@ -7,14 +7,13 @@ ghost use Rattle.cs_meaning.specs.Expressions as expressions;
 ghost use Rattle.cs_events.specs.Objects.{NumberCell};
 ghost use Rattle.cs_events.specs.Acts.{Goes};
 ghost use Rattle.cs_meaning.specs.Access as loads;
-ghost use Rattle.cs_run_state.specs.View.{cell_of, operand_of};
+ghost use Rattle.cs_run_state.specs.View.{cell_of};
 ghost use Rattle.cs_run_state.specs.MachineView.{state_of};
-ghost use Rattle.cs_run_state.specs.Pieces as pieces;
-ghost use Rattle.cs_reference.specs.RunnerView.{program_of, budgets_of, state_in, IsReady, LeadsOn, Ends};
-ghost use Rattle.cs_reference.specs.Acting.{local_place, member_place, index_act, arrow_act, load_act, convert_act, unary_act, not_act, binary_act, compare_act, sum_act, difference_act, assign_act, update_act, move_act, free_act};
+ghost use Rattle.cs_run_state.specs.Updates.{load_act, assign_act, update_act, move_act};
+ghost use Rattle.cs_reference.specs.RunnerView.{program_of, budgets_of, state_in, IsReady, Performs};
+ghost use Rattle.cs_reference.specs.Acting.{local_place, member_place, index_act, arrow_act, convert_act, unary_act, not_act, binary_act, compare_act, sum_act, difference_act, size_of_target, free_act};
 
 use crate::frames::number_of;
-use crate::operands::{given, given_number, pop_moved, pop_stored, pop_updated};
 use crate::runner::Runner;
 use cs_ast::Place;
 use cs_ast::typed::expression::{Expr, ExprKind};
@@ -31,12 +30,10 @@ impl<'a> Runner<'a> {
     /// Does what an expression does with its parts.
     pub fn act(&mut self, e: &'a Expr) -> Result<(), Stop>
         requires { IsReady self.old }
-        ensures ok { OnOk result (LeadsOn self.old self.new (expressions.act (program_of self.old) (budgets_of self.old) (typed e.now) (state_in self.old))) }
-        ensures err { IfErr result (Ends self.old self.new (expressions.act (program_of self.old) (budgets_of self.old) (typed e.now) (state_in self.old))) }
-        ensures kept { OnOk result (self.new.setting ≡ self.old.setting) }
+        ensures { Performs self.old self.new result (expressions.act (program_of self.old) (budgets_of self.old) (typed e.now) (state_in self.old)) }
     {
         let place = e.place;
-        match &e.kind {
+        match &*e.kind {
             ExprKind::Number(number) => self.act_cell(Cell::Number(*number)),
             ExprKind::Null => self.act_cell(Cell::Null),
             ExprKind::Text(literal) => self.act_cell(Cell::Pointer(Object::Literal(*literal), 0)),
@@ -71,9 +68,7 @@ impl<'a> Runner<'a> {
 
     // A scalar is left.
     fn act_cell(&mut self, cell: Cell) -> Result<(), Stop>
-        ensures ok { OnOk result (LeadsOn self.old self.new (Goes (machine.push_cell (cell_of cell) (state_in self.old)))) }
-        ensures err { IfErr result (Ends self.old self.new (Goes (machine.push_cell (cell_of cell) (state_in self.old)))) }
-        ensures kept { OnOk result (self.new.setting ≡ self.old.setting) }
+        ensures { Performs self.old self.new result (Goes (machine.push_cell (cell_of cell) (state_in self.old))) }
     {
         self.machine.push_cell(cell)?;
         Ok(())
@@ -81,9 +76,7 @@ impl<'a> Runner<'a> {
 
     // The place of a local is left.
     fn act_local(&mut self, declaration: u32) -> Result<(), Stop>
-        ensures ok { OnOk result (LeadsOn self.old self.new (Goes (local_place declaration (state_in self.old)))) }
-        ensures err { IfErr result (Ends self.old self.new (Goes (local_place declaration (state_in self.old)))) }
-        ensures kept { OnOk result (self.new.setting ≡ self.old.setting) }
+        ensures { Performs self.old self.new result (Goes (local_place declaration (state_in self.old))) }
     {
         let object = Object::Local(number_of(&self.machine), declaration);
         self.machine.push_cell(Cell::Pointer(object, 0))?;
@@ -92,9 +85,7 @@ impl<'a> Runner<'a> {
 
     // The place of a member is left.
     fn act_member(&mut self, offset: u64) -> Result<(), Stop>
-        ensures ok { OnOk result (LeadsOn self.old self.new (Goes (member_place offset (state_in self.old)))) }
-        ensures err { IfErr result (Ends self.old self.new (Goes (member_place offset (state_in self.old)))) }
-        ensures kept { OnOk result (self.new.setting ≡ self.old.setting) }
+        ensures { Performs self.old self.new result (Goes (member_place offset (state_in self.old))) }
     {
         let place = self.machine.pop_cell().further(offset)?;
         self.machine.push_cell(place)?;
@@ -104,9 +95,7 @@ impl<'a> Runner<'a> {
     // The element of an array: a pointer sum.
     fn act_index(&mut self, place: Place, ty: &CType, order: Order) -> Result<(), Stop>
         requires { IsReady self.old }
-        ensures ok { OnOk result (LeadsOn self.old self.new (index_act (program_of self.old) place (shape_of ty.now) order (state_in self.old))) }
-        ensures err { IfErr result (Ends self.old self.new (index_act (program_of self.old) place (shape_of ty.now) order (state_in self.old))) }
-        ensures kept { OnOk result (self.new.setting ≡ self.old.setting) }
+        ensures { Performs self.old self.new result (index_act (program_of self.old) place (shape_of ty.now) order (state_in self.old)) }
     {
         let size = size_of(self.setting.program, ty)?;
         let (pointer, amount) = self.machine.pop_both(order);
@@ -118,9 +107,7 @@ impl<'a> Runner<'a> {
 
     // The member of what a pointer points to.
     fn act_arrow(&mut self, place: Place, offset: u64) -> Result<(), Stop>
-        ensures ok { OnOk result (LeadsOn self.old self.new (arrow_act place offset (state_in self.old))) }
-        ensures err { IfErr result (Ends self.old self.new (arrow_act place offset (state_in self.old))) }
-        ensures kept { OnOk result (self.new.setting ≡ self.old.setting) }
+        ensures { Performs self.old self.new result (arrow_act place offset (state_in self.old)) }
     {
         let pointer = self.machine.pop_cell();
         let made = self.log.arrow(self.setting, place, pointer, offset)?;
@@ -131,24 +118,16 @@ impl<'a> Runner<'a> {
     // A load.
     fn act_load(&mut self, object: &Expr) -> Result<(), Stop>
         requires { IsReady self.old }
-        ensures ok { OnOk result (LeadsOn self.old self.new (load_act (program_of self.old) (typed object.now) (state_in self.old))) }
-        ensures err { IfErr result (Ends self.old self.new (load_act (program_of self.old) (typed object.now) (state_in self.old))) }
-        ensures kept { OnOk result (self.new.setting ≡ self.old.setting) }
+        ensures { Performs self.old self.new result
+            (load_act (program_of self.old) (loads.access_of (typed object.now)) (state_in self.old)) }
     {
-        let place = self.machine.pop_cell();
         let access = access_of(object);
-        let operand = self
-            .machine
-            .load(&mut self.log, self.setting, access, place)?;
-        self.machine.push(operand)?;
-        Ok(())
+        self.machine.load_from(&mut self.log, self.setting, access)
     }
 
     // A conversion.
     fn act_convert(&mut self, place: Place, from: &CType, to: &CType) -> Result<(), Stop>
-        ensures ok { OnOk result (LeadsOn self.old self.new (convert_act (program_of self.old) place (shape_of from.now) (shape_of to.now) (state_in self.old))) }
-        ensures err { IfErr result (Ends self.old self.new (convert_act (program_of self.old) place (shape_of from.now) (shape_of to.now) (state_in self.old))) }
-        ensures kept { OnOk result (self.new.setting ≡ self.old.setting) }
+        ensures { Performs self.old self.new result (convert_act (program_of self.old) place (shape_of from.now) (shape_of to.now) (state_in self.old)) }
     {
         let operand = self.machine.pop();
         let made = self.log.convert(self.setting, place, from, to, operand)?;
@@ -158,11 +137,9 @@ impl<'a> Runner<'a> {
 
     // An operator of one integer.
     fn act_unary(&mut self, place: Place, ty: &CType, operator: UnOp) -> Result<(), Stop>
-        ensures ok { OnOk result (LeadsOn self.old self.new (unary_act place (shape_of ty.now) operator (state_in self.old))) }
-        ensures err { IfErr result (Ends self.old self.new (unary_act place (shape_of ty.now) operator (state_in self.old))) }
-        ensures kept { OnOk result (self.new.setting ≡ self.old.setting) }
+        ensures { Performs self.old self.new result (unary_act place (shape_of ty.now) operator (state_in self.old)) }
     {
-        let operand = self.machine.pop_cell();
+        let operand = self.machine.pop_number();
         let operation = unary_operation(operator, integer_of(ty), &operand);
         let number = self.log.ask(self.setting, place, operation)?;
         self.machine.push_cell(Cell::Number(number))?;
@@ -171,9 +148,7 @@ impl<'a> Runner<'a> {
 
     // Whether an operand doesn't hold.
     fn act_not(&mut self, place: Place) -> Result<(), Stop>
-        ensures ok { OnOk result (LeadsOn self.old self.new (not_act place (state_in self.old))) }
-        ensures err { IfErr result (Ends self.old self.new (not_act place (state_in self.old))) }
-        ensures kept { OnOk result (self.new.setting ≡ self.old.setting) }
+        ensures { Performs self.old self.new result (not_act place (state_in self.old)) }
     {
         let operand = self.machine.pop_cell();
         let holds = self.log.truth(self.setting, place, &operand)?;
@@ -184,11 +159,9 @@ impl<'a> Runner<'a> {
 
     // An operator of two integers.
     fn act_binary(&mut self, place: Place, ty: &CType, operator: BinOp) -> Result<(), Stop>
-        ensures ok { OnOk result (LeadsOn self.old self.new (binary_act (program_of self.old) place (shape_of ty.now) operator (state_in self.old))) }
-        ensures err { IfErr result (Ends self.old self.new (binary_act (program_of self.old) place (shape_of ty.now) operator (state_in self.old))) }
-        ensures kept { OnOk result (self.new.setting ≡ self.old.setting) }
+        ensures { Performs self.old self.new result (binary_act (program_of self.old) place (shape_of ty.now) operator (state_in self.old)) }
     {
-        let (left, right) = self.machine.pop_two();
+        let (left, right) = self.machine.pop_numbers();
         let ty = integer_of(ty);
         let number = self
             .log
@@ -199,9 +172,7 @@ impl<'a> Runner<'a> {
 
     // A comparison.
     fn act_compare(&mut self, place: Place, operator: CmpOp) -> Result<(), Stop>
-        ensures ok { OnOk result (LeadsOn self.old self.new (compare_act place operator (state_in self.old))) }
-        ensures err { IfErr result (Ends self.old self.new (compare_act place operator (state_in self.old))) }
-        ensures kept { OnOk result (self.new.setting ≡ self.old.setting) }
+        ensures { Performs self.old self.new result (compare_act place operator (state_in self.old)) }
     {
         let (left, right) = self.machine.pop_two();
         let number = self
@@ -220,9 +191,7 @@ impl<'a> Runner<'a> {
         order: Order,
     ) -> Result<(), Stop>
         requires { IsReady self.old }
-        ensures ok { OnOk result (LeadsOn self.old self.new (sum_act (program_of self.old) place (shape_of ty.now) direction order (state_in self.old))) }
-        ensures err { IfErr result (Ends self.old self.new (sum_act (program_of self.old) place (shape_of ty.now) direction order (state_in self.old))) }
-        ensures kept { OnOk result (self.new.setting ≡ self.old.setting) }
+        ensures { Performs self.old self.new result (sum_act (program_of self.old) place (shape_of ty.now) direction order (state_in self.old)) }
     {
         let size = target_size(self.setting.program, ty)?;
         let (pointer, amount) = self.machine.pop_both(order);
@@ -235,9 +204,7 @@ impl<'a> Runner<'a> {
     // How many elements lie between two pointers.
     fn act_difference(&mut self, place: Place, ty: &CType) -> Result<(), Stop>
         requires { IsReady self.old }
-        ensures ok { OnOk result (LeadsOn self.old self.new (difference_act (program_of self.old) place (shape_of ty.now) (state_in self.old))) }
-        ensures err { IfErr result (Ends self.old self.new (difference_act (program_of self.old) place (shape_of ty.now) (state_in self.old))) }
-        ensures kept { OnOk result (self.new.setting ≡ self.old.setting) }
+        ensures { Performs self.old self.new result (difference_act (program_of self.old) place (shape_of ty.now) (state_in self.old)) }
     {
         let size = target_size(self.setting.program, ty)?;
         let (left, right) = self.machine.pop_two();
@@ -251,18 +218,15 @@ impl<'a> Runner<'a> {
     // An assignment, which leaves the stored value.
     fn act_assign(&mut self, place: Place, object: &Expr) -> Result<(), Stop>
         requires { IsReady self.old }
-        ensures ok { OnOk result (LeadsOn self.old self.new (assign_act (program_of self.old) place (typed object.now) (state_in self.old))) }
-        ensures err { IfErr result (Ends self.old self.new (assign_act (program_of self.old) place (typed object.now) (state_in self.old))) }
-        ensures kept { OnOk result (self.new.setting ≡ self.old.setting) }
+        ensures { Performs self.old self.new result
+            (assign_act (program_of self.old) place (loads.access_of (typed object.now)) (state_in self.old)) }
     {
-        let (target, value) = pop_stored(&mut self.machine);
-        let left = value.copy()?;
-        self.store(place, object, target, value)?;
-        self.machine.push(left)?;
-        Ok(())
+        let access = access_of(object);
+        self.machine
+            .assign(&mut self.log, self.setting, place, access)
     }
 
-    // An update of a number: the operands are the place, the value before, the same converted, and the right operand.
+    // An update of a number.
     fn act_update(
         &mut self,
         place: Place,
@@ -272,24 +236,22 @@ impl<'a> Runner<'a> {
         gives: Gives,
     ) -> Result<(), Stop>
         requires { IsReady self.old }
-        ensures ok { OnOk result (LeadsOn self.old self.new (update_act (program_of self.old) place operator (typed object.now) works_in gives (state_in self.old))) }
-        ensures err { IfErr result (Ends self.old self.new (update_act (program_of self.old) place operator (typed object.now) works_in gives (state_in self.old))) }
-        ensures kept { OnOk result (self.new.setting ≡ self.old.setting) }
+        ensures { Performs self.old self.new result
+            (update_act (program_of self.old) place operator (loads.access_of (typed object.now)) works_in gives (state_in self.old)) }
     {
-        let (target, before, converted, right) = pop_updated(&mut self.machine);
-        let number = self.log.operate(self.setting, place, operator, works_in, &converted, &right)?;
-        let number = Cell::Number(number);
-        let (from, to) = (CType::Int(works_in), integer_of(&object.ty));
-        let stored = self
-            .log
-            .convert_number(self.setting, place, &from, to, &number)?;
-        let left = given_number(gives, before, stored);
-        self.store(place, object, target, Operand::Scalar(Cell::Number(stored)))?;
-        self.machine.push(left)?;
-        Ok(())
+        let access = access_of(object);
+        self.machine.update(
+            &mut self.log,
+            self.setting,
+            place,
+            operator,
+            access,
+            works_in,
+            gives,
+        )
     }
 
-    // A pointer that has moved: the operands are the place, the value before, and the amount.
+    // An update of a pointer.
     fn act_move(
         &mut self,
         place: Place,
@@ -298,47 +260,27 @@ impl<'a> Runner<'a> {
         gives: Gives,
     ) -> Result<(), Stop>
         requires { IsReady self.old }
-        ensures ok { OnOk result (LeadsOn self.old self.new (move_act (program_of self.old) place (typed object.now) direction gives (state_in self.old))) }
-        ensures err { IfErr result (Ends self.old self.new (move_act (program_of self.old) place (typed object.now) direction gives (state_in self.old))) }
-        ensures kept { OnOk result (self.new.setting ≡ self.old.setting) }
+        ensures { Performs self.old self.new result
+            (move_act (program_of self.old) place (loads.access_of (typed object.now)) (size_of_target (program_of self.old) (typed object.now)) direction gives (state_in self.old)) }
     {
-        let size = target_size(self.setting.program, &object.ty)?;
-        let (target, before, amount) = pop_moved(&mut self.machine);
-        let stride = stride_of(&amount, direction, size)?;
-        let pointer = before.copy()?.into_cell();
-        let moved = self.log.sum(self.setting, place, pointer, stride)?;
-        let left = given(gives, before, Operand::Scalar(moved.copy()?));
-        self.store(place, object, target, Operand::Scalar(moved))?;
-        self.machine.push(left)?;
-        Ok(())
+        let bytes = target_size(self.setting.program, &object.ty)?;
+        let access = access_of(object);
+        self.machine.move_pointer(
+            &mut self.log,
+            self.setting,
+            place,
+            access,
+            bytes,
+            direction,
+            gives,
+        )
     }
 
     // A call of `free`.
     fn act_free(&mut self, place: Place) -> Result<(), Stop>
-        ensures ok { OnOk result (LeadsOn self.old self.new (free_act place (state_in self.old))) }
-        ensures err { IfErr result (Ends self.old self.new (free_act place (state_in self.old))) }
-        ensures kept { OnOk result (self.new.setting ≡ self.old.setting) }
+        ensures { Performs self.old self.new result (free_act place (state_in self.old)) }
     {
         let pointer = self.machine.pop_cell();
         self.release(place, pointer)
-    }
-
-    // A store to the object that an expression names, whose place has this value.
-    fn store(
-        &mut self,
-        place: Place,
-        object: &Expr,
-        target: Cell,
-        operand: Operand,
-    ) -> Result<(), Stop>
-        requires { IsReady self.old }
-        ensures ok { OnOk result (pieces.Gives self.old.setting.now self.old.log self.new.log (loads.store_object (program_of self.old) (state_in self.old).memory (state_in self.old).frame.number place (loads.access_of (typed object.now)) (cell_of target) (operand_of operand)) (state_in self.new).memory) }
-        ensures err { IfErr result (pieces.StopsIn self.old.setting.now self.old.log self.new.log (loads.store_object (program_of self.old) (state_in self.old).memory (state_in self.old).frame.number place (loads.access_of (typed object.now)) (cell_of target) (operand_of operand))) }
-        ensures state { OnOk result (state_in self.new ≡ machine.with_memory (state_in self.new).memory (state_in self.old)) }
-        ensures kept { OnOk result (self.new.setting ≡ self.old.setting) }
-    {
-        let access = access_of(object);
-        self.machine.store(&mut self.log, self.setting, place, access, target, operand)?;
-        Ok(())
     }
 }

@@ -12,7 +12,7 @@ ghost use Rattle.cs_run_state.specs.View.{cell_of, object_of};
 ghost use Rattle.cs_run_state.specs.MemoryView.{block_of, fill_of};
 ghost use Rattle.cs_run_state.specs.MachineView.{state_of};
 ghost use Rattle.cs_run_state.specs.Pieces.{or_fault};
-ghost use Rattle.cs_reference.specs.RunnerView.{program_of, state_in, LeadsOn, Ends};
+ghost use Rattle.cs_reference.specs.RunnerView.{program_of, state_in, Performs};
 
 use crate::outside::root_path;
 use crate::runner::Runner;
@@ -38,17 +38,15 @@ impl<'a> Runner<'a> {
         allocator: Allocator,
         element: &'a CType,
     ) -> Result<(), Stop>
-        ensures ok { OnOk result (LeadsOn self.old self.new (calls.allocate (program_of self.old) place allocator (shape_of element.now) (state_in self.old))) }
-        ensures err { IfErr result (Ends self.old self.new (calls.allocate (program_of self.old) place allocator (shape_of element.now) (state_in self.old))) }
-        ensures kept { OnOk result (self.new.setting ≡ self.old.setting) }
+        ensures { Performs self.old self.new result (calls.allocate (program_of self.old) place allocator (shape_of element.now) (state_in self.old)) }
     {
         match allocator {
             Allocator::Malloc => {
-                let bytes = self.machine.pop_cell();
-                self.allocate_bytes(place, element, bytes.number(), Fill::Unset)
+                let bytes = self.machine.pop_number();
+                self.allocate_bytes(place, element, bytes, Fill::Unset)
             }
             Allocator::Calloc => {
-                let (count, size) = self.machine.pop_two();
+                let (count, size) = self.machine.pop_numbers();
                 self.allocate_zeros(place, element, &count, &size)
             }
         }
@@ -62,9 +60,7 @@ impl<'a> Runner<'a> {
         bytes: i128,
         fill: Fill<'a>,
     ) -> Result<(), Stop>
-        ensures ok { OnOk result (LeadsOn self.old self.new (calls.allocate_bytes place (shape_of element.now) bytes (fill_of fill.entry) (state_in self.old))) }
-        ensures err { IfErr result (Ends self.old self.new (calls.allocate_bytes place (shape_of element.now) bytes (fill_of fill.entry) (state_in self.old))) }
-        ensures kept { OnOk result (self.new.setting ≡ self.old.setting) }
+        ensures { Performs self.old self.new result (calls.allocate_bytes place (shape_of element.now) bytes (fill_of fill.entry) (state_in self.old)) }
     {
         let alloc = *self.machine.callers.allocator();
         let allocation = next_allocation(&self.machine)?;
@@ -85,12 +81,10 @@ impl<'a> Runner<'a> {
         &mut self,
         place: Place,
         element: &'a CType,
-        count: &Cell,
-        size: &Cell,
+        count: &i128,
+        size: &i128,
     ) -> Result<(), Stop>
-        ensures ok { OnOk result (LeadsOn self.old self.new (calls.allocate_zeros (program_of self.old) place (shape_of element.now) (number_in (cell_of count.now)) (number_in (cell_of size.now)) (state_in self.old))) }
-        ensures err { IfErr result (Ends self.old self.new (calls.allocate_zeros (program_of self.old) place (shape_of element.now) (number_in (cell_of count.now)) (number_in (cell_of size.now)) (state_in self.old))) }
-        ensures kept { OnOk result (self.new.setting ≡ self.old.setting) }
+        ensures { Performs self.old self.new result (calls.allocate_zeros (program_of self.old) place (shape_of element.now) count.now size.now (state_in self.old)) }
     {
         let ty = size_type(self.setting.program.model);
         let holds = self.log.ask(self.setting, place, product(count, size))?;
@@ -107,9 +101,7 @@ impl<'a> Runner<'a> {
 
     /// A call of `free`.
     pub fn release(&mut self, place: Place, pointer: Cell) -> Result<(), Stop>
-        ensures ok { OnOk result (LeadsOn self.old self.new (calls.release place (cell_of pointer) (state_in self.old))) }
-        ensures err { IfErr result (Ends self.old self.new (calls.release place (cell_of pointer) (state_in self.old))) }
-        ensures kept { OnOk result (self.new.setting ≡ self.old.setting) }
+        ensures { Performs self.old self.new result (calls.release place (cell_of pointer) (state_in self.old)) }
     {
         match pointer {
             Cell::Null => {
@@ -134,9 +126,7 @@ impl<'a> Runner<'a> {
 
     // Only start and heap blocks that stand can be freed, through a pointer to their beginning alone (C11 7.22.3.3).
     fn release_object(&mut self, place: Place, object: &Object, offset: i128) -> Result<(), Stop>
-        ensures ok { OnOk result (LeadsOn self.old self.new (calls.release_object place (object_of object.now) offset (state_in self.old))) }
-        ensures err { IfErr result (Ends self.old self.new (calls.release_object place (object_of object.now) offset (state_in self.old))) }
-        ensures kept { OnOk result (self.new.setting ≡ self.old.setting) }
+        ensures { Performs self.old self.new result (calls.release_object place (object_of object.now) offset (state_in self.old)) }
     {
         if let Some(kind) = refused_release(&self.machine, object, offset) {
             return Err(fault(kind, place));
@@ -238,8 +228,8 @@ fn bytes_of_number(number: i128) -> Result<u64, AllocError>
 }
 
 // The order test of `calloc`.
-fn product(count: &Cell, size: &Cell) -> Operation
-    ensures { result ≡ Operation.Product (number_in (cell_of count.now)) (number_in (cell_of size.now)) }
+fn product(count: &i128, size: &i128) -> Operation
+    ensures { result ≡ Operation.Product count.now size.now }
 {
-    Operation::Product(count.number(), size.number())
+    Operation::Product(*count, *size)
 }

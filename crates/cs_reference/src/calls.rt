@@ -7,7 +7,7 @@ ghost use Rattle.cs_run_state.specs.View.{operand_of};
 ghost use Rattle.cs_run_state.specs.MemoryView.{type_of, block_at};
 ghost use Rattle.cs_run_state.specs.MachineView.{state_of, frame_of};
 ghost use Rattle.cs_reference.specs.Calling.{call_returning, inside_with, called_by, back_in};
-ghost use Rattle.cs_reference.specs.RunnerView.{program_of, budgets_of, state_in, IsReady, LeadsOn, Ends};
+ghost use Rattle.cs_reference.specs.RunnerView.{program_of, budgets_of, state_in, IsReady, Performs};
 
 use crate::frames::{local_blocks, new_frame};
 use crate::operands::pop_newest;
@@ -25,9 +25,7 @@ impl<'a> Runner<'a> {
     /// A call with so many arguments, which are on the stack.
     pub fn call(&mut self, place: Place, function: u32, count: usize) -> Result<(), Stop>
         requires { IsReady self.old }
-        ensures ok { OnOk result (LeadsOn self.old self.new (calls.call (program_of self.old) (budgets_of self.old) place function count (state_in self.old))) }
-        ensures err { IfErr result (Ends self.old self.new (calls.call (program_of self.old) (budgets_of self.old) place function count (state_in self.old))) }
-        ensures kept { OnOk result (self.new.setting ≡ self.old.setting) }
+        ensures { Performs self.old self.new result (calls.call (program_of self.old) (budgets_of self.old) place function count (state_in self.old)) }
     {
         let arguments = pop_newest(&mut self.machine, count)?;
         match self.setting.program.functions.get(function as usize) {
@@ -51,9 +49,7 @@ impl<'a> Runner<'a> {
         arguments: Vec<Operand>,
     ) -> Result<(), Stop>
         requires { IsReady self.old }
-        ensures ok { OnOk result (LeadsOn self.old self.new (calls.enter (program_of self.old) (budgets_of self.old) place function (routine callee.now) (map operand_of arguments.items) (state_in self.old))) }
-        ensures err { IfErr result (Ends self.old self.new (calls.enter (program_of self.old) (budgets_of self.old) place function (routine callee.now) (map operand_of arguments.items) (state_in self.old))) }
-        ensures kept { OnOk result (self.new.setting ≡ self.old.setting) }
+        ensures { Performs self.old self.new result (calls.enter (program_of self.old) (budgets_of self.old) place function (routine callee.now) (map operand_of arguments.items) (state_in self.old)) }
     {
         if callers_of(&self.machine) >= u64::from(self.setting.budgets.depth.saturating_sub(1)) {
             return Err(Stop::Outcome(Outcome::Over(Budget::Depth, place)));
@@ -77,9 +73,7 @@ impl<'a> Runner<'a> {
         arguments: Vec<Operand>,
     ) -> Result<(), Stop>
         requires { IsReady self.old }
-        ensures ok { OnOk result (LeadsOn self.old self.new (call_returning (program_of self.old) place function (type_of returns.entry) written.now (map operand_of arguments.items) (state_in self.old))) }
-        ensures err { IfErr result (Ends self.old self.new (call_returning (program_of self.old) place function (type_of returns.entry) written.now (map operand_of arguments.items) (state_in self.old))) }
-        ensures kept { OnOk result (self.new.setting ≡ self.old.setting) }
+        ensures { Performs self.old self.new result (call_returning (program_of self.old) place function (type_of returns.entry) written.now (map operand_of arguments.items) (state_in self.old)) }
     {
         let call = self.machine.calls.checked_add(1).ok_or(AllocError)?;
         self.log.show(self.setting, place, Label::Callee(function))?;
@@ -101,9 +95,7 @@ impl<'a> Runner<'a> {
 
     /// The frame that runs ends, and gives a value to the one that called it; the run is done where none did.
     pub fn leave(&mut self, value: Operand) -> Result<(), Stop>
-        ensures ok { OnOk result (LeadsOn self.old self.new (calls.leave (operand_of value) (state_in self.old))) }
-        ensures err { IfErr result (Ends self.old self.new (calls.leave (operand_of value) (state_in self.old))) }
-        ensures kept { OnOk result (self.new.setting ≡ self.old.setting) }
+        ensures { Performs self.old self.new result (calls.leave (operand_of value) (state_in self.old)) }
     {
         match pop_caller(&mut self.machine) {
             Some(caller) => {

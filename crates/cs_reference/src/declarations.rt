@@ -15,7 +15,7 @@ ghost use Rattle.cs_meaning.specs.Statements as meaning;
 ghost use Rattle.cs_run_state.specs.MemoryView.{type_of, fill_of, piece_of};
 ghost use Rattle.cs_run_state.specs.MachineView.{state_of};
 ghost use Rattle.cs_reference.specs.Storing.{with_piece};
-ghost use Rattle.cs_reference.specs.RunnerView.{program_of, state_in, IsReady, LeadsOn, Ends};
+ghost use Rattle.cs_reference.specs.RunnerView.{program_of, state_in, IsReady, Performs};
 
 use crate::frames::number_of;
 use crate::runner::Runner;
@@ -40,9 +40,7 @@ impl<'a> Runner<'a> {
         first: Option<&'a Initial>,
     ) -> Result<(), Stop>
         requires { IsReady self.old }
-        ensures ok { OnOk result (LeadsOn self.old self.new (meaning.declare (program_of self.old) place declaration (option_map initial (option_copied first.entry)) (state_in self.old))) }
-        ensures err { IfErr result (Ends self.old self.new (meaning.declare (program_of self.old) place declaration (option_map initial (option_copied first.entry)) (state_in self.old))) }
-        ensures kept { OnOk result (self.new.setting ≡ self.old.setting) }
+        ensures { Performs self.old self.new result (meaning.declare (program_of self.old) place declaration (option_map initial (option_copied first.entry)) (state_in self.old)) }
     {
         match first {
             None => self.clear_local(place, declaration),
@@ -53,9 +51,7 @@ impl<'a> Runner<'a> {
     // A declaration with an initializer is reached: the object takes a value, or becomes zero before its pieces are stored.
     fn set_local(&mut self, place: Place, declaration: u32, first: &'a Initial) -> Result<(), Stop>
         requires { IsReady self.old }
-        ensures ok { OnOk result (LeadsOn self.old self.new (meaning.declare (program_of self.old) place declaration (Some (initial first.now)) (state_in self.old))) }
-        ensures err { IfErr result (Ends self.old self.new (meaning.declare (program_of self.old) place declaration (Some (initial first.now)) (state_in self.old))) }
-        ensures kept { OnOk result (self.new.setting ≡ self.old.setting) }
+        ensures { Performs self.old self.new result (meaning.declare (program_of self.old) place declaration (Some (initial first.now)) (state_in self.old)) }
     {
         let program = self.setting.program;
         match first {
@@ -78,9 +74,7 @@ impl<'a> Runner<'a> {
 
     // A declaration without an initializer is reached: the object becomes unset, which is a touch where it is a scalar.
     fn clear_local(&mut self, place: Place, declaration: u32) -> Result<(), Stop>
-        ensures ok { OnOk result (LeadsOn self.old self.new (meaning.clear_local (program_of self.old) place declaration (state_in self.old))) }
-        ensures err { IfErr result (Ends self.old self.new (meaning.clear_local (program_of self.old) place declaration (state_in self.old))) }
-        ensures kept { OnOk result (self.new.setting ≡ self.old.setting) }
+        ensures { Performs self.old self.new result (meaning.clear_local (program_of self.old) place declaration (state_in self.old)) }
     {
         let frame = number_of(&self.machine);
         if let Some(local) = scalar_local(&self.machine, self.setting.program, declaration) {
@@ -99,9 +93,7 @@ impl<'a> Runner<'a> {
         ty: &'a CType,
     ) -> Result<(), Stop>
         requires { IsReady self.old }
-        ensures ok { OnOk result (LeadsOn self.old self.new (meaning.store_local (program_of self.old) place declaration offset (shape_of ty.now) (state_in self.old))) }
-        ensures err { IfErr result (Ends self.old self.new (meaning.store_local (program_of self.old) place declaration offset (shape_of ty.now) (state_in self.old))) }
-        ensures kept { OnOk result (self.new.setting ≡ self.old.setting) }
+        ensures { Performs self.old self.new result (meaning.store_local (program_of self.old) place declaration offset (shape_of ty.now) (state_in self.old)) }
     {
         let frame = number_of(&self.machine);
         let local = scalar_local(&self.machine, self.setting.program, declaration);
@@ -133,7 +125,7 @@ fn store_newest(
     let object = Object::Local(state.frame.number, declaration);
     state
         .memory
-        .write_operand(program, ty, &object, offset, operand)?;
+        .write_operand(program, ty, &object, offset, &operand)?;
     Ok(())
 }
 

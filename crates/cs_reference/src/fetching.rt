@@ -1,26 +1,25 @@
 //! The load of an update.
 ghost use Rattle.std.specs.Prelude.{◌≡◌, OnOk, IfErr};
 ghost use Rattle.cs_ast.specs.TypedView.{typed};
+ghost use Rattle.cs_meaning.specs.Access.{access_of};
 ghost use Rattle.cs_meaning.specs.Expressions as expressions;
-ghost use Rattle.cs_reference.specs.Fetching.{update_fetch, move_fetch};
-ghost use Rattle.cs_reference.specs.RunnerView.{program_of, state_in, IsReady, LeadsOn, Ends};
+ghost use Rattle.cs_run_state.specs.Updates.{fetch_number_act, fetch_pointer_act};
+ghost use Rattle.cs_reference.specs.RunnerView.{program_of, state_in, IsReady, Performs};
 
 use crate::runner::Runner;
 use cs_ast::Place;
 use cs_ast::typed::expression::{Expr, ExprKind};
+use cs_run_state::Stop;
 use cs_run_state::access::access_of;
-use cs_run_state::{Cell, Stop};
 use cs_types::IntType;
 
 impl<'a> Runner<'a> {
     /// The load of an update, whose place stays below the value. A number is converted to the type in which the operator works.
     pub fn fetch(&mut self, e: &'a Expr) -> Result<(), Stop>
         requires { IsReady self.old }
-        ensures ok { OnOk result (LeadsOn self.old self.new (expressions.fetch (program_of self.old) (typed e.now) (state_in self.old))) }
-        ensures err { IfErr result (Ends self.old self.new (expressions.fetch (program_of self.old) (typed e.now) (state_in self.old))) }
-        ensures kept { OnOk result (self.new.setting ≡ self.old.setting) }
+        ensures { Performs self.old self.new result (expressions.fetch (program_of self.old) (typed e.now) (state_in self.old)) }
     {
-        match &e.kind {
+        match &*e.kind {
             ExprKind::Update(_, object, _, works_in, _) => {
                 self.fetch_number(e.place, object, *works_in)
             }
@@ -41,37 +40,22 @@ impl<'a> Runner<'a> {
     // The load of an update of a number.
     fn fetch_number(&mut self, place: Place, object: &Expr, works_in: IntType) -> Result<(), Stop>
         requires { IsReady self.old }
-        ensures ok { OnOk result (LeadsOn self.old self.new (update_fetch (program_of self.old) place (typed object.now) works_in (state_in self.old))) }
-        ensures err { IfErr result (Ends self.old self.new (update_fetch (program_of self.old) place (typed object.now) works_in (state_in self.old))) }
-        ensures kept { OnOk result (self.new.setting ≡ self.old.setting) }
+        ensures { Performs self.old self.new result
+            (fetch_number_act (program_of self.old) place (access_of (typed object.now)) works_in (state_in self.old)) }
     {
-        let target = self.machine.top_cell()?;
         let access = access_of(object);
-        let operand = self
-            .machine
-            .load(&mut self.log, self.setting, access, target)?;
-        let cell = operand.copy()?.into_cell();
-        let number = self
-            .log
-            .convert_number(self.setting, place, &object.ty, works_in, &cell)?;
-        self.machine.push(operand)?;
-        self.machine.push_cell(Cell::Number(number))?;
-        Ok(())
+        self.machine
+            .fetch_number(&mut self.log, self.setting, place, access, works_in)
     }
 
     // The load of an update of a pointer.
     fn fetch_pointer(&mut self, object: &Expr) -> Result<(), Stop>
         requires { IsReady self.old }
-        ensures ok { OnOk result (LeadsOn self.old self.new (move_fetch (program_of self.old) (typed object.now) (state_in self.old))) }
-        ensures err { IfErr result (Ends self.old self.new (move_fetch (program_of self.old) (typed object.now) (state_in self.old))) }
-        ensures kept { OnOk result (self.new.setting ≡ self.old.setting) }
+        ensures { Performs self.old self.new result
+            (fetch_pointer_act (program_of self.old) (access_of (typed object.now)) (state_in self.old)) }
     {
-        let target = self.machine.top_cell()?;
         let access = access_of(object);
-        let operand = self
-            .machine
-            .load(&mut self.log, self.setting, access, target)?;
-        self.machine.push(operand)?;
-        Ok(())
+        self.machine
+            .fetch_pointer(&mut self.log, self.setting, access)
     }
 }

@@ -8,7 +8,7 @@ ghost use Rattle.cs_meaning.specs.Statements as statements;
 ghost use Rattle.cs_meaning.specs.Steps as steps;
 ghost use Rattle.cs_run_state.specs.MachineView.{state_of, todo_of};
 ghost use Rattle.cs_reference.specs.Jumping.{lands_at};
-ghost use Rattle.cs_reference.specs.RunnerView.{program_of, budgets_of, state_in, LeadsOn, Ends};
+ghost use Rattle.cs_reference.specs.RunnerView.{program_of, budgets_of, state_in, Performs};
 
 use crate::lists::{drop_first, drop_past_out, drop_to_again, put_first, put_statements};
 use crate::runner::Runner;
@@ -49,9 +49,7 @@ pub fn go_on(state: &mut Machine)
 impl<'a> Runner<'a> {
     /// Goes to a label of the function that runs, which is reached; one that isn't there leads on.
     pub fn go_to(&mut self, label: u32) -> Result<(), Stop>
-        ensures ok { OnOk result (LeadsOn self.old self.new (statements.go_to (program_of self.old) (budgets_of self.old) label (steps.at_end (machine.routine_of (program_of self.old) (state_in self.old).frame.function)) (state_in self.old))) }
-        ensures err { IfErr result (Ends self.old self.new (statements.go_to (program_of self.old) (budgets_of self.old) label (steps.at_end (machine.routine_of (program_of self.old) (state_in self.old).frame.function)) (state_in self.old))) }
-        ensures kept { OnOk result (self.new.setting ≡ self.old.setting) }
+        ensures { Performs self.old self.new result (statements.go_to (program_of self.old) (budgets_of self.old) label (steps.at_end (machine.routine_of (program_of self.old) (state_in self.old).frame.function)) (state_in self.old)) }
     {
         let number = function_of(&self.machine) as usize;
         match self.setting.program.functions.get(number) {
@@ -65,9 +63,7 @@ impl<'a> Runner<'a> {
 
     // The same in the body of the function that runs.
     fn go_to_in(&mut self, label: u32, function: &'a Function, body: &'a Stmt) -> Result<(), Stop>
-        ensures ok { OnOk result (LeadsOn self.old self.new (statements.lands (budgets_of self.old) (jumps.landing label (statement body.now) 0 (steps.at_end (routine function.now))) (state_in self.old))) }
-        ensures err { IfErr result (Ends self.old self.new (statements.lands (budgets_of self.old) (jumps.landing label (statement body.now) 0 (steps.at_end (routine function.now))) (state_in self.old))) }
-        ensures kept { OnOk result (self.new.setting ≡ self.old.setting) }
+        ensures { Performs self.old self.new result (statements.lands (budgets_of self.old) (jumps.landing label (statement body.now) 0 (steps.at_end (routine function.now))) (state_in self.old)) }
     {
         let mut todo = Vec::new(*self.machine.frame.todo.allocator());
         put_first(
@@ -111,7 +107,7 @@ fn seek<'a>(
 ) -> Result<Option<Landing>, AllocError>
     ensures { IfOk result (lands_at (jumps.landing label (statement s.now) counted_point (todo_of todo.old.items)) todo.old todo.new) }
 {
-    match &s.kind {
+    match &*s.kind {
         StmtKind::Block(statements) => seek_in(label, statements, counted_point, todo),
         StmtKind::If(_, body) => seek(label, body, counted_point, todo),
         StmtKind::IfElse(_, body, other) => match seek(label, body, counted_point, todo)? {

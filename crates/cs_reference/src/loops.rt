@@ -6,7 +6,7 @@ ghost use Rattle.cs_meaning.specs.CountedPoints as meaning_counted_points;
 ghost use Rattle.cs_meaning.specs.Statements as meaning;
 ghost use Rattle.cs_run_state.specs.MachineView.{state_of};
 ghost use Rattle.cs_reference.specs.Deciding.{decides, turns};
-ghost use Rattle.cs_reference.specs.RunnerView.{budgets_of, state_in, LeadsOn, Ends};
+ghost use Rattle.cs_reference.specs.RunnerView.{budgets_of, state_in, Performs};
 
 use crate::putting::{put_body, put_stmt, put_test};
 use crate::runner::Runner;
@@ -23,11 +23,9 @@ use std::alloc::AllocError;
 impl<'a> Runner<'a> {
     /// The newest value, which is a test's or a `switch`'s, says the way.
     pub fn decide(&mut self, s: &'a Stmt, counted_point: u64) -> Result<(), Stop>
-        ensures ok { OnOk result (LeadsOn self.old self.new (meaning.decide (statement s.now) counted_point (state_in self.old))) }
-        ensures err { IfErr result (Ends self.old self.new (meaning.decide (statement s.now) counted_point (state_in self.old))) }
-        ensures kept { OnOk result (self.new.setting ≡ self.old.setting) }
+        ensures { Performs self.old self.new result (meaning.decide (statement s.now) counted_point (state_in self.old)) }
     {
-        match &s.kind {
+        match &*s.kind {
             StmtKind::If(_, body) => self.decide_if(s.place, body, counted_point),
             StmtKind::IfElse(_, body, other) => self.decide_either(
                 s.place,
@@ -57,9 +55,7 @@ impl<'a> Runner<'a> {
 
     // A statement is executed where the newest value holds.
     fn decide_if(&mut self, place: Place, body: &'a Stmt, counted_point: u64) -> Result<(), Stop>
-        ensures ok { OnOk result (LeadsOn self.old self.new (decides place (machine.Execute (statement body.now) counted_point ∷ (state_in self.old).frame.todo) (state_in self.old).frame.todo (state_in self.old))) }
-        ensures err { IfErr result (Ends self.old self.new (decides place (machine.Execute (statement body.now) counted_point ∷ (state_in self.old).frame.todo) (state_in self.old).frame.todo (state_in self.old))) }
-        ensures kept { OnOk result (self.new.setting ≡ self.old.setting) }
+        ensures { Performs self.old self.new result (decides place (machine.Execute (statement body.now) counted_point ∷ (state_in self.old).frame.todo) (state_in self.old).frame.todo (state_in self.old)) }
     {
         if self.machine.test(&mut self.log, self.setting, place)? {
             put_stmt(&mut self.machine, StmtStep::Execute, body, counted_point)?;
@@ -75,9 +71,7 @@ impl<'a> Runner<'a> {
         other: &'a Stmt,
         counted_point: u64,
     ) -> Result<(), Stop>
-        ensures ok { OnOk result (LeadsOn self.old self.new (decides place (machine.Execute (statement body.now) counted_point ∷ (state_in self.old).frame.todo) (machine.Execute (statement other.now) (counted_point + meaning_counted_points.counted_points (statement body.now)) ∷ (state_in self.old).frame.todo) (state_in self.old))) }
-        ensures err { IfErr result (Ends self.old self.new (decides place (machine.Execute (statement body.now) counted_point ∷ (state_in self.old).frame.todo) (machine.Execute (statement other.now) (counted_point + meaning_counted_points.counted_points (statement body.now)) ∷ (state_in self.old).frame.todo) (state_in self.old))) }
-        ensures kept { OnOk result (self.new.setting ≡ self.old.setting) }
+        ensures { Performs self.old self.new result (decides place (machine.Execute (statement body.now) counted_point ∷ (state_in self.old).frame.todo) (machine.Execute (statement other.now) (counted_point + meaning_counted_points.counted_points (statement body.now)) ∷ (state_in self.old).frame.todo) (state_in self.old)) }
     {
         if self.machine.test(&mut self.log, self.setting, place)? {
             put_stmt(&mut self.machine, StmtStep::Execute, body, counted_point)?;
@@ -96,9 +90,7 @@ impl<'a> Runner<'a> {
         body: &'a Stmt,
         inner: u64,
     ) -> Result<(), Stop>
-        ensures ok { OnOk result (LeadsOn self.old self.new (decides s.now.place (machine.Execute (statement body.now) inner ∷ (machine.Again (statement s.now) counted_point ∷ (state_in self.old).frame.todo)) (state_in self.old).frame.todo (state_in self.old))) }
-        ensures err { IfErr result (Ends self.old self.new (decides s.now.place (machine.Execute (statement body.now) inner ∷ (machine.Again (statement s.now) counted_point ∷ (state_in self.old).frame.todo)) (state_in self.old).frame.todo (state_in self.old))) }
-        ensures kept { OnOk result (self.new.setting ≡ self.old.setting) }
+        ensures { Performs self.old self.new result (decides s.now.place (machine.Execute (statement body.now) inner ∷ (machine.Again (statement s.now) counted_point ∷ (state_in self.old).frame.todo)) (state_in self.old).frame.todo (state_in self.old)) }
     {
         if self.machine.test(&mut self.log, self.setting, s.place)? {
             put_body(&mut self.machine, s, counted_point, body, inner)?;
@@ -108,9 +100,7 @@ impl<'a> Runner<'a> {
 
     // A loop turns where the newest value holds.
     fn decide_turn(&mut self, s: &'a Stmt, counted_point: u64) -> Result<(), Stop>
-        ensures ok { OnOk result (LeadsOn self.old self.new (decides s.now.place (machine.Turn (statement s.now) counted_point ∷ (state_in self.old).frame.todo) (state_in self.old).frame.todo (state_in self.old))) }
-        ensures err { IfErr result (Ends self.old self.new (decides s.now.place (machine.Turn (statement s.now) counted_point ∷ (state_in self.old).frame.todo) (state_in self.old).frame.todo (state_in self.old))) }
-        ensures kept { OnOk result (self.new.setting ≡ self.old.setting) }
+        ensures { Performs self.old self.new result (decides s.now.place (machine.Turn (statement s.now) counted_point ∷ (state_in self.old).frame.todo) (state_in self.old).frame.todo (state_in self.old)) }
     {
         if self.machine.test(&mut self.log, self.setting, s.place)? {
             put_stmt(&mut self.machine, StmtStep::Turn, s, counted_point)?;
@@ -120,11 +110,9 @@ impl<'a> Runner<'a> {
 
     /// The head of a loop is reached; any other statement has none.
     pub fn turn(&mut self, s: &'a Stmt, counted_point: u64) -> Result<(), Stop>
-        ensures ok { OnOk result (LeadsOn self.old self.new (meaning.turn (budgets_of self.old) (statement s.now) counted_point (state_in self.old))) }
-        ensures err { IfErr result (Ends self.old self.new (meaning.turn (budgets_of self.old) (statement s.now) counted_point (state_in self.old))) }
-        ensures kept { OnOk result (self.new.setting ≡ self.old.setting) }
+        ensures { Performs self.old self.new result (meaning.turn (budgets_of self.old) (statement s.now) counted_point (state_in self.old)) }
     {
-        match &s.kind {
+        match &*s.kind {
             StmtKind::While(test, _) => self.turn_to_test(s, counted_point, test),
             StmtKind::Do(body, _) => self.turn_to_body(
                 s,
@@ -148,9 +136,7 @@ impl<'a> Runner<'a> {
 
     // The head of a loop is reached, and then its test is evaluated.
     fn turn_to_test(&mut self, s: &'a Stmt, counted_point: u64, test: &'a Expr) -> Result<(), Stop>
-        ensures ok { OnOk result (LeadsOn self.old self.new (turns (budgets_of self.old) s.now.place counted_point (machine.Evaluate (typed test.now) ∷ (machine.Decide (statement s.now) counted_point ∷ (state_in self.old).frame.todo)) (state_in self.old))) }
-        ensures err { IfErr result (Ends self.old self.new (turns (budgets_of self.old) s.now.place counted_point (machine.Evaluate (typed test.now) ∷ (machine.Decide (statement s.now) counted_point ∷ (state_in self.old).frame.todo)) (state_in self.old))) }
-        ensures kept { OnOk result (self.new.setting ≡ self.old.setting) }
+        ensures { Performs self.old self.new result (turns (budgets_of self.old) s.now.place counted_point (machine.Evaluate (typed test.now) ∷ (machine.Decide (statement s.now) counted_point ∷ (state_in self.old).frame.todo)) (state_in self.old)) }
     {
         put_test(&mut self.machine, test, s, counted_point)?;
         self.reach_counted_point(s.place, PointKind::Head, counted_point)
@@ -164,9 +150,7 @@ impl<'a> Runner<'a> {
         body: &'a Stmt,
         inner: u64,
     ) -> Result<(), Stop>
-        ensures ok { OnOk result (LeadsOn self.old self.new (turns (budgets_of self.old) s.now.place counted_point (machine.Execute (statement body.now) inner ∷ (machine.Again (statement s.now) counted_point ∷ (state_in self.old).frame.todo)) (state_in self.old))) }
-        ensures err { IfErr result (Ends self.old self.new (turns (budgets_of self.old) s.now.place counted_point (machine.Execute (statement body.now) inner ∷ (machine.Again (statement s.now) counted_point ∷ (state_in self.old).frame.todo)) (state_in self.old))) }
-        ensures kept { OnOk result (self.new.setting ≡ self.old.setting) }
+        ensures { Performs self.old self.new result (turns (budgets_of self.old) s.now.place counted_point (machine.Execute (statement body.now) inner ∷ (machine.Again (statement s.now) counted_point ∷ (state_in self.old).frame.todo)) (state_in self.old)) }
     {
         put_body(&mut self.machine, s, counted_point, body, inner)?;
         self.reach_counted_point(s.place, PointKind::Head, counted_point)
@@ -181,7 +165,7 @@ pub fn go_again<'a>(
 ) -> Result<(), AllocError>
     ensures { OnOk result (state_of state.new ≡ machine.to_do (meaning.again (statement s.now) counted_point (state_of state.old).frame.todo) (state_of state.old)) }
 {
-    match &s.kind {
+    match &*s.kind {
         StmtKind::While(_, _) => put_stmt(state, StmtStep::Turn, s, counted_point),
         StmtKind::Do(_, test) => put_test(state, test, s, counted_point),
         StmtKind::For(_, _, last, _) => {

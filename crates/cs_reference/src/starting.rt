@@ -70,7 +70,7 @@ fn start_nowhere<'a>(
     entry: u32,
 ) -> Result<Machine<'a>, AllocError>
     requires { IsLaidOut setting.now.program.now.model setting.now.program.now.table.list }
-    ensures { IfOk result (λ machine. state_of machine ≡ steps.started (typed_program setting.now.program.now) (number_at setting.now.inputs.now) entry (meaning.no_routine plain.NOWHERE)) }
+    ensures { IfOk result (λ machine. state_of machine ≡ steps.started (typed_program setting.now.program.now) (number_at setting.now.inputs.now) entry (meaning.no_routine meaning.NOWHERE)) }
 {
     let mut memory = static_memory(alloc, setting.program)?;
     memory.add_frame(Vec::new(alloc))?;

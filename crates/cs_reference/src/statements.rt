@@ -6,7 +6,7 @@ ghost use Rattle.cs_meaning.specs.Machine as machine;
 ghost use Rattle.cs_meaning.specs.Statements as meaning;
 ghost use Rattle.cs_meaning.specs.Steps as steps;
 ghost use Rattle.cs_run_state.specs.MachineView.{state_of};
-ghost use Rattle.cs_reference.specs.RunnerView.{program_of, budgets_of, state_in, IsReady, LeadsOn, Ends};
+ghost use Rattle.cs_reference.specs.RunnerView.{program_of, budgets_of, state_in, IsReady, Performs};
 
 use crate::jumps::{break_out, go_on};
 use crate::putting::{put_all, put_loop, put_stmt, put_test};
@@ -25,11 +25,9 @@ impl<'a> Runner<'a> {
     /// A statement begins, the first counted point of which has a number.
     pub fn execute(&mut self, s: &'a Stmt, counted_point: u64) -> Result<(), Stop>
         requires { IsReady self.old }
-        ensures ok { OnOk result (LeadsOn self.old self.new (meaning.execute (program_of self.old) (budgets_of self.old) (steps.at_end (machine.routine_of (program_of self.old) (state_in self.old).frame.function)) (statement s.now) counted_point (state_in self.old))) }
-        ensures err { IfErr result (Ends self.old self.new (meaning.execute (program_of self.old) (budgets_of self.old) (steps.at_end (machine.routine_of (program_of self.old) (state_in self.old).frame.function)) (statement s.now) counted_point (state_in self.old))) }
-        ensures kept { OnOk result (self.new.setting ≡ self.old.setting) }
+        ensures { Performs self.old self.new result (meaning.execute (program_of self.old) (budgets_of self.old) (steps.at_end (machine.routine_of (program_of self.old) (state_in self.old).frame.function)) (statement s.now) counted_point (state_in self.old)) }
     {
-        match &s.kind {
+        match &*s.kind {
             StmtKind::Block(statements) => Ok(put_all(
                 &mut self.machine,
                 statements,

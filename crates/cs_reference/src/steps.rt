@@ -7,7 +7,7 @@ ghost use Rattle.cs_meaning.specs.Steps as steps;
 ghost use Rattle.cs_run_state.specs.View.{operand_of};
 ghost use Rattle.cs_run_state.specs.MemoryView.{type_of};
 ghost use Rattle.cs_run_state.specs.MachineView.{state_of, item_of, expression_item, statement_item};
-ghost use Rattle.cs_reference.specs.RunnerView.{program_of, budgets_of, state_in, IsReady, LeadsOn, Ends};
+ghost use Rattle.cs_reference.specs.RunnerView.{program_of, budgets_of, state_in, IsReady, Performs};
 
 use crate::declarations::spell_local;
 use crate::loops::go_again;
@@ -27,9 +27,7 @@ impl<'a> Runner<'a> {
     /// One step.
     pub fn step(&mut self) -> Result<(), Stop>
         requires { IsReady self.old }
-        ensures ok { OnOk result (LeadsOn self.old self.new (steps.step (program_of self.old) (budgets_of self.old) (state_in self.old))) }
-        ensures err { IfErr result (Ends self.old self.new (steps.step (program_of self.old) (budgets_of self.old) (state_in self.old))) }
-        ensures kept { OnOk result (self.new.setting ≡ self.old.setting) }
+        ensures { Performs self.old self.new result (steps.step (program_of self.old) (budgets_of self.old) (state_in self.old)) }
     {
         match self.machine.next() {
             Some(item) => self.perform(item),
@@ -40,9 +38,7 @@ impl<'a> Runner<'a> {
     // What a thing to do does, with the other things left to be done.
     fn perform(&mut self, item: Item<'a>) -> Result<(), Stop>
         requires { IsReady self.old }
-        ensures ok { OnOk result (LeadsOn self.old self.new (steps.do_item (program_of self.old) (budgets_of self.old) (item_of item.entry) (state_in self.old))) }
-        ensures err { IfErr result (Ends self.old self.new (steps.do_item (program_of self.old) (budgets_of self.old) (item_of item.entry) (state_in self.old))) }
-        ensures kept { OnOk result (self.new.setting ≡ self.old.setting) }
+        ensures { Performs self.old self.new result (steps.do_item (program_of self.old) (budgets_of self.old) (item_of item.entry) (state_in self.old)) }
     {
         match item {
             Item::Expression(step, e) => self.perform_expr(step, e),
@@ -83,9 +79,7 @@ impl<'a> Runner<'a> {
     // A step of an expression.
     fn perform_expr(&mut self, step: ExprStep, e: &'a Expr) -> Result<(), Stop>
         requires { IsReady self.old }
-        ensures ok { OnOk result (LeadsOn self.old self.new (steps.do_item (program_of self.old) (budgets_of self.old) (expression_item step (typed e.now)) (state_in self.old))) }
-        ensures err { IfErr result (Ends self.old self.new (steps.do_item (program_of self.old) (budgets_of self.old) (expression_item step (typed e.now)) (state_in self.old))) }
-        ensures kept { OnOk result (self.new.setting ≡ self.old.setting) }
+        ensures { Performs self.old self.new result (steps.do_item (program_of self.old) (budgets_of self.old) (expression_item step (typed e.now)) (state_in self.old)) }
     {
         match step {
             ExprStep::Evaluate => {
@@ -105,9 +99,7 @@ impl<'a> Runner<'a> {
     // A step of a statement.
     fn perform_stmt(&mut self, step: StmtStep, s: &'a Stmt, counted_point: u64) -> Result<(), Stop>
         requires { IsReady self.old }
-        ensures ok { OnOk result (LeadsOn self.old self.new (steps.do_item (program_of self.old) (budgets_of self.old) (statement_item step (statement s.now) counted_point) (state_in self.old))) }
-        ensures err { IfErr result (Ends self.old self.new (steps.do_item (program_of self.old) (budgets_of self.old) (statement_item step (statement s.now) counted_point) (state_in self.old))) }
-        ensures kept { OnOk result (self.new.setting ≡ self.old.setting) }
+        ensures { Performs self.old self.new result (steps.do_item (program_of self.old) (budgets_of self.old) (statement_item step (statement s.now) counted_point) (state_in self.old)) }
     {
         match step {
             StmtStep::Execute => self.execute(s, counted_point),
@@ -122,9 +114,7 @@ impl<'a> Runner<'a> {
 
     // The end of a function's body is reached.
     fn come_to_end(&mut self, place: Place, ty: BlockType) -> Result<(), Stop>
-        ensures ok { OnOk result (LeadsOn self.old self.new (steps.do_item (program_of self.old) (budgets_of self.old) (machine.End place (calls.falls_off (type_of ty.entry))) (state_in self.old))) }
-        ensures err { IfErr result (Ends self.old self.new (steps.do_item (program_of self.old) (budgets_of self.old) (machine.End place (calls.falls_off (type_of ty.entry))) (state_in self.old))) }
-        ensures kept { OnOk result (self.new.setting ≡ self.old.setting) }
+        ensures { Performs self.old self.new result (steps.do_item (program_of self.old) (budgets_of self.old) (machine.End place (calls.falls_off (type_of ty.entry))) (state_in self.old)) }
     {
         self.log.touch(Touch::Meets(PointKind::End, place))?;
         self.machine.push(falls_off(ty))?;

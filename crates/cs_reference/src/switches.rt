@@ -7,7 +7,7 @@ ghost use Rattle.cs_meaning.specs.Machine as machine;
 ghost use Rattle.cs_meaning.specs.Statements as meaning;
 ghost use Rattle.cs_run_state.specs.MachineView.{state_of};
 ghost use Rattle.cs_reference.specs.Switching.{chosen_of};
-ghost use Rattle.cs_reference.specs.RunnerView.{state_in, LeadsOn, Ends};
+ghost use Rattle.cs_reference.specs.RunnerView.{state_in, Performs};
 
 use crate::putting::put_all;
 use crate::runner::Runner;
@@ -35,9 +35,7 @@ impl<'a> Runner<'a> {
         statements: &'a [Stmt],
         counted_point: u64,
     ) -> Result<(), Stop>
-        ensures ok { OnOk result (LeadsOn self.old self.new (meaning.switch_to place (statement_list statements.now) counted_point (meaning.chosen_case cases.now (statement_list statements.now) (meaning.case_of cases.now (number_in (machine.cell_at (state_in self.old) 0)) 0)) (machine.pop (state_in self.old)))) }
-        ensures err { IfErr result (Ends self.old self.new (meaning.switch_to place (statement_list statements.now) counted_point (meaning.chosen_case cases.now (statement_list statements.now) (meaning.case_of cases.now (number_in (machine.cell_at (state_in self.old) 0)) 0)) (machine.pop (state_in self.old)))) }
-        ensures kept { OnOk result (self.new.setting ≡ self.old.setting) }
+        ensures { Performs self.old self.new result (meaning.switch_to place (statement_list statements.now) counted_point (meaning.chosen_case cases.now (statement_list statements.now) (meaning.case_of cases.now (number_in (machine.cell_at (state_in self.old) 0)) 0)) (machine.pop (state_in self.old))) }
     {
         let number = self.machine.pop_cell().number();
         let chosen = chosen_case(cases, statements, number)?;

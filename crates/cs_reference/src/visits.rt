@@ -2,7 +2,7 @@
 ghost use Rattle.std.specs.Prelude.{◌≡◌, ◌<◌, length, slice_get, OnOk, IfErr};
 ghost use Rattle.cs_meaning.specs.CountedPoints as meaning;
 ghost use Rattle.cs_run_state.specs.MachineView.{state_of};
-ghost use Rattle.cs_reference.specs.RunnerView.{budgets_of, state_in, LeadsOn, Ends};
+ghost use Rattle.cs_reference.specs.RunnerView.{budgets_of, state_in, Performs};
 
 use crate::runner::Runner;
 use cs_ast::Place;
@@ -19,9 +19,7 @@ impl<'a> Runner<'a> {
         kind: PointKind,
         counted_point: u64,
     ) -> Result<(), Stop>
-        ensures ok { OnOk result (LeadsOn self.old self.new (meaning.reach_counted_point (budgets_of self.old) place kind counted_point (state_in self.old))) }
-        ensures err { IfErr result (Ends self.old self.new (meaning.reach_counted_point (budgets_of self.old) place kind counted_point (state_in self.old))) }
-        ensures kept { OnOk result (self.new.setting ≡ self.old.setting) }
+        ensures { Performs self.old self.new result (meaning.reach_counted_point (budgets_of self.old) place kind counted_point (state_in self.old)) }
     {
         match visits_of(&self.machine, counted_point) {
             Some(count) => {

@@ -4,7 +4,6 @@ mod Lengths
 mod LoweredRuns
 mod Blocks
 mod Cutting
-mod Loading
 mod Stepping
 mod Leading
 mod Entering

@@ -12,7 +12,7 @@ ghost use Rattle.cs_run_state.specs.MemoryView.{fill_of};
 ghost use Rattle.cs_run_state.specs.MachineView.{state_of};
 ghost use Rattle.cs_cfg.specs.Graph as graph;
 ghost use Rattle.cs_cfg.specs.Working as working;
-ghost use Rattle.cs_reference.specs.RunnerView.{program_of, budgets_of, state_in, IsReady, LeadsOn, Ends};
+ghost use Rattle.cs_reference.specs.RunnerView.{program_of, budgets_of, state_in, IsReady, Performs};
 ghost use Rattle.cs_replay.specs.Works.{works};
 
 use cs_ast::Place;
@@ -29,9 +29,7 @@ use std::alloc::AllocError;
 
 /// A local becomes unset, which is a touch where it is a scalar (C11 6.2.4, paragraph 6).
 pub fn clear(run: &mut Runner, place: Place, declaration: u32, scalar: bool) -> Result<(), Stop>
-    ensures ok { OnOk result (LeadsOn run.old run.new (works (program_of run.old) (budgets_of run.old) place (graph.Clear declaration scalar) (state_in run.old))) }
-    ensures err { IfErr result (Ends run.old run.new (works (program_of run.old) (budgets_of run.old) place (graph.Clear declaration scalar) (state_in run.old))) }
-    ensures kept { OnOk result (run.new.setting ≡ run.old.setting) }
+    ensures { Performs run.old run.new result (works (program_of run.old) (budgets_of run.old) place (graph.Clear declaration scalar) (state_in run.old)) }
 {
     let frame = number_of(&run.machine);
     if let Some(local) = if_local(scalar, declaration) {
@@ -43,9 +41,7 @@ pub fn clear(run: &mut Runner, place: Place, declaration: u32, scalar: bool) -> 
 
 /// A local becomes zero, before the pieces of its initializer are stored (C11 6.7.9).
 pub fn zero(run: &mut Runner, place: Place, declaration: u32) -> Result<(), Stop>
-    ensures ok { OnOk result (LeadsOn run.old run.new (works (program_of run.old) (budgets_of run.old) place (graph.Zero declaration) (state_in run.old))) }
-    ensures err { IfErr result (Ends run.old run.new (works (program_of run.old) (budgets_of run.old) place (graph.Zero declaration) (state_in run.old))) }
-    ensures kept { OnOk result (run.new.setting ≡ run.old.setting) }
+    ensures { Performs run.old run.new result (works (program_of run.old) (budgets_of run.old) place (graph.Zero declaration) (state_in run.old)) }
 {
     refill(&mut run.machine, declaration, Fill::Zero)?;
     Ok(())
@@ -61,9 +57,7 @@ pub fn store_local(
     scalar: bool,
 ) -> Result<(), Stop>
     requires { IsReady run.old }
-    ensures ok { OnOk result (LeadsOn run.old run.new (works (program_of run.old) (budgets_of run.old) place (graph.StoreLocal declaration offset (shape_of ty.now) scalar) (state_in run.old))) }
-    ensures err { IfErr result (Ends run.old run.new (works (program_of run.old) (budgets_of run.old) place (graph.StoreLocal declaration offset (shape_of ty.now) scalar) (state_in run.old))) }
-    ensures kept { OnOk result (run.new.setting ≡ run.old.setting) }
+    ensures { Performs run.old run.new result (works (program_of run.old) (budgets_of run.old) place (graph.StoreLocal declaration offset (shape_of ty.now) scalar) (state_in run.old)) }
 {
     let frame = number_of(&run.machine);
     touch_store(&mut run.log, frame, place, if_local(scalar, declaration))?;
@@ -81,9 +75,7 @@ pub fn spell(
     bytes: &[u8],
 ) -> Result<(), Stop>
     requires { IsReady run.old }
-    ensures ok { OnOk result (LeadsOn run.old run.new (works (program_of run.old) (budgets_of run.old) place (graph.Spell declaration offset bytes.now) (state_in run.old))) }
-    ensures err { IfErr result (Ends run.old run.new (works (program_of run.old) (budgets_of run.old) place (graph.Spell declaration offset bytes.now) (state_in run.old))) }
-    ensures kept { OnOk result (run.new.setting ≡ run.old.setting) }
+    ensures { Performs run.old run.new result (works (program_of run.old) (budgets_of run.old) place (graph.Spell declaration offset bytes.now) (state_in run.old)) }
 {
     let program = run.setting.program;
     spell_local(&mut run.machine, program, declaration, offset, bytes)?;
@@ -113,7 +105,7 @@ fn store_newest(
     let object = Object::Local(state.frame.number, declaration);
     state
         .memory
-        .write_operand(program, ty, &object, offset, operand)?;
+        .write_operand(program, ty, &object, offset, &operand)?;
     Ok(())
 }
 

@@ -4,7 +4,7 @@ ghost use Rattle.cs_cfg.specs.Graph as graph;
 ghost use Rattle.cs_cfg.specs.GraphView as view;
 ghost use Rattle.cs_cfg.specs.Working as working;
 ghost use Rattle.cs_run_state.specs.View.{operand_of};
-ghost use Rattle.cs_reference.specs.RunnerView.{program_of, budgets_of, state_in, IsReady, LeadsOn, Ends};
+ghost use Rattle.cs_reference.specs.RunnerView.{program_of, budgets_of, state_in, IsReady, Performs};
 ghost use Rattle.cs_replay.specs.Works.{works};
 
 use crate::accesses::{assign, fetch_number, fetch_pointer, load, move_pointer, update};
@@ -23,9 +23,7 @@ use cs_run_state::{Cell, Object, Operand, Stop, Touch};
 /// Does what an operation does that is no call; a call goes on in another frame, and here does nothing.
 pub fn work<'a>(run: &mut Runner<'a>, place: Place, one: &'a Work) -> Result<(), Stop>
     requires { IsReady run.old }
-    ensures ok { OnOk result (LeadsOn run.old run.new (works (program_of run.old) (budgets_of run.old) place (view.work one.now) (state_in run.old))) }
-    ensures err { IfErr result (Ends run.old run.new (works (program_of run.old) (budgets_of run.old) place (view.work one.now) (state_in run.old))) }
-    ensures kept { OnOk result (run.new.setting ≡ run.old.setting) }
+    ensures { Performs run.old run.new result (works (program_of run.old) (budgets_of run.old) place (view.work one.now) (state_in run.old)) }
 {
     match one {
         Work::Number(number) => give(run, Cell::Number(*number)),
@@ -77,9 +75,7 @@ pub fn work<'a>(run: &mut Runner<'a>, place: Place, one: &'a Work) -> Result<(),
 
 // A call of `free`, whose argument is the newest temporary (C11 7.22.3.3).
 fn free(run: &mut Runner, place: Place) -> Result<(), Stop>
-    ensures ok { OnOk result (LeadsOn run.old run.new (works (program_of run.old) (budgets_of run.old) place graph.Free (state_in run.old))) }
-    ensures err { IfErr result (Ends run.old run.new (works (program_of run.old) (budgets_of run.old) place graph.Free (state_in run.old))) }
-    ensures kept { OnOk result (run.new.setting ≡ run.old.setting) }
+    ensures { Performs run.old run.new result (works (program_of run.old) (budgets_of run.old) place graph.Free (state_in run.old)) }
 {
     let pointer = run.machine.pop_cell();
     run.release(place, pointer)
@@ -87,9 +83,7 @@ fn free(run: &mut Runner, place: Place) -> Result<(), Stop>
 
 // The run meets a control point.
 fn meet(run: &mut Runner, place: Place, kind: PointKind) -> Result<(), Stop>
-    ensures ok { OnOk result (LeadsOn run.old run.new (works (program_of run.old) (budgets_of run.old) place (graph.Meet kind) (state_in run.old))) }
-    ensures err { IfErr result (Ends run.old run.new (works (program_of run.old) (budgets_of run.old) place (graph.Meet kind) (state_in run.old))) }
-    ensures kept { OnOk result (run.new.setting ≡ run.old.setting) }
+    ensures { Performs run.old run.new result (works (program_of run.old) (budgets_of run.old) place (graph.Meet kind) (state_in run.old)) }
 {
     run.log.touch(Touch::Meets(kind, place))?;
     Ok(())
@@ -97,9 +91,7 @@ fn meet(run: &mut Runner, place: Place, kind: PointKind) -> Result<(), Stop>
 
 // The run meets the end of a function's body.
 fn close(run: &mut Runner, place: Place, nothing: bool) -> Result<(), Stop>
-    ensures ok { OnOk result (LeadsOn run.old run.new (works (program_of run.old) (budgets_of run.old) place (graph.Close nothing) (state_in run.old))) }
-    ensures err { IfErr result (Ends run.old run.new (works (program_of run.old) (budgets_of run.old) place (graph.Close nothing) (state_in run.old))) }
-    ensures kept { OnOk result (run.new.setting ≡ run.old.setting) }
+    ensures { Performs run.old run.new result (works (program_of run.old) (budgets_of run.old) place (graph.Close nothing) (state_in run.old)) }
 {
     run.log.touch(Touch::Meets(PointKind::End, place))?;
     run.machine.push(closed_with(nothing))?;

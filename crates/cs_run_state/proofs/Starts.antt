@@ -47,7 +47,7 @@ start_stays found m path f finds none other =
         ap (option_map block_of) (sym here) ∙ ap (λ (b : Option Block). option_map f (option_map block_of b)) here
 
 -- the block was there, and stays
-pub start_there : (found : Path → Ordering) (m : BTreeMap Path Block) (path : Path) (block : meaning.Block) → ((q : Path) → found q ≡ path_order path q) → true ≡ is_some (get_by found m) → (other : Path) → start_in m other ≡ (if is_equal (path_order path other) then plain.or_new block (start_in m other) else start_in m other)
+pub start_there : (found : Path → Ordering) (m : BTreeMap Path Block) (path : Path) (block : meaning.Block) → ((q : Path) → found q ≡ path_order path q) → true ≡ is_some (get_by found m) → (other : Path) → start_in m other ≡ (if is_equal (path_order path other) then meaning.or_new block (start_in m other) else start_in m other)
 start_there found m path block finds some other =
     let e : found ≡ path_order path = fun_ext finds in
     by_order (subst (λ (k : Path → Ordering). true ≡ is_some (get_by k m)) e some) (path_order path other) refl
@@ -56,13 +56,13 @@ start_there found m path block finds some other =
     stays (Some b) h = refl
     stays None h = cc
 
-    by_order : true ≡ is_some (get_by (path_order path) m) → (o : Ordering) → path_order path other ≡ o → start_in m other ≡ (if is_equal o then plain.or_new block (start_in m other) else start_in m other)
+    by_order : true ≡ is_some (get_by (path_order path) m) → (o : Ordering) → path_order path other ≡ o → start_in m other ≡ (if is_equal o then meaning.or_new block (start_in m other) else start_in m other)
     by_order some' Less e = refl
     by_order some' Greater e = refl
     by_order some' Equal e = stays (get_by (path_order other) m) (subst (λ (p : Path). true ≡ is_some (get_by (path_order p) m)) (path_order-tie path other e) some')
 
 -- the block wasn't there, and is added
-pub start_added : (cmp : Path → Path → Ordering) (found : Path → Ordering) (m n : BTreeMap Path Block) (path : Path) (new : Block) → ((p q : Path) → cmp p q ≡ path_order p q) → ((q : Path) → found q ≡ path_order path q) → false ≡ is_some (get_by found m) → Updates cmp m n path (Some new) → (other : Path) → start_in n other ≡ (if is_equal (path_order path other) then plain.or_new (block_of new) (start_in m other) else start_in m other)
+pub start_added : (cmp : Path → Path → Ordering) (found : Path → Ordering) (m n : BTreeMap Path Block) (path : Path) (new : Block) → ((p q : Path) → cmp p q ≡ path_order p q) → ((q : Path) → found q ≡ path_order path q) → false ≡ is_some (get_by found m) → Updates cmp m n path (Some new) → (other : Path) → start_in n other ≡ (if is_equal (path_order path other) then meaning.or_new (block_of new) (start_in m other) else start_in m other)
 start_added cmp found m n path new orders finds none updates other =
     let e : cmp ≡ path_order = fun_ext (λ p. fun_ext (orders p)) in
     let e' : found ≡ path_order path = fun_ext finds in
@@ -73,7 +73,7 @@ start_added cmp found m n path new orders finds none updates other =
     comes (Some b) h = cc
     comes None h = refl
 
-    by_order : false ≡ is_some (get_by (path_order path) m) → (o : Ordering) → path_order path other ≡ o → get_by (path_order other) n ≡ cond (is_eq o) (Some new) (get_by (path_order other) m) → start_in n other ≡ (if is_equal o then plain.or_new (block_of new) (start_in m other) else start_in m other)
+    by_order : false ≡ is_some (get_by (path_order path) m) → (o : Ordering) → path_order path other ≡ o → get_by (path_order other) n ≡ cond (is_eq o) (Some new) (get_by (path_order other) m) → start_in n other ≡ (if is_equal o then meaning.or_new (block_of new) (start_in m other) else start_in m other)
     by_order none' Less e u = ap (option_map block_of) u
     by_order none' Greater e u = ap (option_map block_of) u
     by_order none' Equal e u = ap (option_map block_of) u ∙ comes (get_by (path_order other) m) (subst (λ (p : Path). false ≡ is_some (get_by (path_order p) m)) (path_order-tie path other e) none')

@@ -7,3 +7,5 @@ pub mod FoundView
 pub mod AccessView
 pub mod MachineView
 pub mod Choosing
+pub mod Constants
+pub mod Updates

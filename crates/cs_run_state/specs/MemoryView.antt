@@ -65,19 +65,19 @@ change_of (change.Refill fill) block = meaning.refill (fill_of fill) block
 change_of (change.Stand standing) block = meaning.stand standing block
 
 -- the block after an unknown pointer with a path
-abbrev pub start_in : BTreeMap Path Block → Path → Option plain.Block
+abbrev pub start_in : BTreeMap Path Block → Path → Option meaning.Block
 start_in starts path = option_map block_of (lookup (is_at (path_order path)) starts.entries)
 
 -- an object of a row
-abbrev pub block_at : List Block → ℕ → Option plain.Block
+abbrev pub block_at : List Block → ℕ → Option meaning.Block
 block_at row at = option_map block_of (slice_get row at)
 
 -- a local of a frame
-abbrev pub local_in : List (Vec Block Global) → ℕ → ℕ → Option plain.Block
+abbrev pub local_in : List (Vec Block Global) → ℕ → ℕ → Option meaning.Block
 local_in frames frame declaration = option_and_then (λ (locals : Vec Block Global). block_at locals.items declaration) (slice_get frames frame)
 
 -- the block of an allocation, of those from the first one on
-abbrev pub given_in : List (Option Block) → ℕ → Option plain.Block
+abbrev pub given_in : List (Option Block) → ℕ → Option meaning.Block
 given_in heap zero = None
 given_in heap (suc before) = option_and_then (λ (given : Option Block). option_map block_of given) (slice_get heap before)
 
@@ -90,7 +90,7 @@ memory_of memory (LocalObject frame declaration) = local_in memory.frames.items 
 memory_of memory (HeapBlock allocation) = given_in memory.heap.items allocation
 
 -- a row with the object at a place changed, if it is there
-abbrev pub changed_at : (meaning.Block → meaning.Block) → ℕ → (ℕ → Option plain.Block) → ℕ → Option plain.Block
+abbrev pub changed_at : (meaning.Block → meaning.Block) → ℕ → (ℕ → Option meaning.Block) → ℕ → Option meaning.Block
 changed_at change at row n = if at == n then option_map change (row n) else row n
 
 -- there are as many frames and allocations as there were
@@ -99,6 +99,6 @@ pub record KeepsCounts (old new : Memory) : Type 0 where
   pub allocations : length new.heap.items ≡ length old.heap.items
 
 -- memory with these locals in a frame
-abbrev pub with_frame : ℕ → (ℕ → Option plain.Block) → meaning.Memory → meaning.Memory
+abbrev pub with_frame : ℕ → (ℕ → Option meaning.Block) → meaning.Memory → meaning.Memory
 with_frame frame locals memory (LocalObject n declaration) = if n == frame then locals declaration else memory (LocalObject n declaration)
 with_frame frame locals memory other = memory other

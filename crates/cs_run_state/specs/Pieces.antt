@@ -1,5 +1,5 @@
 -- What a piece of a step does, told by every way to go on from it.
-use Rattle.std.specs.Prelude.{◌≡◌, ℕ, ℤ, pos, neg_ℤ, ◌+ℤ◌, ◌-ℤ◌, ◌*ℤ◌, true, Option, Some, None, if◌then◌else◌}
+use Rattle.std.specs.Prelude.{◌≡◌, ℕ, ℤ, pos, neg_ℤ, ◌+ℤ◌, ◌-ℤ◌, ◌*ℤ◌, true, Option, Some, None, if◌then◌else◌, Result, ⊤, OnOk, IfErr}
 use Rattle.cs_types.specs.declared.data_model.DataModel.{DataModel}
 use Rattle.cs_types.specs.DataModel.{offset_bound_of}
 use Rattle.cs_events.specs.declared.event.Label.TheVariants.{Look}
@@ -62,6 +62,11 @@ module _ (setting : Setting) (before following : Log) where
   -- an act ends the run
   abbrev pub EndsBy : Act State → Stop → Type 0
   EndsBy act stop = perform (setting_of setting) (log_of before) act ≡ finished stop (log_of following) (perform (setting_of setting) (log_of before) act)
+
+-- what a call comes to that performs an act: the act leads to this state, or has ended the run
+pub record LeadsOrEnds (setting : Setting) (before following : Log) (result : Result ⊤ Stop) (act : Act State) (next : State) : Type 0 where
+  pub ok : OnOk result (LeadsTo setting before following act next)
+  pub err : IfErr result (EndsBy setting before following act)
 
 -- an act that follows where there is no fault
 abbrev pub or_fault : Place → Option Kind → Act State → Act State

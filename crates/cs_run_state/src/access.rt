@@ -59,7 +59,7 @@ pub fn access_of(e: &Expr) -> Access<'_>
 fn is_direct(e: &Expr) -> bool
     ensures { result ≡ loads.is_direct (typed e.now) }
 {
-    match &e.kind {
+    match &*e.kind {
         ExprKind::Local(_) => true,
         ExprKind::Global(_) => true,
         ExprKind::Member(object, _) => is_direct(object),
@@ -90,7 +90,7 @@ pub fn is_scalar(ty: &CType) -> bool
 fn scalar_local(e: &Expr) -> Option<u32>
     ensures { result ≡ loads.scalar_local (typed e.now) }
 {
-    match &e.kind {
+    match &*e.kind {
         ExprKind::Local(declaration) => {
             if is_scalar(&e.ty) {
                 Some(*declaration)
@@ -282,16 +282,16 @@ impl<'a> Memory<'a> {
     }
 
     // An object is reached through a pointer: it shows whether the pointer is null, which is a fault (C11 6.5.3.2, paragraph 4).
-    fn reach(
+    fn reach<'p>(
         &self,
         log: &mut Log,
         setting: &Setting,
         access: Access,
-        place: Cell,
-    ) -> Result<(Object, u64), Stop>
+        place: &'p Cell,
+    ) -> Result<(&'p Object, u64), Stop>
         requires { IsLaidOut setting.now.program.now.model setting.now.program.now.table.list }
-        ensures ok { IfOk result (λ found. GivesBoth setting.now log.old log.new (loads.reach (typed_program setting.now.program.now) (memory_of self.now) access.entry.place (shape_of access.entry.ty.now) (cell_of place)) (object_of found.0) found.1) }
-        ensures err { IfErr result (StopsInBoth setting.now log.old log.new (loads.reach (typed_program setting.now.program.now) (memory_of self.now) access.entry.place (shape_of access.entry.ty.now) (cell_of place))) }
+        ensures ok { IfOk result (λ found. GivesBoth setting.now log.old log.new (loads.reach (typed_program setting.now.program.now) (memory_of self.now) access.entry.place (shape_of access.entry.ty.now) (cell_of place.now)) (object_of found.0.now) found.1) }
+        ensures err { IfErr result (StopsInBoth setting.now log.old log.new (loads.reach (typed_program setting.now.program.now) (memory_of self.now) access.entry.place (shape_of access.entry.ty.now) (cell_of place.now))) }
     {
         match place {
             Cell::Null => {
@@ -300,7 +300,7 @@ impl<'a> Memory<'a> {
             }
             Cell::Pointer(object, offset) => {
                 log.show(setting, access.place, Label::Look(true))?;
-                let number = self.reach_in(log, setting, access, &object, offset)?;
+                let number = self.reach_in(log, setting, access, object, *offset)?;
                 Ok((object, number))
             }
             Cell::Number(_) => Err(fault(Kind::Unset, access.place)),
@@ -309,16 +309,16 @@ impl<'a> Memory<'a> {
     }
 
     // The object that is accessed, whose place has this value, and the offset there.
-    fn locate(
+    fn locate<'p>(
         &self,
         log: &mut Log,
         setting: &Setting,
         access: Access,
-        place: Cell,
-    ) -> Result<(Object, u64), Stop>
+        place: &'p Cell,
+    ) -> Result<(&'p Object, u64), Stop>
         requires { IsLaidOut setting.now.program.now.model setting.now.program.now.table.list }
-        ensures ok { IfOk result (λ found. GivesBoth setting.now log.old log.new (loads.locate_object (typed_program setting.now.program.now) (memory_of self.now) (access_of access.entry) (cell_of place)) (object_of found.0) found.1) }
-        ensures err { IfErr result (StopsInBoth setting.now log.old log.new (loads.locate_object (typed_program setting.now.program.now) (memory_of self.now) (access_of access.entry) (cell_of place))) }
+        ensures ok { IfOk result (λ found. GivesBoth setting.now log.old log.new (loads.locate_object (typed_program setting.now.program.now) (memory_of self.now) (access_of access.entry) (cell_of place.now)) (object_of found.0.now) found.1) }
+        ensures err { IfErr result (StopsInBoth setting.now log.old log.new (loads.locate_object (typed_program setting.now.program.now) (memory_of self.now) (access_of access.entry) (cell_of place.now))) }
     {
         if access.direct {
             let found = direct(log, setting, access.place, place)?;
@@ -425,16 +425,16 @@ impl<'a> Memory<'a> {
         setting: &Setting<'a>,
         frame: u64,
         access: Access,
-        place: Cell,
+        place: &Cell,
     ) -> Result<Operand, Stop>
         requires { IsLaidOut setting.now.program.now.model setting.now.program.now.table.list }
-        ensures ok { IfOk result (λ operand. GivesBoth setting.now log.old log.new (loads.load_object (typed_program setting.now.program.now) (memory_of self.old) frame (access_of access.entry) (cell_of place)) (memory_of self.new) (operand_of operand)) }
-        ensures err { IfErr result (StopsInBoth setting.now log.old log.new (loads.load_object (typed_program setting.now.program.now) (memory_of self.old) frame (access_of access.entry) (cell_of place))) }
+        ensures ok { IfOk result (λ operand. GivesBoth setting.now log.old log.new (loads.load_object (typed_program setting.now.program.now) (memory_of self.old) frame (access_of access.entry) (cell_of place.now)) (memory_of self.new) (operand_of operand)) }
+        ensures err { IfErr result (StopsInBoth setting.now log.old log.new (loads.load_object (typed_program setting.now.program.now) (memory_of self.old) frame (access_of access.entry) (cell_of place.now))) }
         ensures counts { IfOk result (λ _. KeepsCounts self.old self.new) }
     {
         let found = self.locate(log, setting, access, place)?;
         touch_load(log, frame, access)?;
-        let operand = self.value_at(log, setting, access, &found.0, found.1)?;
+        let operand = self.value_at(log, setting, access, found.0, found.1)?;
         Ok(operand)
     }
 
@@ -446,32 +446,37 @@ impl<'a> Memory<'a> {
         frame: u64,
         at: Place,
         access: Access,
-        place: Cell,
-        operand: Operand,
+        place: &Cell,
+        operand: &Operand,
     ) -> Result<(), Stop>
         requires { IsLaidOut setting.now.program.now.model setting.now.program.now.table.list }
-        ensures ok { OnOk result (Gives setting.now log.old log.new (loads.store_object (typed_program setting.now.program.now) (memory_of self.old) frame at (access_of access.entry) (cell_of place) (operand_of operand)) (memory_of self.new)) }
-        ensures err { IfErr result (StopsIn setting.now log.old log.new (loads.store_object (typed_program setting.now.program.now) (memory_of self.old) frame at (access_of access.entry) (cell_of place) (operand_of operand))) }
+        ensures ok { OnOk result (Gives setting.now log.old log.new (loads.store_object (typed_program setting.now.program.now) (memory_of self.old) frame at (access_of access.entry) (cell_of place.now) (operand_of operand.now)) (memory_of self.new)) }
+        ensures err { IfErr result (StopsIn setting.now log.old log.new (loads.store_object (typed_program setting.now.program.now) (memory_of self.old) frame at (access_of access.entry) (cell_of place.now) (operand_of operand.now))) }
         ensures counts { OnOk result (KeepsCounts self.old self.new) }
     {
         let found = self.locate(log, setting, access, place)?;
-        if is_constant(setting.program, &found.0) {
+        if is_constant(setting.program, found.0) {
             return Err(fault(Kind::ConstWrite, access.place));
         }
         touch_store(log, frame, at, access.local)?;
-        self.write_operand(setting.program, access.ty, &found.0, found.1, operand)?;
+        self.write_operand(setting.program, access.ty, found.0, found.1, operand)?;
         Ok(())
     }
 }
 
 // A variable, or a member of one.
-fn direct(log: &Log, setting: &Setting, place: Place, cell: Cell) -> Result<(Object, u64), Stop>
-    ensures ok { IfOk result (λ found. GivesBoth setting.now log.now log.now (loads.direct place (cell_of cell)) (object_of found.0) found.1) }
-    ensures err { IfErr result (StopsInBoth setting.now log.now log.now (loads.direct place (cell_of cell))) }
+fn direct<'p>(
+    log: &Log,
+    setting: &Setting,
+    place: Place,
+    cell: &'p Cell,
+) -> Result<(&'p Object, u64), Stop>
+    ensures ok { IfOk result (λ found. GivesBoth setting.now log.now log.now (loads.direct place (cell_of cell.now)) (object_of found.0.now) found.1) }
+    ensures err { IfErr result (StopsInBoth setting.now log.now log.now (loads.direct place (cell_of cell.now))) }
 {
     match cell {
         Cell::Pointer(object, offset) => {
-            let number = offset_number(offset)?;
+            let number = offset_number(*offset)?;
             Ok((object, number))
         }
         Cell::Number(_) => Err(fault(Kind::Unset, place)),

@@ -32,7 +32,7 @@ impl<'a> Machine<'a> {
         ensures err { IfErr result (EndsBy setting.now log.old log.new (expressions.choose (typed e.now) (state_of self.old))) }
     {
         let place = e.place;
-        match &e.kind {
+        match &*e.kind {
             ExprKind::And(_, right) => {
                 let holds = self.test(log, setting, place)?;
                 self.go_on_to(holds, place, right, false)?;

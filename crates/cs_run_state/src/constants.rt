@@ -1,126 +1,217 @@
 //! What constant expressions give (C11 6.6).
-ghost use Rattle.std.specs.Prelude.{◌≡◌, IfOk, if◌then◌else◌};
-ghost use Rattle.cs_types.specs.Shape.{shape_of, integer};
+ghost use Rattle.std.specs.Prelude.{◌≡◌, IfOk};
+ghost use Rattle.cs_types.specs.Shape.{shape_of, integer, void};
 ghost use Rattle.cs_types.specs.Layout.{IsLaidOut};
 ghost use Rattle.cs_ast.specs.TypedProgram.{typed_program};
+ghost use Rattle.cs_ast.specs.TypedTree.{Unary, Binary, Compare, And, Or, Choice};
 ghost use Rattle.cs_ast.specs.TypedView.{typed};
 ghost use Rattle.cs_events.specs.Objects.{NumberCell};
 ghost use Rattle.cs_events.specs.Operations as operations;
 ghost use Rattle.cs_meaning.specs.Types as types;
 ghost use Rattle.cs_meaning.specs.Initials as initials;
 ghost use Rattle.cs_run_state.specs.View.{cell_of};
+ghost use Rattle.cs_run_state.specs.Constants.{constant_sum};
 
 use crate::logs::own_result;
-use crate::objects::{Cell, Object};
+use crate::objects::{Cell, Object, let_go_of_object};
 use crate::operations::{Stride, binary_operation, comparison, conversion, pointer_sum, stride_of};
 use crate::types::size_of;
 use cs_ast::typed::expression::{Expr, ExprKind};
-use cs_ast::typed::operator::{Direction, UnOp};
+use cs_ast::typed::operator::{BinOp, CmpOp, Direction, UnOp};
 use cs_ast::typed::program::Program;
 use cs_events::Operation;
 use cs_types::{CType, DataModel, IntType};
 use std::alloc::AllocError;
 
 /// The value of a constant expression: each operation has its own result.
+#[cycle(constant)]
 pub fn constant(program: &Program, e: &Expr) -> Result<Cell, AllocError>
     requires { IsLaidOut program.now.model program.now.table.list }
     ensures { IfOk result (λ cell. cell_of cell ≡ initials.constant (typed_program program.now) (typed e.now)) }
 {
-    let model = program.model;
-    match &e.kind {
+    match &*e.kind {
         ExprKind::Number(number) => Ok(Cell::Number(*number)),
         ExprKind::Null => Ok(Cell::Null),
         ExprKind::Text(literal) => Ok(Cell::Pointer(Object::Literal(*literal), 0)),
         ExprKind::Global(global) => Ok(Cell::Pointer(Object::Global(*global), 0)),
         ExprKind::Index(array, number, _) => {
-            let pointer = constant(program, array)?;
-            let number = constant(program, number)?;
             let size = size_of(program, &e.ty)?;
-            moved(model, pointer, &number, Direction::Forward, size)
+            constant_sum(program, array, number, Direction::Forward, size)
         }
-        ExprKind::Member(object, offset) => {
-            let place = constant(program, object)?;
-            place.further(*offset)
-        }
+        ExprKind::Member(object, offset) => constant(program, object)?.further(*offset),
         ExprKind::Address(object) => constant(program, object),
         ExprKind::Decay(array) => constant(program, array),
-        ExprKind::Convert(value) => {
-            let value = constant(program, value)?;
-            converted(model, &e.ty, value)
-        }
-        ExprKind::Unary(operator, operand) => {
-            let operand = constant(program, operand)?;
-            own_number(
-                model,
-                unary_operation(*operator, integer_of(&e.ty), &operand),
-            )
-        }
-        ExprKind::Not(operand) => {
-            let operand = constant(program, operand)?;
-            Ok(truth_cell(!operand.is_set()))
-        }
+        ExprKind::Convert(value) => converted(program.model, &e.ty, constant(program, value)?),
+        ExprKind::Unary(operator, operand) => constant_unary(program, *operator, &e.ty, operand),
+        ExprKind::Not(operand) => Ok(truth_cell(!constant_truth(program, operand)?)),
         ExprKind::Binary(operator, left, right) => {
-            let left = constant(program, left)?;
-            let right = constant(program, right)?;
-            own_number(
-                model,
-                binary_operation(*operator, integer_of(&e.ty), &left, &right),
-            )
+            constant_binary(program, *operator, &e.ty, left, right)
         }
         ExprKind::Compare(operator, left, right) => {
-            let left = constant(program, left)?;
-            let right = constant(program, right)?;
-            own_number(model, comparison(*operator, &left, &right))
+            constant_comparison(program, *operator, left, right)
         }
         ExprKind::Sum(pointer, amount, direction, _) => {
-            let pointer = constant(program, pointer)?;
-            let amount = constant(program, amount)?;
             let size = target_size(program, &e.ty)?;
-            moved(model, pointer, &amount, *direction, size)
+            constant_sum(program, pointer, amount, *direction, size)
         }
-        ExprKind::And(left, right) => {
-            let left = constant(program, left)?;
-            let right = constant(program, right)?;
-            Ok(truth_cell(left.is_set() && right.is_set()))
-        }
-        ExprKind::Or(left, right) => {
-            let left = constant(program, left)?;
-            let right = constant(program, right)?;
-            Ok(truth_cell(left.is_set() || right.is_set()))
-        }
-        ExprKind::Choice(test, one, other) => {
-            let test = constant(program, test)?;
-            let one = constant(program, one)?;
-            let other = constant(program, other)?;
-            Ok(chosen(test.is_set(), one, other))
-        }
-        ExprKind::Local(_) => Ok(Cell::Unset),
-        ExprKind::Through(_) => Ok(Cell::Unset),
-        ExprKind::Arrow(_, _) => Ok(Cell::Unset),
-        ExprKind::Load(_) => Ok(Cell::Unset),
-        ExprKind::Difference(_, _) => Ok(Cell::Unset),
-        ExprKind::Comma(_, _) => Ok(Cell::Unset),
-        ExprKind::Assign(_, _) => Ok(Cell::Unset),
-        ExprKind::Update(_, _, _, _, _) => Ok(Cell::Unset),
-        ExprKind::Move(_, _, _, _) => Ok(Cell::Unset),
-        ExprKind::Call(_, _) => Ok(Cell::Unset),
-        ExprKind::Allocate(_, _, _) => Ok(Cell::Unset),
+        ExprKind::And(left, right) => constant_and(program, left, right),
+        ExprKind::Or(left, right) => constant_or(program, left, right),
+        ExprKind::Choice(test, one, other) => constant_choice(program, test, one, other),
+        ExprKind::Local(_) | ExprKind::Through(_) | ExprKind::Arrow(_, _) => Ok(Cell::Unset),
+        ExprKind::Load(_) | ExprKind::Difference(_, _) => Ok(Cell::Unset),
+        ExprKind::Comma(_, _) | ExprKind::Assign(_, _) => Ok(Cell::Unset),
+        ExprKind::Update(_, _, _, _, _) | ExprKind::Move(_, _, _, _) => Ok(Cell::Unset),
+        ExprKind::Call(_, _) | ExprKind::Allocate(_, _, _) => Ok(Cell::Unset),
         ExprKind::Free(_) => Ok(Cell::Unset),
     }
 }
 
-// The first of two cells, or the other one.
-fn chosen(first: bool, one: Cell, other: Cell) -> Cell
-    ensures { result ≡ (if first then one else other) }
+// The number of a constant expression; a pointer counts as 0.
+#[cycle(constant)]
+fn constant_number(program: &Program, e: &Expr) -> Result<i128, AllocError>
+    requires { IsLaidOut program.now.model program.now.table.list }
+    ensures { IfOk result (λ number.
+        number ≡ initials.number_in (initials.constant (typed_program program.now) (typed e.now))) }
 {
-    if first { one } else { other }
+    let cell = constant(program, e)?;
+    Ok(cell.number())
+}
+
+// Whether a constant expression is other than 0 and null.
+#[cycle(constant)]
+fn constant_truth(program: &Program, e: &Expr) -> Result<bool, AllocError>
+    requires { IsLaidOut program.now.model program.now.table.list }
+    ensures { IfOk result (λ holds.
+        holds ≡ initials.is_set (initials.constant (typed_program program.now) (typed e.now))) }
+{
+    let cell = constant(program, e)?;
+    Ok(cell.is_set())
+}
+
+// A pointer moved by a number of elements of so many bytes, in a direction.
+#[cycle(constant)]
+fn constant_sum(
+    program: &Program,
+    pointer: &Expr,
+    amount: &Expr,
+    direction: Direction,
+    size: u64,
+) -> Result<Cell, AllocError>
+    requires { IsLaidOut program.now.model program.now.table.list }
+    ensures { IfOk result (λ cell.
+        cell_of cell ≡ constant_sum (typed_program program.now) (typed pointer.now) (typed amount.now) direction size) }
+{
+    let number = constant_number(program, amount)?;
+    let stride = stride_of(&number, direction, size)?;
+    let base = constant(program, pointer)?;
+    moved(program.model, base, stride)
+}
+
+// An operator of one integer, in a type.
+#[cycle(constant)]
+fn constant_unary(
+    program: &Program,
+    operator: UnOp,
+    ty: &CType,
+    operand: &Expr,
+) -> Result<Cell, AllocError>
+    requires { IsLaidOut program.now.model program.now.table.list }
+    ensures { IfOk result (λ cell.
+        cell_of cell ≡ initials.constant_form (typed_program program.now) (shape_of ty.now) (Unary operator (typed operand.now))) }
+{
+    let number = constant_number(program, operand)?;
+    own_number(
+        program.model,
+        unary_operation(operator, integer_of(ty), &number),
+    )
+}
+
+// An operator of two integers, in a type.
+#[cycle(constant)]
+fn constant_binary(
+    program: &Program,
+    operator: BinOp,
+    ty: &CType,
+    left: &Expr,
+    right: &Expr,
+) -> Result<Cell, AllocError>
+    requires { IsLaidOut program.now.model program.now.table.list }
+    ensures { IfOk result (λ cell.
+        cell_of cell ≡ initials.constant_form (typed_program program.now) (shape_of ty.now) (Binary operator (typed left.now) (typed right.now))) }
+{
+    let one = constant_number(program, left)?;
+    let other = constant_number(program, right)?;
+    own_number(
+        program.model,
+        binary_operation(operator, integer_of(ty), &one, &other),
+    )
+}
+
+// A comparison.
+#[cycle(constant)]
+fn constant_comparison(
+    program: &Program,
+    operator: CmpOp,
+    left: &Expr,
+    right: &Expr,
+) -> Result<Cell, AllocError>
+    requires { IsLaidOut program.now.model program.now.table.list }
+    ensures { IfOk result (λ cell.
+        cell_of cell ≡ initials.constant_form (typed_program program.now) void (Compare operator (typed left.now) (typed right.now))) }
+{
+    let one = constant_number(program, left)?;
+    let other = constant_number(program, right)?;
+    own_number(program.model, comparison(operator, &one, &other))
+}
+
+// `&&`.
+#[cycle(constant)]
+fn constant_and(program: &Program, left: &Expr, right: &Expr) -> Result<Cell, AllocError>
+    requires { IsLaidOut program.now.model program.now.table.list }
+    ensures { IfOk result (λ cell.
+        cell_of cell ≡ initials.constant_form (typed_program program.now) void (And (typed left.now) (typed right.now))) }
+{
+    let one = constant_truth(program, left)?;
+    let other = constant_truth(program, right)?;
+    Ok(truth_cell(one && other))
+}
+
+// `||`.
+#[cycle(constant)]
+fn constant_or(program: &Program, left: &Expr, right: &Expr) -> Result<Cell, AllocError>
+    requires { IsLaidOut program.now.model program.now.table.list }
+    ensures { IfOk result (λ cell.
+        cell_of cell ≡ initials.constant_form (typed_program program.now) void (Or (typed left.now) (typed right.now))) }
+{
+    let one = constant_truth(program, left)?;
+    let other = constant_truth(program, right)?;
+    Ok(truth_cell(one || other))
+}
+
+// `?:`.
+#[cycle(constant)]
+fn constant_choice(
+    program: &Program,
+    test: &Expr,
+    one: &Expr,
+    other: &Expr,
+) -> Result<Cell, AllocError>
+    requires { IsLaidOut program.now.model program.now.table.list }
+    ensures { IfOk result (λ cell.
+        cell_of cell ≡ initials.constant_form (typed_program program.now) void (Choice (typed test.now) (typed one.now) (typed other.now))) }
+{
+    if constant_truth(program, test)? {
+        constant(program, one)
+    } else {
+        constant(program, other)
+    }
 }
 
 /// An operator of one integer.
-pub fn unary_operation(operator: UnOp, ty: IntType, operand: &Cell) -> Operation
-    ensures { result ≡ Operation.Unary operator ty (initials.number_in (cell_of operand.now)) }
+pub fn unary_operation(operator: UnOp, ty: IntType, operand: &i128) -> Operation
+    ensures { result ≡ Operation.Unary operator ty operand.now }
 {
-    Operation::Unary(operator, ty, operand.number())
+    Operation::Unary(operator, ty, *operand)
 }
 
 /// The integer type that a type is.
@@ -159,21 +250,20 @@ fn own_number(model: DataModel, operation: Operation) -> Result<Cell, AllocError
     Ok(Cell::Number(own.number))
 }
 
-// A pointer moved by a number of elements of so many bytes, in a direction.
-fn moved(
-    model: DataModel,
-    pointer: Cell,
-    amount: &Cell,
-    direction: Direction,
-    size: u64,
-) -> Result<Cell, AllocError>
-    ensures { IfOk result (λ cell. cell_of cell ≡ initials.moved model (cell_of pointer) (initials.directed direction (initials.number_in (cell_of amount.now))) size) }
+// A pointer moved as far as a stride.
+fn moved(model: DataModel, pointer: Cell, stride: Stride) -> Result<Cell, AllocError>
+    ensures { IfOk result (λ cell.
+        cell_of cell ≡ initials.moved model (cell_of pointer) stride.amount stride.size) }
 {
     match pointer {
         Cell::Pointer(object, offset) => {
-            let stride = stride_of(amount, direction, size)?;
-            let offset = moved_offset(model, &offset, stride)?;
-            Ok(Cell::Pointer(object, offset))
+            match moved_offset(model, &offset, stride) {
+                Ok(offset) => Ok(Cell::Pointer(object, offset)),
+                Err(error) => {
+                    let_go_of_object(object);
+                    Err(error)
+                }
+            }
         }
         Cell::Number(number) => Ok(Cell::Number(number)),
         Cell::Null => Ok(Cell::Null),
@@ -207,7 +297,7 @@ fn converted_to(model: DataModel, ty: IntType, cell: Cell) -> Result<Cell, Alloc
     ensures { IfOk result (λ made. cell_of made ≡ initials.converted model (integer ty) (cell_of cell)) }
 {
     match cell {
-        Cell::Number(_) => own_number(model, conversion(ty, &cell)),
+        Cell::Number(number) => own_number(model, conversion(ty, &number)),
         Cell::Null => Ok(Cell::Null),
         Cell::Pointer(object, offset) => Ok(Cell::Pointer(object, offset)),
         Cell::Unset => Ok(Cell::Unset),

@@ -11,7 +11,7 @@ use std::alloc::AllocError;
 pub fn counted_points(s: &Stmt) -> Result<u64, AllocError>
     ensures { IfOk result (λ count. count ≡ meaning.counted_points (statement s.now)) }
 {
-    match &s.kind {
+    match &*s.kind {
         StmtKind::Block(statements) => counted_points_in(statements),
         StmtKind::Declare(_, _) => Ok(0),
         StmtKind::Run(_) => Ok(0),

@@ -38,7 +38,7 @@ impl<'a> Machine<'a> {
     pub fn evaluate_parts(&mut self, e: &'a Expr) -> Result<(), AllocError>
         ensures { OnOk result (state_of self.new ≡ machine.to_do (expressions.evaluates (typed e.now) (state_of self.old).frame.todo) (state_of self.old)) }
     {
-        match &e.kind {
+        match &*e.kind {
             ExprKind::Number(_) => self.put_expr(ExprStep::Act, e),
             ExprKind::Null => self.put_expr(ExprStep::Act, e),
             ExprKind::Text(_) => self.put_expr(ExprStep::Act, e),
@@ -173,5 +173,5 @@ impl<'a> Machine<'a> {
 fn is_call(e: &Expr) -> bool
     ensures { (following : List machine.Item) → expressions.uses (typed e.now) following ≡ (if result then machine.Use e.now.place ∷ following else following) }
 {
-    matches!(&e.kind, ExprKind::Call(_, _))
+    matches!(&*e.kind, ExprKind::Call(_, _))
 }

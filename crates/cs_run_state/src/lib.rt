@@ -23,6 +23,7 @@ pub mod pieces;
 mod scalars;
 mod settings;
 pub mod types;
+mod updates;
 mod writes;
 
 pub use logs::{Log, Stop, Touch};

@@ -116,16 +116,35 @@ impl<'a> Machine<'a> {
         (older, newer)
     }
 
+    /// Takes the newest operand as a number.
+    pub fn pop_number(&mut self) -> i128
+        ensures number { result ≡ expressions.number_at (state_of self.old) 0 }
+        ensures state { state_of self.new ≡ machine.pop (state_of self.old) }
+    {
+        self.pop_cell().number()
+    }
+
+    /// Takes the two newest operands as numbers, the older one first.
+    pub fn pop_numbers(&mut self) -> (i128, i128)
+        ensures older { result.0 ≡ expressions.number_at (state_of self.old) 1 }
+        ensures newer { result.1 ≡ expressions.number_at (state_of self.old) 0 }
+        ensures state { state_of self.new ≡ machine.pop_many 2 (state_of self.old) }
+    {
+        let newer = self.pop_number();
+        let older = self.pop_number();
+        (older, newer)
+    }
+
     /// Takes a pointer and an amount, of which one was evaluated after the other.
-    pub fn pop_both(&mut self, order: Order) -> (Cell, Cell)
+    pub fn pop_both(&mut self, order: Order) -> (Cell, i128)
         ensures pointer { cell_of result.0 ≡ machine.cell_at (state_of self.old) (expressions.pointer_age order) }
-        ensures amount { cell_of result.1 ≡ machine.cell_at (state_of self.old) (expressions.amount_age order) }
+        ensures amount { result.1 ≡ expressions.number_at (state_of self.old) (expressions.amount_age order) }
         ensures state { state_of self.new ≡ machine.pop_many 2 (state_of self.old) }
     {
         let (older, newer) = self.pop_two();
         match order {
-            Order::PointerFirst => (older, newer),
-            Order::AmountFirst => (newer, older),
+            Order::PointerFirst => (older, newer.number()),
+            Order::AmountFirst => (newer, older.number()),
         }
     }
 
@@ -148,11 +167,11 @@ impl<'a> Machine<'a> {
         log: &mut Log,
         setting: &Setting<'a>,
         access: Access,
-        place: Cell,
+        place: &Cell,
     ) -> Result<Operand, Stop>
         requires { IsLaidOut setting.now.program.now.model setting.now.program.now.table.list }
-        ensures ok { IfOk result (λ operand. GivesBoth setting.now log.old log.new (loads.load_object (typed_program setting.now.program.now) (state_of self.old).memory (state_of self.old).frame.number (access_of access.entry) (cell_of place)) (state_of self.new).memory (operand_of operand)) }
-        ensures err { IfErr result (StopsInBoth setting.now log.old log.new (loads.load_object (typed_program setting.now.program.now) (state_of self.old).memory (state_of self.old).frame.number (access_of access.entry) (cell_of place))) }
+        ensures ok { IfOk result (λ operand. GivesBoth setting.now log.old log.new (loads.load_object (typed_program setting.now.program.now) (state_of self.old).memory (state_of self.old).frame.number (access_of access.entry) (cell_of place.now)) (state_of self.new).memory (operand_of operand)) }
+        ensures err { IfErr result (StopsInBoth setting.now log.old log.new (loads.load_object (typed_program setting.now.program.now) (state_of self.old).memory (state_of self.old).frame.number (access_of access.entry) (cell_of place.now))) }
         ensures state { IfOk result (λ _. state_of self.new ≡ machine.with_memory (state_of self.new).memory (state_of self.old)) }
     {
         let frame = self.frame.number;
@@ -167,12 +186,12 @@ impl<'a> Machine<'a> {
         setting: &Setting<'a>,
         at: Place,
         access: Access,
-        place: Cell,
-        operand: Operand,
+        place: &Cell,
+        operand: &Operand,
     ) -> Result<(), Stop>
         requires { IsLaidOut setting.now.program.now.model setting.now.program.now.table.list }
-        ensures ok { OnOk result (Gives setting.now log.old log.new (loads.store_object (typed_program setting.now.program.now) (state_of self.old).memory (state_of self.old).frame.number at (access_of access.entry) (cell_of place) (operand_of operand)) (state_of self.new).memory) }
-        ensures err { IfErr result (StopsIn setting.now log.old log.new (loads.store_object (typed_program setting.now.program.now) (state_of self.old).memory (state_of self.old).frame.number at (access_of access.entry) (cell_of place) (operand_of operand))) }
+        ensures ok { OnOk result (Gives setting.now log.old log.new (loads.store_object (typed_program setting.now.program.now) (state_of self.old).memory (state_of self.old).frame.number at (access_of access.entry) (cell_of place.now) (operand_of operand.now)) (state_of self.new).memory) }
+        ensures err { IfErr result (StopsIn setting.now log.old log.new (loads.store_object (typed_program setting.now.program.now) (state_of self.old).memory (state_of self.old).frame.number at (access_of access.entry) (cell_of place.now) (operand_of operand.now))) }
         ensures state { OnOk result (state_of self.new ≡ machine.with_memory (state_of self.new).memory (state_of self.old)) }
     {
         let frame = self.frame.number;

@@ -136,7 +136,7 @@ fn add_if_new<'a>(
     path: Path,
     block: Block<'a>,
 ) -> Result<(), AllocError>
-    ensures { OnOk result ((other : Path) → start_in starts.new other ≡ (if is_equal (path_order path other) then plain.or_new (block_of block.entry) (start_in starts.old other) else start_in starts.old other)) }
+    ensures { OnOk result ((other : Path) → start_in starts.new other ≡ (if is_equal (path_order path other) then meaning.or_new (block_of block.entry) (start_in starts.old other) else start_in starts.old other)) }
 {
     if starts.contains_key(&path) {
         return Ok(());

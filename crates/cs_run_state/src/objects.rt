@@ -178,6 +178,16 @@ impl Operand {
         }
     }
 
+    /// The number that an operand is; any other counts as 0.
+    pub fn number(&self) -> i128
+        ensures { result ≡ number_in (machine.cell_of (operand_of self.now)) }
+    {
+        match self {
+            Operand::Scalar(cell) => cell.number(),
+            Operand::Whole(_) | Operand::Nothing => 0,
+        }
+    }
+
     /// What an entry returned with this value.
     pub fn returned(&self) -> Returned
         ensures { result ≡ returned_of (operand_of self.now) }
@@ -189,6 +199,15 @@ impl Operand {
         }
     }
 }
+
+/// Drops an object that isn't needed any more: where this is called, nothing else has to.
+pub fn let_go_of_object(_object: Object) {}
+
+/// The same of a content.
+pub fn let_go_of_cell(_cell: Cell) {}
+
+/// The same of a value.
+pub fn let_go_of_operand(_operand: Operand) {}
 
 // The same scalars once more.
 fn copied(cells: &Vec<Cell>) -> Result<Vec<Cell>, AllocError>

@@ -1,10 +1,8 @@
 //! The operations that show, made of the values that they work on.
 ghost use Rattle.std.specs.Prelude.{◌≡◌, ◌+ℤ◌, ◌-ℤ◌, ◌*ℤ◌, neg_ℤ, pos, IfOk};
 ghost use Rattle.cs_types.specs.DataModel.{offset_bound_of};
-ghost use Rattle.cs_meaning.specs.Initials.{number_in, directed};
-ghost use Rattle.cs_run_state.specs.View.{cell_of};
+ghost use Rattle.cs_meaning.specs.Initials.{directed};
 
-use crate::objects::Cell;
 use cs_ast::typed::operator::{BinOp, CmpOp, Direction};
 use cs_events::Operation;
 use cs_types::{DataModel, IntType, offset_bound};
@@ -18,36 +16,36 @@ pub struct Stride {
 }
 
 /// As far as a number of elements of so many bytes, in a direction.
-pub fn stride_of(amount: &Cell, direction: Direction, size: u64) -> Result<Stride, AllocError>
-    ensures amount { IfOk result (λ made. made.amount ≡ directed direction (number_in (cell_of amount.now))) }
+pub fn stride_of(amount: &i128, direction: Direction, size: u64) -> Result<Stride, AllocError>
+    ensures amount { IfOk result (λ made. made.amount ≡ directed direction amount.now) }
     ensures size { IfOk result (λ made. made.size ≡ size) }
 {
     let amount = match direction {
-        Direction::Forward => amount.number(),
-        Direction::Back => amount.number().checked_neg().ok_or(AllocError)?,
+        Direction::Forward => *amount,
+        Direction::Back => amount.checked_neg().ok_or(AllocError)?,
     };
     Ok(Stride { amount, size })
 }
 
 /// An operator of two integers.
-pub fn binary_operation(operator: BinOp, ty: IntType, left: &Cell, right: &Cell) -> Operation
-    ensures { result ≡ Operation.Binary operator ty (number_in (cell_of left.now)) (number_in (cell_of right.now)) }
+pub fn binary_operation(operator: BinOp, ty: IntType, left: &i128, right: &i128) -> Operation
+    ensures { result ≡ Operation.Binary operator ty left.now right.now }
 {
-    Operation::Binary(operator, ty, left.number(), right.number())
+    Operation::Binary(operator, ty, *left, *right)
 }
 
 /// A conversion to an integer type.
-pub fn conversion(to: IntType, number: &Cell) -> Operation
-    ensures { result ≡ Operation.Convert to (number_in (cell_of number.now)) }
+pub fn conversion(to: IntType, number: &i128) -> Operation
+    ensures { result ≡ Operation.Convert to number.now }
 {
-    Operation::Convert(to, number.number())
+    Operation::Convert(to, *number)
 }
 
 /// A comparison of two numbers.
-pub fn comparison(operator: CmpOp, left: &Cell, right: &Cell) -> Operation
-    ensures { result ≡ Operation.Compare operator (number_in (cell_of left.now)) (number_in (cell_of right.now)) }
+pub fn comparison(operator: CmpOp, left: &i128, right: &i128) -> Operation
+    ensures { result ≡ Operation.Compare operator left.now right.now }
 {
-    Operation::Compare(operator, left.number(), right.number())
+    Operation::Compare(operator, *left, *right)
 }
 
 /// A comparison of two offsets.

@@ -100,11 +100,11 @@ impl Log {
         place: Place,
         operator: BinOp,
         ty: IntType,
-        left: &Cell,
-        right: &Cell,
+        left: &i128,
+        right: &i128,
     ) -> Result<i128, Stop>
-        ensures ok { IfOk result (Gives setting.now self.old self.new (operators.operate setting.now.program.now.model place operator ty (number_in (cell_of left.now)) (number_in (cell_of right.now)))) }
-        ensures err { IfErr result (StopsIn setting.now self.old self.new (operators.operate setting.now.program.now.model place operator ty (number_in (cell_of left.now)) (number_in (cell_of right.now)))) }
+        ensures ok { IfOk result (Gives setting.now self.old self.new (operators.operate setting.now.program.now.model place operator ty left.now right.now)) }
+        ensures err { IfErr result (StopsIn setting.now self.old self.new (operators.operate setting.now.program.now.model place operator ty left.now right.now)) }
     {
         if let Some(kind) = refused(setting.program.model, operator, ty, right) {
             return Err(fault(kind, place));
@@ -121,13 +121,13 @@ impl Log {
         place: Place,
         from: &CType,
         to: IntType,
-        number: &Cell,
+        number: &i128,
     ) -> Result<i128, Stop>
-        ensures ok { IfOk result (Gives setting.now self.old self.new (operators.convert_number setting.now.program.now.model place (shape_of from.now) to (number_in (cell_of number.now)))) }
-        ensures err { IfErr result (StopsIn setting.now self.old self.new (operators.convert_number setting.now.program.now.model place (shape_of from.now) to (number_in (cell_of number.now)))) }
+        ensures ok { IfOk result (Gives setting.now self.old self.new (operators.convert_number setting.now.program.now.model place (shape_of from.now) to number.now)) }
+        ensures err { IfErr result (StopsIn setting.now self.old self.new (operators.convert_number setting.now.program.now.model place (shape_of from.now) to number.now)) }
     {
         if takes_all(setting.program.model, from, to) {
-            Ok(number.number())
+            Ok(*number)
         } else {
             let number = self.ask(setting, place, conversion(to, number))?;
             Ok(number)
@@ -194,8 +194,8 @@ impl Log {
         ensures err { IfErr result (StopsIn setting.now self.old self.new (operators.convert setting.now.program.now.model place (shape_of from.now) (integer ty) (Scalar (cell_of cell)))) }
     {
         match cell {
-            Cell::Number(_) => {
-                let number = self.convert_number(setting, place, from, ty, &cell)?;
+            Cell::Number(number) => {
+                let number = self.convert_number(setting, place, from, ty, &number)?;
                 Ok(Cell::Number(number))
             }
             Cell::Null => Ok(Cell::Null),
@@ -269,7 +269,8 @@ impl Log {
             let number = self.compare_pointers(setting, place, operator, left, right)?;
             Ok(number)
         } else {
-            let number = self.ask(setting, place, comparison(operator, left, right))?;
+            let (one, other) = (left.number(), right.number());
+            let number = self.ask(setting, place, comparison(operator, &one, &other))?;
             Ok(number)
         }
     }
@@ -389,8 +390,8 @@ impl Log {
 
 // The fault by which an operator of two integers refuses its right operand, if it does (C11 6.5.5, paragraph 5; 6.5.7,
 // paragraph 3).
-fn refused(model: DataModel, operator: BinOp, ty: IntType, right: &Cell) -> Option<Kind>
-    ensures { (place : Place) (act : Act State) → operators.checked model place operator ty (number_in (cell_of right.now)) act ≡ or_fault place result act }
+fn refused(model: DataModel, operator: BinOp, ty: IntType, right: &i128) -> Option<Kind>
+    ensures { (place : Place) (act : Act State) → operators.checked model place operator ty right.now act ≡ or_fault place result act }
 {
     match operator {
         BinOp::Div => refused_divisor(right),
@@ -402,10 +403,10 @@ fn refused(model: DataModel, operator: BinOp, ty: IntType, right: &Cell) -> Opti
 }
 
 // A division by 0 is refused.
-fn refused_divisor(divisor: &Cell) -> Option<Kind>
-    ensures { (place : Place) (act : Act State) → operators.divide place (number_in (cell_of divisor.now)) act ≡ or_fault place result act }
+fn refused_divisor(divisor: &i128) -> Option<Kind>
+    ensures { (place : Place) (act : Act State) → operators.divide place divisor.now act ≡ or_fault place result act }
 {
-    if divisor.number() == 0 {
+    if *divisor == 0 {
         Some(Kind::Divide)
     } else {
         None
@@ -413,10 +414,10 @@ fn refused_divisor(divisor: &Cell) -> Option<Kind>
 }
 
 // A shift by a count below 0, or not below the width, is refused.
-fn refused_count(model: DataModel, ty: IntType, count: &Cell) -> Option<Kind>
-    ensures { (place : Place) (act : Act State) → operators.shift model place ty (number_in (cell_of count.now)) act ≡ or_fault place result act }
+fn refused_count(model: DataModel, ty: IntType, count: &i128) -> Option<Kind>
+    ensures { (place : Place) (act : Act State) → operators.shift model place ty count.now act ≡ or_fault place result act }
 {
-    let count = count.number();
+    let count = *count;
     if 0 <= count && count < i128::from(8 * bytes(model, ty)) {
         None
     } else {

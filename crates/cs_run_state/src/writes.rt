@@ -28,17 +28,20 @@ impl<'a> Memory<'a> {
         ty: &CType,
         object: &Object,
         offset: u64,
-        operand: Operand,
+        operand: &Operand,
     ) -> Result<(), AllocError>
         requires { IsLaidOut program.now.model program.now.table.list }
-        ensures memory { OnOk result (memory_of self.new ≡ meaning.changed (access.write_operand (typed_program program.now) (shape_of ty.now) offset (operand_of operand)) (object_of object.now) (memory_of self.old)) }
+        ensures memory { OnOk result (memory_of self.new ≡ meaning.changed (access.write_operand (typed_program program.now) (shape_of ty.now) offset (operand_of operand.now)) (object_of object.now) (memory_of self.old)) }
         ensures counts { OnOk result (KeepsCounts self.old self.new) }
     {
         match operand {
-            Operand::Scalar(cell) => self.change(object, Change::Write(offset, cell)),
+            Operand::Scalar(cell) => {
+                let cell = cell.copy()?;
+                self.change(object, Change::Write(offset, cell))
+            }
             Operand::Whole(cells) => {
                 let offsets = scalar_offsets(program, ty)?;
-                self.write_cells(object, offset, &offsets, &cells)
+                self.write_cells(object, offset, &offsets, cells)
             }
             Operand::Nothing => Ok(()),
         }

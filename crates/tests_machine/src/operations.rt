@@ -7,7 +7,7 @@ use cs_inputs::Inputs;
 use cs_model::{Kind, Standing};
 use cs_run_state::blocks::{Block, BlockType, Change, Fill};
 use cs_run_state::memory::Memory;
-use cs_run_state::{Cell, Log, Object, Setting, Stop};
+use cs_run_state::{Log, Object, Setting, Stop};
 use cs_types::{DataModel, IntType, StructTable, Structs};
 use std::alloc::Global;
 use std::collections::BTreeMap;
@@ -55,7 +55,6 @@ fn answered(
         },
     };
     let mut log = Log::new(alloc);
-    let (left, right) = (Cell::Number(left), Cell::Number(right));
     let answer = log.operate(&setting, HERE, operator, IntType::Int, &left, &right);
     (answer, log)
 }

@@ -12,7 +12,7 @@ use Rattle.cs_reference.proofs.frames.local_blocks.Goals as goal
 
 pub loop-number-preserved : goal.loop-number-preserved
 loop-number-preserved c =
-    let wanted : ℕ → Option plain.Block = λ n. option_map (local_block (typed_program c.args.program.now) (slice_get (map operand_of c.args.arguments.now) n)) (slice_get (map variable c.args.locals.now) n) in
+    let wanted : ℕ → Option meaning.Block = λ n. option_map (local_block (typed_program c.args.program.now) (slice_get (map operand_of c.args.arguments.now) n)) (slice_get (map variable c.args.locals.now) n) in
     let number = c.loop-number.number in
     let row = c.loop-number.made.items in
     let more = c.in_ok-block.block in
@@ -28,6 +28,6 @@ loop-number-preserved c =
 
 pub returns : goal.returns
 returns c =
-    let wanted : ℕ → Option plain.Block = λ n. option_map (local_block (typed_program c.args.program.now) (slice_get (map operand_of c.args.arguments.now) n)) (slice_get (map variable c.args.locals.now) n) in
+    let wanted : ℕ → Option meaning.Block = λ n. option_map (local_block (typed_program c.args.program.now) (slice_get (map operand_of c.args.arguments.now) n)) (slice_get (map variable c.args.locals.now) n) in
     let number = c.loop-number.number in
     all_blocks wanted c.loop-number.made.items number c.loop-number.invariant.count c.loop-number.invariant.blocks (λ n past. ap (option_map (local_block (typed_program c.args.program.now) (slice_get (map operand_of c.args.arguments.now) n))) (slice_get-map variable c.args.locals.now n ∙ ap (option_map variable) (slice_get_past c.args.locals.now n (le_trans c.loop-number-test.false past))))

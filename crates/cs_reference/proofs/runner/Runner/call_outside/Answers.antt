@@ -1,4 +1,4 @@
-use Rattle.std.proofs.Common.{◌≡◌, ◌+◌, Err, map, sym, ap, ◌∙◌, rules}
+use Rattle.std.proofs.Common.{◌≡◌, ◌+◌, Err, map, refl, sym, ap, ◌∙◌, rules}
 use Rattle.cs_ast.specs.TypedProgram.{typed_program}
 use Rattle.cs_events.specs.Acts.{Act, Goes}
 use Rattle.cs_events.specs.Runs.{Continues}
@@ -13,9 +13,9 @@ use Rattle.cs_run_state.proofs.Performing.{perform-Goes}
 use Rattle.cs_reference.proofs.MachineStates.{state_called}
 use Rattle.cs_reference.proofs.runner.Runner.call_outside.Goals as goal
 
-pub returns-in_err-given-clause-err : goal.returns-in_err-given-clause-err
+pub returns-in_err-given : goal.returns-in_err-given
 unfolding state_of
-returns-in_err-given-clause-err c =
+returns-in_err-given c =
     let m = state_of c.args.self.now.machine in
     let program = typed_program c.args.self.now.setting.now.program.now in
     let last : Operand → Memory → Act State = λ result after. Goes (push result (record m { memory = after; calls = m.calls + 1 })) in
@@ -24,11 +24,11 @@ returns-in_err-given-clause-err c =
     let there : c.from_residual-in_err-given.result ≡ Err c.in_err-given.field-0.0 = search rules in
     let one = c.in_ok-show.ensures.ok (outside_result program (type_of c.args.returns) (m.calls + 1) m.memory writes) in
     let two = rw drawn at c.in_err-given.ensures.err in
-    rw there (ends_following _ _ one (two writes))
+    rw there (record { ok = tt; err = ends_following _ _ one (two writes); kept = tt })
 
-pub returns-in_err-write_arguments-clause-err : goal.returns-in_err-write_arguments-clause-err
+pub returns-in_err-write_arguments : goal.returns-in_err-write_arguments
 unfolding state_of
-returns-in_err-write_arguments-clause-err c =
+returns-in_err-write_arguments c =
     let m = state_of c.args.self.now.machine in
     let program = typed_program c.args.self.now.setting.now.program.now in
     let last : Operand → Memory → Act State = λ result after. Goes (push result (record m { memory = after; calls = m.calls + 1 })) in
@@ -38,11 +38,11 @@ returns-in_err-write_arguments-clause-err c =
     let one = c.in_ok-show.ensures.ok (outside_result program (type_of c.args.returns) (m.calls + 1) m.memory writes) in
     let two = rw drawn at c.in_ok-given.ensures.ok in
     let three = rw (drawn, c.deref.ensures.value) at c.in_err-write_arguments.ensures.err in
-    rw there (ends_following _ _ (one ∙ two writes) (three (last (operand_of c.in_ok-given.given))))
+    rw there (record { ok = tt; err = ends_following _ _ (one ∙ two writes) (three (last (operand_of c.in_ok-given.given))); kept = tt })
 
-pub returns-clause-ok : goal.returns-clause-ok
+pub returns : goal.returns
 unfolding state_of
-returns-clause-ok c =
+returns c =
     let m = state_of c.args.self.now.machine in
     let program = typed_program c.args.self.now.setting.now.program.now in
     let last : Operand → Memory → Act State = λ result after. Goes (push result (record m { memory = after; calls = m.calls + 1 })) in
@@ -57,4 +57,4 @@ returns-clause-ok c =
     let memory = c.write_arguments.new.memory in
     let kept : KeepsCounts c.args.self.now.machine.memory memory = record { frames = now.frames ∙ before.frames; allocations = now.allocations ∙ before.allocations } in
     let state : state_of c.push.new.self ≡ push given (record m { memory = memory_of memory; calls = m.calls + 1 }) = (rw drawn at c.in_ok-push.ensures) ∙ ap (λ (n : State). push given n) (state_called c.args.self.now.machine memory (m.calls + 1) kept) in
-    one ∙ (two writes ∙ (three (last given) ∙ (perform-Goes _ _ _ ∙ ap (λ (n : State). Continues n (log_of c.write_arguments.new.log)) (sym state))))
+    record { ok = one ∙ (two writes ∙ (three (last given) ∙ (perform-Goes _ _ _ ∙ ap (λ (n : State). Continues n (log_of c.write_arguments.new.log)) (sym state)))); err = tt; kept = refl }

@@ -14,8 +14,8 @@ use Rattle.cs_run_state.proofs.Chains.{ends_following}
 use Rattle.cs_reference.specs.Switching.{chosen_of}
 use Rattle.cs_reference.proofs.runner.Runner.decide_switch.Goals as goal
 
-pub returns-in_err-show-clause-err : goal.returns-in_err-show-clause-err
-returns-in_err-show-clause-err c =
+pub returns-in_err-show : goal.returns-in_err-show
+returns-in_err-show c =
     let m = state_of c.args.self.now.machine in
     let statements = statement_list c.args.statements.now in
     let wanted : Chosen = chosen_case c.args.cases.now statements (case_of c.args.cases.now (number_in (cell_at m 0)) 0) in
@@ -28,4 +28,4 @@ returns-in_err-show-clause-err c =
     let shown = ap (λ (found : Chosen). found.number) is in
     let one = c.in_ok-touch.ensures c.args.self.now.setting.now (shows_then c.args.place (label.Case wanted.number) last) in
     let two = rw shown at c.in_err-show.ensures.err in
-    rw there (ends_following _ _ one (two last))
+    rw there (record { ok = tt; err = ends_following _ _ one (two last); kept = tt })

@@ -1,4 +1,4 @@
-use Rattle.std.proofs.Common.{◌≡◌, ℕ, ◌+◌, ◌<◌, nat_lt, true, length, map, sym, ap, ◌∙◌, rules, arith}
+use Rattle.std.proofs.Common.{◌≡◌, ℕ, ◌+◌, ◌<◌, nat_lt, true, length, map, refl, sym, ap, ◌∙◌, rules, arith}
 use Rattle.std.proofs.lemmas.Bool.Decides.{nat_tests}
 use Rattle.cs_ast.specs.TypedProgram.{typed_program, routine}
 use Rattle.cs_events.specs.Acts.{Goes}
@@ -13,8 +13,8 @@ use Rattle.cs_reference.specs.Calling.{inside_with}
 use Rattle.cs_reference.proofs.Locals.{inside_is}
 use Rattle.cs_reference.proofs.runner.Runner.enter.Goals as goal
 
-pub returns-clause-ok : goal.returns-clause-ok
-returns-clause-ok c =
+pub returns : goal.returns
+returns c =
     let run = c.args.self.now in
     let program = typed_program run.setting.now.program.now in
     let m = state_of run.machine in
@@ -27,4 +27,4 @@ returns-clause-ok c =
     let locals = block_at c.in_ok-locals.locals.items in
     let are = rw (c.deref.ensures.value, c.deref-2.ensures.value) at c.in_ok-locals.ensures in
     let state : state_of c.go_inside.new.state ≡ next = c.in_ok-go_inside.ensures ∙ (ap (λ (f : Frame). inside_with f locals m) frame ∙ inside_is program (new_frame c.args.function m.frames r) r arguments locals m are) in
-    rw room (c.in_ok-show.ensures.ok (Goes next) ∙ (perform-Goes _ _ _ ∙ ap (λ (n : State). Continues n (log_of c.show.new.self)) (sym state)))
+    rw room (record { ok = c.in_ok-show.ensures.ok (Goes next) ∙ (perform-Goes _ _ _ ∙ ap (λ (n : State). Continues n (log_of c.show.new.self)) (sym state)); err = tt; kept = refl })

@@ -1,4 +1,4 @@
-use Rattle.std.proofs.Common.{sym, ap, ◌∙◌}
+use Rattle.std.proofs.Common.{refl, sym, ap, ◌∙◌}
 use Rattle.cs_events.specs.Runs.{Continues}
 use Rattle.cs_meaning.specs.Machine.{State}
 use Rattle.cs_run_state.specs.View.{log_of}
@@ -6,14 +6,14 @@ use Rattle.cs_run_state.proofs.Performing.{perform-Goes}
 use Rattle.cs_run_state.proofs.StatementForms.{block_is, for_is}
 use Rattle.cs_reference.proofs.runner.Runner.execute.Goals as goal
 
-pub returns-in_ok-put_all-in-Block-clause-ok : goal.returns-in_ok-put_all-in-Block-clause-ok
-returns-in_ok-put_all-in-Block-clause-ok c =
+pub returns-in_ok-put_all-in-Block : goal.returns-in_ok-put_all-in-Block
+returns-in_ok-put_all-in-Block c =
     let is = block_is c.args.s.now _ c.in-Block.is in
     let state = rw c.deref.ensures.value at c.in_ok-put_all-in-Block.ensures in
-    rw is (perform-Goes _ _ _ ∙ ap (λ (n : State). Continues n (log_of c.args.self.now.log)) (sym state))
+    rw is (record { ok = perform-Goes _ _ _ ∙ ap (λ (n : State). Continues n (log_of c.args.self.now.log)) (sym state); err = tt; kept = refl })
 
-pub returns-in_ok-put_for-in-For-clause-ok : goal.returns-in_ok-put_for-in-For-clause-ok
-returns-in_ok-put_for-in-For-clause-ok c =
+pub returns-in_ok-put_for-in-For : goal.returns-in_ok-put_for-in-For
+returns-in_ok-put_for-in-For c =
     let is = for_is c.args.s.now _ _ _ _ c.in-For.is in
     let state = rw (c.deref-in-For.ensures.value, is) at c.in_ok-put_for-in-For.ensures in
-    rw is (perform-Goes _ _ _ ∙ ap (λ (n : State). Continues n (log_of c.args.self.now.log)) (sym state))
+    rw is (record { ok = perform-Goes _ _ _ ∙ ap (λ (n : State). Continues n (log_of c.args.self.now.log)) (sym state); err = tt; kept = refl })

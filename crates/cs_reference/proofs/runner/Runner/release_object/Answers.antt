@@ -9,9 +9,9 @@ use Rattle.cs_run_state.specs.View.{setting_of, log_of}
 use Rattle.cs_run_state.proofs.Performing.{perform-Stops}
 use Rattle.cs_reference.proofs.runner.Runner.release_object.Goals as goal
 
-pub returns-in-Some-clause-err : goal.returns-in-Some-clause-err
-returns-in-Some-clause-err c =
+pub returns-in-Some : goal.returns-in-Some
+returns-in-Some c =
     let fits : FitsSigned w128 c.args.offset = c.ranges.offset in
     let offset = to_z-of_z w128 c.args.offset fits in
     let refused = rw offset at (c.in-Some.ensures c.args.place) in
-    rw c.fault.ensures (ap (λ (act : Act State). perform (setting_of c.args.self.now.setting.now) (log_of c.args.self.now.log) act) refused ∙ perform-Stops _ _ _)
+    rw c.fault.ensures (record { ok = tt; err = ap (λ (act : Act State). perform (setting_of c.args.self.now.setting.now) (log_of c.args.self.now.log) act) refused ∙ perform-Stops _ _ _; kept = tt })

@@ -1,9 +1,0 @@
-use Rattle.std.proofs.Common.{ap, ◌∙◌}
-use Rattle.cs_meaning.specs.Machine.{State, pop_many}
-use Rattle.cs_run_state.specs.MachineView.{state_of}
-use Rattle.cs_reference.proofs.Stacks.{pop-many}
-use Rattle.cs_reference.proofs.operands.pop_updated.Goals as goal
-
-pub returns-clause-state : goal.returns-clause-state
-returns-clause-state c =
-    c.pop_moved-target.ensures.state ∙ (ap (λ (m : State). pop_many 3 m) c.pop_cell-right.ensures.state ∙ pop-many 3 (state_of c.args.state.now))

@@ -1,0 +1,284 @@
+//! Loads, assignments and updates of objects, whose operands are on the stack (C11 6.3.2.1, 6.5.2.4, 6.5.3.1, 6.5.16).
+ghost use Rattle.std.specs.Prelude.{◌≡◌, IfOk, OnOk, IfErr};
+ghost use Rattle.cs_types.specs.Layout.{IsLaidOut};
+ghost use Rattle.cs_ast.specs.TypedProgram.{typed_program};
+ghost use Rattle.cs_events.specs.Objects.{NumberCell};
+ghost use Rattle.cs_meaning.specs.Access as loads;
+ghost use Rattle.cs_meaning.specs.Expressions as expressions;
+ghost use Rattle.cs_meaning.specs.Machine as machine;
+ghost use Rattle.cs_run_state.specs.AccessView.{access_of};
+ghost use Rattle.cs_run_state.specs.MachineView.{state_of};
+ghost use Rattle.cs_run_state.specs.Pieces.{Gives, StopsIn, GivesBoth, StopsInBoth, LeadsOrEnds};
+ghost use Rattle.cs_run_state.specs.Updates.{load_act, assign_act, fetch_number_act, fetch_pointer_act, update_act, move_act, computes, stores_computed, stores_moved};
+ghost use Rattle.cs_run_state.specs.View.{cell_of, operand_of};
+
+use crate::access::Access;
+use crate::constants::integer_of;
+use crate::logs::{Log, Stop};
+use crate::machine::Machine;
+use crate::objects::{Cell, Operand, let_go_of_cell, let_go_of_operand};
+use crate::operations::{Stride, stride_of};
+use crate::settings::Setting;
+use cs_ast::Place;
+use cs_ast::typed::operator::{BinOp, Direction, Gives};
+use cs_types::{CType, IntType};
+
+impl<'a> Machine<'a> {
+    /// A load from the object whose place is the newest operand.
+    pub fn load_from(
+        &mut self,
+        log: &mut Log,
+        setting: &Setting<'a>,
+        access: Access,
+    ) -> Result<(), Stop>
+        requires { IsLaidOut setting.now.program.now.model setting.now.program.now.table.list }
+        ensures { LeadsOrEnds setting.now log.old log.new result (load_act (typed_program setting.now.program.now) (access_of access.entry) (state_of self.old)) (state_of self.new) }
+    {
+        let target = self.pop_cell();
+        let operand = self.load(log, setting, access, &target)?;
+        self.push(operand)?;
+        Ok(())
+    }
+
+    /// The load of an update of a pointer, whose place stays below the value.
+    pub fn fetch_pointer(
+        &mut self,
+        log: &mut Log,
+        setting: &Setting<'a>,
+        access: Access,
+    ) -> Result<(), Stop>
+        requires { IsLaidOut setting.now.program.now.model setting.now.program.now.table.list }
+        ensures { LeadsOrEnds setting.now log.old log.new result (fetch_pointer_act (typed_program setting.now.program.now) (access_of access.entry) (state_of self.old)) (state_of self.new) }
+    {
+        let operand = self.load_below(log, setting, access)?;
+        self.push(operand)?;
+        Ok(())
+    }
+
+    /// The load of an update of a number, whose place stays below the value and the value in the type of the operator.
+    pub fn fetch_number(
+        &mut self,
+        log: &mut Log,
+        setting: &Setting<'a>,
+        place: Place,
+        access: Access,
+        works_in: IntType,
+    ) -> Result<(), Stop>
+        requires { IsLaidOut setting.now.program.now.model setting.now.program.now.table.list }
+        ensures { LeadsOrEnds setting.now log.old log.new result (fetch_number_act (typed_program setting.now.program.now) place (access_of access.entry) works_in (state_of self.old)) (state_of self.new) }
+    {
+        let operand = self.load_below(log, setting, access)?;
+        let value = operand.number();
+        let number = log.convert_number(setting, place, access.ty, works_in, &value)?;
+        self.push(operand)?;
+        self.push_cell(Cell::Number(number))?;
+        Ok(())
+    }
+
+    // A load from the object whose place is the newest operand, which stays.
+    fn load_below(
+        &mut self,
+        log: &mut Log,
+        setting: &Setting<'a>,
+        access: Access,
+    ) -> Result<Operand, Stop>
+        requires { IsLaidOut setting.now.program.now.model setting.now.program.now.table.list }
+        ensures ok { IfOk result (λ operand. GivesBoth setting.now log.old log.new (loads.load_object (typed_program setting.now.program.now) (state_of self.old).memory (state_of self.old).frame.number (access_of access.entry) (machine.cell_at (state_of self.old) 0)) (state_of self.new).memory (operand_of operand)) }
+        ensures err { IfErr result (StopsInBoth setting.now log.old log.new (loads.load_object (typed_program setting.now.program.now) (state_of self.old).memory (state_of self.old).frame.number (access_of access.entry) (machine.cell_at (state_of self.old) 0))) }
+        ensures state { IfOk result (λ _. state_of self.new ≡ machine.with_memory (state_of self.new).memory (state_of self.old)) }
+    {
+        let target = self.top_cell()?;
+        let operand = self.load(log, setting, access, &target)?;
+        Ok(operand)
+    }
+
+    /// An assignment, which leaves the stored value.
+    pub fn assign(
+        &mut self,
+        log: &mut Log,
+        setting: &Setting<'a>,
+        place: Place,
+        access: Access,
+    ) -> Result<(), Stop>
+        requires { IsLaidOut setting.now.program.now.model setting.now.program.now.table.list }
+        ensures { LeadsOrEnds setting.now log.old log.new result (assign_act (typed_program setting.now.program.now) place (access_of access.entry) (state_of self.old)) (state_of self.new) }
+    {
+        let (target, value) = self.pop_stored();
+        let stored = self.store(log, setting, place, access, &target, &value);
+        let_go_of_cell(target);
+        match stored {
+            Ok(()) => {
+                self.push(value)?;
+                Ok(())
+            }
+            Err(stop) => {
+                let_go_of_operand(value);
+                Err(stop)
+            }
+        }
+    }
+
+    /// An update of a number: the operands are the place, the value before, the same converted, and the right operand.
+    pub fn update(
+        &mut self,
+        log: &mut Log,
+        setting: &Setting<'a>,
+        place: Place,
+        operator: BinOp,
+        access: Access,
+        works_in: IntType,
+        gives: Gives,
+    ) -> Result<(), Stop>
+        requires { IsLaidOut setting.now.program.now.model setting.now.program.now.table.list }
+        ensures { LeadsOrEnds setting.now log.old log.new result (update_act (typed_program setting.now.program.now) place operator (access_of access.entry) works_in gives (state_of self.old)) (state_of self.new) }
+    {
+        let (left, right) = self.pop_numbers();
+        let (target, before) = self.pop_stored();
+        let stored = self.store_computed(
+            log, setting, place, operator, access, works_in, &target, &left, &right,
+        );
+        let_go_of_cell(target);
+        match stored {
+            Ok(number) => {
+                self.push(given_number(gives, before, number))?;
+                Ok(())
+            }
+            Err(stop) => {
+                let_go_of_operand(before);
+                Err(stop)
+            }
+        }
+    }
+
+    // What an update computes is stored.
+    fn store_computed(
+        &mut self,
+        log: &mut Log,
+        setting: &Setting<'a>,
+        place: Place,
+        operator: BinOp,
+        access: Access,
+        works_in: IntType,
+        target: &Cell,
+        left: &i128,
+        right: &i128,
+    ) -> Result<i128, Stop>
+        requires { IsLaidOut setting.now.program.now.model setting.now.program.now.table.list }
+        ensures ok { IfOk result (GivesBoth setting.now log.old log.new (stores_computed (typed_program setting.now.program.now) (state_of self.old).memory (state_of self.old).frame.number place operator (access_of access.entry) works_in (cell_of target.now) left.now right.now) (state_of self.new).memory) }
+        ensures err { IfErr result (StopsInBoth setting.now log.old log.new (stores_computed (typed_program setting.now.program.now) (state_of self.old).memory (state_of self.old).frame.number place operator (access_of access.entry) works_in (cell_of target.now) left.now right.now)) }
+        ensures state { IfOk result (λ _. state_of self.new ≡ machine.with_memory (state_of self.new).memory (state_of self.old)) }
+    {
+        let number = log.compute(setting, place, operator, access, works_in, left, right)?;
+        let operand = Operand::Scalar(Cell::Number(number));
+        self.store(log, setting, place, access, target, &operand)?;
+        Ok(number)
+    }
+
+    /// A pointer moves by elements of so many bytes: the operands are the place, the value before, and the amount.
+    pub fn move_pointer(
+        &mut self,
+        log: &mut Log,
+        setting: &Setting<'a>,
+        place: Place,
+        access: Access,
+        bytes: u64,
+        direction: Direction,
+        gives: Gives,
+    ) -> Result<(), Stop>
+        requires { IsLaidOut setting.now.program.now.model setting.now.program.now.table.list }
+        ensures { LeadsOrEnds setting.now log.old log.new result (move_act (typed_program setting.now.program.now) place (access_of access.entry) bytes direction gives (state_of self.old)) (state_of self.new) }
+    {
+        let amount = self.pop_number();
+        let stride = stride_of(&amount, direction, bytes)?;
+        let (target, before) = self.pop_stored();
+        let stored = self.store_moved(log, setting, place, access, &target, &before, stride);
+        let_go_of_cell(target);
+        match stored {
+            Ok(moved) => {
+                self.push(given(gives, before, Operand::Scalar(moved)))?;
+                Ok(())
+            }
+            Err(stop) => {
+                let_go_of_operand(before);
+                Err(stop)
+            }
+        }
+    }
+
+    // A pointer that has moved is stored.
+    fn store_moved(
+        &mut self,
+        log: &mut Log,
+        setting: &Setting<'a>,
+        place: Place,
+        access: Access,
+        target: &Cell,
+        before: &Operand,
+        stride: Stride,
+    ) -> Result<Cell, Stop>
+        requires { IsLaidOut setting.now.program.now.model setting.now.program.now.table.list }
+        ensures ok { IfOk result (λ moved. GivesBoth setting.now log.old log.new (stores_moved (typed_program setting.now.program.now) (state_of self.old).memory (state_of self.old).frame.number place (access_of access.entry) (cell_of target.now) (machine.cell_of (operand_of before.now)) stride.amount stride.size) (state_of self.new).memory (cell_of moved)) }
+        ensures err { IfErr result (StopsInBoth setting.now log.old log.new (stores_moved (typed_program setting.now.program.now) (state_of self.old).memory (state_of self.old).frame.number place (access_of access.entry) (cell_of target.now) (machine.cell_of (operand_of before.now)) stride.amount stride.size)) }
+        ensures state { IfOk result (λ _. state_of self.new ≡ machine.with_memory (state_of self.new).memory (state_of self.old)) }
+    {
+        let pointer = before.copy()?.into_cell();
+        let moved = log.sum(setting, place, pointer, stride)?;
+        let operand = Operand::Scalar(moved);
+        self.store(log, setting, place, access, target, &operand)?;
+        Ok(operand.into_cell())
+    }
+
+    // Takes the place of an assignment, or of an update, and the value above it.
+    #[tactic(auto, using(crate::proofs::States::states))]
+    fn pop_stored(&mut self) -> (Cell, Operand)
+        ensures target { cell_of result.0 ≡ machine.cell_at (state_of self.old) 1 }
+        ensures value { operand_of result.1 ≡ machine.operand_at (state_of self.old) 0 }
+        ensures state { state_of self.new ≡ machine.pop_many 2 (state_of self.old) }
+    {
+        let value = self.pop();
+        let target = self.pop_cell();
+        (target, value)
+    }
+}
+
+impl Log {
+    // The number that an update computes, in the type of the object.
+    fn compute(
+        &mut self,
+        setting: &Setting,
+        place: Place,
+        operator: BinOp,
+        access: Access,
+        works_in: IntType,
+        left: &i128,
+        right: &i128,
+    ) -> Result<i128, Stop>
+        ensures ok { IfOk result (Gives setting.now self.old self.new (computes (typed_program setting.now.program.now) place operator (access_of access.entry) works_in left.now right.now)) }
+        ensures err { IfErr result (StopsIn setting.now self.old self.new (computes (typed_program setting.now.program.now) place operator (access_of access.entry) works_in left.now right.now)) }
+    {
+        let number = self.operate(setting, place, operator, works_in, left, right)?;
+        let (from, to) = (CType::Int(works_in), integer_of(access.ty));
+        let stored = self.convert_number(setting, place, &from, to, &number)?;
+        Ok(stored)
+    }
+}
+
+// The value that an update gives (C11 6.5.2.4, 6.5.3.1, 6.5.16).
+fn given(gives: Gives, before: Operand, after: Operand) -> Operand
+    ensures { operand_of result ≡ expressions.given gives (operand_of before) (operand_of after) }
+{
+    match gives {
+        Gives::Old => before,
+        Gives::New => after,
+    }
+}
+
+// The same of a number.
+fn given_number(gives: Gives, before: Operand, after: i128) -> Operand
+    ensures { operand_of result ≡ expressions.given gives (operand_of before) (machine.Scalar (NumberCell after)) }
+{
+    match gives {
+        Gives::Old => before,
+        Gives::New => Operand::Scalar(Cell::Number(after)),
+    }
+}
