@@ -65,7 +65,7 @@ either_apt : (scope : Scope) (next : TokenKind) (b : Bool) → is_unsupported sc
 either_apt scope next true e = always_apt scope next e
 either_apt scope next false e = syntax_apt scope next e
 
--- the reason for a token with which no tree goes on
+-- the reason for a token that no tree continues with
 pub plain_apt : (scope : Scope) (next : TokenKind) → IsApt scope next (plain_reason scope next)
 plain_apt scope next = either_apt scope next (is_unsupported scope next) refl
 

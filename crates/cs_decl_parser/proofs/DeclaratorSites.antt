@@ -254,7 +254,7 @@ bounds_stop declares names limit inner less tokens from pointed p s r =
     (λ rest. sym (pointers_append pointed.tree.pointers.items (token.Name pointed.tree.name.name ∷ []) rest)))
     (no_fits tokens pointed.next) s r
 
--- a declarator was taken, in one room
+-- a declarator was taken, within one limit
 bounded : {A : Type 0} (view : A → List (Option Written)) (declares : Declares) (names : Names) (limit inner : ℕ) → limit ≡ 1 + inner → (tokens : List Token) (from : ℕ) (pointed : Taken Pointed) → IsPointed declares names tokens from pointed → (bounds : Taken A) → IsTaken (BracketsFor declares names) view inner tokens pointed.next (is_full declares inner (kind_or_end tokens bounds.next)) bounds → (whole : Taken RawDeclarator) → declarator whole.tree ≡ declarator_of pointed.tree.pointers.items pointed.tree.name.name (view bounds.tree) → whole.height ≡ bounds.height + 1 → whole.next ≡ bounds.next → IsTaken (DeclaratorsFor declares names) declarator limit tokens from (is_full declares inner (kind_or_end tokens whole.next)) whole
 bounded view declares names limit inner less tokens from pointed p bounds b whole tree tall number =
     let d = declarator_of pointed.tree.pointers.items pointed.tree.name.name (view bounds.tree) in

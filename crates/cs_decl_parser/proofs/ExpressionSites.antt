@@ -176,7 +176,7 @@ some_exactly names level MayLack close limit c e x = record {
   exact = λ other after following is same. some_exact names level MayLack close limit c e x other after following is same;
 }
 
--- it was left out
+-- it was absent
 pub none_taken : (names : Names) (level limit : ℕ) (m : Punctuator) → IsTrue (closes m) → (tokens : List Token) (from : ℕ) (whole : Taken (Option RawExpr)) → kind_or_end tokens from ≡ token.Punctuator m → whole.tree ≡ None → whole.height ≡ 0 → whole.next ≡ from + 1 → IsExactly (ClosedSome names level (Unit {0}) (token.Punctuator m)) (option_map written) limit tokens from whole
 none_taken names level limit m is tokens from whole k tree tall next = record {
   height_is = tall ∙ ap (λ (e : Option RawExpr). height_of_some (option_map written e)) (sym tree);

@@ -1,4 +1,4 @@
--- Why a token of a file is refused, as far as the parser tells: for the contract of the parser of files.
+-- Why a token of a file is refused, as far as the parser says: for the contract of the parser of files.
 use Rattle.std.proofs.Common.{◌≡◌, true, false, [], ◌∷◌, ◌++◌, Some, refl, sym}
 use Rattle.std.proofs.lemmas.Bool.{false≢true}
 use Rattle.cs_ast.specs.declared.token.TokenKind.{TokenKind}
@@ -17,7 +17,7 @@ use Rattle.cs_decl_parser.specs.declared.source.Scope.TheVariants.{File}
 use Rattle.cs_decl_parser.specs.Aptness.{IsApt}
 use Rattle.cs_decl_parser.specs.FileStops.{is_unsupported_after}
 
--- a token that isn't left out by its place, and for which the reason is apt
+-- a token that isn't unsupported by its place, and for which the reason is apt
 punctuator_left : (front : Kinds) (m : Punctuator) → is_unsupported_after (token.Punctuator m) ≡ false → IsApt File (token.Punctuator m) Unsupported → IsUnsupportedOfFile front (token.Punctuator m)
 punctuator_left front punctuator.Ellipsis e a = tt
 punctuator_left front punctuator.OpenBrace e a = absurd (false≢true (sym e))

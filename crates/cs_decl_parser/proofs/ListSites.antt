@@ -113,7 +113,7 @@ lone_taken names limit inner less tokens from name k free other scope taken is t
     (single_took (constant_single names name free) limit inner (less, omega arith) None (kind_or_end tokens (from + 1)) false (λ following near. tt) (constant_alone names inner (kind_or_end tokens (from + 1)) other))
     is tall next (ap is_deep why ∙ plain_flat scope (kind_or_end tokens (from + 1)))
 
--- there is no room for a value
+-- the limit doesn't allow a value
 pub lone_full : (names : Names) (limit : ℕ) → 1 ≤ limit → limit < 2 → (tokens : List Token) (from : ℕ) (name : List ℕ) → kind_or_end tokens from ≡ token.Name name → IsFree names name → kind_or_end tokens (from + 1) ≡ token.Punctuator punctuator.Equal → (taken : Unclosed RawEnumerator) → IsConstantOf name None taken.tree → taken.height ≡ 1 → taken.next ≡ from + 1 → taken.otherwise ≡ TooDeep → IsUnclosed (Constants names) constant limit tokens from taken
 lone_full names limit some little tokens from name k free equal taken is tall next why =
     unclosed_as (Constants names) constant limit tokens from (constant_of name None) 1 (from + 1) true taken (omega arith) (name_spelled tokens from name k)
@@ -162,7 +162,7 @@ single_value_taken names limit some tokens from value v taken is tall next why =
     unclosed_as (Values names) initial limit tokens from (One (written value.tree)) value.height value.next (is_deep value.otherwise) taken v.height_is v.spelled
     (value_took names limit some (written value.tree) (kind_or_end tokens value.next) (is_deep value.otherwise) v.took) is tall next (ap is_deep why)
 
--- there is no room for a list
+-- the limit doesn't allow a list
 pub list_full_stops : (names : Names) (limit : ℕ) (tokens : List Token) (from : ℕ) → from ≤ length tokens → limit < 2 → kind_or_end tokens from ≡ token.Punctuator punctuator.OpenBrace → IsRefused (Values names) limit tokens from from TooDeep
 list_full_stops names limit tokens from within little k = record {
   front = [];

@@ -88,7 +88,7 @@ local_example names t e =
       spelled = plain_text (x.first ∷ x.others) (with_commas declared_text (least_object names ∷ []) (semicolon ∷ [])) ∙ x.spelled (with_commas declared_text (least_object names ∷ []) (semicolon ∷ []));
     }
 
--- a declaration is refused at its first token only where there is no room for any
+-- a declaration is refused at its first token only where the limit doesn't allow any
 local_first : (names : Names) (limit : ℕ) (next : TokenKind) (deep : Bool) → begins_type names next ≡ true → Refused (Locals names) limit [] next deep → (deep ≡ true) × (limit < 2)
 local_first names limit next deep e r =
     let b = local_example names next e in
@@ -103,7 +103,7 @@ local_full names limit next full e =
     (λ other after more is same. let h = block_specs_height names other.0 is.0 in omega (arith, h, full))
     (record { phrase = b.phrase; more = b.more; is_phrase = b.is_phrase; spelled = b.spelled })
 
--- there is no room for a declaration
+-- the limit doesn't allow a declaration
 pub local_none : (names : Names) (limit : ℕ) (tokens : List Token) (from : ℕ) (s : Stop) → from ≤ length tokens → limit < 2 → begins_type names (kind_or_end tokens from) ≡ true → s ≡ stop.Refused from TooDeep → Stops (Locals names) limit tokens from s
 local_none names limit tokens from s within full e is = stops_full (Locals names) limit tokens from s within is (local_full names limit (kind_or_end tokens from) full e)
 

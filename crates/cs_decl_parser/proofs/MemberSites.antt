@@ -87,7 +87,7 @@ begins_same : (names : Names) (next : TokenKind) → begins_file_spec names next
 begins_same names (token.Keyword keyword.Static) = refl
 begins_same names _ = refl
 
--- there is no room for a member
+-- the limit doesn't allow a member
 pub member_full : (names : Names) (limit : ℕ) (tokens : List Token) (from : ℕ) (s : Stop) → from ≤ length tokens → limit < 2 → begins_words File names (kind_or_end tokens from) ≡ true → s ≡ stop.Refused from TooDeep → Stops (MemberGroups names) limit tokens from s
 member_full names limit tokens from s within little begins is =
     stops_full (MemberGroups names) limit tokens from s within is (group_full names limit (kind_or_end tokens from) little (begins_same names (kind_or_end tokens from) ∙ begins))

@@ -42,7 +42,7 @@ alone_taken names limit inner less tokens from d given other scope taken is tall
     unclosed_as (Objects names) declared limit tokens from (declared_of (declarator d.tree) None) d.height d.next false taken t.height_is t.spelled (declared_alone names limit (declarator d.tree) (kind_or_end tokens d.next) false t.took other) is tall next
     (ap is_deep why ∙ plain_flat scope (kind_or_end tokens d.next))
 
--- an `=` stands after it, and there is no room for a value
+-- an `=` stands after it, and the limit doesn't allow a value
 pub alone_full : (names : Names) (limit inner : ℕ) → limit ≡ 1 + inner → (tokens : List Token) (from : ℕ) (d : Taken RawDeclarator) → IsDeclaratorTaken declaring.Names names limit tokens from d → kind_or_end tokens d.next ≡ equal_token → limit ≤ d.height → (taken : Unclosed RawInit) → IsAlone d.tree taken.tree → taken.height ≡ d.height → taken.next ≡ d.next → taken.otherwise ≡ TooDeep → IsUnclosed (Objects names) declared limit tokens from taken
 alone_full names limit inner less tokens from d given equal full taken is tall next why =
     let t = given inner less in

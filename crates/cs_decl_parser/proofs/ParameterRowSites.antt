@@ -177,7 +177,7 @@ first_near : (next kind : TokenKind) (following more : Kinds) → Near next foll
 first_near next kind following more near same =
     elim near [ inl e ↦ let z = sym e ∙ same in absurd cc | inr m ↦ let z : next ∷ m.0 ≡ kind ∷ more = sym m.1 ∙ same in cc ]
 
--- where `void` itself would be refused, there would be no room for a parameter
+-- where `void` itself would be refused, there would be the limit doesn't allow a parameter
 void_refused : (names : Names) (limit : ℕ) → 2 ≤ limit → (next : TokenKind) (deep : Bool) → next ≡ token.Keyword keyword.Void → Refused (ParameterRows names) limit [] next deep → ⊥
 void_refused names limit some next deep k r =
     let rest = comma_token ∷ parameter_text int_parameter (close_parenthesis ∷ []) in

@@ -41,7 +41,7 @@ pass_stands C D build Fit p law limit tokens from next deep part fits t = record
   took = tail_took C D limit limit [] build Fit law (pass_tail C D build Fit limit p) part (kind_or_end tokens next) deep (λ following near. fits following) t.took;
 }
 
--- the same of what is told by its tokens
+-- the same of what is determined by its tokens
 pub pass_exactly : (C D : Class) (build : D.Tree → C.Tree) (Fit : Kinds → Type 0) → Production C D 0 [] build Fit → (limit : ℕ) (tokens : List Token) (from next : ℕ) (part : D.Tree) → ((following : Kinds) → Fit (D.spell part following)) → StandingExactly D limit tokens from next part → StandingExactly C limit tokens from next (build part)
 pass_exactly C D build Fit p limit tokens from next part fits t =
     let x = t.exactly in
@@ -57,7 +57,7 @@ pass_exactly C D build Fit p limit tokens from next part fits t =
       };
     }
 
--- the first token of a phrase is told by it, whatever stands after it
+-- the first token of a phrase is determined by it, whatever stands after it
 pub begins_near : (C : Class) → Lawful C → (test : TokenKind → Bool) (tokens : List Token) (from next : ℕ) (c : C.Tree) → BeginsWith test (C.spell c []) → Spells tokens from next (C.spell c) → (following : Kinds) → Near (kind_or_end tokens from) (C.spell c following)
 begins_near C law test tokens from next c b sp following =
     let text : (x : Kinds) → C.spell c x ≡ b.first ∷ (b.others ++ x) = λ x. splits C law c x ∙ ap (λ (y : Kinds). y ++ x) b.are in

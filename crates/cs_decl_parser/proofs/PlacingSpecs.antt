@@ -45,7 +45,7 @@ use Rattle.cs_expr_parser.proofs.Stopping.{refused_number}
 use Rattle.cs_expr_parser.proofs.SitesOfWords.{nothing_named}
 use Rattle.cs_decl_parser.proofs.BlockSpecSites.{WordsSoFar}
 
--- the place of the token with a number
+-- the place of the token with an index
 abbrev place_at_number : List Token → Option ℕ → Option Place
 place_at_number tokens number = option_map (λ (token : Token). token.place) (option_and_then (λ n. slice_get tokens n) number)
 

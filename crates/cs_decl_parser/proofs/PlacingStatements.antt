@@ -39,7 +39,7 @@ use Rattle.cs_expr_parser.proofs.Stopping.{refused_number}
 use Rattle.cs_decl_parser.proofs.ForSites.{controls_law}
 use Rattle.cs_decl_parser.proofs.Placing.{IsFramed, one_after, past_text, after_text, after_text_and_one, SidePlaced, side_begun, side_goes_on}
 
--- some tokens on from a number
+-- some tokens on from an index
 pub on : (tokens : List Token) (from many next : ℕ) → next ≡ from + many → drop many (drop from tokens) ≡ drop next tokens
 on tokens from many next e = drop-drop many from tokens ∙ ap (λ (n : ℕ). drop n tokens) (sym e)
 

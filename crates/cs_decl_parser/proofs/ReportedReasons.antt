@@ -1,4 +1,4 @@
--- A token is unsupported, or a fault of syntax, as the tokens before it tell: for the contract of the parser of files.
+-- A token is unsupported, or a fault of syntax, as the tokens before it say: for the contract of the parser of files.
 use Rattle.std.proofs.Common.{◌≡◌, ℕ, ◌↔◌, Bool, true, false, IsTrue, List, [], ◌∷◌, ◌++◌, Some, drop, take, refl, sym, ap, ◌∙◌, subst}
 use Rattle.std.proofs.lemmas.Bool.{false≢true}
 use Rattle.std.proofs.lemmas.List.{append_cancel_right, take-append-drop, map-append}

@@ -102,7 +102,7 @@ closed_example names t e =
     let b = expression_example names t e in
     record { phrase = b.phrase; more = b.more ++ semicolon ∷ []; is_phrase = b.is_phrase; spelled = sym (text_append b.phrase [] (semicolon ∷ [])) ∙ ap (λ (x : Kinds). x ++ semicolon ∷ []) b.spelled }
 
--- where there is little room, an expression statement is refused at its first token
+-- where the limit is small, an expression statement is refused at its first token
 little_front : (names : Names) (front : Kinds) → (front ≡ []) ⊎ BeginsLow (Closed names) 0 front → front ≡ []
 little_front names front (inl none) = none
 little_front names front (inr b) = let h = expression_height b.phrase in let l = b.low in absurd (omega (arith, h, l))

@@ -261,7 +261,7 @@ struct_stops names limit inner less tag tokens at mid sp s r = body_stops names 
 pub enum_stops : (names : Names) (limit inner : ℕ) → limit ≡ 1 + inner → 1 ≤ inner → (tag : Option (List ℕ)) (tokens : List Token) (at mid : ℕ) → Spells tokens at mid (λ rest. tag_keyword false ∷ name_text tag (token.Punctuator punctuator.OpenBrace ∷ rest)) → (s : Stop) → Stops (Trailing (Constants names) (token.Punctuator punctuator.CloseBrace)) inner tokens mid s → ElementStops names limit tokens at s
 enum_stops names limit inner less some tag tokens at mid sp s r = body_stops names limit inner (Trailing (Constants names) (token.Punctuator punctuator.CloseBrace)) false tag (λ front next deep x. enum_refused names limit inner less some tag front next deep x) tokens at mid sp s r
 
--- there is no room for constants
+-- the limit doesn't allow constants
 pub enum_little : (names : Names) (limit : ℕ) → 1 ≤ limit → limit < 2 → (tag : Option (List ℕ)) (tokens : List Token) (at brace : ℕ) → Spells tokens at brace (λ rest. tag_keyword false ∷ name_text tag rest) → kind_or_end tokens brace ≡ token.Punctuator punctuator.OpenBrace → ElementStops names limit tokens at (stop.Refused brace TooDeep)
 enum_little names limit some little None tokens at brace sp k = inl (record {
   is_struct = false;

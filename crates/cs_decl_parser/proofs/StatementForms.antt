@@ -16,7 +16,7 @@ use Rattle.cs_decl_parser.specs.declared.form.Form.{Form}
 use Rattle.cs_decl_parser.specs.declared.form.Form.TheVariants as form
 use Rattle.cs_decl_parser.specs.Forms.{least, keyword_form, punctuator_form, is_colon, name_form, form_of, is_labelled}
 
--- what a form tells of the first tokens
+-- what a form says of the first tokens
 abbrev pub Yields : Names → Form → TokenKind → TokenKind → Type 0
 Yields names form.Block first second = first ≡ token.Punctuator punctuator.OpenBrace
 Yields names form.Empty first second = first ≡ token.Punctuator punctuator.Semicolon
@@ -87,7 +87,7 @@ keyword_full names keyword.Break limit full = sentence_none names limit (token.K
 keyword_full names keyword.Return limit full = sentence_none names limit (token.Keyword keyword.Return) full refl
 keyword_full names _ limit full = absurd (omega (arith, full))
 
--- there is no room for the least statement of a form
+-- the limit doesn't allow the least statement of a form
 pub form_full : (names : Names) (first second : TokenKind) (limit : ℕ) → limit < least (form_of names first second) → Refused (Sentences names) limit [] first true
 form_full names (token.Name name) second limit full = sentence_low names limit (token.Name name) (let l = name_low (is_colon second) (is_among names name) in omega (arith, l, full)) refl refl
 form_full names (token.Punctuator m) second limit full = punctuator_full names m limit full

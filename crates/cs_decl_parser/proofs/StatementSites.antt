@@ -66,7 +66,7 @@ node_taken names limit tokens from tree tall next whole n h s = record {
       (subst (λ (e : Sentence). Took (Sentences names) limit e (kind_or_end tokens next) false) (sym n.tree_is) s.took);
 }
 
--- there is no room for the least statement of the form
+-- the limit doesn't allow the least statement of the form
 pub statement_full : (names : Names) (limit : ℕ) (tokens : List Token) (from : ℕ) (s : Stop) → from ≤ length tokens → limit < least (form_of names (kind_or_end tokens from) (kind_or_end tokens (from + 1))) → s ≡ stop.Refused from TooDeep → Stops (Sentences names) limit tokens from s
 statement_full names limit tokens from s within full is = stops_full (Sentences names) limit tokens from s within is (form_full names (kind_or_end tokens from) (kind_or_end tokens (from + 1)) limit full)
 

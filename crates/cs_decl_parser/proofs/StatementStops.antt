@@ -55,7 +55,7 @@ pub stops_pass : (C D : Class) (limit inner : ℕ) (tokens : List Token) (from :
 stops_pass C D limit inner tokens from lift stop.Memory s = tt
 stops_pass C D limit inner tokens from lift (stop.Refused at reason) s = refused_pass C D limit inner tokens from lift at reason s
 
--- the refusal of a token with which no phrase of any height goes on
+-- the refusal of a token that no phrase of any height continues with
 abbrev pub IsPlainStop : Scope → List Token → ℕ → Stop → Type 0
 IsPlainStop scope tokens at s = s ≡ stop.Refused at (plain_reason scope (kind_or_end tokens at))
 
@@ -87,7 +87,7 @@ pub record Standing (C : Class) (limit : ℕ) (tokens : List Token) (from next :
   pub spelled : Spells tokens from next (C.spell tree)
   pub took : Took C limit tree (kind_or_end tokens next) deep
 
--- the same of one that is told by its tokens
+-- the same of one that is determined by its tokens
 pub record StandingExactly (C : Class) (limit : ℕ) (tokens : List Token) (from next : ℕ) (tree : C.Tree) : Type 0 where
   pub spelled : Spells tokens from next (C.spell tree)
   pub exactly : Exactly C limit tree
@@ -138,7 +138,7 @@ single_stands {S} {D} {plus} {before} {build} {Fit} single limit inner has token
 pub no_fits : (tokens : List Token) (mid : ℕ) → FitsAll (λ rest. Unit {0}) tokens mid
 no_fits tokens mid = λ front at here following near. tt
 
--- what is told by its tokens stands there
+-- what is determined by its tokens stands there
 pub exactly_stands : (C : Class) (limit : ℕ) (tokens : List Token) (from next : ℕ) (tree : C.Tree) → StandingExactly C limit tokens from next tree → Standing C limit tokens from next false tree
 exactly_stands C limit tokens from next tree e = record { spelled = e.spelled; took = exact_took C limit tree e.exactly (kind_or_end tokens next) }
 

@@ -1,10 +1,14 @@
--- What the parts of the parser answer to one another: a phrase of a class, or a token with which none goes on that is low enough.
+-- What the parts of the parser answer to one another: a phrase of a class, or a token that none that is low enough continues with.
 use Rattle.std.specs.Prelude.{◌≡◌, ℕ, ◌⊎◌, Bool, true, false, List, Result, Ok, Err}
 use Rattle.cs_ast.specs.declared.token.Token.{Token}
 use Rattle.cs_ast.specs.declared.token.Punctuator.{Punctuator}
 use Rattle.cs_ast.specs.declared.token.Punctuator.TheVariants as punctuator
 use Rattle.cs_ast.specs.declared.token.TokenKind.TheVariants as token
 use Rattle.cs_grammar.specs.declared.refusal.Reason.{Reason}
+use Rattle.cs_ast.specs.declared.raw.statement.RawStmt.{RawStmt}
+use Rattle.cs_ast.specs.RawStatementView.{statement_of}
+use Rattle.cs_grammar.specs.TypeWords.{Names}
+use Rattle.cs_grammar.specs.FileClasses.{Sentences}
 use Rattle.cs_grammar.specs.Parsing.{Class, Took, Exactly}
 use Rattle.cs_expr_parser.specs.Positions.{kind_or_end}
 use Rattle.cs_expr_parser.specs.Parts.{Spells, IsRefused, is_deep}
@@ -18,7 +22,7 @@ abbrev pub Stops : Class → ℕ → List Token → ℕ → Stop → Type 0
 Stops C limit tokens from stop.Memory = Unit {0}
 Stops C limit tokens from (stop.Refused at reason) = IsRefused C limit tokens from at reason
 
--- a phrase of the class was taken, which is told by its tokens, whatever stands after it
+-- a phrase of the class was taken, which is determined by its tokens, whatever stands after it
 pub record IsExactly {A : Type 0} (C : Class) (view : A → C.Tree) (limit : ℕ) (tokens : List Token) (from : ℕ) (taken : Taken A) : Type 0 where
   pub height_is : taken.height ≡ C.tall (view taken.tree)
   pub spelled : Spells tokens from taken.next (C.spell (view taken.tree))
@@ -41,10 +45,14 @@ abbrev pub ExactAnswers : {A : Type 0} (C : Class) → (A → C.Tree) → ℕ �
 ExactAnswers C view limit tokens from (Ok taken) = IsExactly C view limit tokens from taken
 ExactAnswers C view limit tokens from (Err stop) = Stops C limit tokens from stop
 
--- a phrase with which no higher one goes on, or a token is refused
+-- a phrase that no higher one continues, or a token is refused
 abbrev pub Answers : {A : Type 0} (C : Class) → (A → C.Tree) → ℕ → List Token → ℕ → Result (Taken A) Stop → Type 0
 Answers C view limit tokens from (Ok taken) = IsTaken C view limit tokens from false taken
 Answers C view limit tokens from (Err stop) = Stops C limit tokens from stop
+
+-- a statement with which no higher one continues, or a token is refused
+abbrev pub StatementAnswers : Names → ℕ → List Token → ℕ → Result (Taken RawStmt) Stop → Type 0
+StatementAnswers names = Answers (Sentences names) statement_of
 
 -- a phrase that may end with an expression, or a token is refused
 abbrev pub UnclosedAnswers : {A : Type 0} (C : Class) → (A → C.Tree) → ℕ → List Token → ℕ → Result (Unclosed A) Stop → Type 0
@@ -63,7 +71,7 @@ abbrev pub StopsOrBrace : Class → ℕ → List Token → ℕ → Stop → Type
 StopsOrBrace C limit tokens from (stop.Refused at reason) = IsRefused C limit tokens from at reason ⊎ IsBraceRefused C limit tokens from at reason
 StopsOrBrace C limit tokens from other = Stops C limit tokens from other
 
--- a phrase with which no higher one goes on, or a token is refused, which may be a brace after a whole phrase
+-- a phrase that no higher one continues, or a token is refused, which may be a brace after a whole phrase
 abbrev pub BraceAnswers : {A : Type 0} (C : Class) → (A → C.Tree) → ℕ → List Token → ℕ → Result (Taken A) Stop → Type 0
 BraceAnswers C view limit tokens from (Ok taken) = IsTaken C view limit tokens from false taken
 BraceAnswers C view limit tokens from (Err stop) = StopsOrBrace C limit tokens from stop

@@ -1,5 +1,5 @@
 -- Why a token may be refused, whatever stands before it: what is unsupported everywhere in a scope isn't a fault of syntax there, and what
--- is unsupported nowhere in it isn't left out.
+-- is unsupported nowhere in it isn't unsupported.
 use Rattle.std.specs.Prelude.{◌≡◌, Bool, true, false, List, Result, Ok, Err}
 use Rattle.cs_ast.specs.declared.token.Token.{Token}
 use Rattle.cs_ast.specs.declared.token.TokenKind.{TokenKind}
@@ -15,7 +15,7 @@ use Rattle.cs_expr_parser.specs.declared.stop.Stop.TheVariants as stop
 use Rattle.cs_decl_parser.specs.declared.stop.Unclosed.{Unclosed}
 use Rattle.cs_decl_parser.specs.Reasons.{is_unsupported}
 
--- the token is unsupported at some places; whether a colon is isn't told by the parts of the parser
+-- the token is unsupported at some places; whether a colon is isn't determined by the parts of the parser
 abbrev pub may_be_out : TokenKind → Bool
 may_be_out (token.Unsupported word) = true
 may_be_out (token.Keyword keyword.Static) = true

@@ -14,7 +14,7 @@ abbrev pub StopsInside : List Token → ℕ → Stop → Type 0
 StopsInside tokens from (stop.Refused at reason) = (from ≤ at) × (at ≤ length tokens)
 StopsInside tokens from stop.Memory = Unit {0}
 
--- the token with this number is refused
+-- the token with this index is refused
 abbrev pub Refuses : ℕ → Stop → Type 0
 Refuses number (stop.Refused at reason) = at ≡ number
 Refuses number other = ⊥

@@ -76,7 +76,7 @@ DeclaratorsFor declares names = Declarators (IsNameFor declares names) names (Ma
 abbrev pub BracketsFor : Declares → Names → Class
 BracketsFor declares names = Brackets names (MayLackFor declares)
 
--- there is no room for a bound, since that of a member may not lack
+-- the limit doesn't allow a bound, since that of a member may not lack
 abbrev pub has_no_limit : Declares → ℕ → Bool
 has_no_limit declaring.Names limit = false
 has_no_limit declaring.Members limit = limit == 0
@@ -86,7 +86,7 @@ abbrev pub is_bracket : TokenKind → Bool
 is_bracket (token.Punctuator punctuator.OpenBracket) = true
 is_bracket other = false
 
--- a bound stands there for which there is no room
+-- a bound stands there that the limit doesn't allow
 abbrev pub is_full : Declares → ℕ → TokenKind → Bool
 is_full declares limit next = has_no_limit declares limit && is_bracket next
 
@@ -113,7 +113,7 @@ PointedAnswers declares names tokens from (Ok taken) = IsPointed declares names 
 PointedAnswers declares names tokens from (Err stop.Memory) = Unit {0}
 PointedAnswers declares names tokens from (Err (stop.Refused at reason)) = IsNameMissing declares names tokens from at reason
 
--- a declarator was taken, with which a higher one goes on where there is no room for a bound
+-- a declarator was taken, that a higher one continues where the limit doesn't allow a bound
 abbrev pub IsDeclaratorTaken : Declares → Names → ℕ → List Token → ℕ → Taken RawDeclarator → Type 0
 IsDeclaratorTaken declares names limit tokens from taken =
     (inner : ℕ) → limit ≡ 1 + inner → IsTaken (DeclaratorsFor declares names) declarator limit tokens from (is_full declares inner (kind_or_end tokens taken.next)) taken

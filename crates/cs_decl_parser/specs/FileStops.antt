@@ -19,7 +19,7 @@ is_file_word (token.Keyword keyword.Static) = true
 is_file_word (token.Keyword keyword.Typedef) = true
 is_file_word other = false
 
--- whether the token is unsupported isn't told by the parts of the parser: the tokens before it tell it of a colon, of `static`, of
+-- whether the token is unsupported isn't determined by the parts of the parser: the tokens before it say it of a colon, of `static`, of
 -- `typedef`, of a dot, and of an opening bracket, brace and parenthesis
 abbrev pub is_unsupported_after : TokenKind → Bool
 is_unsupported_after (token.Punctuator punctuator.Colon) = true
@@ -29,7 +29,7 @@ is_unsupported_after (token.Punctuator punctuator.OpenBrace) = true
 is_unsupported_after (token.Punctuator punctuator.OpenParenthesis) = true
 is_unsupported_after other = is_file_word other
 
--- the reason, where it is told whether the token is unsupported
+-- the reason, where it is known whether the token is unsupported
 abbrev pub unsupported_if : Bool → Reason
 unsupported_if out = if out then Unsupported else Syntax
 

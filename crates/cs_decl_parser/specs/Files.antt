@@ -45,7 +45,7 @@ pub record IsFileRefusedAt (tokens : List Token) (at : ℕ) (reason : Reason) : 
   pub stopped : IsStoppedAt tokens at reason
   pub why : at < length tokens → IsFileReason stopped.front (Some (kind_or_end tokens at)) reason
 
--- a refusal of the token with this number, for this reason, or want of memory; the end of input is refused as syntax
+-- a refusal of the token with this index, for this reason, or want of memory; the end of input is refused as syntax
 abbrev pub IsRefusalHere : List Token → Place → ℕ → Reason → SyntaxRefusal → Type 0
 IsRefusalHere tokens end at reason (refusal.Syntax place) = (place ≡ place_or_end tokens end at) × (at < length tokens → reason ≡ Syntax)
 IsRefusalHere tokens end at reason (refusal.Unsupported place word) =
@@ -53,7 +53,7 @@ IsRefusalHere tokens end at reason (refusal.Unsupported place word) =
 IsRefusalHere tokens end at reason (refusal.TooDeep place) = (place ≡ place_or_end tokens end at) × (reason ≡ TooDeep)
 IsRefusalHere tokens end at reason refusal.Memory = Unit {0}
 
--- want of memory, or the refusal of the first token with which no file that is low enough goes on
+-- want of memory, or the refusal of the first token that no file that is low enough continues with
 abbrev pub IsFileRefusal : List Token → Place → SyntaxRefusal → Type 0
 IsFileRefusal tokens end refusal.Memory = Unit {0}
 IsFileRefusal tokens end other = (at : ℕ) × (reason : Reason) × IsRefusalHere tokens end at reason other × IsFileRefusedAt tokens at reason

@@ -12,7 +12,7 @@ use Rattle.cs_grammar.specs.TypeWords.{Names, is_among}
 use Rattle.cs_decl_parser.specs.declared.form.Form.{Form}
 use Rattle.cs_decl_parser.specs.declared.form.Form.TheVariants as form
 
--- the height of the least statement of the form; that of an expression is told by its own parser
+-- the height of the least statement of the form; that of an expression is determined by its own parser
 abbrev pub least : Form → ℕ
 least form.Block = 1
 least form.Empty = 1
@@ -29,13 +29,13 @@ least form.Label = 2
 least form.Unlabelled = 2
 least form.Run = 0
 
--- how many tokens tell the form
+-- how many tokens determine the form
 abbrev pub reported_by : Form → ℕ
 reported_by form.Label = 2
 reported_by form.Run = 0
 reported_by other = 1
 
--- the tokens that tell the form are there
+-- the tokens that determine the form are there
 abbrev pub IsFormAt : List Token → ℕ → Form → Type 0
 IsFormAt tokens at form = (at ≤ length tokens) → at + reported_by form ≤ length tokens
 

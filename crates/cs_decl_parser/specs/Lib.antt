@@ -16,3 +16,4 @@ pub mod FilePlaces
 pub mod StatementPlaces
 pub mod SpecPlaces
 pub mod ExternalPlaces
+pub mod TreePlaces

@@ -17,7 +17,7 @@ use Rattle.cs_expr_parser.specs.declared.stop.Stop.TheVariants as stop
 use Rattle.cs_decl_parser.specs.declared.stop.Taken.{Taken}
 use Rattle.cs_decl_parser.specs.Answers.{Stops, IsTaken}
 
--- a token that ends no parameter is refused after a whole one, with which only higher ones go on, or none
+-- a token that ends no parameter is refused after a whole one, that only higher ones continue, or none
 pub record IsRefusedAfter (names : Names) (limit : ℕ) (tokens : List Token) (from at : ℕ) (reason : Reason) : Type 0 where
   pub whole : Parameter
   pub spelled : Spells tokens from at (parameter_text whole)
@@ -29,7 +29,7 @@ abbrev pub ParameterStops : Names → ℕ → List Token → ℕ → Stop → Ty
 ParameterStops names limit tokens from (stop.Refused at reason) = IsRefused (ParameterClass names) limit tokens from at reason ⊎ IsRefusedAfter names limit tokens from at reason
 ParameterStops names limit tokens from other = Stops (ParameterClass names) limit tokens from other
 
--- a parameter with which no higher one goes on, or a token is refused
+-- a parameter that no higher one continues, or a token is refused
 abbrev pub ParameterAnswer : Names → ℕ → List Token → ℕ → Result (Taken RawParameter) Stop → Type 0
 ParameterAnswer names limit tokens from (Ok taken) = IsTaken (ParameterClass names) parameter limit tokens from false taken
 ParameterAnswer names limit tokens from (Err stop) = ParameterStops names limit tokens from stop

@@ -1,4 +1,4 @@
--- What the parts of a file that are read tell where a token is refused.
+-- What the parts of a file that are read say where a token is refused.
 use Rattle.std.specs.Prelude.{◌≡◌, ◌≤◌, false, List, [], take}
 use Rattle.cs_ast.specs.declared.token.Token.{Token}
 use Rattle.cs_expr_parser.specs.Positions.{kinds}

@@ -20,7 +20,7 @@ is_unsupported Block (token.Keyword keyword.Static) = true
 is_unsupported Block (token.Keyword keyword.Typedef) = true
 is_unsupported scope other = false
 
--- the reason for a token with which no tree goes on
+-- the reason for a token that no tree continues with
 abbrev pub plain_reason : Scope → TokenKind → Reason
 plain_reason scope next = if is_unsupported scope next then Unsupported else Syntax
 

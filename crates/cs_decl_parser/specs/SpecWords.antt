@@ -107,7 +107,7 @@ BlockWordAnswer names tokens at so_far (Ok None) = NothingFits names so_far (kin
 BlockWordAnswer names tokens at so_far (Err stop.Memory) = Unit {0}
 BlockWordAnswer names tokens at so_far (Err other) = (names_some so_far ≡ false) × BlockTagStops tokens at other
 
--- it is told by its tokens
+-- it is determined by its tokens
 abbrev pub IsReportedByTokens : Names → Spec → Type 0
 IsReportedByTokens names s = (t : Spec) (x y : Kinds) → HasBody names t → IsQuiet t x → IsQuiet s y → spec_text t x ≡ spec_text s y → (t ≡ s) × (x ≡ y)
 
@@ -129,7 +129,7 @@ pub record IsElementRefused (names : Names) (limit : ℕ) (tokens : List Token) 
   pub spelled : Spells tokens at refused (λ rest. tag_keyword is_struct ∷ (front ++ rest))
   pub refused_is : Refused (SpecElements names) limit (tag_keyword is_struct ∷ front) (kind_or_end tokens refused) (is_deep reason)
 
--- a brace is refused after `enum` and a tag, since there is no room for a constant
+-- a brace is refused after `enum` and a tag, since the limit doesn't allow a constant
 pub record IsEnumFull (limit : ℕ) (tokens : List Token) (at refused : ℕ) (reason : Reason) : Type 0 where
   pub tag : List ℕ
   pub spelled : Spells tokens at refused (λ rest. tag_keyword false ∷ token.Name tag ∷ rest)

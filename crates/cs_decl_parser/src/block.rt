@@ -2,11 +2,12 @@
 ghost use Rattle.std.specs.Prelude.{◌≡◌, ◌≤◌, ◌<◌, ◌^◌, length, drop, IfOk, IsTrue};
 ghost use Rattle.cs_ast.specs.declared.token.TokenKind.TheVariants as token;
 ghost use Rattle.cs_ast.specs.declared.token.Punctuator.TheVariants as punctuator;
-ghost use Rattle.cs_ast.specs.RawStatementView.{item as item_of, statement_of};
+ghost use Rattle.cs_ast.specs.RawStatementView.{item as item_of};
 ghost use Rattle.cs_grammar.specs.FirstTokens.{begins_type as starts_type};
-ghost use Rattle.cs_grammar.specs.FileClasses.{BlockItems, Sentences};
+ghost use Rattle.cs_grammar.specs.FileClasses.{BlockItems};
 ghost use Rattle.cs_expr_parser.specs.Positions.{kind_or_end};
-ghost use Rattle.cs_decl_parser.specs.Answers.{Answers, ExactAnswers};
+ghost use Rattle.cs_decl_parser.specs.TreePlaces.{TreeAt};
+ghost use Rattle.cs_decl_parser.specs.Answers.{Answers, StatementAnswers, ExactAnswers};
 ghost use Rattle.cs_decl_parser.specs.Blocks.{Locals, local_of, ItemsAnswers};
 ghost use Rattle.cs_decl_parser.specs.Bounds.{IsBounded, IsRowBounded};
 ghost use Rattle.cs_decl_parser.specs.FilePlaces.{IsDeclarationPlaced, IsItemPlaced};
@@ -38,8 +39,8 @@ pub fn block(
     requires some { 1 ≤ limit }
     requires stands { kind_or_end source.now.tokens.now from ≡ token.Punctuator punctuator.OpenBrace }
     ensures bounds { IsBounded limit source.now.tokens.now from result }
-    ensures parsed { Answers (Sentences source.now.names.now) statement_of limit source.now.tokens.now from result }
-    ensures placed { IfOk result (λ taken. HasStatementPlaces taken.tree (drop from source.now.tokens.now)) }
+    ensures parsed { StatementAnswers source.now.names.now limit source.now.tokens.now from result }
+    ensures placed { IfOk result (TreeAt HasStatementPlaces source.now.tokens.now from) }
     ensures apt { IsAnswerApt Scope.Block source.now.tokens.now result }
 {
     let items = items(alloc, source, from + 1, limit - 1)?;
@@ -88,7 +89,7 @@ pub fn item(alloc: Global, source: &Source, from: usize, limit: u32) -> Result<T
     requires few { length source.now.tokens.now < 2 ^ 32 }
     ensures bounds { IsBounded limit source.now.tokens.now from result }
     ensures parsed { Answers (BlockItems source.now.names.now) item_of limit source.now.tokens.now from result }
-    ensures placed { IfOk result (λ taken. IsItemPlaced taken.tree (drop from source.now.tokens.now)) }
+    ensures placed { IfOk result (TreeAt IsItemPlaced source.now.tokens.now from) }
     ensures apt { IsAnswerApt Scope.Block source.now.tokens.now result }
 {
     if begins_type(source, from) && !is_label(source, from) {

@@ -1,6 +1,7 @@
 //! What stands before declarators inside blocks: words of types, and no body (C11 6.7.2).
-ghost use Rattle.std.specs.Prelude.{◌≡◌, ◌≤◌, ◌<◌, ◌^◌, length, drop, false, IfOk};
+ghost use Rattle.std.specs.Prelude.{◌≡◌, ◌≤◌, ◌<◌, ◌^◌, length, false, IfOk};
 ghost use Rattle.cs_expr_parser.specs.Positions.{kind_or_end};
+ghost use Rattle.cs_decl_parser.specs.TreePlaces.{TreeAt};
 ghost use Rattle.cs_decl_parser.specs.FilePlaces.{HasSpecPlaces};
 ghost use Rattle.cs_decl_parser.specs.Bounds.{IsBounded, IsNextBounded, IsWordBounded};
 ghost use Rattle.cs_decl_parser.specs.DeclarationAnswers.{RefusesAfter};
@@ -29,7 +30,7 @@ pub fn block_specs(
     requires some { 1 ≤ limit }
     ensures bounds { IsBounded limit source.now.tokens.now from result }
     ensures parsed { BlockSpecsAnswer source.now.names.now limit source.now.tokens.now from result }
-    ensures placed { IfOk result (λ taken. HasSpecPlaces taken.tree (drop from source.now.tokens.now)) }
+    ensures placed { IfOk result (TreeAt HasSpecPlaces source.now.tokens.now from) }
     ensures apt { IsAnswerApt Scope.Block source.now.tokens.now result }
 {
     let mut words = Vec::new(alloc);

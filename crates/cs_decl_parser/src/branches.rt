@@ -2,10 +2,11 @@
 ghost use Rattle.std.specs.Prelude.{◌≡◌, ℕ, ◌≤◌, ◌<◌, ◌^◌, length, drop, IfOk};
 ghost use Rattle.cs_ast.specs.declared.token.TokenKind.TheVariants as token;
 ghost use Rattle.cs_ast.specs.declared.token.Keyword.TheVariants as keyword;
-ghost use Rattle.cs_ast.specs.RawStatementView.{statement_of, switch_item as switch_item_of};
-ghost use Rattle.cs_grammar.specs.FileClasses.{Sentences, SwitchParts, SwitchRows};
+ghost use Rattle.cs_ast.specs.RawStatementView.{switch_item as switch_item_of};
+ghost use Rattle.cs_grammar.specs.FileClasses.{SwitchParts, SwitchRows};
 ghost use Rattle.cs_expr_parser.specs.Positions.{kind_or_end};
-ghost use Rattle.cs_decl_parser.specs.Answers.{Answers, ExactAnswers};
+ghost use Rattle.cs_decl_parser.specs.TreePlaces.{TreeAt};
+ghost use Rattle.cs_decl_parser.specs.Answers.{Answers, StatementAnswers, ExactAnswers};
 ghost use Rattle.cs_decl_parser.specs.Blocks.{switch_items_of};
 ghost use Rattle.cs_decl_parser.specs.Bounds.{IsBounded};
 ghost use Rattle.cs_decl_parser.specs.FilePlaces.{IsSwitchItemPlaced};
@@ -36,8 +37,8 @@ pub fn if_statement(
     requires enough { 2 ≤ limit }
     requires stands { kind_or_end source.now.tokens.now from ≡ token.Keyword keyword.If }
     ensures bounds { IsBounded limit source.now.tokens.now from result }
-    ensures parsed { Answers (Sentences source.now.names.now) statement_of limit source.now.tokens.now from result }
-    ensures placed { IfOk result (λ taken. HasStatementPlaces taken.tree (drop from source.now.tokens.now)) }
+    ensures parsed { StatementAnswers source.now.names.now limit source.now.tokens.now from result }
+    ensures placed { IfOk result (TreeAt HasStatementPlaces source.now.tokens.now from) }
     ensures apt { IsAnswerApt Scope.Block source.now.tokens.now result }
 {
     let place = place_at(source, from);
@@ -65,8 +66,8 @@ pub fn switch_statement(
     requires enough { 2 ≤ limit }
     requires stands { kind_or_end source.now.tokens.now from ≡ token.Keyword keyword.Switch }
     ensures bounds { IsBounded limit source.now.tokens.now from result }
-    ensures parsed { Answers (Sentences source.now.names.now) statement_of limit source.now.tokens.now from result }
-    ensures placed { IfOk result (λ taken. HasStatementPlaces taken.tree (drop from source.now.tokens.now)) }
+    ensures parsed { StatementAnswers source.now.names.now limit source.now.tokens.now from result }
+    ensures placed { IfOk result (TreeAt HasStatementPlaces source.now.tokens.now from) }
     ensures apt { IsAnswerApt Scope.Block source.now.tokens.now result }
 {
     let value = parenthesised(alloc, source, from + 1, limit - 1)?;
@@ -122,7 +123,7 @@ fn switch_item(
     requires few { length source.now.tokens.now < 2 ^ 32 }
     ensures bounds { IsBounded limit source.now.tokens.now from result }
     ensures parsed { Answers (SwitchParts source.now.names.now) switch_item_of limit source.now.tokens.now from result }
-    ensures placed { IfOk result (λ taken. IsSwitchItemPlaced taken.tree (drop from source.now.tokens.now)) }
+    ensures placed { IfOk result (TreeAt IsSwitchItemPlaced source.now.tokens.now from) }
     ensures apt { IsAnswerApt Scope.Block source.now.tokens.now result }
 {
     if is_keyword(source, from, Keyword::Case) {
@@ -151,7 +152,7 @@ fn case(
     requires stands { kind_or_end source.now.tokens.now from ≡ token.Keyword keyword.Case }
     ensures bounds { IsBounded limit source.now.tokens.now from result }
     ensures parsed { Answers (SwitchParts source.now.names.now) switch_item_of limit source.now.tokens.now from result }
-    ensures placed { IfOk result (λ taken. IsSwitchItemPlaced taken.tree (drop from source.now.tokens.now)) }
+    ensures placed { IfOk result (TreeAt IsSwitchItemPlaced source.now.tokens.now from) }
     ensures apt { IsAnswerApt Scope.Block source.now.tokens.now result }
 {
     if limit == 0 {
@@ -179,7 +180,7 @@ fn default(source: &Source, from: usize) -> Result<Taken<RawSwitchItem>, Stop>
     requires stands { kind_or_end source.now.tokens.now from ≡ token.Keyword keyword.Default }
     ensures bounds { IsBounded 0 source.now.tokens.now from result }
     ensures parsed { (limit : ℕ) → Answers (SwitchParts source.now.names.now) switch_item_of limit source.now.tokens.now from result }
-    ensures placed { IfOk result (λ taken. IsSwitchItemPlaced taken.tree (drop from source.now.tokens.now)) }
+    ensures placed { IfOk result (TreeAt IsSwitchItemPlaced source.now.tokens.now from) }
     ensures apt { IsAnswerApt Scope.Block source.now.tokens.now result }
 {
     if !is_punctuator(source, from + 1, Punctuator::Colon) {

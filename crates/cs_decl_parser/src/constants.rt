@@ -8,6 +8,7 @@ ghost use Rattle.cs_grammar.specs.DeclarationClasses.{Constants};
 ghost use Rattle.cs_grammar.specs.FileText.{constant_text};
 ghost use Rattle.cs_grammar.specs.Places.{StandsAt};
 ghost use Rattle.cs_expr_parser.specs.Positions.{kind_or_end};
+ghost use Rattle.cs_decl_parser.specs.TreePlaces.{UnclosedTreeAt};
 ghost use Rattle.cs_decl_parser.specs.Answers.{UnclosedAnswers};
 ghost use Rattle.cs_decl_parser.specs.DeclarationAnswers.{ConstantsAnswer, goes_on as list_goes_on, IsConstantOf};
 ghost use Rattle.cs_decl_parser.specs.Bounds.{IsBounded, IsUnclosedBounded};
@@ -101,7 +102,7 @@ fn constant(
     requires some { 1 ≤ limit }
     ensures bounds { IsUnclosedBounded limit source.now.tokens.now from result }
     ensures parsed { UnclosedAnswers (Constants source.now.names.now) constant_of limit source.now.tokens.now from result }
-    ensures placed { IfOk result (λ taken. IsConstantPlaced taken.tree (drop from source.now.tokens.now)) }
+    ensures placed { IfOk result (UnclosedTreeAt IsConstantPlaced source.now.tokens.now from) }
     ensures apt { IsUnclosedApt Scope.File source.now.tokens.now result }
 {
     let Some(name) = free_name_at(source, from)? else {

@@ -7,6 +7,7 @@ ghost use Rattle.cs_grammar.specs.Composed.{Separated};
 ghost use Rattle.cs_grammar.specs.Places.{StandsAt};
 ghost use Rattle.cs_grammar.specs.Text.{pointers_text};
 ghost use Rattle.cs_expr_parser.specs.Positions.{kind_or_end};
+ghost use Rattle.cs_decl_parser.specs.TreePlaces.{TreeAt};
 ghost use Rattle.cs_decl_parser.specs.Answers.{ExactAnswers};
 ghost use Rattle.cs_decl_parser.specs.Bounds.{IsBounded, IsRowBounded};
 ghost use Rattle.cs_decl_parser.specs.DeclarationAnswers.{has_no_limit, is_full, IsNameAt, IsNameFor, IsPointed, PointedAnswers, DeclaratorAnswers, DeclaratorsFor, BoundAnswer, BoundsAnswer, RefusesAfter};
@@ -57,7 +58,7 @@ pub fn declarator(
     ensures bounds { IsBounded limit source.now.tokens.now from result }
     ensures some { IfOk result (λ taken. 1 ≤ taken.height) }
     ensures parsed { DeclaratorAnswers declares source.now.names.now limit source.now.tokens.now from result }
-    ensures placed { IfOk result (λ taken. IsDeclaratorPlaced taken.tree (drop from source.now.tokens.now)) }
+    ensures placed { IfOk result (TreeAt IsDeclaratorPlaced source.now.tokens.now from) }
     ensures apt { IsAnswerApt scope source.now.tokens.now result }
 {
     let pointed = pointed_name(alloc, source, scope, from, declares)?;
@@ -121,7 +122,7 @@ pub fn with_bounds(
     ensures bounds { IsRowBounded limit source.now.tokens.now pointed.next result }
     ensures some { IfOk result (λ taken. 1 ≤ taken.height) }
     ensures parsed { (from : ℕ) → IsPointed declares source.now.names.now source.now.tokens.now from pointed → DeclaratorAnswers declares source.now.names.now limit source.now.tokens.now from result }
-    ensures placed { (from : ℕ) → IsPointed declares source.now.names.now source.now.tokens.now from pointed → StandsAt pointed.tree.name.place (past (pointers_text pointed.tree.pointers.items) (drop from source.now.tokens.now)) → IfOk result (λ taken. IsDeclaratorPlaced taken.tree (drop from source.now.tokens.now)) }
+    ensures placed { (from : ℕ) → IsPointed declares source.now.names.now source.now.tokens.now from pointed → StandsAt pointed.tree.name.place (past (pointers_text pointed.tree.pointers.items) (drop from source.now.tokens.now)) → IfOk result (TreeAt IsDeclaratorPlaced source.now.tokens.now from) }
     ensures apt { IsAnswerApt Scope.Block source.now.tokens.now result }
 {
     let bounds = bounds(alloc, source, pointed.next, limit - 1, declares)?;
@@ -138,7 +139,7 @@ pub fn with_bounds(
 }
 
 /// The bounds of arrays from an index on, each between brackets. The height is that of the highest, 0 where there is none.
-/// Where there is no room for the bound of a member, it isn't taken.
+/// Where the limit doesn't allow the bound of a member, it isn't taken.
 pub fn bounds(
     alloc: Global,
     source: &Source,
@@ -169,7 +170,7 @@ pub fn bounds(
     })
 }
 
-/// Whether there is no room for a bound, since it may not be left out.
+/// Whether the limit doesn't allow a bound, since it may not be absent.
 fn lacks_limit(declares: Declares, limit: u32) -> bool
     ensures { result ≡ has_no_limit declares limit }
 {
@@ -201,7 +202,7 @@ fn bound(
     requires few { length source.now.tokens.now < 2 ^ 32 }
     ensures bounds { IsBounded limit source.now.tokens.now at result }
     ensures parsed { BoundAnswer declares source.now.names.now limit source.now.tokens.now (at + 1) result }
-    ensures placed { IfOk result (λ taken. IsSomePlaced taken.tree (drop (at + 1) source.now.tokens.now)) }
+    ensures placed { IfOk result (TreeAt IsSomePlaced source.now.tokens.now (at + 1)) }
     ensures apt { IsAnswerApt Scope.Block source.now.tokens.now result }
 {
     let (level, closing) = (ExprLevel::Cond, Punctuator::CloseBracket);

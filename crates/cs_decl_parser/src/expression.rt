@@ -1,10 +1,11 @@
 //! Expressions as parts of declarations and statements, with what closes them.
-ghost use Rattle.std.specs.Prelude.{◌≤◌, ◌<◌, ◌+◌, ◌^◌, length, drop, IfOk, IsTrue};
+ghost use Rattle.std.specs.Prelude.{◌≤◌, ◌<◌, ◌+◌, ◌^◌, length, IfOk, IsTrue};
 ghost use Rattle.cs_ast.specs.RawView.{written};
 ghost use Rattle.cs_grammar.specs.Parsing.{Expressions};
 ghost use Rattle.cs_grammar.specs.Places.{HasPlaces};
 ghost use Rattle.cs_grammar.specs.FileClasses.{Tests};
 ghost use Rattle.cs_expr_parser.specs.Expression.{level_asked};
+ghost use Rattle.cs_decl_parser.specs.TreePlaces.{TreeAt, UnclosedTreeAt};
 ghost use Rattle.cs_decl_parser.specs.Answers.{ExactAnswers, UnclosedAnswers, closes};
 ghost use Rattle.cs_decl_parser.specs.DeclarationAnswers.{ClosedAnswer, ClosedIfAnyAnswer};
 ghost use Rattle.cs_decl_parser.specs.FilePlaces.{IsSomePlaced};
@@ -31,7 +32,7 @@ pub fn expression(
     ensures bounds { IsUnclosedBounded limit source.now.tokens.now from result }
     ensures some { IfOk result (λ taken. 1 ≤ taken.height) }
     ensures parsed { UnclosedAnswers (Expressions source.now.names.now (level_asked level)) written limit source.now.tokens.now from result }
-    ensures placed { IfOk result (λ taken. HasPlaces taken.tree (drop from source.now.tokens.now)) }
+    ensures placed { IfOk result (UnclosedTreeAt HasPlaces source.now.tokens.now from) }
     ensures apt { IsUnclosedApt Scope.Block source.now.tokens.now result }
 {
     let phrase = expression_at(alloc, source.tokens, source.names, from, limit, level)?;
@@ -64,7 +65,7 @@ pub fn closed(
     ensures bounds { IsBounded limit source.now.tokens.now from result }
     ensures some { IfOk result (λ taken. 1 ≤ taken.height) }
     ensures parsed { ClosedAnswer source.now.names.now level closing limit source.now.tokens.now from result }
-    ensures placed { IfOk result (λ taken. HasPlaces taken.tree (drop from source.now.tokens.now)) }
+    ensures placed { IfOk result (TreeAt HasPlaces source.now.tokens.now from) }
     ensures apt { IsAnswerApt Scope.Block source.now.tokens.now result }
 {
     let inner = expression(alloc, source, from, limit, level)?;
@@ -92,7 +93,7 @@ pub fn closed_if_any(
     requires closing { IsTrue (closes closing) }
     ensures bounds { IsBounded limit source.now.tokens.now from result }
     ensures parsed { ClosedIfAnyAnswer source.now.names.now level closing limit source.now.tokens.now from result }
-    ensures placed { IfOk result (λ taken. IsSomePlaced taken.tree (drop from source.now.tokens.now)) }
+    ensures placed { IfOk result (TreeAt IsSomePlaced source.now.tokens.now from) }
     ensures apt { IsAnswerApt Scope.Block source.now.tokens.now result }
 {
     if is_punctuator(source, from, closing) {
@@ -122,7 +123,7 @@ pub fn parenthesised(
     requires some { 1 ≤ limit }
     ensures bounds { IsBounded limit source.now.tokens.now from result }
     ensures parsed { ExactAnswers (Tests source.now.names.now) written limit source.now.tokens.now from result }
-    ensures placed { IfOk result (λ taken. HasPlaces taken.tree (drop (from + 1) source.now.tokens.now)) }
+    ensures placed { IfOk result (TreeAt HasPlaces source.now.tokens.now (from + 1)) }
     ensures apt { IsAnswerApt Scope.Block source.now.tokens.now result }
 {
     if !is_punctuator(source, from, Punctuator::OpenParenthesis) {

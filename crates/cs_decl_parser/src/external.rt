@@ -1,5 +1,5 @@
 //! What a file has: types, typedefs, objects and functions (C11 6.9).
-ghost use Rattle.std.specs.Prelude.{◌≡◌, ℕ, ◌≤◌, ◌<◌, ◌^◌, ◌+◌, ◌-◌, length, drop, IfOk};
+ghost use Rattle.std.specs.Prelude.{◌≡◌, ℕ, ◌≤◌, ◌<◌, ◌^◌, ◌+◌, ◌-◌, length, IfOk};
 ghost use Rattle.cs_ast.specs.declared.token.TokenKind.TheVariants as token;
 ghost use Rattle.cs_ast.specs.declared.token.Keyword.TheVariants as keyword;
 ghost use Rattle.cs_ast.specs.declared.token.Punctuator.TheVariants as punctuator;
@@ -7,6 +7,7 @@ ghost use Rattle.cs_ast.specs.RawDeclarationView.{head as head_of, parameters as
 ghost use Rattle.cs_ast.specs.RawStatementView.{external as external_view, external_of};
 ghost use Rattle.cs_grammar.specs.DeclarationClasses.{Externals};
 ghost use Rattle.cs_expr_parser.specs.Positions.{kind_or_end};
+ghost use Rattle.cs_decl_parser.specs.TreePlaces.{TreeAt};
 ghost use Rattle.cs_decl_parser.specs.declared.declarator.Declares.TheVariants as declaring;
 ghost use Rattle.cs_decl_parser.specs.Answers.{ExactAnswers};
 ghost use Rattle.cs_decl_parser.specs.Bounds.{IsBounded, IsOf};
@@ -37,7 +38,7 @@ pub fn external(alloc: Global, source: &Source, from: usize) -> Result<Taken<Raw
     requires few { length source.now.tokens.now < 2 ^ 32 }
     ensures bounds { IsBounded 200 source.now.tokens.now from result }
     ensures parsed { ExactAnswers (Externals source.now.names.now) external_view 200 source.now.tokens.now from result }
-    ensures placed { IfOk result (λ taken. IsExternalPlaced taken.tree (drop from source.now.tokens.now)) }
+    ensures placed { IfOk result (TreeAt IsExternalPlaced source.now.tokens.now from) }
     ensures apt { IsAnswerApt Scope.File source.now.tokens.now result }
     ensures inside { IsBodyApt source.now.names.now source.now.tokens.now from result }
 {
@@ -63,7 +64,7 @@ fn typedef(alloc: Global, source: &Source, from: usize) -> Result<Taken<RawExter
     requires stands { kind_or_end source.now.tokens.now from ≡ token.Keyword keyword.Typedef }
     ensures bounds { IsBounded 200 source.now.tokens.now from result }
     ensures parsed { ExactAnswers (Externals source.now.names.now) external_of 200 source.now.tokens.now from result }
-    ensures placed { IfOk result (λ taken. IsExternalInside taken.tree (drop from source.now.tokens.now)) }
+    ensures placed { IfOk result (TreeAt IsExternalInside source.now.tokens.now from) }
     ensures apt { IsAnswerApt Scope.File source.now.tokens.now result }
     ensures inside { IsBodyApt source.now.names.now source.now.tokens.now from result }
 {
@@ -83,7 +84,7 @@ fn declared(alloc: Global, source: &Source, from: usize) -> Result<Taken<RawExte
     requires other { kind_or_end source.now.tokens.now from ≡ token.Keyword keyword.Typedef → ⊥ }
     ensures bounds { IsBounded 200 source.now.tokens.now from result }
     ensures parsed { ExactAnswers (Externals source.now.names.now) external_of 200 source.now.tokens.now from result }
-    ensures placed { IfOk result (λ taken. IsExternalInside taken.tree (drop from source.now.tokens.now)) }
+    ensures placed { IfOk result (TreeAt IsExternalInside source.now.tokens.now from) }
     ensures apt { IsAnswerApt Scope.File source.now.tokens.now result }
     ensures inside { IsBodyApt source.now.names.now source.now.tokens.now from result }
 {
@@ -116,7 +117,7 @@ fn objects(
     requires stands { kind_or_end source.now.tokens.now pointed.next ≡ token.Punctuator punctuator.OpenParenthesis → ⊥ }
     ensures bounds { IsBounded 200 source.now.tokens.now pointed.next result }
     ensures parsed { (from : ℕ) → IsTypeTaken source.now.names.now source.now.tokens.now from specs → IsPointed declaring.Names source.now.names.now source.now.tokens.now specs.next pointed → ExactAnswers (Externals source.now.names.now) external_of 200 source.now.tokens.now from result }
-    ensures placed { (from : ℕ) → IsTypePlaced source.now.names.now source.now.tokens.now from specs → IsPointedPlaced source.now.names.now source.now.tokens.now specs.next pointed → IfOk result (λ taken. IsExternalInside taken.tree (drop from source.now.tokens.now)) }
+    ensures placed { (from : ℕ) → IsTypePlaced source.now.names.now source.now.tokens.now from specs → IsPointedPlaced source.now.names.now source.now.tokens.now specs.next pointed → IfOk result (TreeAt IsExternalInside source.now.tokens.now from) }
     ensures apt { IsAnswerApt Scope.File source.now.tokens.now result }
     ensures inside { (from : ℕ) → IsTypeTaken source.now.names.now source.now.tokens.now from specs → IsPointed declaring.Names source.now.names.now source.now.tokens.now specs.next pointed → IsBodyApt source.now.names.now source.now.tokens.now from result }
 {
@@ -144,7 +145,7 @@ fn function(
     requires stands { kind_or_end source.now.tokens.now pointed.next ≡ token.Punctuator punctuator.OpenParenthesis }
     ensures bounds { IsBounded 200 source.now.tokens.now pointed.next result }
     ensures parsed { (from : ℕ) → IsTypeTaken source.now.names.now source.now.tokens.now from specs → IsPointed declaring.Names source.now.names.now source.now.tokens.now specs.next pointed → ExactAnswers (Externals source.now.names.now) external_of 200 source.now.tokens.now from result }
-    ensures placed { (from : ℕ) → IsTypePlaced source.now.names.now source.now.tokens.now from specs → IsPointedPlaced source.now.names.now source.now.tokens.now specs.next pointed → IfOk result (λ taken. IsExternalInside taken.tree (drop from source.now.tokens.now)) }
+    ensures placed { (from : ℕ) → IsTypePlaced source.now.names.now source.now.tokens.now from specs → IsPointedPlaced source.now.names.now source.now.tokens.now specs.next pointed → IfOk result (TreeAt IsExternalInside source.now.tokens.now from) }
     ensures apt { IsAnswerApt Scope.File source.now.tokens.now result }
     ensures inside { (from : ℕ) → IsTypeTaken source.now.names.now source.now.tokens.now from specs → IsPointed declaring.Names source.now.names.now source.now.tokens.now specs.next pointed → IsBodyApt source.now.names.now source.now.tokens.now from result }
 {

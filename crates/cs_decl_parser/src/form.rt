@@ -1,4 +1,4 @@
-//! The forms of statements, told by their first tokens (C11 6.8).
+//! The forms of statements, by their first tokens (C11 6.8).
 ghost use Rattle.std.specs.Prelude.{◌≡◌, ◌<◌, ◌^◌, ◌+◌, length, IsTrue};
 ghost use Rattle.cs_expr_parser.specs.Positions.{kind_or_end, keyword_of};
 ghost use Rattle.cs_decl_parser.specs.Forms.{least, form_of, word_form, is_labelled, IsFormAt};
@@ -75,7 +75,7 @@ fn form_of_word(source: &Source, at: usize) -> Form
 }
 
 impl Form {
-    /// The height of the least statement of the form, 0 where its expression tells it.
+    /// The height of the least statement of the form, 0 where its expression determines it.
     pub fn least_height(self) -> u32
         ensures { result ≡ least self }
     {

@@ -1,10 +1,11 @@
 //! What objects hold at first (C11 6.7.9).
-ghost use Rattle.std.specs.Prelude.{◌≡◌, ◌≤◌, ◌<◌, ◌^◌, length, drop, true, IfOk, IsTrue};
+ghost use Rattle.std.specs.Prelude.{◌≡◌, ◌≤◌, ◌<◌, ◌^◌, length, true, IfOk, IsTrue};
 ghost use Rattle.cs_ast.specs.declared.token.TokenKind.TheVariants as token;
 ghost use Rattle.cs_ast.specs.declared.token.Punctuator.TheVariants as punctuator;
 ghost use Rattle.cs_ast.specs.RawDeclarationView.{initial as initial_of};
 ghost use Rattle.cs_grammar.specs.DeclarationClasses.{Values};
 ghost use Rattle.cs_expr_parser.specs.Positions.{kind_or_end};
+ghost use Rattle.cs_decl_parser.specs.TreePlaces.{UnclosedTreeAt};
 ghost use Rattle.cs_decl_parser.specs.Answers.{UnclosedAnswers};
 ghost use Rattle.cs_decl_parser.specs.DeclarationAnswers.{is_designator};
 ghost use Rattle.cs_decl_parser.specs.Bounds.{IsUnclosedBounded};
@@ -35,7 +36,7 @@ pub fn initial(
     requires some { 1 ≤ limit }
     ensures bounds { IsUnclosedBounded limit source.now.tokens.now from result }
     ensures parsed { UnclosedAnswers (Values source.now.names.now) initial_of limit source.now.tokens.now from result }
-    ensures placed { IfOk result (λ taken. IsInitialPlaced taken.tree (drop from source.now.tokens.now)) }
+    ensures placed { IfOk result (UnclosedTreeAt IsInitialPlaced source.now.tokens.now from) }
     ensures apt { IsUnclosedApt scope source.now.tokens.now result }
 {
     if is_punctuator(source, from, Punctuator::OpenBrace) {
@@ -74,7 +75,7 @@ fn items(
     requires stands { kind_or_end source.now.tokens.now from ≡ token.Punctuator punctuator.OpenBrace }
     ensures bounds { IsUnclosedBounded limit source.now.tokens.now from result }
     ensures parsed { UnclosedAnswers (Values source.now.names.now) initial_of limit source.now.tokens.now from result }
-    ensures placed { IfOk result (λ taken. IsInitialPlaced taken.tree (drop from source.now.tokens.now)) }
+    ensures placed { IfOk result (UnclosedTreeAt IsInitialPlaced source.now.tokens.now from) }
     ensures apt { IsUnclosedApt scope source.now.tokens.now result }
 {
     if limit < 2 {

@@ -1,14 +1,15 @@
 //! Statements that repeat (C11 6.8.5).
-ghost use Rattle.std.specs.Prelude.{◌≡◌, ◌≤◌, ◌<◌, ◌+◌, ◌^◌, List, length, drop, IfOk};
+ghost use Rattle.std.specs.Prelude.{◌≡◌, ◌≤◌, ◌<◌, ◌+◌, ◌^◌, List, length, IfOk};
 ghost use Rattle.cs_ast.specs.declared.token.Token.{Token as Lexed};
 ghost use Rattle.cs_ast.specs.declared.token.TokenKind.TheVariants as token;
 ghost use Rattle.cs_ast.specs.declared.token.Keyword.TheVariants as keyword;
 ghost use Rattle.std.specs.Option.{option_map};
 ghost use Rattle.cs_ast.specs.RawView.{written};
-ghost use Rattle.cs_ast.specs.RawStatementView.{first_of, statement_of};
-ghost use Rattle.cs_grammar.specs.FileClasses.{Firsts, Sentences};
+ghost use Rattle.cs_ast.specs.RawStatementView.{first_of};
+ghost use Rattle.cs_grammar.specs.FileClasses.{Firsts};
 ghost use Rattle.cs_expr_parser.specs.Positions.{kind_or_end};
-ghost use Rattle.cs_decl_parser.specs.Answers.{Answers, ExactAnswers};
+ghost use Rattle.cs_decl_parser.specs.TreePlaces.{TreeAt};
+ghost use Rattle.cs_decl_parser.specs.Answers.{StatementAnswers, ExactAnswers};
 ghost use Rattle.cs_decl_parser.specs.Blocks.{Controls, control_of, first_if_any};
 ghost use Rattle.cs_decl_parser.specs.Bounds.{IsBounded};
 ghost use Rattle.cs_decl_parser.specs.FilePlaces.{IsSomePlaced, IsFirstPlaced};
@@ -40,8 +41,8 @@ pub fn while_statement(
     requires enough { 2 ≤ limit }
     requires stands { kind_or_end source.now.tokens.now from ≡ token.Keyword keyword.While }
     ensures bounds { IsBounded limit source.now.tokens.now from result }
-    ensures parsed { Answers (Sentences source.now.names.now) statement_of limit source.now.tokens.now from result }
-    ensures placed { IfOk result (λ taken. HasStatementPlaces taken.tree (drop from source.now.tokens.now)) }
+    ensures parsed { StatementAnswers source.now.names.now limit source.now.tokens.now from result }
+    ensures placed { IfOk result (TreeAt HasStatementPlaces source.now.tokens.now from) }
     ensures apt { IsAnswerApt Scope.Block source.now.tokens.now result }
 {
     let place = place_at(source, from);
@@ -64,8 +65,8 @@ pub fn do_statement(
     requires enough { 2 ≤ limit }
     requires stands { kind_or_end source.now.tokens.now from ≡ token.Keyword keyword.Do }
     ensures bounds { IsBounded limit source.now.tokens.now from result }
-    ensures parsed { Answers (Sentences source.now.names.now) statement_of limit source.now.tokens.now from result }
-    ensures placed { IfOk result (λ taken. HasStatementPlaces taken.tree (drop from source.now.tokens.now)) }
+    ensures parsed { StatementAnswers source.now.names.now limit source.now.tokens.now from result }
+    ensures placed { IfOk result (TreeAt HasStatementPlaces source.now.tokens.now from) }
     ensures apt { IsAnswerApt Scope.Block source.now.tokens.now result }
 {
     let place = place_at(source, from);
@@ -103,8 +104,8 @@ pub fn for_statement(
     requires enough { 2 ≤ limit }
     requires stands { kind_or_end source.now.tokens.now from ≡ token.Keyword keyword.For }
     ensures bounds { IsBounded limit source.now.tokens.now from result }
-    ensures parsed { Answers (Sentences source.now.names.now) statement_of limit source.now.tokens.now from result }
-    ensures placed { IfOk result (λ taken. HasStatementPlaces taken.tree (drop from source.now.tokens.now)) }
+    ensures parsed { StatementAnswers source.now.names.now limit source.now.tokens.now from result }
+    ensures placed { IfOk result (TreeAt HasStatementPlaces source.now.tokens.now from) }
     ensures apt { IsAnswerApt Scope.Block source.now.tokens.now result }
 {
     let place = place_at(source, from);
@@ -120,7 +121,7 @@ fn control(alloc: Global, source: &Source, from: usize, limit: u32) -> Result<Ta
     requires few { length source.now.tokens.now < 2 ^ 32 }
     ensures bounds { IsBounded limit source.now.tokens.now from result }
     ensures parsed { ExactAnswers (Controls source.now.names.now) control_of limit source.now.tokens.now from result }
-    ensures placed { IfOk result (λ taken. AreForPartsPlaced taken.tree (drop (from + 1) source.now.tokens.now)) }
+    ensures placed { IfOk result (TreeAt AreForPartsPlaced source.now.tokens.now (from + 1)) }
     ensures apt { IsAnswerApt Scope.Block source.now.tokens.now result }
 {
     if !is_punctuator(source, from, Punctuator::OpenParenthesis) {
@@ -166,7 +167,7 @@ fn first_part(
     requires few { length source.now.tokens.now < 2 ^ 32 }
     ensures bounds { IsBounded limit source.now.tokens.now from result }
     ensures parsed { ExactAnswers (Firsts source.now.names.now) first_of limit source.now.tokens.now from result }
-    ensures placed { IfOk result (λ taken. IsFirstPlaced taken.tree (drop from source.now.tokens.now)) }
+    ensures placed { IfOk result (TreeAt IsFirstPlaced source.now.tokens.now from) }
     ensures apt { IsAnswerApt Scope.Block source.now.tokens.now result }
 {
     if begins_type(source, from) {

@@ -2,6 +2,7 @@
 ghost use Rattle.std.specs.Prelude.{◌≤◌, ◌<◌, ◌^◌, length, drop, IfOk};
 ghost use Rattle.cs_ast.specs.RawDeclarationView.{members_list};
 ghost use Rattle.cs_grammar.specs.DeclarationClasses.{MemberGroups, MemberRows};
+ghost use Rattle.cs_decl_parser.specs.TreePlaces.{TreeAt};
 ghost use Rattle.cs_decl_parser.specs.Answers.{ExactAnswers};
 ghost use Rattle.cs_decl_parser.specs.SpecWords.{group};
 ghost use Rattle.cs_decl_parser.specs.Bounds.{IsBounded};
@@ -54,7 +55,7 @@ fn member(alloc: Global, source: &Source, from: usize, limit: u32) -> Result<Tak
     requires few { length source.now.tokens.now < 2 ^ 32 }
     ensures bounds { IsBounded limit source.now.tokens.now from result }
     ensures parsed { ExactAnswers (MemberGroups source.now.names.now) group limit source.now.tokens.now from result }
-    ensures placed { IfOk result (λ taken. IsGroupPlaced taken.tree (drop from source.now.tokens.now)) }
+    ensures placed { IfOk result (TreeAt IsGroupPlaced source.now.tokens.now from) }
     ensures apt { IsAnswerApt Scope.File source.now.tokens.now result }
 {
     let scope = Scope::File;

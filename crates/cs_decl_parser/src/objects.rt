@@ -6,6 +6,7 @@ ghost use Rattle.cs_ast.specs.declared.token.Punctuator.TheVariants as punctuato
 ghost use Rattle.cs_ast.specs.RawDeclarationView.{declared};
 ghost use Rattle.cs_grammar.specs.Composed.{Separated};
 ghost use Rattle.cs_grammar.specs.DeclarationClasses.{Objects};
+ghost use Rattle.cs_decl_parser.specs.TreePlaces.{UnclosedTreeAt};
 ghost use Rattle.cs_decl_parser.specs.declared.declarator.Declares.TheVariants as declaring;
 ghost use Rattle.cs_decl_parser.specs.Answers.{IsUnclosed, ExactAnswers, UnclosedAnswers};
 ghost use Rattle.cs_decl_parser.specs.DeclarationAnswers.{IsDeclaratorTaken, IsAlone};
@@ -94,7 +95,7 @@ fn object(
     requires some { 1 ≤ limit }
     ensures bounds { IsUnclosedBounded limit source.now.tokens.now from result }
     ensures parsed { UnclosedAnswers (Objects source.now.names.now) declared limit source.now.tokens.now from result }
-    ensures placed { IfOk result (λ taken. IsDeclaredPlaced taken.tree (drop from source.now.tokens.now)) }
+    ensures placed { IfOk result (UnclosedTreeAt IsDeclaredPlaced source.now.tokens.now from) }
     ensures apt { IsUnclosedApt scope source.now.tokens.now result }
 {
     let declarator = declarator(alloc, source, scope, from, limit, Declares::Names)?;
@@ -116,7 +117,7 @@ pub fn with_value(
     requires low { declarator.height ≤ limit }
     ensures bounds { IsUnclosedRowBounded limit source.now.tokens.now declarator.next result }
     ensures parsed { (from : ℕ) → IsDeclaratorTaken declaring.Names source.now.names.now limit source.now.tokens.now from declarator → UnclosedAnswers (Objects source.now.names.now) declared limit source.now.tokens.now from result }
-    ensures placed { (from : ℕ) → IsDeclaratorTaken declaring.Names source.now.names.now limit source.now.tokens.now from declarator → IsDeclaratorPlaced declarator.tree (drop from source.now.tokens.now) → IfOk result (λ taken. IsDeclaredPlaced taken.tree (drop from source.now.tokens.now)) }
+    ensures placed { (from : ℕ) → IsDeclaratorTaken declaring.Names source.now.names.now limit source.now.tokens.now from declarator → IsDeclaratorPlaced declarator.tree (drop from source.now.tokens.now) → IfOk result (UnclosedTreeAt IsDeclaredPlaced source.now.tokens.now from) }
     ensures apt { IsUnclosedApt scope source.now.tokens.now result }
 {
     let at = declarator.next;

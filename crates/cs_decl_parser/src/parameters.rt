@@ -5,6 +5,7 @@ ghost use Rattle.cs_ast.specs.RawDeclarationView.{parameter as parameter_of, par
 ghost use Rattle.cs_grammar.specs.FilePhrases.{AreNamed};
 ghost use Rattle.cs_grammar.specs.FileText.{parameter_text};
 ghost use Rattle.cs_grammar.specs.DeclarationClasses.{ParameterRows, ParameterLists};
+ghost use Rattle.cs_decl_parser.specs.TreePlaces.{TreeAt};
 ghost use Rattle.cs_decl_parser.specs.Answers.{ExactAnswers};
 ghost use Rattle.cs_decl_parser.specs.DeclarationAnswers.{ParameterNameAnswer, IsVoidAlone};
 ghost use Rattle.cs_decl_parser.specs.ParameterAnswers.{ParameterAnswer, number_past, has_name};
@@ -36,7 +37,7 @@ pub fn parameters(
     requires enough { 4 ≤ limit }
     ensures bounds { IsBounded limit source.now.tokens.now from result }
     ensures parsed { ExactAnswers (ParameterLists source.now.names.now) parameters_of limit source.now.tokens.now from result }
-    ensures placed { IfOk result (λ taken. AreParametersPlaced taken.tree (drop from source.now.tokens.now)) }
+    ensures placed { IfOk result (TreeAt AreParametersPlaced source.now.tokens.now from) }
     ensures apt { IsAnswerApt Scope.File source.now.tokens.now result }
 {
     if is_punctuator(source, from, Punctuator::CloseParenthesis) {
@@ -118,7 +119,7 @@ fn parameter(
     requires enough { 2 ≤ limit }
     ensures bounds { IsBounded limit source.now.tokens.now from result }
     ensures parsed { ParameterAnswer source.now.names.now limit source.now.tokens.now from result }
-    ensures placed { IfOk result (λ taken. IsParameterPlaced taken.tree (drop from source.now.tokens.now)) }
+    ensures placed { IfOk result (TreeAt IsParameterPlaced source.now.tokens.now from) }
     ensures apt { IsAnswerApt Scope.File source.now.tokens.now result }
 {
     let specs = specs(alloc, source, from, limit - 1)?;
@@ -144,7 +145,7 @@ fn parameter_name(source: &Source, at: usize) -> Result<Taken<Option<RawName>>, 
     requires few { length source.now.tokens.now < 2 ^ 32 }
     ensures bounds { IsRowBounded 0 source.now.tokens.now at result }
     ensures name { ParameterNameAnswer source.now.names.now source.now.tokens.now at result }
-    ensures placed { IfOk result (λ taken. IsNamePlaced taken.tree (drop at source.now.tokens.now)) }
+    ensures placed { IfOk result (TreeAt IsNamePlaced source.now.tokens.now at) }
     ensures apt { IsAnswerApt Scope.File source.now.tokens.now result }
 {
     if is_punctuator(source, at, Punctuator::OpenParenthesis) {

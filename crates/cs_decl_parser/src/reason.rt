@@ -1,4 +1,4 @@
-//! Why a token of a file is refused: the tokens before it tell of some whether they are unsupported.
+//! Why a token of a file is refused: the tokens before it say of some whether they are unsupported.
 ghost use Rattle.std.specs.Prelude.{◌≡◌, ◌<◌, ◌≤◌, ◌+◌, ◌⊎◌, ◌^◌, ◌∷◌, [], ◌++◌, ◌↔◌, length, take, IfOk, IsTrue, true};
 ghost use Rattle.cs_grammar.specs.FilePhrases.{BeginsFile, BeginsLowFile};
 ghost use Rattle.cs_ast.specs.declared.token.TokenKind.TheVariants as token;
@@ -63,7 +63,7 @@ pub fn reason_reported(
     Ok(reason)
 }
 
-/// Whether a brace with this number is unsupported, in the part of the file after these, which the tokens before it end in.
+/// Whether a brace with this index is unsupported, in the part of the file after these, which the tokens before it end in.
 fn is_brace_out(
     alloc: Global,
     tokens: &[Token],
@@ -93,7 +93,7 @@ fn begins_designator(tokens: &[Token], at: usize) -> bool
     )
 }
 
-/// Whether a list of initial values may open in place of the token with this number, where some file that is low enough begins with
+/// Whether a list of initial values may open in place of the token with this index, where some file that is low enough begins with
 /// the tokens before it.
 fn may_open_list(alloc: Global, tokens: &[Token], at: usize) -> Result<bool, AllocError>
     requires within { at < length tokens.now }
@@ -112,7 +112,7 @@ fn may_open_list(alloc: Global, tokens: &[Token], at: usize) -> Result<bool, All
     Ok(on)
 }
 
-/// Whether a declarator's name may stand in place of the token with this number, where some file that is low enough begins with the
+/// Whether a declarator's name may stand in place of the token with this index, where some file that is low enough begins with the
 /// tokens before it, and none of any height continues with an opening parenthesis.
 fn may_name_declarator(alloc: Global, tokens: &[Token], at: usize) -> Result<bool, AllocError>
     requires within { at < length tokens.now }
@@ -146,7 +146,7 @@ fn file_goes_on(alloc: Global, before: &[Token], next: Token) -> Result<bool, Al
     }
 }
 
-/// Whether the token with a number, which is refused, stands after so many others, or is too deep.
+/// Whether the token with an index, which is refused, stands after so many others, or is too deep.
 fn is_deep_or_past(at: usize, reason: Reason, count: usize) -> bool
     ensures { IsTrue result ↔ ((count < at) ⊎ (is_deep reason ≡ true)) }
 {
@@ -164,7 +164,7 @@ fn is_file_word(tokens: &[Token], at: usize) -> bool
     )
 }
 
-/// The reason, where it is told whether a token is unsupported.
+/// The reason, where it is known whether a token is unsupported.
 fn unsupported_if(out: bool) -> Reason
     ensures { result ≡ out_if out }
 {

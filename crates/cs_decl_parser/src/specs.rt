@@ -6,6 +6,7 @@ ghost use Rattle.cs_ast.specs.RawDeclarationView.{constant as constant_of, membe
 ghost use Rattle.cs_grammar.specs.FileText.{constant_text};
 ghost use Rattle.cs_expr_parser.specs.Positions.{kind_or_end};
 ghost use Rattle.cs_expr_parser.specs.Words.{names_some};
+ghost use Rattle.cs_decl_parser.specs.TreePlaces.{TreeAt};
 ghost use Rattle.cs_decl_parser.specs.Bounds.{IsBounded, IsNextBounded, IsWordBounded, IsWordOf};
 ghost use Rattle.cs_decl_parser.specs.DeclarationAnswers.{constant_row};
 ghost use Rattle.cs_decl_parser.specs.SpecWords.{begins_words, name_in, number_after, enum_of, IsTagKeyword, HasNoTag, IsTagged, IsOpened, IsSpecOf, IsStatic, PlainAnswer, ElementAnswer, SpecAnswer, SpecsAnswer};
@@ -60,7 +61,7 @@ pub fn specs(
     requires some { 1 ≤ limit }
     ensures bounds { IsBounded limit source.now.tokens.now from result }
     ensures parsed { SpecsAnswer source.now.names.now limit source.now.tokens.now from result }
-    ensures placed { IfOk result (λ taken. HasSpecPlaces taken.tree (drop from source.now.tokens.now)) }
+    ensures placed { IfOk result (TreeAt HasSpecPlaces source.now.tokens.now from) }
     ensures apt { IsAnswerApt Scope.File source.now.tokens.now result }
 {
     let mut words = Vec::new(alloc);

@@ -2,11 +2,11 @@
 ghost use Rattle.std.specs.Prelude.{◌≡◌, ℕ, ◌≤◌, ◌<◌, ◌^◌, ◌+◌, length, drop, IfOk, IsTrue};
 ghost use Rattle.cs_ast.specs.declared.token.TokenKind.TheVariants as token;
 ghost use Rattle.cs_ast.specs.declared.token.Keyword.TheVariants as keyword;
-ghost use Rattle.cs_ast.specs.RawStatementView.{sentence, statement_of};
-ghost use Rattle.cs_grammar.specs.FileClasses.{Sentences};
+ghost use Rattle.cs_ast.specs.RawStatementView.{sentence};
 ghost use Rattle.cs_expr_parser.specs.Positions.{kind_or_end};
+ghost use Rattle.cs_decl_parser.specs.TreePlaces.{TreeAt};
 ghost use Rattle.cs_decl_parser.specs.declared.form.Form.TheVariants as form;
-ghost use Rattle.cs_decl_parser.specs.Answers.{Answers};
+ghost use Rattle.cs_decl_parser.specs.Answers.{StatementAnswers};
 ghost use Rattle.cs_decl_parser.specs.Bounds.{IsBounded};
 ghost use Rattle.cs_decl_parser.specs.Forms.{form_of, is_labelled, IsJump};
 ghost use Rattle.cs_decl_parser.specs.FilePlaces.{ArePartsPlaced};
@@ -39,8 +39,8 @@ pub fn statement(
     requires within { from ≤ length source.now.tokens.now }
     requires few { length source.now.tokens.now < 2 ^ 32 }
     ensures bounds { IsBounded limit source.now.tokens.now from result }
-    ensures parsed { Answers (Sentences source.now.names.now) statement_of limit source.now.tokens.now from result }
-    ensures placed { IfOk result (λ taken. HasStatementPlaces taken.tree (drop from source.now.tokens.now)) }
+    ensures parsed { StatementAnswers source.now.names.now limit source.now.tokens.now from result }
+    ensures placed { IfOk result (TreeAt HasStatementPlaces source.now.tokens.now from) }
     ensures apt { IsAnswerApt Scope.Block source.now.tokens.now result }
 {
     let form = form_at(source, from);
@@ -88,8 +88,8 @@ fn label(alloc: Global, source: &Source, from: usize, limit: u32) -> Result<Take
     requires enough { 2 ≤ limit }
     requires stands { IsTrue (is_labelled (kind_or_end source.now.tokens.now from) (kind_or_end source.now.tokens.now (from + 1))) }
     ensures bounds { IsBounded limit source.now.tokens.now from result }
-    ensures parsed { Answers (Sentences source.now.names.now) statement_of limit source.now.tokens.now from result }
-    ensures placed { IfOk result (λ taken. HasStatementPlaces taken.tree (drop from source.now.tokens.now)) }
+    ensures parsed { StatementAnswers source.now.names.now limit source.now.tokens.now from result }
+    ensures placed { IfOk result (TreeAt HasStatementPlaces source.now.tokens.now from) }
     ensures apt { IsAnswerApt Scope.Block source.now.tokens.now result }
 {
     let Some(name) = any_name_at(source, from)? else {
@@ -106,8 +106,8 @@ fn run(alloc: Global, source: &Source, from: usize, limit: u32) -> Result<Taken<
     requires few { length source.now.tokens.now < 2 ^ 32 }
     requires stands { form_of source.now.names.now (kind_or_end source.now.tokens.now from) (kind_or_end source.now.tokens.now (from + 1)) ≡ form.Run }
     ensures bounds { IsBounded limit source.now.tokens.now from result }
-    ensures parsed { Answers (Sentences source.now.names.now) statement_of limit source.now.tokens.now from result }
-    ensures placed { IfOk result (λ taken. HasStatementPlaces taken.tree (drop from source.now.tokens.now)) }
+    ensures parsed { StatementAnswers source.now.names.now limit source.now.tokens.now from result }
+    ensures placed { IfOk result (TreeAt HasStatementPlaces source.now.tokens.now from) }
     ensures apt { IsAnswerApt Scope.Block source.now.tokens.now result }
 {
     let (level, closing) = (ExprLevel::Expr, Punctuator::Semicolon);
@@ -123,8 +123,8 @@ fn goto(alloc: Global, source: &Source, from: usize) -> Result<Taken<RawStmt>, S
     requires few { length source.now.tokens.now < 2 ^ 32 }
     requires stands { kind_or_end source.now.tokens.now from ≡ token.Keyword keyword.Goto }
     ensures bounds { IsBounded 1 source.now.tokens.now from result }
-    ensures parsed { (limit : ℕ) → 1 ≤ limit → Answers (Sentences source.now.names.now) statement_of limit source.now.tokens.now from result }
-    ensures placed { IfOk result (λ taken. HasStatementPlaces taken.tree (drop from source.now.tokens.now)) }
+    ensures parsed { (limit : ℕ) → 1 ≤ limit → StatementAnswers source.now.names.now limit source.now.tokens.now from result }
+    ensures placed { IfOk result (TreeAt HasStatementPlaces source.now.tokens.now from) }
     ensures apt { IsAnswerApt Scope.Block source.now.tokens.now result }
 {
     let Some(name) = any_name_at(source, from + 1)? else {
@@ -147,8 +147,8 @@ fn jump(
     requires few { length source.now.tokens.now < 2 ^ 32 }
     requires stands { IsJump (kind_or_end source.now.tokens.now from) (sentence kind) }
     ensures bounds { IsBounded 1 source.now.tokens.now from result }
-    ensures parsed { (limit : ℕ) → 1 ≤ limit → Answers (Sentences source.now.names.now) statement_of limit source.now.tokens.now from result }
-    ensures placed { IfOk result (λ taken. HasStatementPlaces taken.tree (drop from source.now.tokens.now)) }
+    ensures parsed { (limit : ℕ) → 1 ≤ limit → StatementAnswers source.now.names.now limit source.now.tokens.now from result }
+    ensures placed { IfOk result (TreeAt HasStatementPlaces source.now.tokens.now from) }
     ensures apt { IsAnswerApt Scope.Block source.now.tokens.now result }
 {
     if !is_punctuator(source, from + 1, Punctuator::Semicolon) {
@@ -169,8 +169,8 @@ fn return_statement(
     requires some { 1 ≤ limit }
     requires stands { kind_or_end source.now.tokens.now from ≡ token.Keyword keyword.Return }
     ensures bounds { IsBounded limit source.now.tokens.now from result }
-    ensures parsed { Answers (Sentences source.now.names.now) statement_of limit source.now.tokens.now from result }
-    ensures placed { IfOk result (λ taken. HasStatementPlaces taken.tree (drop from source.now.tokens.now)) }
+    ensures parsed { StatementAnswers source.now.names.now limit source.now.tokens.now from result }
+    ensures placed { IfOk result (TreeAt HasStatementPlaces source.now.tokens.now from) }
     ensures apt { IsAnswerApt Scope.Block source.now.tokens.now result }
 {
     let (level, closing) = (ExprLevel::Expr, Punctuator::Semicolon);

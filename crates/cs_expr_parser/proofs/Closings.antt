@@ -77,7 +77,7 @@ primary_is names (Choice t o e) after is = absurd (omega (arith, is.0))
 primary_is names (Assign op l r) after is = absurd (omega (arith, is.0))
 primary_is names (Comma l r) after is = absurd (omega (arith, is.0))
 
--- a leaf's tree is told by its token
+-- a leaf's tree is determined by its token
 leaf_same : (kind : TokenKind) (e other : Written) → IsLeaf kind e → IsLeaf kind other → other ≡ e
 leaf_same (token.Name n) e other a b = b ∙ sym a
 leaf_same (token.Number n) e other a b = b ∙ sym a
@@ -145,7 +145,7 @@ leaf_took names limit kind e some k a = record {
       ];
 }
 
--- a token that begins no primary expression, or one for which there is no room
+-- a token that begins no primary expression, or one that the limit doesn't allow
 pub leaf_refused : (names : Names) (limit : ℕ) (next : TokenKind) (deep : Bool) → (next ≡ open_parenthesis → ⊥) → is_leaf names next ≡ deep → (deep ≡ true → limit < 1) → (deep ≡ true → (e : Written) × IsLeaf next e) → Refused (Expressions names 16) limit [] next deep
 leaf_refused names limit next deep closed is full tree = record {
   begun = inl refl;
@@ -188,7 +188,7 @@ enclosed_tail names limit least = record {
 pub closes : (names : Names) (level : ℕ) (m : Punctuator) → join_of (token.Punctuator m ∷ []) ≤ level → (more : Kinds) → join_of (token.Punctuator m ∷ more) ≤ level
 closes names level m le more = le
 
--- an opening parenthesis for which there is no room
+-- an opening parenthesis that the limit doesn't allow
 pub enclosed_full : (names : Names) (limit : ℕ) → limit < 2 → Refused (Expressions names 16) limit [] open_parenthesis true
 enclosed_full names limit full = record {
   begun = inl refl;

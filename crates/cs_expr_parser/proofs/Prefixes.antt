@@ -238,7 +238,7 @@ size_is names e after following is same =
       | measured parts w ty t ↦ let s = sym t ∙ same in inr (parts, w, ty, cc)
     ]
 
--- what stands before an operand, and no room for the operand
+-- what stands before an operand, and the limit doesn't allow the operand
 pub before_full : (names : Names) (limit : ℕ) (b : Before) → limit < 2 → Refused (Expressions names 14) limit [] (before_text b) true
 before_full names limit b full = record {
   begun = inl refl;
@@ -295,7 +295,7 @@ unary_passes_refused names limit front next deep none r =
       | measured parts w ty s ↦ not_before names limit front next deep before.Size (open_parenthesis ∷ type_closed_text parts after) following r (none before.Size) near (sym s ∙ same)
     ]))
 
--- where a unary expression was refused, no type between parentheses stands but where there is no room for one
+-- where a unary expression was refused, no type between parentheses stands but where the limit doesn't allow one
 pub not_type : (names : Names) (limit : ℕ) (front : Kinds) (next : TokenKind) (deep : Bool) (parts : TypeParts) (rest following : Kinds) → Refused (Expressions names 14) limit front next deep → (front ≡ open_parenthesis ∷ [] → begins_type names next ≡ false) → IsTypeOf names parts → Near next following → open_parenthesis ∷ type_closed_text parts rest ≡ front ++ following → (front ≡ []) × (next ≡ open_parenthesis)
 not_type names limit [] next deep parts rest following r none ty near same =
     elim near [

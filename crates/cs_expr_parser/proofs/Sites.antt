@@ -104,13 +104,13 @@ primary_none names limit tokens from s within closed none is =
     refused_first (Expressions names 16) limit tokens from false s within is
     (leaf_refused names limit (kind_or_end tokens from) false closed none (λ reported. absurd (false≢true reported)) (λ reported. absurd (false≢true reported)))
 
--- no room for a leaf
+-- the limit doesn't allow a leaf
 pub leaf_full : (names : Names) (limit : ℕ) (tokens : List Token) (from : ℕ) (tree : RawExpr) (s : Stop) → from ≤ length tokens → limit ≡ 0 → (kind_or_end tokens from ≡ open_parenthesis → ⊥) → IsLeafOf names (kind_or_end tokens from) (Some tree) → IsRefusalAt tokens from true s → Stops (Expressions names 16) limit tokens from s
 leaf_full names limit tokens from tree s within full closed leaf is =
     refused_first (Expressions names 16) limit tokens from true s within is
     (leaf_refused names limit (kind_or_end tokens from) true closed leaf.0 (λ reported. omega arith) (λ reported. (written tree, leaf.1)))
 
--- no room for an expression between parentheses
+-- the limit doesn't allow an expression between parentheses
 pub parenthesis_full : (names : Names) (limit : ℕ) (tokens : List Token) (from : ℕ) (s : Stop) → from ≤ length tokens → limit < 2 → kind_or_end tokens from ≡ open_parenthesis → IsRefusalAt tokens from true s → Stops (Expressions names 16) limit tokens from s
 parenthesis_full names limit tokens from s within full k is = refused_first (Expressions names 16) limit tokens from true s within is (subst (λ (x : TokenKind). Refused (Expressions names 16) limit [] x true) (sym k) (enclosed_full names limit full))
 

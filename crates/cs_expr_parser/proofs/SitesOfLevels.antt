@@ -49,7 +49,7 @@ choice_none names limit tokens from test t none = record {
   took = choice_passes names limit (written test.tree) (kind_or_end tokens test.next) test.deep none t.took;
 }
 
--- no room for a choice
+-- the limit doesn't allow a choice
 pub choice_full : (names : Names) (limit : ℕ) (tokens : List Token) (from : ℕ) (test whole : Taken) → IsTakenFrom names 3 limit tokens from test → kind_or_end tokens test.next ≡ question → limit ≤ test.height → IsNode (written test.tree) test.height test.next true whole → IsTakenFrom names 2 limit tokens from whole
 choice_full names limit tokens from test whole t k full n =
     let h = t.height_is in

@@ -164,7 +164,7 @@ pub selected_placed : (tokens : List Token) (from : ℕ) (left : Taken) (answer 
 selected_placed tokens from left (Ok whole) b here ends = b from here ends
 selected_placed tokens from left (Err s) b here ends = tt
 
--- where there is no room, nothing was taken
+-- where the limit allows nothing, nothing was taken
 pub narrow_placed : (tokens : List Token) (from : ℕ) (answer : Result Taken Stop) → IsBounded 0 tokens (from + 2) answer → IsOkPlaced tokens from answer
 narrow_placed tokens from (Ok taken) b = absurd (let l = b.2 in let h = b.3 in omega arith)
 narrow_placed tokens from (Err s) b = tt

@@ -88,7 +88,7 @@ pub unary_none_answer : (names : Names) (limit : ℕ) (tokens : List Token) (fro
 unary_none_answer names limit tokens from (Ok taken) none a = unary_none names limit tokens from taken a
 unary_none_answer names limit tokens from (Err s) none a = unary_none_stops names limit tokens from none s a
 
--- no room for an operand
+-- the limit doesn't allow an operand
 pub unary_full : (names : Names) (limit : ℕ) (tokens : List Token) (from : ℕ) (b : Before) (s : Stop) → from ≤ length tokens → limit < 2 → kind_or_end tokens from ≡ before_text b → IsRefusalAt tokens from true s → Stops (Expressions names 14) limit tokens from s
 unary_full names limit tokens from b s within full k is = refused_first (Expressions names 14) limit tokens from true s within is (subst (λ (x : TokenKind). Refused (Expressions names 14) limit [] x true) (sym k) (before_full names limit b full))
 
@@ -128,7 +128,7 @@ cast_none_answer names limit tokens from (Err s) none r =
     stops_pass (Expressions names 13) (Expressions names 14) limit tokens from
     (λ front at deep sp x. cast_passes_refused names limit front (kind_or_end tokens at) deep (no_type_begins names tokens from at front none sp) x) s r
 
--- no room for a cast
+-- the limit doesn't allow a cast
 pub cast_full_stops : (names : Names) (limit : ℕ) (tokens : List Token) (from : ℕ) (s : Stop) → from ≤ length tokens → limit < 2 → kind_or_end tokens from ≡ open_parenthesis → IsRefusalAt tokens from true s → Stops (Expressions names 13) limit tokens from s
 cast_full_stops names limit tokens from s within full k is = refused_first (Expressions names 13) limit tokens from true s within is (subst (λ (x : TokenKind). Refused (Expressions names 13) limit [] x true) (sym k) (cast_full names limit full))
 

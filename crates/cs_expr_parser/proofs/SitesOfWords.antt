@@ -176,7 +176,7 @@ punctuator_no_word names so_far next n k (word.Typedef name) e = absurd (let z =
 punctuator_no_word names so_far next n k (word.Struct tag) e = absurd (let z = ap keyword_of e ∙ k in cc)
 punctuator_no_word names so_far next n k (word.Enum tag) e = absurd (let z = ap keyword_of e ∙ k in cc)
 
--- words without a tag are told by their first tokens
+-- words without a tag are determined by their first tokens
 first_integer : (a b : IntegerWord) → integer_word_text a ≡ integer_word_text b → a ≡ b
 first_integer Char Char e = refl
 first_integer Short Short e = refl

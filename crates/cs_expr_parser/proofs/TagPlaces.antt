@@ -19,7 +19,7 @@ use Rattle.cs_expr_parser.specs.declared.types.NextWord.{NextWord}
 use Rattle.cs_expr_parser.specs.Places.{IsTagPlaced, IsTagGiven, IsTagStanding, IsNextTagged}
 use Rattle.cs_expr_parser.proofs.Standing.{past_end}
 
--- a place is that of the token with this number
+-- a place is that of the token with this index
 place_stands : (tokens : List Token) (at : ℕ) (place : Place) (found : Option Token) → slice_get tokens at ≡ found → StandsAt place (drop at tokens) → Some place ≡ option_map (λ (token : Token). token.place) found
 place_stands tokens at place None e s = absurd (subst (StandsAt place) (drop_of_length-le tokens (past_end tokens at e)) s)
 place_stands tokens at place (Some t) e s =
@@ -78,7 +78,7 @@ tag_has : (is_struct : Bool) (tag : List ℕ) → has_tag (word_of_tag is_struct
 tag_has true tag = refl
 tag_has false tag = refl
 
--- one more word, where the tag so far is told
+-- one more word, where the tag so far is known
 tag_known : (tokens : List Token) (from next after : ℕ) (words : List TypeWord) (w : TypeWord) (number : Option ℕ) (old : Option Place) (new joined : Option Place) (tagged : Bool) → before_tag words ≡ number → tagged ≡ has_tag w → old ≡ place_in (drop from tokens) number → (old ≡ None → number ≡ None) → (number ≡ None → next ≡ from + length words) → joined ≡ first_some old new → IsTagGiven tagged tokens next new after → TagSoFar tokens from after (words ++ w ∷ []) joined
 tag_known tokens from next after words w (Some n) None new joined tagged b t p a c j g = absurd (let z = a refl in cc)
 tag_known tokens from next after words w (Some n) (Some place) new joined tagged b t p a c j g =

@@ -1,4 +1,4 @@
--- The reasons of refusals, after the tokens so far: for what the parts of the parser tell.
+-- The reasons of refusals, after the tokens so far: for what the parts of the parser say.
 use Rattle.std.proofs.Common.{◌≡◌, ℕ, ◌+◌, ◌≤◌, ◌⊎◌, inl, inr, Bool, true, false, ◌&&◌, ◌||◌, if◌then◌else◌, List, [], ◌∷◌, ◌++◌, length, drop, refl, sym, ap, ◌∙◌, subst, arith, append_assoc, append-nil}
 use Rattle.std.proofs.lemmas.Bool.{false≢true}
 use Rattle.cs_ast.specs.declared.token.Token.{Token}
@@ -64,7 +64,7 @@ closed_type_ends names (b ∷ before) ws ps bs is are opened last e =
 type_ends : (names : Names) (front : Kinds) → EndsWithType names front → (opened : List Bool) (last : Last) → last_of names opened last front ≡ AnyToken → ⊥
 type_ends names front t opened last e = closed_type_ends names t.before t.words t.pointers t.bounds t.type t.phrases opened last (ap (last_of names opened last) (sym t.spelled) ∙ e)
 
--- a token that is told to be a fault is not left out
+-- a token that is reported as a fault isn't unsupported
 pub plain_not_unsupported : (names : Names) (front : Kinds) (next : TokenKind) → is_unsupported next ≡ false → (is_brace next ≡ true → IsPlainEnd names front) → IsUnsupported names front next → ⊥
 plain_not_unsupported names front (token.Unsupported w) l p o = absurd cc
 plain_not_unsupported names front (token.Punctuator punctuator.Ellipsis) l p o = absurd cc

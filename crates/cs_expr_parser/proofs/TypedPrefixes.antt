@@ -116,7 +116,7 @@ pub cast_took : (names : Names) (limit : ℕ) (parts : TypeParts) → 2 ≤ limi
 cast_took names limit parts least e part next deep t =
     tail_took (Expressions names 13) (Expressions names 13) limit (limit - 1) (open_parenthesis ∷ type_closed_text parts []) (Cast parts.words parts.pointers parts.bounds) (λ rest. Unit {0}) (text_law names 13) (cast_tail names limit parts least e) part next deep (λ following near. tt) t
 
--- a parenthesis and a type for which there is no room
+-- a parenthesis and a type that the limit doesn't allow
 pub cast_full : (names : Names) (limit : ℕ) → limit < 2 → Refused (Expressions names 13) limit [] open_parenthesis true
 cast_full names limit full = record {
   begun = inl refl;

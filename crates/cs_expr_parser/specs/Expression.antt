@@ -34,7 +34,7 @@ level_asked Expr = COMMA
 level_asked Assign = ASSIGN
 level_asked Cond = CHOICE
 
--- the kind of the token with this number, if it is there
+-- the kind of the token with this index, if it is there
 abbrev pub kind_at : List Token → ℕ → Option TokenKind
 kind_at tokens at = option_map (λ (token : Token). token.kind) (slice_get tokens at)
 
@@ -78,7 +78,7 @@ abbrev pub first_place : Place → List Token → Place
 first_place end [] = end
 first_place end (token ∷ tokens) = token.place
 
--- the place of the token with this number, or of the end of input
+-- the place of the token with this index, or of the end of input
 abbrev pub place_or_end : List Token → Place → ℕ → Place
 place_or_end tokens end at = first_place end (drop at tokens)
 
@@ -90,7 +90,7 @@ IsRefusalBy token TooDeep (refusal.TooDeep place) = place ≡ token.place
 IsRefusalBy token reason refusal.Memory = Unit {0}
 IsRefusalBy token reason other = ⊥
 
--- a refusal of the token with this number, for this reason, or want of memory
+-- a refusal of the token with this index, for this reason, or want of memory
 abbrev pub IsRefusalFor : List Token → Place → ℕ → Reason → SyntaxRefusal → Type 0
 IsRefusalFor tokens end at Syntax (refusal.Syntax place) = place ≡ place_or_end tokens end at
 IsRefusalFor tokens end at Unsupported (refusal.Unsupported place word) = (place ≡ place_or_end tokens end at) × (word ≡ unsupported_spelling (kind_or_end tokens at))
@@ -103,7 +103,7 @@ abbrev pub reason_there : Option TokenKind → Reason → Reason
 reason_there (Some next) reason = reason
 reason_there None reason = Syntax
 
--- want of memory, or the refusal of the first token with which no phrase of the level that is low enough goes on
+-- want of memory, or the refusal of the first token that no phrase of the level that is low enough continues with
 abbrev pub IsRefusal : Names → ℕ → ℕ → List Token → Place → ℕ → SyntaxRefusal → Type 0
 IsRefusal names level limit tokens end from refusal.Memory = Unit {0}
 IsRefusal names level limit tokens end from other = (at : ℕ) × (reason : Reason) × IsRefusalFor tokens end at reason other × IsRefusedAt names level limit tokens from at reason

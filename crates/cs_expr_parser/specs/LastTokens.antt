@@ -1,4 +1,4 @@
--- What the last of the tokens so far are, where a brace would be left out after a tag or a type between parentheses.
+-- What the last of the tokens so far are, where a brace would be unsupported after a tag or a type between parentheses.
 use Rattle.std.specs.Prelude.{◌≡◌, ℕ, ◌≤◌, Bool, true, false, List, [], ◌∷◌, ◌++◌, length, Result, Ok, Err}
 use Rattle.cs_ast.specs.declared.token.Token.{Token}
 use Rattle.cs_ast.specs.declared.token.TokenKind.{TokenKind}
@@ -32,7 +32,7 @@ abbrev pub named : Last → Last
 named TagWord = TypeEnd
 named other = AnyToken
 
--- what the last tokens are where the innermost of the open parentheses, of which those of types are told, is closed
+-- what the last tokens are where the innermost of the open parentheses, of which those of types are marked, is closed
 abbrev pub closed_by : List Bool → Last
 closed_by (true ∷ opened) = TypeEnd
 closed_by other = AnyToken
@@ -59,7 +59,7 @@ abbrev pub last_of : Names → List Bool → Last → Kinds → Last
 last_of names opened last [] = last
 last_of names opened last (kind ∷ rest) = last_of names (opened_by names opened kind rest) (last_by opened last kind) rest
 
--- a brace after these tokens isn't left out, but a fault, whatever parentheses are open
+-- a brace after these tokens isn't unsupported, but a fault, whatever parentheses are open
 abbrev pub IsPlainEnd : Names → Kinds → Type 0
 IsPlainEnd names front = (opened : List Bool) → last_of names opened AnyToken front ≡ AnyToken
 
@@ -79,12 +79,12 @@ abbrev pub IsReported : Names → List Token → ℕ → Stop → Type 0
 IsReported names tokens from stop.Memory = Unit {0}
 IsReported names tokens from (stop.Refused at reason) = IsReportedAt names tokens from at reason
 
--- a part of the parser that gives no answer tells the right reason
+-- a part of the parser that gives no answer has the right reason
 abbrev pub IsStopReported : {Answer : Type 0} → Names → List Token → ℕ → Result Answer Stop → Type 0
 IsStopReported names tokens from (Ok taken) = Unit {0}
 IsStopReported names tokens from (Err stop) = IsReported names tokens from stop
 
--- the tokens end with a tag, or a brace after them isn't left out
+-- the tokens end with a tag, or a brace after them isn't unsupported
 abbrev pub YieldsAfter : Names → Kinds → Bool → Type 0
 YieldsAfter names before true = EndsWithTag before
 YieldsAfter names before false = IsPlainEnd names before

@@ -99,7 +99,7 @@ abbrev pub IsFoundPlaced : Option RawExpr → List Token → Type 0
 IsFoundPlaced (Some tree) tokens = HasPlaces tree tokens
 IsFoundPlaced None tokens = Unit {0}
 
--- after the tokens of an expression, which begin at an index, stand those from another number on
+-- after the tokens of an expression, which begin at an index, stand those from another index on
 abbrev pub EndsAt : List Token → ℕ → RawExpr → ℕ → Type 0
 EndsAt tokens from tree next = after_tree tree (drop from tokens) ≡ drop next tokens
 

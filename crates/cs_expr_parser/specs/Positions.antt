@@ -18,7 +18,7 @@ abbrev pub first_kind : List Token → TokenKind
 first_kind [] = token.Attribute
 first_kind (first ∷ others) = first.kind
 
--- the kind of the token with this number
+-- the kind of the token with this index
 abbrev pub kind_or_end : List Token → ℕ → TokenKind
 kind_or_end tokens at = first_kind (drop at tokens)
 

@@ -19,7 +19,7 @@ ends_in_type (Assign operator object value) = ends_in_type value
 ends_in_type (Comma first second) = ends_in_type second
 ends_in_type other = false
 
--- why a token is refused with which no phrase of any height goes on, after a type or a tag or not
+-- why a token is refused that no phrase of any height continues with, after a type or a tag or not
 abbrev pub plain_reason : TokenKind → Bool → Reason
 plain_reason next after_type = if is_unsupported next || (after_type && is_brace next) then Unsupported else Syntax
 

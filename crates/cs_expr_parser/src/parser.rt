@@ -99,7 +99,7 @@ fn phrase(tokens: &[Token], taken: Taken) -> Phrase
     }
 }
 
-/// The refusal of the token with this number, or of the end of input, whose place is `end`.
+/// The refusal of the token with this index, or of the end of input, whose place is `end`.
 pub fn refusal(
     alloc: Global,
     tokens: &[Token],

@@ -21,7 +21,7 @@ pub struct Taken {
 /// Why a part of the parser gives no expression.
 #[derive(Drop)]
 pub enum Stop {
-    /// The token with this number is refused, for this reason.
+    /// The token with this index is refused, for this reason.
     Refused(usize, Reason),
     /// Want of memory.
     Memory,

@@ -94,7 +94,7 @@ full_only : (names : Names) (other : Option Written) (after following : Kinds) �
 full_only names None after following near same = inl (refl, same)
 full_only names (Some e) after following near same = let h = expression_height e in inr (record { reported = refl; high = omega (arith, h); onward = λ none. let z = same ∙ none in cc })
 
--- an `=` stands there, and there is no room for a value
+-- an `=` stands there, and the limit doesn't allow a value
 pub constant_full : (names : Names) → Took (ConstantValues names) 0 None equal_token true
 constant_full names = record {
   is_phrase = tt;

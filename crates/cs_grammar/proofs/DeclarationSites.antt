@@ -80,6 +80,6 @@ definition_took names limit inner less head named e body next t =
     tail_took (ExternalRests names) (FunctionEnds names head) limit limit (head_text head []) (function_of head) (λ rest. Unit {0}) (ends_law names head) (function_tail names limit head e) (Some body) next false (λ following near. tt)
     (single_took (body_single names head named) limit inner (less, omega arith) body next false (λ following near. tt) t)
 
--- a part of a file that was taken before every token is told by its tokens
+-- a part of a file that was taken before every token is determined by its tokens
 pub external_exact : (names : Names) (limit : ℕ) (e : External) → ((next : TokenKind) → Took (Externals names) limit e next false) → Exactly (Externals names) limit e
 external_exact names limit e took = took_exact (Externals names) limit e took (λ other after. tt) semicolon

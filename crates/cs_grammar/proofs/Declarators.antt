@@ -123,7 +123,7 @@ full_only names (Some e ∷ bs) after following is near same =
     let h = expression_height e in
     inr (record { reported = refl; high = omega (arith, h); onward = λ none. let z = same ∙ none in cc })
 
--- there is no room for a bound where one may not lack
+-- the limit doesn't allow a bound where one may not lack
 pub brackets_full : (names : Names) (next : TokenKind) → Took (Brackets names ⊥) 0 [] (token.Punctuator punctuator.OpenBracket) true
 brackets_full names next = record {
   is_phrase = tt;
@@ -139,7 +139,7 @@ brackets_took names MayLack limit done next deep so_far t =
     subst (λ (d : List (Option Written)). Took (Brackets names MayLack) limit d next deep) (append-nil done)
     (tail_took (Brackets names MayLack) (Brackets names MayLack) limit limit (brackets_text done []) (λ rest. done ++ rest) (λ rest. Unit {0}) (brackets_law names MayLack) so_far [] next deep (λ following near. tt) t)
 
--- pointers before a name are told by the tokens
+-- pointers before a name are determined by the tokens
 pub pointers_name : (ps qs : List PointerWord) (n m : List ℕ) (x y : Kinds) → pointers_text ps (token.Name n ∷ x) ≡ pointers_text qs (token.Name m ∷ y) → (ps ≡ qs) × (n ≡ m) × (x ≡ y)
 pointers_name [] [] n m x y same = (refl, cc, cc)
 pointers_name [] (pointer.Star ∷ qs) n m x y same = absurd cc

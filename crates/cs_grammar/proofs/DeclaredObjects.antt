@@ -117,7 +117,7 @@ full_only names limit d deep t full c (Some i) after following is shut near same
       | inr over ↦ absurd (t.joined over.reported [] tt)
     ]
 
--- the declarator was taken, an `=` stands after it, and there is no room for a value
+-- the declarator was taken, an `=` stands after it, and the limit doesn't allow a value
 pub declared_full : (names : Names) (limit : ℕ) (d : Declarator) (deep : Bool) → Took (ObjectDeclarators names) limit d equal_token deep → limit < 1 + declarator_height d → Took (Objects names) limit (declared_of d None) equal_token true
 declared_full names limit d deep t full = record {
   is_phrase = record { declarator = t.is_phrase; initial = tt };

@@ -1,4 +1,4 @@
--- Returns of functions that read parts of files, and what has no room: for the contracts of every parser of files.
+-- Returns of functions that read parts of files, and what the limit doesn't allow: for the contracts of every parser of files.
 use Rattle.std.proofs.Common.{◌≡◌, ℕ, ◌+◌, ◌≤◌, inl, inr, Bool, true, false, IsTrue, List, [], ◌∷◌, ◌++◌, refl, sym, ap, ◌∙◌, arith}
 use Rattle.std.proofs.lemmas.Bool.{false≢true}
 use Rattle.cs_ast.specs.declared.token.TokenKind.{TokenKind}

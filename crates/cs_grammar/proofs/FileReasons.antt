@@ -72,7 +72,7 @@ deep_reason limit front next r = r.further refl
 pub unsupported_reason : (limit : ℕ) (front : Kinds) (next : TokenKind) → FileRefused limit front next false → IsUnsupportedOfFile front next → IsFileReason front (Some next) reason.Unsupported
 unsupported_reason limit front next r out = (r.nothing refl, out)
 
--- none does, and the token is not left out there
+-- none does, and the token isn't unsupported there
 pub syntax_reason : (limit : ℕ) (front : Kinds) (next : TokenKind) → FileRefused limit front next false → (IsUnsupportedOfFile front next → ⊥) → IsFileReason front (Some next) reason.Syntax
 syntax_reason limit front next r kept = (r.nothing refl, kept)
 

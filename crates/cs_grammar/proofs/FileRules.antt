@@ -436,7 +436,7 @@ highest_low limit [] low = omega arith
 highest_low limit (e ∷ es) low = let h = highest_low limit es low.1 in let l = low.0 in omega (arith, h, l)
 
 -- a token is refused after the parts of a file that were taken and the tokens of the next one: a file that is low enough begins
--- with them, and none does with the token too; a higher one does exactly where that is told
+-- with them, and none does with the token too; a higher one does exactly where that is reported
 pub record FileRefused (limit : ℕ) (front : Kinds) (next : TokenKind) (deep : Bool) : Type 0 where
   pub begun : BeginsLowFile limit front
   pub never : BeginsLowFile limit (front ++ next ∷ []) → ⊥

@@ -14,7 +14,7 @@ Lawful C = (tree : C.Tree) (x y : Kinds) → C.spell tree x ++ y ≡ C.spell tre
 pub splits : (C : Class) → Lawful C → (tree : C.Tree) (x : Kinds) → C.spell tree x ≡ C.spell tree [] ++ x
 splits C law tree x = sym (law tree [] x)
 
--- what fills a hole in a phrase of C: a phrase of D, before these tokens, which rises above its room only where the whole does
+-- what fills a hole in a phrase of C: a phrase of D, before these tokens, which rises above its limit only where the whole does
 pub record Filling (C D : Class) (limit inner : ℕ) (After : Kinds → Type 0) (whole : C.Tree) (following : Kinds) : Type 0 where
   pub part : D.Tree
   pub rest : Kinds
@@ -226,7 +226,7 @@ closed_exact D close limit shut part deep t = record {
       ];
 }
 
--- what is told by its tokens was taken, whatever stands after it
+-- what is determined by its tokens was taken, whatever stands after it
 pub exact_took : (C : Class) (limit : ℕ) (part : C.Tree) → Exactly C limit part → (next : TokenKind) → Took C limit part next false
 exact_took C limit part e next = record {
   is_phrase = e.is_phrase;

@@ -187,7 +187,7 @@ brace_high : (names : Names) (limit : ℕ) → limit < 2 → (i : Initial) (afte
 brace_high names limit full (One e) after more is same = absurd (no_brace_text names e after is more same)
 brace_high names limit full (Listed items comma) after more is same = let h = items_height names items comma is in omega (arith, h, full)
 
--- there is no room for a list
+-- the limit doesn't allow a list
 pub list_full : (names : Names) (limit : ℕ) → limit < 2 → Refused (Values names) limit [] open_brace true
 list_full names limit full =
     full_refused (Values names) limit open_brace (value_has names) (λ i after more is same. brace_high names limit full i after more is same)

@@ -88,7 +88,7 @@ pub item_not : (names : Names) (limit : ℕ) (next : TokenKind) → begins_item 
 item_not names limit next e =
     none_refused (BlockItems names) limit next (item_has names) (λ i after more is same. false≢true (sym e ∙ first_passes (begins_item names) (item_text i after) next more (item_begins names i after is) same))
 
--- there is no room for anything
+-- the limit doesn't allow anything
 pub item_none : (names : Names) (limit : ℕ) (next : TokenKind) → limit < 1 → begins_item names next ≡ true → Refused (BlockItems names) limit [] next true
 item_none names limit next full e = full_refused (BlockItems names) limit next (item_has names) (λ i after more is same. let h = item_some names i is in omega (arith, h, full)) (item_example names next e)
 
@@ -239,13 +239,13 @@ part_some names (Case e) after t more is other same = expression_height e
 part_some names Default after t more is other same = absurd (other cc)
 part_some names (Inside i) after t more is other same = item_some names i is
 
--- there is no room for a `case`
+-- the limit doesn't allow a `case`
 pub case_none : (names : Names) (limit : ℕ) → limit < 1 → Refused (SwitchParts names) limit [] (word keyword.Case) true
 case_none names limit full =
     full_refused (SwitchParts names) limit (word keyword.Case) (part_has names) (λ i after more is same. let h = part_some names i after (word keyword.Case) more is (λ e. cc) same in omega (arith, h, full))
     (record { phrase = Case nought; more = text nought (colon ∷ []); is_phrase = (omega arith, tt); spelled = refl })
 
--- there is no room for anything but `default`
+-- the limit doesn't allow anything but `default`
 pub inside_none : (names : Names) (limit : ℕ) (next : TokenKind) → limit < 1 → begins_item names next ≡ true → (next ≡ word keyword.Default → ⊥) → Refused (SwitchParts names) limit [] next true
 inside_none names limit next full e other =
     let b = item_example names next e in

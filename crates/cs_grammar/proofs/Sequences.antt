@@ -193,7 +193,7 @@ pub made_took : (C D : Class) (plus : ℕ) (before : Kinds) (build : D.Tree → 
 made_took C D plus before build Fit limit inner less p least fits law part next deep fit t =
     tail_took C D limit inner before build Fit law (production_tail C D plus before build Fit limit inner less p least fits) part next deep fit t
 
--- what was taken before a token that may stand after it was taken in a smaller room too, if it fits
+-- what was taken before a token that may stand after it was taken within a smaller limit too, if it fits
 pub took_lower : (C : Class) (limit inner : ℕ) (c : C.Tree) (next : TokenKind) (deep : Bool) → Took C limit c next deep → (deep ≡ true → C.Shut c (next ∷ [])) → C.tall c ≤ inner → Took C inner c next false
 took_lower C limit inner c next deep t settled fits = record {
   is_phrase = t.is_phrase;
@@ -213,7 +213,7 @@ each_took C limit c took shut some other after [] is same =
 each_took C limit c took shut some other after (t ∷ following) is same =
     elim ((took t).only other after (t ∷ following) is (shut other after) (inr (following, refl)) same) [ inl e ↦ e | inr over ↦ absurd (false≢true over.reported) ]
 
--- what was taken before every token, and may stand before any, is told by its tokens
+-- what was taken before every token, and may stand before any, is determined by its tokens
 pub took_exact : (C : Class) (limit : ℕ) (c : C.Tree) → ((next : TokenKind) → Took C limit c next false) → ((other : C.Tree) (after : Kinds) → C.Shut other after) → (some : TokenKind) → Exactly C limit c
 took_exact C limit c took shut some = record {
   is_phrase = (took some).is_phrase;

@@ -1,4 +1,4 @@
--- Types with bodies for which there is no room, and words that go no further: for the contracts of every parser of declarations.
+-- Types with bodies that the limit doesn't allow, and words that continue no further: for the contracts of every parser of declarations.
 use Rattle.std.proofs.Common.{◌≡◌, ℕ, ◌<◌, ◌≤◌, ◌⊎◌, inl, inr, Bool, true, false, List, [], ◌∷◌, ◌++◌, Option, Some, None, refl, sym, ap, ◌∙◌, subst, arith, append-nil}
 use Rattle.std.proofs.lemmas.Bool.{false≢true}
 use Rattle.cs_ast.specs.declared.token.TokenKind.{TokenKind}
@@ -112,7 +112,7 @@ group_has names g after is same = specs_has names g.0 (with_commas declarator_te
 abbrev any_member : Declarator
 any_member = declarator_of [] [] []
 
--- there is no room for a member
+-- the limit doesn't allow a member
 pub group_full : (names : Names) (limit : ℕ) (next : TokenKind) → limit < 2 → begins_file_spec names next ≡ true → Refused (MemberGroups names) limit [] next true
 group_full names limit next full e =
     let x = specs_example names next e in
@@ -165,7 +165,7 @@ enum_cut (StructBody tag members) after same = cc
 enum_cut (EnumBody None constants comma) after same = cc
 enum_cut (EnumBody (Some t) constants comma) after same = cc
 
--- an `enum` without a tag, and a brace for which there is no room
+-- an `enum` without a tag, and a brace that the limit doesn't allow
 pub enum_full : (names : Names) (limit : ℕ) → limit < 2 → 1 ≤ limit → Refused (SpecElements names) limit (tag_word false ∷ []) open_brace true
 enum_full names limit full some = record {
   begun = inr (enum_begun names limit some None);
@@ -218,7 +218,7 @@ enum_only names limit before tag full none exact other after (t ∷ following) i
     let h = enum_rest names limit before tag full r.0 after following has f r.2 in
     inr (record { reported = refl; high = subst (λ (x : Specs). limit < specs_height x) (sym r.1) h; onward = λ z. cc })
 
--- an `enum` with a tag, and a brace for which there is no room: it is taken without a body, and a higher one goes on
+-- an `enum` with a tag, and a brace that the limit doesn't allow: it is taken without a body, and a higher one goes on
 pub enum_tag_full : (names : Names) (limit : ℕ) (before : Specs) (tag : List ℕ) → limit < 2 → specs_height (with_enum before tag) ≤ limit → named_by (words_of before) ≡ [] → AreExact names before → Took (FileSpecs names) limit (with_enum before tag) open_brace true
 enum_tag_full names limit before tag full low none exact = record {
   is_phrase = with_is names before (Plain (word.Enum tag)) false exact none tt refl;

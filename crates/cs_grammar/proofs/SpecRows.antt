@@ -142,7 +142,7 @@ abbrev second_read : Option (Spec × Kinds) → Kinds
 second_read None = []
 second_read (Some both) = both.1
 
--- one is told by its tokens
+-- one is determined by its tokens
 abbrev pub IsExactSpec : Names → Spec → Type 0
 IsExactSpec names s = (t : Spec) (x y : Kinds) → HasBody names t → IsQuiet t x → IsQuiet s y → spec_text t x ≡ spec_text s y → (t ≡ s) × (x ≡ y)
 
@@ -167,7 +167,7 @@ static_exact names = simple_exact names Static (λ y quiet. refl)
 pub plain_exact : (names : Names) (w : TypeWord) → IsExactSpec names (Plain w)
 plain_exact names w = simple_exact names (Plain w) (λ y quiet. read_plain w y quiet)
 
--- each is told by its tokens
+-- each is determined by its tokens
 abbrev pub AreExact : Names → Specs → Type 0
 AreExact names NoSpec = Unit {0}
 AreExact names (MoreSpecs s others) = HasBody names s × IsExactSpec names s × AreExact names others

@@ -125,7 +125,7 @@ sentence_not names limit next e =
     none_refused (Sentences names) limit next (sentence_has names)
     (λ s after more is same. false≢true (sym e ∙ first_passes begins_sentence (sentence_text s after) next more (sentence_begins names s after is) same))
 
--- there is no room for a statement
+-- the limit doesn't allow a statement
 pub sentence_none : (names : Names) (limit : ℕ) (next : TokenKind) → limit < 1 → begins_sentence next ≡ true → Refused (Sentences names) limit [] next true
 sentence_none names limit next full e =
     full_refused (Sentences names) limit next (sentence_has names) (λ s after more is same. let h = sentence_some s in omega (arith, h, full)) (sentence_example names next e)

@@ -91,7 +91,7 @@ type_append ws ps es x y =
 pub text_splits : (e : Written) (x : Kinds) → text e x ≡ text e [] ++ x
 text_splits e x = sym (text_append e [] x)
 
--- what stands after a text is told by the whole
+-- what stands after a text is determined by the whole
 pub text_cancel : (e : Written) (x y : Kinds) → text e x ≡ text e y → x ≡ y
 text_cancel e x y same = append_cancel_left (text e []) x y (sym (text_splits e x) ∙ same ∙ text_splits e y)
 

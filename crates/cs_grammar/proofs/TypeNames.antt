@@ -59,7 +59,7 @@ abbrev second_read : Option (TypeWord × Kinds) → Kinds
 second_read None = []
 second_read (Some both) = both.1
 
--- a word is told by its tokens
+-- a word is determined by its tokens
 pub same_word : (v w : TypeWord) (x y : Kinds) → type_word_text v x ≡ type_word_text w y → (v ≡ w) × (x ≡ y)
 same_word v w x y same =
     let s = sym (read_text v x) ∙ ap read_word same ∙ read_text w y in

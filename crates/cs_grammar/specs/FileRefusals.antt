@@ -14,7 +14,7 @@ use Rattle.cs_grammar.specs.FilePhrases.{IsFile, BeginsFile}
 use Rattle.cs_grammar.specs.Refusals.{EndsWithTag}
 use Rattle.cs_grammar.specs.Roles.{Role, closes_type, in_expression, declared_name, after_member, opens_list, file_roles}
 
--- some file, of any height, begins with these tokens, and after as many of its tokens as told stands one of this role
+-- some file, of any height, begins with these tokens, and after that many of its tokens stands one of this role
 pub record HasRole (front : Kinds) (following : ℕ) (role : Role) : Type 0 where
   pub file : List External
   pub more : Kinds
@@ -76,7 +76,7 @@ IsUnsupportedNext front (Some next) = IsUnsupportedOfFile front next
 IsUnsupportedNext front None = ⊥
 
 -- why the next token, or the end of input where none is next, is refused after these tokens, where no file that is low enough goes
--- on with it: too deep where a higher one does; left out where none does and the token is unsupported there
+-- on with it: too deep where a higher one does; unsupported where none does and the token is unsupported there
 abbrev pub IsFileReason : Kinds → Option TokenKind → Reason → Type 0
 IsFileReason front next TooDeep = GoesOn front next
 IsFileReason front next Unsupported = (GoesOn front next → ⊥) × IsUnsupportedNext front next

@@ -47,7 +47,7 @@ pub record BeginsLow (C : Class) (limit : ℕ) (front : Kinds) : Type 0 where
   pub spelled : C.spell phrase [] ≡ front ++ more
 
 -- a phrase was taken before this token: it is the only one that begins so, but for those that are too high, which continue with
--- the token exactly where that is told
+-- the token exactly where that is reported
 pub record Took (C : Class) (limit : ℕ) (phrase : C.Tree) (next : TokenKind) (deep : Bool) : Type 0 where
   pub is_phrase : C.Is phrase
   pub low : C.tall phrase ≤ limit
@@ -56,7 +56,7 @@ pub record Took (C : Class) (limit : ℕ) (phrase : C.Tree) (next : TokenKind) (
   pub joined : deep ≡ true → (more : Kinds) → C.Shut phrase (next ∷ more) → ⊥
 
 -- a token was refused after these: a phrase that is low enough begins with them, and none with the token too; a higher one does
--- exactly where that is told
+-- exactly where that is reported
 pub record Refused (C : Class) (limit : ℕ) (front : Kinds) (next : TokenKind) (deep : Bool) : Type 0 where
   pub begun : (front ≡ []) ⊎ BeginsLow C limit front
   pub never : (other : C.Tree) (after following : Kinds) → C.Is other → C.Shut other after → Near next following → C.spell other after ≡ front ++ following → IsOver C limit deep other following

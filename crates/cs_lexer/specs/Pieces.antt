@@ -1,4 +1,4 @@
--- The piece at the front of bytes: its first bytes tell its class, and each class has a rule.
+-- The piece at the front of bytes: its first bytes determine its class, and each class has a rule.
 use Rattle.std.specs.Prelude.{◌≡◌, ℕ, Bool, ◌&&◌, ◌==◌, List, [], ◌∷◌, length, drop, if◌then◌else◌}
 use Rattle.std.specs.List.{take_while}
 use Rattle.cs_lexer.specs.declared.piece.Class.{Class}

@@ -54,7 +54,7 @@ impl Files {
         number_in(&mut self.names, &mut self.numbers, name)
     }
 
-    /// A copy of the name with this number.
+    /// A copy of the name with this index.
     pub fn name(&self, number: u32) -> Result<Name, AllocError>
         requires { number < length self.now }
         ensures { IfOk result (λ name. slice_get self.now number ≡ Some name) }

@@ -16,7 +16,7 @@ use crate::quoted::{character, text};
 use crate::word::word;
 use std::alloc::{AllocError, Global};
 
-/// The classes of pieces, which their first bytes tell.
+/// The classes of pieces, by their first bytes.
 #[derive(Clone, Copy)]
 enum Class {
     /// A line that begins with `#`.

@@ -105,7 +105,7 @@ declarators_calm t o names IsName Lack r e W s (d ∷ ds) ts rs some are g h =
     (λ d' is. g (d' ∷ []) (tt, (is, tt)))
     (further_declarators t o names IsName Lack r e (λ y. W (declarator_text d y)) s ds ts rs are.1 (λ ds' all. g (d ∷ ds') (tt, (are.0, all))) h)
 
--- after an item of a list: an expression that might go on, or a list
+-- after an item of a list: an expression that might continue, or a list
 abbrev ItemEnds : Telling → (Kinds → Type 0) → List Where → Kinds → Roles → Type 0
 ItemEnds t W s ts rs = (Goes W → Calm t W (Inside part.Item) s ts rs) × Trace t W (site ListedItem tagging.Nothing s) ts rs
 
@@ -136,7 +136,7 @@ mutual
       (further_trace t o names (λ y. W (comma ∷ initial_text first y)) q s others last ts rs are.1 (λ its all. g (MoreInitials first its) (are.0, all)) h) in
       (λ x b. (ended t o W comma another x (λ e. cc), rest), ((o, refl), rest))
 
--- after an object: a declarator, an expression that might go on, or a list
+-- after an object: a declarator, an expression that might continue, or a list
 record ObjectEnds (t : Telling) (W : Kinds → Type 0) (s : List Where) (ts : Kinds) (rs : Roles) : Type 0 where
   plain : Calm t W Declaration s ts rs
   valued : Goes W → Calm t W (Inside part.Value) s ts rs
@@ -182,7 +182,7 @@ objects_calm t o names W s (d ∷ ds) ts rs are g h =
     (λ d' is. g (d' ∷ []) (tt, (is, tt)))
     (further_objects t o names (λ y. W (declared_text d y)) s ds ts rs are.1.1 (λ ds' all. g (d ∷ ds') (tt, (are.1.0, all))) h)
 
--- after a constant: a name, or an expression that might go on
+-- after a constant: a name, or an expression that might continue
 record ConstantEnds (t : Telling) (W : Kinds → Type 0) (s : List Where) (ts : Kinds) (rs : Roles) : Type 0 where
   plain : Calm t W Constants s ts rs
   valued : Goes W → Calm t W (Inside part.Constant) s ts rs

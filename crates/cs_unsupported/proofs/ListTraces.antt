@@ -31,7 +31,7 @@ abbrev pub is_list : Role → Bool
 is_list opens_list = true
 is_list other = false
 
--- the token opens such a list, where it is told whether a value is awaited
+-- the token opens such a list, where it is known whether a value is awaited
 abbrev pub opens : TokenKind → Bool → Bool
 opens (token.Punctuator punctuator.OpenBrace) awaits = awaits
 opens other awaits = false

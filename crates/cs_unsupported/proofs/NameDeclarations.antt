@@ -111,7 +111,7 @@ pointed_trace new W IsName us qs j (pointer.Star ∷ ps) m ts rs clear right is 
     ((tt, star_next new W j another (m, us, qs, g [] m refl is)), further_pointed new (λ y q. W (star ∷ y) (another ∷ q)) IsName us qs ps m ts rs is free (λ ps' m' any is'. g (pointer.Star ∷ ps') m' refl is') h)
 pointed_trace new W IsName us qs j (pointer.Const ∷ ps) m ts rs clear right is free g h = absurd (false≢true right)
 
--- what is told of each of a kind, where these places may be before it and such others may stand in its place
+-- what is said of each of a kind, where these places may be before it and such others may stand in its place
 abbrev pub Each : {A : Type 0} → List ℕ → (Joint → Type 0) → (A → Kinds → Kinds) → (A → Roles → Roles) → (A → Type 0) → (A → Type 0) → Type 1
 Each {A} new Before of roles_of Is Other =
     (W : World) (us : Kinds) (qs : Roles) (j : Joint) (a : A) (ts : Kinds) (rs : Roles) → Before j → Is a → ((other : A) → Is other → Other other → W (of other us) (roles_of other qs)) → Trace new (λ y q. W (of a y) (roles_of a q)) Open ts rs → Trace new W j (of a ts) (roles_of a rs)

@@ -1,4 +1,4 @@
--- A name that is none of some tokens, and what the last token tells: for the contracts of `last_joint` and `new_name`.
+-- A name that is none of some tokens, and what the last token says: for the contracts of `last_joint` and `new_name`.
 use Rattle.std.proofs.Common.{◌≡◌, ◌∙◌, sym, ℕ, suc, ◌+◌, ◌-◌, ◌<◌, ◌≤◌, max, List, [], ◌∷◌, Some, length, replicate, slice_get, get_or, drop, drop-cons, add-one, ap, subst, arith}
 use Rattle.std.proofs.lemmas.List.{length-replicate}
 use Rattle.std.proofs.lemmas.Grind.{common_steps}
@@ -15,7 +15,7 @@ use Rattle.cs_unsupported.specs.Declarators.{joint_after, ending, IsNew, IsNameW
 pub max_is : (a b : ℕ) → ord_max nat_cmp a b ≡ max a b
 max_is a b = grind (arith, common_steps)
 
--- the last token tells
+-- the last token says
 pub ending_last : (tokens : List Token) (t : Token) (j : Joint) → slice_get tokens (length tokens - 1) ≡ Some t → ending (kinds tokens) j ≡ joint_after t.kind
 ending_last [] t j e = absurd cc
 ending_last (u ∷ []) t j e =

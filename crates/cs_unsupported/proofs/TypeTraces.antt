@@ -36,7 +36,7 @@ abbrev pub is_closing : Role → Bool
 is_closing closes_type = true
 is_closing other = false
 
--- each of some tokens has this role exactly where it closes a type, and the roles after theirs are as told
+-- each of some tokens has this role exactly where it closes a type, and the roles after theirs are as given
 abbrev pub Trace : Names → (Roles → Type 0) → Parens → Kinds → Roles → Type 0
 Trace names E s [] roles = E roles
 Trace names E s (next ∷ tokens) [] = ⊥

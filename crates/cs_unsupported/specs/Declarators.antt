@@ -1,4 +1,4 @@
--- What the last token of a file's beginning tells of a declarator's name after it, and by which token one asks whether one may stand there.
+-- What the last token of a file's beginning says of a declarator's name after it, and by which token one asks whether one may stand there.
 use Rattle.std.specs.Prelude.{◌≡◌, ◌≤◌, ◌↔◌, ℕ, List, [], ◌∷◌, ◌++◌, length, Option, Some, None}
 use Rattle.cs_ast.specs.declared.token.TokenKind.{TokenKind}
 use Rattle.cs_ast.specs.declared.token.TokenKind.TheVariants as token

@@ -28,7 +28,7 @@ opening Name = Other
 opening For = Other
 opening _ = Opening
 
--- after a word, of which it is told whether it begins a type
+-- after a word, of which it is known whether it begins a type
 abbrev pub begun : Following → Bool → Bool → Bool
 begun Opening true holds = true
 begun following begins holds = holds

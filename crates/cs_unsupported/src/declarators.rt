@@ -11,7 +11,7 @@ use cs_ast::{Keyword, Punctuator, Token, TokenKind};
 use cs_names::Name;
 use std::alloc::{AllocError, Global};
 
-/// What the last of some tokens tells of a declarator after it.
+/// What the last of some tokens says of a declarator after it.
 #[derive(Clone, Copy)]
 pub enum Joint {
     /// After a dot, an arrow, `goto`, `struct`, `enum` and an opening brace none begins.
@@ -33,7 +33,7 @@ fn joint_after(kind: &TokenKind) -> Joint
     }
 }
 
-/// What the last of these tokens tells, if there is one.
+/// What the last of these tokens says, if there is one.
 fn last_joint(tokens: &[Token]) -> Joint
     ensures { result ≡ ending (kinds tokens.now) joints.Open }
 {
@@ -78,7 +78,7 @@ fn new_name(alloc: Global, tokens: &[Token]) -> Result<Name, AllocError>
 /// one may exactly where a file continues with that token, and none may where there is none.
 ///
 /// A name that is new is no typedef name, and where it stands for an expression or as a label, a parenthesis might stand too. So it is
-/// a declarator's, unless it is a tag, a member or a label after `goto`, or an enumeration constant, as the token before tells but for
+/// a declarator's, unless it is a tag, a member or a label after `goto`, or an enumeration constant, as the token before says but for
 /// a comma. After a comma a constant has no pointers, and a star that begins an expression might be a parenthesis.
 pub fn token_for_name(alloc: Global, before: &[Token]) -> Result<Option<TokenKind>, AllocError>
     ensures { IfOk result (λ asked. (BeginsFile (kinds before.now ++ token.Punctuator punctuator.OpenParenthesis ∷ []) → ⊥) → IsAskedFor (kinds before.now) asked) }

@@ -1,4 +1,4 @@
-//! Which punctuators are unsupported where they stand in a file, told by the tokens before them.
+//! Which punctuators are unsupported where they stand in a file, by the tokens before them.
 #![tactic(auto)]
 
 mod declarators;

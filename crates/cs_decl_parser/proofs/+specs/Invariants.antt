@@ -1,4 +1,4 @@
--- How much room and which part are left: the measure of the parts; and what their loops keep.
+-- The limit and the part that are left: the measure of the parts; and what their loops keep.
 use Rattle.std.proofs.Common.{◌≤◌, ◌<◌, ◌+◌, ◌-◌, ◌*◌, length}
 use Rattle.std.specs.Prelude.{IsTrue}
 use Rattle.cs_expr_parser.specs.Words.{names_some}

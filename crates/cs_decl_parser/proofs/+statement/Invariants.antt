@@ -1,4 +1,4 @@
--- How much room and which part are left: the measure of the parts; and what their loops keep.
+-- The limit and the part that are left: the measure of the parts; and what their loops keep.
 use Rattle.std.proofs.Common.{◌≤◌, ◌+◌, ◌-◌, ◌*◌, length}
 use Rattle.cs_decl_parser.proofs.BlockSites.{ItemsSoFar, SwitchSoFar}
 use Rattle.cs_decl_parser.proofs.PlacingStatements.{ItemsPlaced, SwitchPlaced}

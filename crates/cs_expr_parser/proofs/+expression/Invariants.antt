@@ -1,4 +1,4 @@
--- How much room and which part are left: the measure of the parser's parts; and what their loops keep.
+-- The limit and the part that are left: the measure of the parser's parts; and what their loops keep.
 use Rattle.std.proofs.Common.{◌≤◌, ◌<◌, ◌+◌, ◌-◌, ◌*◌, length, drop}
 use Rattle.cs_ast.specs.RawView.{written_list}
 use Rattle.cs_grammar.specs.Levels.{COMMA, POSTFIX}

@@ -1,4 +1,4 @@
--- The token that was refused, or the end of input, with the reason that is told.
+-- The token that was refused, or the end of input, with the reason that is reported.
 use Rattle.std.proofs.Common.{subst}
 use Rattle.cs_decl_parser.specs.FileStops.{FileStops}
 use Rattle.cs_decl_parser.proofs.FileSites.{token_refusal}

@@ -1,4 +1,4 @@
--- The spot after all tokens tells the role.
+-- The spot after all tokens determines the role.
 use Rattle.std.proofs.Common.{◌≡◌, List, sym, ap, ◌∙◌}
 use Rattle.std.proofs.Math.ListN.{drop_of_length-le}
 use Rattle.cs_ast.specs.declared.token.Token.{Token}

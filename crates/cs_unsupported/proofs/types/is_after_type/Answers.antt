@@ -1,4 +1,4 @@
--- What is told of the part's tokens is told of all.
+-- What is said of the part's tokens is said of all.
 use Rattle.std.proofs.Common.{◌≡◌, ◌↔◌, Bool, false, IsTrue, sym, ap, ◌∙◌, subst, drop}
 use Rattle.cs_grammar.specs.Text.{Kinds}
 use Rattle.cs_grammar.specs.FileRefusals.{IsAfterType}
