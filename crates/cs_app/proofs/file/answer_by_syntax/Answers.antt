@@ -1,4 +1,4 @@
-use Rattle.cs_file_trees.proofs.FileTrees.{lexed_files_have_trees}
+use Rattle.cs_parsed_files.proofs.FileTrees.{lexed_files_have_trees}
 use Rattle.cs_app.proofs.AnswerLemmas.{refuses_syntax}
 use Rattle.cs_app.proofs.file.answer_by_syntax.Goals as goal
 

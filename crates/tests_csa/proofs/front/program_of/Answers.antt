@@ -1,4 +1,4 @@
-use Rattle.cs_file_trees.proofs.FileTrees.{lexed_files_have_trees}
+use Rattle.cs_parsed_files.proofs.FileTrees.{lexed_files_have_trees}
 use Rattle.tests_csa.proofs.front.program_of.Goals as goal
 
 pub typed_as-requires : goal.typed_as-requires

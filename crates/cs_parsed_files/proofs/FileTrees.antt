@@ -9,10 +9,10 @@ use Rattle.cs_lexer.proofs.TokensInFiles.{lexed_tokens_have_files, lexed_files_a
 use Rattle.cs_decl_parser.specs.Files.{parts_of}
 use Rattle.cs_well_formed.specs.Places.{IsOfFiles}
 use Rattle.cs_well_formed.specs.Sizes.{text_size}
-use Rattle.cs_file_trees.specs.Trees.{LexedFilesHaveTrees}
-use Rattle.cs_file_trees.proofs.HeldFiles.{tree_held}
-use Rattle.cs_file_trees.proofs.PlacesAmong.{file-among}
-use Rattle.cs_file_trees.proofs.ShortFiles.{size_is_extent}
+use Rattle.cs_parsed_files.specs.Trees.{LexedFilesHaveTrees}
+use Rattle.cs_parsed_files.proofs.HeldFiles.{tree_held}
+use Rattle.cs_parsed_files.proofs.PlacesAmong.{file-among}
+use Rattle.cs_parsed_files.proofs.ShortFiles.{size_is_extent}
 
 pub lexed_files_have_trees : LexedFilesHaveTrees
 lexed_files_have_trees text lexed tree low lexes is placed =
