@@ -12,7 +12,7 @@ use Rattle.cs_events.specs.declared.outcome.Outcome.TheVariants.{Done, Fault, Ov
 use Rattle.cs_events.specs.declared.guess.Guess.{Guess}
 use Rattle.cs_events.specs.Runs.{Log}
 use Rattle.cs_meaning.specs.Machine.{NOWHERE, no_routine, routine_of}
-use Rattle.cs_meaning.specs.PlainRuns.{RunGives}
+use Rattle.cs_meaning.specs.ProgramRuns.{RunGives}
 use Rattle.cs_report.specs.ReplayLines.{replay_line}
 use Rattle.cs_words.specs.declared.command.ReplayWords.{ReplayWords}
 use Rattle.cs_app.specs.Trees.{is_entry, entry_of}

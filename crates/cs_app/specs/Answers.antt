@@ -14,7 +14,7 @@ use Rattle.cs_small_form.specs.Reading.{IsOfForm}
 use Rattle.cs_events.specs.declared.outcome.Outcome.{Outcome}
 use Rattle.cs_events.specs.declared.outcome.Outcome.TheVariants.{Done, Fault, Over}
 use Rattle.cs_events.specs.Runs.{Log}
-use Rattle.cs_meaning.specs.PlainRuns.{RunGives}
+use Rattle.cs_meaning.specs.ProgramRuns.{RunGives}
 use Rattle.cs_cfg.specs.FlowText.{program_flow}
 use Rattle.cs_report.specs.ReplayLines.{replay_line}
 use Rattle.cs_words.specs.declared.command.Command.{Command}

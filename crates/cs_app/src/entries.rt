@@ -5,14 +5,18 @@ ghost use Rattle.cs_app.specs.Entries.{IsAnalyzable, IsAnalysisOf, found_if};
 
 use crate::answer::Answer;
 use crate::status::Status;
-use cs_small_meaning::{Finding, SmallFunction};
 use cs_names::Name;
 use cs_report::append_entry;
 use cs_small_analysis::analyze;
+use cs_small_meaning::{Finding, SmallFunction};
 use std::alloc::{AllocError, Global};
 
 /// The analyses of functions that it covers, whose places are in these files.
-pub fn analyzed(alloc: Global, files: &[Name], functions: &[SmallFunction]) -> Result<Answer, AllocError>
+pub fn analyzed(
+    alloc: Global,
+    files: &[Name],
+    functions: &[SmallFunction],
+) -> Result<Answer, AllocError>
     requires { All IsAnalyzable (map definition functions.now) }
     ensures { IfOk result (λ answer. IsAnalysisOf files.now (map definition functions.now) answer.status answer.text.items) }
 {

@@ -8,7 +8,7 @@ use Rattle.cs_events.specs.Runs.{Log, empty, Performed, Continues, Finishes}
 use Rattle.cs_events.specs.Counted.{followed}
 use Rattle.cs_meaning.specs.Access.{Access}
 use Rattle.cs_meaning.specs.Steps.{step}
-use Rattle.cs_meaning.specs.PlainRuns.{PlainRun, setting_of, start_of}
+use Rattle.cs_meaning.specs.ProgramRuns.{ProgramRun, setting_of, start_of}
 use Rattle.cs_meaning.proofs.Building.{at}
 use Rattle.cs_cfg.specs.Graph.{Work, Operation, Code}
 use Rattle.cs_cfg.specs.CodeSteps.{code_step, code_start}
@@ -31,11 +31,11 @@ ended (Continues m log) = None
 ended (Finishes outcome log) = Some (outcome, log)
 
 -- how the run of a program's entry has ended after so many steps
-abbrev pub machine_run : TypedProgram → ℕ → PlainRun → RunBudgets → ℕ → Option (Outcome × Log)
+abbrev pub machine_run : TypedProgram → ℕ → ProgramRun → RunBudgets → ℕ → Option (Outcome × Log)
 machine_run program entry run budgets steps = ended (followed (step program budgets) (setting_of program run budgets) steps (start_of program entry run) empty)
 
 -- the same of the run of code
-abbrev pub code_run : Code → TypedProgram → ℕ → PlainRun → RunBudgets → ℕ → Option (Outcome × Log)
+abbrev pub code_run : Code → TypedProgram → ℕ → ProgramRun → RunBudgets → ℕ → Option (Outcome × Log)
 code_run code program entry run budgets steps =
     ended (followed (code_step code program budgets) (setting_of program run budgets) steps (code_start code program entry run) empty)
 

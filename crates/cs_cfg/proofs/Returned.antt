@@ -11,7 +11,7 @@ use Rattle.cs_events.specs.Acts.{Act, Goes}
 use Rattle.cs_events.specs.Runs.{Setting, Log, Continues, Finishes, perform, Leads, stays, goes, EndsFrom}
 use Rattle.cs_meaning.specs.Machine.{Item, Leave, State, to_do, operand_at, routine_of}
 use Rattle.cs_meaning.specs.Steps.{do_item, step_with, step}
-use Rattle.cs_meaning.specs.PlainRuns.{PlainRun, setting_of, RunGives}
+use Rattle.cs_meaning.specs.ProgramRuns.{ProgramRun, setting_of, RunGives}
 use Rattle.cs_cfg.specs.Graph.{Point, Flow, Code, flow_of}
 use Rattle.cs_cfg.specs.Working.{CodeState, cut}
 use Rattle.cs_cfg.specs.CodeSteps.{step_at, code_step, CodeGives}
@@ -87,7 +87,7 @@ module _ (code : Code) (program : TypedProgram) (budgets : RunBudgets) (setting 
 
 module _ (code : Code) (program : TypedProgram) (placed : IsPlaced code program) where
   -- where both runs are done, they return the same
-  pub code_returns : (entry : ℕ) (body : Statement) (run : PlainRun) (budgets : RunBudgets) (what : Returned) (log : Log) → (routine_of program entry).body ≡ Some body →
+  pub code_returns : (entry : ℕ) (body : Statement) (run : ProgramRun) (budgets : RunBudgets) (what : Returned) (log : Log) → (routine_of program entry).body ≡ Some body →
       (one : RunGives program entry run budgets (Done what) log) (other : CodeGives code program entry run budgets (Done what) log) →
       (returned_value one.last ≡ code_returned other.last) × (one.last.memory ≡ other.last.memory)
   code_returns entry body run budgets what log e one other =

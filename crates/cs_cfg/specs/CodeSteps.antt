@@ -20,7 +20,7 @@ use Rattle.cs_meaning.specs.Operators.{branch}
 use Rattle.cs_meaning.specs.Machine.{Scalar, to_do, pop, operand_at, cell_at, routine_of}
 use Rattle.cs_meaning.specs.Calls.{with_locals, leave}
 use Rattle.cs_meaning.specs.Steps.{static_memory, received, with_received, parameters_of}
-use Rattle.cs_meaning.specs.PlainRuns.{PlainRun, setting_of}
+use Rattle.cs_meaning.specs.ProgramRuns.{ProgramRun, setting_of}
 use Rattle.cs_cfg.specs.Graph.{Operation, SwitchCase, BlockEnd, Jump, Branch, Switch, Return, Finish, Code, no_flow, flow_of, block_in}
 use Rattle.cs_cfg.specs.Working.{CodeState, takes, cut, code_frame, do_work}
 
@@ -79,14 +79,14 @@ code_started code program inputs entry routine = record {
 }
 
 -- the state in which the run of an entry begins
-abbrev pub code_start : Code → TypedProgram → ℕ → PlainRun → CodeState
+abbrev pub code_start : Code → TypedProgram → ℕ → ProgramRun → CodeState
 code_start code program entry run = code_started code program (input_at run.inputs) entry (routine_of program entry)
 
 -- the run of the code ends so, with this log: its events, the paths that it has read, and its touches
-abbrev pub CodeGives : Code → TypedProgram → ℕ → PlainRun → RunBudgets → Outcome → Log → Type 0
+abbrev pub CodeGives : Code → TypedProgram → ℕ → ProgramRun → RunBudgets → Outcome → Log → Type 0
 CodeGives code program entry run budgets outcome log = Ends (code_step code program budgets) (setting_of program run budgets) (code_start code program entry run) outcome log
 
 -- this is pending in the run of the code at the event with this number
-abbrev pub CodeIsPending : Code → TypedProgram → ℕ → PlainRun → RunBudgets → ℕ → Pending → Type 0
+abbrev pub CodeIsPending : Code → TypedProgram → ℕ → ProgramRun → RunBudgets → ℕ → Pending → Type 0
 CodeIsPending code program entry run budgets event pending =
     IsPending (code_step code program budgets) (setting_of program run budgets) (code_start code program entry run) event pending

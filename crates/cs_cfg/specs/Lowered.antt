@@ -10,7 +10,7 @@ use Rattle.cs_events.specs.Objects.{UnsetCell}
 use Rattle.cs_events.specs.Runs.{Log}
 use Rattle.cs_events.specs.Pending.{Pending}
 use Rattle.cs_meaning.specs.Machine.{Operand, Scalar, Item, State, operand_at, routine_of}
-use Rattle.cs_meaning.specs.PlainRuns.{PlainRun, RunGives, RunIsPending}
+use Rattle.cs_meaning.specs.ProgramRuns.{ProgramRun, RunGives, RunIsPending}
 use Rattle.cs_cfg.specs.Graph.{BlockEnd, Return, Flow, Code, flow_of}
 use Rattle.cs_cfg.specs.Working.{CodeState, cut}
 use Rattle.cs_cfg.specs.CodeSteps.{CodeGives, CodeIsPending}
@@ -49,18 +49,18 @@ ReadsOff routine (Some flow) = HasPoints flow (control_points routine)
 -- runs of the code end as those of the reference machine do, with the same events, paths read and touches; the same is pending at each event
 pub record RunsAlike (code : Code) (program : TypedProgram) : Type 0 where
   -- the run of the code ends so where the machine's run does, with the same log
-  pub ends : (entry : ℕ) (body : Statement) (run : PlainRun) (budgets : RunBudgets) (outcome : Outcome) (log : Log) →
+  pub ends : (entry : ℕ) (body : Statement) (run : ProgramRun) (budgets : RunBudgets) (outcome : Outcome) (log : Log) →
       (routine_of program entry).body ≡ Some body → RunGives program entry run budgets outcome log → CodeGives code program entry run budgets outcome log
   -- and only there
-  pub ends_only : (entry : ℕ) (body : Statement) (run : PlainRun) (budgets : RunBudgets) (outcome : Outcome) (log : Log) →
+  pub ends_only : (entry : ℕ) (body : Statement) (run : ProgramRun) (budgets : RunBudgets) (outcome : Outcome) (log : Log) →
       (routine_of program entry).body ≡ Some body → CodeGives code program entry run budgets outcome log → RunGives program entry run budgets outcome log
   -- the same is pending at each event, an access with the same object and offset
-  pub pends : (entry : ℕ) (body : Statement) (run : PlainRun) (budgets : RunBudgets) (event : ℕ) (pending : Pending) →
+  pub pends : (entry : ℕ) (body : Statement) (run : ProgramRun) (budgets : RunBudgets) (event : ℕ) (pending : Pending) →
       (routine_of program entry).body ≡ Some body → RunIsPending program entry run budgets event pending → CodeIsPending code program entry run budgets event pending
-  pub pends_only : (entry : ℕ) (body : Statement) (run : PlainRun) (budgets : RunBudgets) (event : ℕ) (pending : Pending) →
+  pub pends_only : (entry : ℕ) (body : Statement) (run : ProgramRun) (budgets : RunBudgets) (event : ℕ) (pending : Pending) →
       (routine_of program entry).body ≡ Some body → CodeIsPending code program entry run budgets event pending → RunIsPending program entry run budgets event pending
   -- where the run is done, the value that it returns and its memory are those of the machine's run
-  pub returns : (entry : ℕ) (body : Statement) (run : PlainRun) (budgets : RunBudgets) (what : Returned) (log : Log) → (routine_of program entry).body ≡ Some body →
+  pub returns : (entry : ℕ) (body : Statement) (run : ProgramRun) (budgets : RunBudgets) (what : Returned) (log : Log) → (routine_of program entry).body ≡ Some body →
       (one : RunGives program entry run budgets (Done what) log) (other : CodeGives code program entry run budgets (Done what) log) →
       (returned_value one.last ≡ code_returned other.last) × (one.last.memory ≡ other.last.memory)
 

@@ -14,7 +14,7 @@ use Rattle.cs_events.specs.declared.event.Wrap.TheVariants.{Under, Same, Past, F
 use Rattle.cs_events.specs.declared.outcome.Outcome.TheVariants.{Done, Fault}
 use Rattle.cs_events.specs.declared.outcome.Returned.TheVariants.{Number}
 use Rattle.cs_events.specs.Runs as runs
-use Rattle.cs_meaning.specs.PlainRuns.{RunEnds}
+use Rattle.cs_meaning.specs.ProgramRuns.{RunEnds}
 use Rattle.cs_meaning.proofs.Building.{at, int, literal, local, value, named, defined, functions, given, event, USUAL, plain, ends_so}
 
 -- int f(int x){return 10/x;}

@@ -15,7 +15,7 @@ use Rattle.cs_events.specs.declared.event.Wrap.TheVariants.{Same}
 use Rattle.cs_events.specs.declared.outcome.Outcome.TheVariants.{Done, Fault}
 use Rattle.cs_events.specs.declared.outcome.Returned.TheVariants as returned
 use Rattle.cs_events.specs.Runs as runs
-use Rattle.cs_meaning.specs.PlainRuns.{RunEnds}
+use Rattle.cs_meaning.specs.ProgramRuns.{RunEnds}
 use Rattle.cs_meaning.proofs.Building.{at, int, to_int, literal, local, loaded, value, row, named, defined, declared, functions, given, input, event, USUAL, plain, ends_so}
 
 -- void f(int*p){free(p);free(p);}

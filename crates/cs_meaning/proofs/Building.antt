@@ -21,7 +21,7 @@ use Rattle.cs_meaning.specs.Types.{type_of}
 use Rattle.cs_meaning.specs.Access.{place_of}
 use Rattle.cs_meaning.specs.Machine.{State}
 use Rattle.cs_meaning.specs.Steps.{step}
-use Rattle.cs_meaning.specs.PlainRuns.{PlainRun, setting_of, start_of, RunGives, RunEnds}
+use Rattle.cs_meaning.specs.ProgramRuns.{ProgramRun, setting_of, start_of, RunGives, RunEnds}
 
 -- the place of a column
 abbrev pub at : ℕ → Place
@@ -111,11 +111,11 @@ guess event number = record { event = event; number = number }
 abbrev pub USUAL : RunBudgets
 USUAL = record { visits = 4; depth = 5; events = 20000 }
 
-abbrev pub plain : List (Path × ℤ) → PlainRun
+abbrev pub plain : List (Path × ℤ) → ProgramRun
 plain inputs = record { inputs = inputs; guesses = [] }
 
 -- where a run of a program's entry has come to after so many steps
-abbrev pub come_to : TypedProgram → ℕ → PlainRun → RunBudgets → ℕ → Performed State
+abbrev pub come_to : TypedProgram → ℕ → ProgramRun → RunBudgets → ℕ → Performed State
 come_to program entry run budgets steps = followed (step program budgets) (setting_of program run budgets) steps (start_of program entry run) empty
 
 -- how it has ended, and with which events
@@ -124,7 +124,7 @@ reported (Continues m log) = None
 reported (Finishes outcome log) = Some (outcome, log.events)
 
 -- a run that has ended after so many steps ends so
-pub ends_so : (program : TypedProgram) (entry : ℕ) (run : PlainRun) (budgets : RunBudgets) (steps : ℕ) {outcome : Outcome} {events : List Event} → reported (come_to program entry run budgets steps) ≡ Some (outcome, events) → RunEnds program entry run budgets events outcome
+pub ends_so : (program : TypedProgram) (entry : ℕ) (run : ProgramRun) (budgets : RunBudgets) (steps : ℕ) {outcome : Outcome} {events : List Event} → reported (come_to program entry run budgets steps) ≡ Some (outcome, events) → RunEnds program entry run budgets events outcome
 ends_so program entry run budgets steps {outcome = outcome} {events = events} h = finished (come_to program entry run budgets steps) refl h
   where
     finished : (done : Performed State) → come_to program entry run budgets steps ≡ done → reported done ≡ Some (outcome, events) → RunEnds program entry run budgets events outcome

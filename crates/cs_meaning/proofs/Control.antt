@@ -11,7 +11,7 @@ use Rattle.cs_events.specs.declared.outcome.Outcome.TheVariants.{Done, Fault, Ov
 use Rattle.cs_events.specs.declared.outcome.Budget.TheVariants.{Visits, Depth, Events}
 use Rattle.cs_events.specs.declared.outcome.Returned.TheVariants as returned
 use Rattle.cs_events.specs.Runs as runs
-use Rattle.cs_meaning.specs.PlainRuns.{RunEnds}
+use Rattle.cs_meaning.specs.ProgramRuns.{RunEnds}
 use Rattle.cs_meaning.proofs.Building.{at, int, literal, local, value, row, sequence, named, defined, functions, given, event, USUAL, plain, ends_so}
 
 -- int f(int n){int i=0;again:if(i<n){i=i+1;goto again;}return i;}

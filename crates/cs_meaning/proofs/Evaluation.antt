@@ -18,7 +18,7 @@ use Rattle.cs_events.specs.declared.outcome.Budget.TheVariants.{Visits}
 use Rattle.cs_events.specs.declared.outcome.Returned.TheVariants as returned
 use Rattle.cs_types.specs.declared.data_model.DataModel.TheVariants.{Ilp32}
 use Rattle.cs_events.specs.Runs as runs
-use Rattle.cs_meaning.specs.PlainRuns.{RunEnds}
+use Rattle.cs_meaning.specs.ProgramRuns.{RunEnds}
 use Rattle.cs_meaning.proofs.Building.{at, int, to_int, literal, local, loaded, value, row, sequence, named, defined, declared, functions, given, input, event, USUAL, plain, ends_so}
 
 -- int f(int*p,int*q){return p&&q;}

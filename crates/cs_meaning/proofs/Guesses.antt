@@ -14,7 +14,7 @@ use Rattle.cs_events.specs.declared.event.Wrap.TheVariants.{Same, Guessed}
 use Rattle.cs_events.specs.declared.outcome.Outcome.TheVariants.{Done, Fault}
 use Rattle.cs_events.specs.declared.outcome.Returned.TheVariants as returned
 use Rattle.cs_events.specs.Runs as runs
-use Rattle.cs_meaning.specs.PlainRuns.{RunEnds}
+use Rattle.cs_meaning.specs.ProgramRuns.{RunEnds}
 use Rattle.cs_meaning.proofs.Building.{at, int, to_int, literal, value, sequence, named, defined, functions, given, event, guess, USUAL, ends_so}
 
 -- int f(int x,int y){if(x<y){if(y<x)return 1/0;}return 0;}

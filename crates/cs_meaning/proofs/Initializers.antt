@@ -14,7 +14,7 @@ use Rattle.cs_events.specs.declared.event.Wrap.TheVariants.{Same}
 use Rattle.cs_events.specs.declared.outcome.Outcome.TheVariants.{Done, Fault}
 use Rattle.cs_events.specs.declared.outcome.Returned.TheVariants as returned
 use Rattle.cs_events.specs.Runs as runs
-use Rattle.cs_meaning.specs.PlainRuns.{PlainRun, RunEnds}
+use Rattle.cs_meaning.specs.ProgramRuns.{ProgramRun, RunEnds}
 use Rattle.cs_meaning.proofs.Building.{at, int, to_int, literal, local, loaded, value, named, defined, functions, given, event, USUAL, plain, ends_so}
 
 -- int f(int p[3],int i){return p[i];}, where the block after p has three elements
@@ -83,7 +83,7 @@ reads_global constant = record (functions (defined 12 int 0 [] 29 (Return (at 20
   globals = record { name = 99 ∷ []; at = at 6; ty = integer Char; constant = constant; initial = None } ∷ [];
 }
 
-abbrev cell_of_c : ℤ → PlainRun
+abbrev cell_of_c : ℤ → ProgramRun
 cell_of_c number = plain ((record { root = root.Global (99 ∷ []); cells = 0 ∷ [] }, number) ∷ [])
 
 reads_an_input : RunEnds (reads_global false) 0 (cell_of_c (pos 100)) USUAL [] (Done (returned.Number (pos 100)))

@@ -13,4 +13,4 @@ pub mod Owing
 pub mod Keeping
 pub mod Weighing
 pub mod Lessening
-pub mod PlainEndings
+pub mod ProgramEndings

@@ -12,7 +12,7 @@ use Rattle.cs_events.specs.declared.event.Label.TheVariants.{Truth, Branch, Look
 use Rattle.cs_events.specs.declared.outcome.Outcome.TheVariants.{Done, Fault}
 use Rattle.cs_events.specs.declared.outcome.Returned.TheVariants as returned
 use Rattle.cs_events.specs.Runs as runs
-use Rattle.cs_meaning.specs.PlainRuns.{RunEnds}
+use Rattle.cs_meaning.specs.ProgramRuns.{RunEnds}
 use Rattle.cs_meaning.proofs.Building.{at, int, literal, local, loaded, value, row, named, defined, declared, functions, given, event, USUAL, plain, ends_so}
 
 -- struct node{int value;struct node*next;};

@@ -17,7 +17,7 @@ use Rattle.cs_events.specs.declared.outcome.Outcome.TheVariants.{Done, Fault, Ov
 use Rattle.cs_events.specs.declared.outcome.Budget.TheVariants.{Visits}
 use Rattle.cs_events.specs.declared.outcome.Returned.TheVariants as returned
 use Rattle.cs_events.specs.Runs as runs
-use Rattle.cs_meaning.specs.PlainRuns.{RunEnds}
+use Rattle.cs_meaning.specs.ProgramRuns.{RunEnds}
 use Rattle.cs_meaning.proofs.Building.{at, int, to_int, literal, local, loaded, value, sequence, named, defined, functions, given, event, USUAL, plain, ends_so}
 
 -- int f(int n){int a[N];int i;for(i=0;i<n;i++)a[i]=0;return a[0];}

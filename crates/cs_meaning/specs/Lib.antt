@@ -11,4 +11,4 @@ pub mod Expressions
 pub mod Jumps
 pub mod Statements
 pub mod Steps
-pub mod PlainRuns
+pub mod ProgramRuns

@@ -1,5 +1,5 @@
 //! Jumps (C11 6.8.6): what is still to be done where `break`, `continue` and `goto` lead.
-ghost use Rattle.std.specs.Prelude.{◌≡◌, ◌∷◌, OnOk, IfOk, IfErr};
+ghost use Rattle.std.specs.Prelude.{◌≡◌, ◌+◌, ◌∷◌, OnOk, IfOk, IfErr};
 ghost use Rattle.cs_ast.specs.TypedProgram.{routine};
 ghost use Rattle.cs_ast.specs.TypedView.{statement, statement_list};
 ghost use Rattle.cs_meaning.specs.Machine as machine;
@@ -7,10 +7,12 @@ ghost use Rattle.cs_meaning.specs.Jumps as jumps;
 ghost use Rattle.cs_meaning.specs.Statements as statements;
 ghost use Rattle.cs_meaning.specs.Steps as steps;
 ghost use Rattle.cs_run_state.specs.MachineView.{state_of, todo_of};
-ghost use Rattle.cs_reference.specs.Jumping.{lands_at};
+ghost use Rattle.cs_meaning.specs.CountedPoints.{counted_points, counted_points_in};
+ghost use Rattle.cs_reference.specs.Jumping.{lands_at, label_landing};
 ghost use Rattle.cs_reference.specs.RunnerView.{program_of, budgets_of, state_in, Performs};
 
 use crate::lists::{drop_first, drop_past_out, drop_to_again, put_first, put_statements};
+use crate::loops::point_of_body;
 use crate::runner::Runner;
 use cs_ast::Place;
 use cs_ast::typed::program::Function;
@@ -18,7 +20,7 @@ use cs_ast::typed::statement::{Stmt, StmtKind};
 use cs_events::PointKind;
 use cs_run_state::Stop;
 use cs_run_state::blocks::BlockType;
-use cs_run_state::counted_points::{counted_points, counted_points_in, together};
+use cs_run_state::counted_points::{counted_points, together};
 use cs_run_state::items::{Item, StmtStep};
 use cs_run_state::machine::Machine;
 use std::alloc::AllocError;
@@ -110,57 +112,112 @@ fn seek<'a>(
     match &*s.kind {
         StmtKind::Block(statements) => seek_in(label, statements, counted_point, todo),
         StmtKind::If(_, body) => seek(label, body, counted_point, todo),
-        StmtKind::IfElse(_, body, other) => match seek(label, body, counted_point, todo)? {
-            Some(found) => Ok(Some(found)),
-            None => seek(
-                label,
-                other,
-                together(counted_point, counted_points(body)?)?,
-                todo,
-            ),
-        },
-        StmtKind::While(_, body) => seek_in_loop(
-            label,
-            body,
-            together(counted_point, 1)?,
-            s,
-            counted_point,
-            todo,
-        ),
-        StmtKind::Do(body, _) => seek_in_loop(
-            label,
-            body,
-            together(counted_point, 1)?,
-            s,
-            counted_point,
-            todo,
-        ),
-        StmtKind::For(first, _, _, body) => {
-            let inner = together(together(counted_point, 1)?, counted_points_in(first)?)?;
-            seek_in_loop(label, body, inner, s, counted_point, todo)
+        StmtKind::IfElse(_, body, other) => {
+            seek_in_either(label, body, other, counted_point, todo)
         }
-        StmtKind::Switch(_, _, statements) => seek_in_switch(
-            label,
-            statements,
-            counted_point,
-            todo,
-        ),
+        StmtKind::While(_, body) => seek_after_head(label, body, s, counted_point, todo),
+        StmtKind::Do(body, _) => seek_after_head(label, body, s, counted_point, todo),
+        StmtKind::For(first, _, _, body) => {
+            seek_in_for(label, first, body, s, counted_point, todo)
+        }
+        StmtKind::Switch(_, _, statements) => {
+            seek_in_switch(label, statements, counted_point, todo)
+        }
         StmtKind::Label(number, body) => {
-            let inner = together(counted_point, 1)?;
-            if *number == label {
-                put_first(todo, Item::Statement(StmtStep::Execute, body, inner))?;
-                let place = s.place;
-                Ok(Some(Landing {
-                    counted_point,
-                    place,
-                }))
-            } else {
-                seek(label, body, inner, todo)
-            }
+            seek_at_label(label, *number, s.place, body, counted_point, todo)
         }
         StmtKind::Declare(_, _) | StmtKind::Run(_) | StmtKind::Goto(_) => Ok(None),
         StmtKind::Break | StmtKind::Continue | StmtKind::Return(_) => Ok(None),
     }
+}
+
+// The same in one statement or another.
+#[cycle(seek)]
+fn seek_in_either<'a>(
+    label: u32,
+    body: &'a Stmt,
+    other: &'a Stmt,
+    counted_point: u64,
+    todo: &mut Vec<Item<'a>>,
+) -> Result<Option<Landing>, AllocError>
+    ensures { IfOk result
+        (lands_at
+        (jumps.first_of_two
+        (jumps.landing label (statement body.now) counted_point (todo_of todo.old.items))
+        (jumps.landing label (statement other.now) (counted_point + counted_points (statement body.now)) (todo_of todo.old.items)))
+        todo.old todo.new) }
+{
+    match seek(label, body, counted_point, todo)? {
+        Some(found) => Ok(Some(found)),
+        None => {
+            let following = together(counted_point, counted_points(body)?)?;
+            seek(label, other, following, todo)
+        }
+    }
+}
+
+// The same in a statement with a label, which is itself a counted point.
+#[cycle(seek)]
+fn seek_at_label<'a>(
+    label: u32,
+    number: u32,
+    place: Place,
+    body: &'a Stmt,
+    counted_point: u64,
+    todo: &mut Vec<Item<'a>>,
+) -> Result<Option<Landing>, AllocError>
+    ensures { IfOk result
+        (lands_at
+        (label_landing label number place (statement body.now) counted_point (todo_of todo.old.items))
+        todo.old todo.new) }
+{
+    let inner = together(counted_point, 1)?;
+    if number == label {
+        put_first(todo, Item::Statement(StmtStep::Execute, body, inner))?;
+        Ok(Some(Landing {
+            counted_point,
+            place,
+        }))
+    } else {
+        seek(label, body, inner, todo)
+    }
+}
+
+// The same in a loop that begins with its head: a `while` or a `do`.
+#[cycle(seek)]
+fn seek_after_head<'a>(
+    label: u32,
+    body: &'a Stmt,
+    s: &'a Stmt,
+    counted_point: u64,
+    todo: &mut Vec<Item<'a>>,
+) -> Result<Option<Landing>, AllocError>
+    ensures { IfOk result
+        (lands_at
+        (jumps.landing label (statement body.now) (counted_point + 1) (machine.Again (statement s.now) counted_point ∷ (machine.Out ∷ todo_of todo.old.items)))
+        todo.old todo.new) }
+{
+    let inner = together(counted_point, 1)?;
+    seek_in_loop(label, body, inner, s, counted_point, todo)
+}
+
+// The same in a `for`, which begins with its first part.
+#[cycle(seek)]
+fn seek_in_for<'a>(
+    label: u32,
+    first: &'a [Stmt],
+    body: &'a Stmt,
+    s: &'a Stmt,
+    counted_point: u64,
+    todo: &mut Vec<Item<'a>>,
+) -> Result<Option<Landing>, AllocError>
+    ensures { IfOk result
+        (lands_at
+        (jumps.landing label (statement body.now) (counted_point + 1 + counted_points_in (statement_list first.now)) (machine.Again (statement s.now) counted_point ∷ (machine.Out ∷ todo_of todo.old.items)))
+        todo.old todo.new) }
+{
+    let inner = point_of_body(counted_point, first)?;
+    seek_in_loop(label, body, inner, s, counted_point, todo)
 }
 
 // The same in the body of a loop, the first counted point of which has a number of its own.

@@ -1,8 +1,8 @@
 //! The ways that tests and loops take (C11 6.8.4, 6.8.5).
-ghost use Rattle.std.specs.Prelude.{◌≡◌, ◌+◌, ◌∷◌, OnOk, IfErr, option_map, option_copied};
-ghost use Rattle.cs_ast.specs.TypedView.{typed, statement};
+ghost use Rattle.std.specs.Prelude.{◌≡◌, ◌+◌, ◌∷◌, OnOk, IfOk, IfErr, option_map, option_copied};
+ghost use Rattle.cs_ast.specs.TypedView.{typed, statement, statement_list};
 ghost use Rattle.cs_meaning.specs.Machine as machine;
-ghost use Rattle.cs_meaning.specs.CountedPoints as meaning_counted_points;
+ghost use Rattle.cs_meaning.specs.CountedPoints as points;
 ghost use Rattle.cs_meaning.specs.Statements as meaning;
 ghost use Rattle.cs_run_state.specs.MachineView.{state_of};
 ghost use Rattle.cs_reference.specs.Deciding.{decides, turns};
@@ -41,7 +41,7 @@ impl<'a> Runner<'a> {
             ),
             StmtKind::Do(_, _) => self.decide_turn(s, counted_point),
             StmtKind::For(first, _, _, body) => {
-                let inner = together(together(counted_point, 1)?, counted_points_in(first)?)?;
+                let inner = point_of_body(counted_point, first)?;
                 self.decide_body(s, counted_point, body, inner)
             }
             StmtKind::Switch(_, cases, statements) => {
@@ -71,7 +71,7 @@ impl<'a> Runner<'a> {
         other: &'a Stmt,
         counted_point: u64,
     ) -> Result<(), Stop>
-        ensures { Performs self.old self.new result (decides place (machine.Execute (statement body.now) counted_point ∷ (state_in self.old).frame.todo) (machine.Execute (statement other.now) (counted_point + meaning_counted_points.counted_points (statement body.now)) ∷ (state_in self.old).frame.todo) (state_in self.old)) }
+        ensures { Performs self.old self.new result (decides place (machine.Execute (statement body.now) counted_point ∷ (state_in self.old).frame.todo) (machine.Execute (statement other.now) (counted_point + points.counted_points (statement body.now)) ∷ (state_in self.old).frame.todo) (state_in self.old)) }
     {
         if self.machine.test(&mut self.log, self.setting, place)? {
             put_stmt(&mut self.machine, StmtStep::Execute, body, counted_point)?;
@@ -123,7 +123,7 @@ impl<'a> Runner<'a> {
             StmtKind::For(first, test, _, body) => match test {
                 Some(test) => self.turn_to_test(s, counted_point, test),
                 None => {
-                    let inner = together(together(counted_point, 1)?, counted_points_in(first)?)?;
+                    let inner = point_of_body(counted_point, first)?;
                     self.turn_to_body(s, counted_point, body, inner)
                 }
             },
@@ -191,4 +191,12 @@ fn put_last<'a>(state: &mut Machine<'a>, last: Option<&'a Expr>) -> Result<(), A
         }
         None => Ok(()),
     }
+}
+
+/// The number of the first counted point of a `for`'s body, which follows its head and its first part.
+pub fn point_of_body(counted_point: u64, first: &[Stmt]) -> Result<u64, AllocError>
+    ensures { IfOk result (λ inner.
+        inner ≡ counted_point + 1 + points.counted_points_in (statement_list first.now)) }
+{
+    together(together(counted_point, 1)?, counted_points_in(first)?)
 }

@@ -2,7 +2,7 @@
 ghost use Rattle.std.specs.Prelude.{IfOk};
 ghost use Rattle.cs_types.specs.Layout.{IsLaidOut};
 ghost use Rattle.cs_ast.specs.TypedProgram.{typed_program};
-ghost use Rattle.cs_meaning.specs.PlainRuns.{RunGives};
+ghost use Rattle.cs_meaning.specs.ProgramRuns.{RunGives};
 ghost use Rattle.cs_run_state.specs.View.{log_of};
 ghost use Rattle.cs_reference.specs.RunView.{run_of};
 

@@ -7,7 +7,7 @@ use Rattle.cs_events.specs.Acts.{Act}
 use Rattle.cs_events.specs.Runs as runs
 use Rattle.cs_events.specs.Runs.{Log, Performed, Continues, Finishes, perform, empty, Leads, stays, goes}
 use Rattle.cs_events.proofs.RunLaws.{leads_on}
-use Rattle.cs_meaning.specs.PlainRuns as meaning
+use Rattle.cs_meaning.specs.ProgramRuns as meaning
 use Rattle.cs_run_state.specs.declared.settings.Setting.{Setting}
 use Rattle.cs_run_state.specs.View.{setting_of, log_of}
 use Rattle.cs_cfg.specs.declared.code.Code.{Code}

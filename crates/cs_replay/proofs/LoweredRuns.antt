@@ -6,8 +6,8 @@ use Rattle.cs_events.specs.declared.outcome.RunBudgets.{RunBudgets}
 use Rattle.cs_events.specs.declared.outcome.Outcome.{Outcome}
 use Rattle.cs_events.specs.Runs.{Log, empty}
 use Rattle.cs_meaning.specs.Machine.{routine_of}
-use Rattle.cs_meaning.specs.PlainRuns.{PlainRun, RunGives, setting_of}
-use Rattle.cs_meaning.proofs.PlainEndings.{run_ends}
+use Rattle.cs_meaning.specs.ProgramRuns.{ProgramRun, RunGives, setting_of}
+use Rattle.cs_meaning.proofs.ProgramEndings.{run_ends}
 use Rattle.cs_cfg.specs.Graph.{Flow, Code, flow_of}
 use Rattle.cs_cfg.specs.CodeSteps.{code_step, code_start, CodeGives}
 use Rattle.cs_cfg.specs.Lowered.{is_there, IsLowered}
@@ -20,7 +20,7 @@ has_body None body found same there = cc
 has_body (Some flow) None found same there = cc
 has_body (Some flow) (Some b) found same there = (b, refl)
 
-module _ (code : Code) (program : TypedProgram) (entry : ℕ) (run : PlainRun) (budgets : RunBudgets) (found : Flow) (lowered : IsLowered code program) (there : flow_of code entry ≡ Some found) where
+module _ (code : Code) (program : TypedProgram) (entry : ℕ) (run : ProgramRun) (budgets : RunBudgets) (found : Flow) (lowered : IsLowered code program) (there : flow_of code entry ≡ Some found) where
   -- the run of an entry with a graph ends
   pub lowered_ends : HasLength (code_step code program budgets) (setting_of program run budgets) (code_start code program entry run) empty
   lowered_ends =

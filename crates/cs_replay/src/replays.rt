@@ -4,7 +4,7 @@ ghost use Rattle.cs_types.specs.Layout.{IsLaidOut};
 ghost use Rattle.cs_ast.specs.TypedProgram.{typed_program};
 ghost use Rattle.cs_events.specs.Runs.{empty};
 ghost use Rattle.cs_meaning.specs.Machine.{routine_of};
-ghost use Rattle.cs_meaning.specs.PlainRuns as meaning;
+ghost use Rattle.cs_meaning.specs.ProgramRuns as meaning;
 ghost use Rattle.cs_cfg.specs.CodeSteps.{code_step, code_start, CodeGives};
 ghost use Rattle.cs_cfg.specs.GraphView as view;
 ghost use Rattle.cs_cfg.specs.Lowered.{HasGraphs, IsLowered};

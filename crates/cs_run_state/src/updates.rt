@@ -8,7 +8,8 @@ ghost use Rattle.cs_meaning.specs.Expressions as expressions;
 ghost use Rattle.cs_meaning.specs.Machine as machine;
 ghost use Rattle.cs_run_state.specs.AccessView.{access_of};
 ghost use Rattle.cs_run_state.specs.MachineView.{state_of};
-ghost use Rattle.cs_run_state.specs.Pieces.{Gives, StopsIn, GivesBoth, StopsInBoth, LeadsOrEnds};
+ghost use Rattle.cs_run_state.specs.Pieces as pieces;
+ghost use Rattle.cs_run_state.specs.Pieces.{StopsIn, GivesBoth, StopsInBoth, LeadsOrEnds};
 ghost use Rattle.cs_run_state.specs.Updates.{load_act, assign_act, fetch_number_act, fetch_pointer_act, update_act, move_act, computes, stores_computed, stores_moved};
 ghost use Rattle.cs_run_state.specs.View.{cell_of, operand_of};
 
@@ -253,7 +254,7 @@ impl Log {
         left: &i128,
         right: &i128,
     ) -> Result<i128, Stop>
-        ensures ok { IfOk result (Gives setting.now self.old self.new (computes (typed_program setting.now.program.now) place operator (access_of access.entry) works_in left.now right.now)) }
+        ensures ok { IfOk result (pieces.Gives setting.now self.old self.new (computes (typed_program setting.now.program.now) place operator (access_of access.entry) works_in left.now right.now)) }
         ensures err { IfErr result (StopsIn setting.now self.old self.new (computes (typed_program setting.now.program.now) place operator (access_of access.entry) works_in left.now right.now)) }
     {
         let number = self.operate(setting, place, operator, works_in, left, right)?;

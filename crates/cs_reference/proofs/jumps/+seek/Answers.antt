@@ -1,6 +1,3 @@
-use Rattle.std.proofs.Common.{◌≡◌, ◌+◌, arith}
-use Rattle.cs_ast.specs.TypedView.{statement_list}
-use Rattle.cs_meaning.specs.CountedPoints.{counted_points_in}
 use Rattle.cs_run_state.proofs.StatementForms.{block_is, for_is, switch_is}
 use Rattle.cs_reference.proofs.jumps.+seek.Goals as goal
 
@@ -9,14 +6,10 @@ seek-returns-in-Block t c =
     let is = block_is c.args.s.now _ c.in-Block.is in
     rw is (rw c.deref.ensures.value at c.seek_in.ensures)
 
-pub seek-returns-in_ok-inner-in-For : goal.seek-returns-in_ok-inner-in-For
-seek-returns-in_ok-inner-in-For t c =
+pub seek-returns-in-For : goal.seek-returns-in-For
+seek-returns-in-For t c =
     let is = for_is c.args.s.now _ _ _ _ c.in-For.is in
-    let before : c.in_ok-counted_points_in-in-For.field-0 ≡ counted_points_in (statement_list c.in-For.first.items) = rw c.deref-in-For.ensures.value at c.in_ok-counted_points_in-in-For.ensures in
-    let head : c.in_ok-together-in-For.field-0 ≡ c.args.counted_point + 1 = c.in_ok-together-in-For.ensures in
-    let both : c.in_ok-inner-in-For.inner ≡ c.in_ok-together-in-For.field-0 + c.in_ok-counted_points_in-in-For.field-0 = c.in_ok-inner-in-For.ensures in
-    let inner : c.in_ok-inner-in-For.inner ≡ c.args.counted_point + 1 + counted_points_in (statement_list c.in-For.first.items) = omega arith in
-    rw is (rw (c.deref-in-For-2.ensures, inner, is) at c.seek_in_loop-in-For.ensures)
+    rw is (rw (c.deref-in-For.ensures.value, is) at c.seek_in_for.ensures)
 
 pub seek-returns-in-Switch : goal.seek-returns-in-Switch
 seek-returns-in-Switch t c =

@@ -6,7 +6,7 @@ use Rattle.cs_run_state.proofs.machine.Machine.evaluate_parts.Goals as goal
 pub returns-in-Call : goal.returns-in-Call
 returns-in-Call c =
     let is = ap form c.in-Call.is ∙ form-Call _ c.in-Call.arguments in
-    rw is (rw (c.deref-in-Call.ensures.value, is) at c.evaluate_all.ensures)
+    rw is (rw (c.deref.ensures.value, is) at c.evaluate_all.ensures)
 
 pub returns-in-Allocate : goal.returns-in-Allocate
 returns-in-Allocate c =

@@ -13,35 +13,35 @@ use Rattle.cs_meaning.specs.Machine.{State}
 use Rattle.cs_meaning.specs.Steps.{step, start}
 
 -- what a run begins with: the numbers of paths, and guesses
-pub record PlainRun : Type 0 where
+pub record ProgramRun : Type 0 where
   pub inputs : List (Path × ℤ)
   pub guesses : List Guess
 
 -- what the run of a program goes by
-abbrev pub setting_of : TypedProgram → PlainRun → RunBudgets → Setting
+abbrev pub setting_of : TypedProgram → ProgramRun → RunBudgets → Setting
 setting_of program run budgets = record { model = program.model; inputs = number_at run.inputs; guesses = run.guesses; budgets = budgets }
 
 -- the state in which the run of an entry begins
-abbrev pub start_of : TypedProgram → ℕ → PlainRun → State
+abbrev pub start_of : TypedProgram → ℕ → ProgramRun → State
 start_of program entry run = start program (number_at run.inputs) entry
 
 -- the run ends so, with this log
-abbrev pub RunGives : TypedProgram → ℕ → PlainRun → RunBudgets → Outcome → Log → Type 0
+abbrev pub RunGives : TypedProgram → ℕ → ProgramRun → RunBudgets → Outcome → Log → Type 0
 RunGives program entry run budgets outcome log = Ends (step program budgets) (setting_of program run budgets) (start_of program entry run) outcome log
 
 -- the run passes exactly these events and ends so
-abbrev pub RunEnds : TypedProgram → ℕ → PlainRun → RunBudgets → List Event → Outcome → Type 0
+abbrev pub RunEnds : TypedProgram → ℕ → ProgramRun → RunBudgets → List Event → Outcome → Type 0
 RunEnds program entry run budgets events outcome = (log : Log) × RunGives program entry run budgets outcome log × (log.events ≡ events)
 
 -- the run passes these events first
-abbrev pub RunPasses : TypedProgram → ℕ → PlainRun → RunBudgets → List Event → Type 0
+abbrev pub RunPasses : TypedProgram → ℕ → ProgramRun → RunBudgets → List Event → Type 0
 RunPasses program entry run budgets events = Passes (step program budgets) (setting_of program run budgets) (start_of program entry run) events
 
 -- this is pending in the run at the event with this number
-abbrev pub RunIsPending : TypedProgram → ℕ → PlainRun → RunBudgets → ℕ → Pending → Type 0
+abbrev pub RunIsPending : TypedProgram → ℕ → ProgramRun → RunBudgets → ℕ → Pending → Type 0
 RunIsPending program entry run budgets event pending = IsPending (step program budgets) (setting_of program run budgets) (start_of program entry run) event pending
 
 -- the run reads a path
-abbrev pub RunReads : TypedProgram → ℕ → PlainRun → RunBudgets → Path → Type 0
+abbrev pub RunReads : TypedProgram → ℕ → ProgramRun → RunBudgets → Path → Type 0
 RunReads program entry run budgets path =
     (log : Log) × ComesTo (step program budgets) (setting_of program run budgets) (start_of program entry run) log × Contains log.read path
