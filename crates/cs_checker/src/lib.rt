@@ -5,8 +5,6 @@
 mod answer;
 mod checker;
 mod subject;
-#[cfg(test)]
-mod tests;
 
 pub use answer::{Answer, Cond, NO_NUMBER};
 pub use checker::{Checker, add, ask_each};

@@ -11,8 +11,6 @@ mod freed;
 mod intervals;
 mod null;
 mod shift;
-#[cfg(test)]
-mod tests;
 mod unrelated;
 mod unset;
 

@@ -2,7 +2,5 @@
 #![tactic(auto)]
 
 mod constraints;
-#[cfg(test)]
-mod tests;
 
 pub use constraints::Constraints;

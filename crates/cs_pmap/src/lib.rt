@@ -9,6 +9,3 @@ mod update;
 
 pub use entries::Entries;
 pub use map::PMap;
-
-#[cfg(test)]
-mod tests;

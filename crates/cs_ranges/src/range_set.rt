@@ -11,8 +11,6 @@ use std::marker::Model;
 mod affine;
 mod combine;
 mod query;
-#[cfg(test)]
-mod tests;
 
 pub use affine::{affine_preimage, affine_value};
 

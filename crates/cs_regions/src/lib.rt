@@ -3,8 +3,6 @@
 
 mod base;
 mod table;
-#[cfg(test)]
-mod tests;
 
 pub use base::{Base, Space, space_of};
 pub use table::BaseTable;

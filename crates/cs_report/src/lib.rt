@@ -6,8 +6,6 @@ mod finding;
 mod place;
 mod refusal;
 mod replayed;
-#[cfg(test)]
-mod tests;
 mod text;
 
 pub use entry::append_entry;

@@ -8,7 +8,5 @@ mod interpreter;
 mod operand;
 mod runs;
 mod statement;
-#[cfg(test)]
-mod tests;
 
 pub use runs::{Ended, run};

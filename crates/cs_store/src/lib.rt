@@ -3,8 +3,6 @@
 
 mod region;
 mod store;
-#[cfg(test)]
-mod tests;
 mod value;
 mod write;
 

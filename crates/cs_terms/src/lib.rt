@@ -8,8 +8,6 @@ mod product;
 mod symbol;
 mod table;
 mod term;
-#[cfg(test)]
-mod tests;
 
 pub use arithmetic::{add, diff, merged, scale};
 pub use pieces::{Pieces, wrap_pieces};

@@ -1,0 +1,122 @@
+//! Terms added, scaled and cut by wrap quotients, and the numbers of symbols.
+use cs_ranges::{Interval, RangeSet};
+use cs_terms::{
+    Lin, Sym, SymName, SymTable, add, diff, merged, product_pieces, scale, wrap_pieces,
+};
+use cs_types::{DataModel, IntType};
+use std::test::Fail;
+
+fn interval(low: i128, high: i128) -> Interval {
+    Interval { low, high }
+}
+
+#[test]
+fn numbers_names_in_order(rt: HostRuntime) -> Result<(), Fail> {
+    let mut symbols = SymTable::new(rt.alloc());
+    let first = symbols.number_of(SymName::Guess(7))?;
+    let second = symbols.number_of(SymName::Guess(2))?;
+    let again = symbols.number_of(SymName::Guess(7))?;
+    assert_eq!(rt; (first, second, again), (Sym(0), Sym(1), Sym(0)));
+    assert_eq!(rt; symbols.name(second), Some(&SymName::Guess(2)));
+    assert_eq!(rt; symbols.name(Sym(2)), None);
+    Ok(())
+}
+
+#[test]
+fn adds_and_scales(rt: HostRuntime) -> Result<(), Fail> {
+    let x_plus_1 = Lin {
+        sym: Some(Sym(0)),
+        slope: 1,
+        at: 3,
+        value: 4,
+    };
+    let twice = add(x_plus_1, x_plus_1);
+    assert_eq!(rt; twice, Some(scale(x_plus_1, 2)));
+    let none_left = merged(diff(x_plus_1, x_plus_1));
+    assert_eq!(rt;
+        none_left,
+        Some(Lin {
+            sym: None,
+            slope: 0,
+            at: 3,
+            value: 0,
+        })
+    );
+    let y = Lin {
+        sym: Some(Sym(1)),
+        slope: 1,
+        at: 0,
+        value: 0,
+    };
+    assert_eq!(rt; add(x_plus_1, y), None);
+    Ok(())
+}
+
+#[test]
+fn cuts_a_sum(rt: HostRuntime) -> Result<(), Fail> {
+    let ints = RangeSet::of(rt.alloc(), -2147483648, 2147483647)?;
+    let x_plus_1 = Lin {
+        sym: Some(Sym(0)),
+        slope: 1,
+        at: 0,
+        value: 1,
+    };
+    let pieces = wrap_pieces(rt.alloc(), DataModel::Lp64, IntType::Int, x_plus_1, &ints)?;
+    assert!(rt; pieces.under.is_empty() && pieces.far.is_empty());
+    assert_eq!(rt;
+        pieces.same.intervals(),
+        [interval(-2147483648, 2147483646)].as_slice()
+    );
+    assert_eq!(rt;
+        pieces.past.intervals(),
+        [interval(2147483647, 2147483647)].as_slice()
+    );
+    Ok(())
+}
+
+#[test]
+fn cuts_a_product(rt: HostRuntime) -> Result<(), Fail> {
+    let words = RangeSet::of(rt.alloc(), 0, 18446744073709551615)?;
+    let x = Lin {
+        sym: Some(Sym(0)),
+        slope: 1,
+        at: 0,
+        value: 0,
+    };
+    let pieces = product_pieces(
+        rt.alloc(),
+        DataModel::Lp64,
+        IntType::ULong,
+        x,
+        18446744073709551615,
+        &words,
+    )?;
+    assert!(rt; pieces.under.is_none());
+    let same = pieces.same.expect(&rt, "no wrap");
+    assert_eq!(rt; same.range.intervals(), [interval(0, 1)].as_slice());
+    assert_eq!(rt;
+        same.product,
+        Lin {
+            sym: Some(Sym(0)),
+            slope: 18446744073709551615,
+            at: 0,
+            value: 0,
+        }
+    );
+    let past = pieces.past.expect(&rt, "one wrap");
+    assert_eq!(rt; past.range.intervals(), [interval(2, 2)].as_slice());
+    assert_eq!(rt;
+        past.product,
+        Lin {
+            sym: None,
+            slope: 0,
+            at: 2,
+            value: 18446744073709551614,
+        }
+    );
+    assert_eq!(rt;
+        pieces.far.intervals(),
+        [interval(3, 18446744073709551615)].as_slice()
+    );
+    Ok(())
+}
