@@ -12,6 +12,7 @@ use cs_decl_parser::parse;
 use cs_grammar::SyntaxRefusal;
 use cs_io::{StdSource, read_all};
 use cs_lexer::{Lexed, tokens};
+use cs_limits::{MOST_BYTES, MOST_TOKENS};
 use cs_lower::lower;
 use cs_types::DataModel;
 use cs_typing::typed;
@@ -27,7 +28,7 @@ fn main(rt: HostRuntime) -> io::Result<()> {
 
 // Cuts a file into tokens, and parses them.
 fn cut(rt: &HostRuntime, file: &[u8]) -> io::Result<()>
-    requires { length file.now ≤ 4194304 }
+    requires { length file.now ≤ MOST_BYTES }
 {
     match tokens(rt.alloc(), file) {
         Ok(lexed) => {
@@ -39,10 +40,10 @@ fn cut(rt: &HostRuntime, file: &[u8]) -> io::Result<()>
     }
 }
 
-// Parses tokens, of which there are at most 400,000.
+// Parses tokens, of which there are at most `MOST_TOKENS`.
 fn parsed(rt: &HostRuntime, lexed: &Lexed) -> io::Result<()> {
     let list = lexed.list.as_slice();
-    if list.len() > 400_000 {
+    if list.len() > MOST_TOKENS {
         return println!(rt; "too many");
     }
     match parse(rt.alloc(), list, lexed.end) {

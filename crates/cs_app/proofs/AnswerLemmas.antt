@@ -21,7 +21,8 @@ use Rattle.cs_words.specs.declared.refusal.WordsRefusal.{WordsRefusal}
 use Rattle.cs_words.specs.declared.refusal.WordsRefusal.TheVariants as words_refusal
 use Rattle.cs_words.specs.Meaning.{WordsMean}
 use Rattle.cs_words.specs.Scan as scan
-use Rattle.cs_app.specs.Trees.{MOST_BYTES, Parses, typed_tree}
+use Rattle.cs_limits.specs.declared.TheConstants.{MOST_BYTES}
+use Rattle.cs_app.specs.Trees.{Parses, typed_tree}
 use Rattle.cs_app.specs.Refusals.{IsLexLine, IsSyntaxLine, IsTypeLine, too_long, by_lexing, by_syntax, by_type}
 use Rattle.cs_app.specs.declared.status.Status.{Status}
 use Rattle.cs_app.specs.declared.status.Status.TheVariants.{Clean, Found, BadWords, BadFile}

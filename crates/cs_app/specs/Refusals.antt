@@ -1,6 +1,7 @@
 -- Why a file is refused, and the line that says so.
 use Rattle.std.specs.Prelude.{◌≡◌, ◌≤◌, ◌<◌, ℕ, List, [], ◌++◌, length, codes, slice_index_or}
 use Rattle.std.specs.Fmt.{decimal}
+use Rattle.cs_limits.specs.declared.TheConstants.{MOST_BYTES}
 use Rattle.cs_types.specs.declared.data_model.DataModel.{DataModel}
 use Rattle.cs_ast.specs.declared.place.Place.{Place}
 use Rattle.cs_ast.specs.declared.raw.external.RawExternal.{RawExternal}
@@ -16,7 +17,7 @@ use Rattle.cs_consts.specs.declared.refusal.TypeRefusal.{TypeRefusal}
 use Rattle.cs_consts.specs.declared.refusal.TypeRefusal.TheVariants as refused
 use Rattle.cs_consts.specs.Verdicts.{Fault, number_of}
 use Rattle.cs_report.specs.RefusalLines.{refusal_line}
-use Rattle.cs_app.specs.Trees.{MOST_BYTES, Parses, typed_tree}
+use Rattle.cs_app.specs.Trees.{Parses, typed_tree}
 
 -- the line for a text that has no tokens; want of memory has none
 abbrev pub IsLexLine : LexRefusal → List ℕ → Type 0

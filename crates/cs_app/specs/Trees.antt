@@ -2,6 +2,7 @@
 use Rattle.std.specs.Prelude.{◌≡◌, ◌≤◌, ◌&&◌, ℕ, nat_eq, is_some, Bool, List, length, Option}
 use Rattle.std.specs.List.{position}
 use Rattle.std.specs.Cmp.Lexicographic.{pointwise}
+use Rattle.cs_limits.specs.declared.TheConstants.{MOST_BYTES}
 use Rattle.cs_types.specs.declared.data_model.DataModel.{DataModel}
 use Rattle.cs_ast.specs.declared.raw.external.RawExternal.{RawExternal}
 use Rattle.cs_small_meaning.specs.Tree.{Definition}
@@ -13,10 +14,6 @@ use Rattle.cs_decl_parser.specs.FilePlaces.{AreFilePlaced}
 use Rattle.cs_consts.specs.Verdicts.{Verdict, Fine}
 use Rattle.cs_typing.specs.Programs.{typed}
 use Rattle.cs_small_form.specs.Reading.{IsOfForm}
-
--- the most bytes that a file may have
-abbrev pub MOST_BYTES : ℕ
-MOST_BYTES = 4194304
 
 -- these are the tokens of a file that isn't too long
 abbrev pub IsOfFile : Lexed → Type 0

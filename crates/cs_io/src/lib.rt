@@ -16,7 +16,7 @@ mod write;
 
 pub use mem_sink::MemSink;
 pub use mem_source::MemSource;
-pub use read::{READ_LIMIT, ReadRefusal, read_all};
+pub use read::{ReadRefusal, read_all};
 pub use std_sink::StdSink;
 pub use std_source::StdSource;
 pub use sure_sink::SureSink;

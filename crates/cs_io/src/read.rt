@@ -6,12 +6,10 @@ ghost use Rattle.cs_io.specs.Reported.{LosesFront};
 ghost use Rattle.cs_io.specs.declared.read.ReadRefusal.TheVariants.{ReadFault, Memory};
 
 use crate::traits::{Failed, Source};
+use cs_limits::MOST_BYTES;
 use std::alloc::{AllocError, Global};
 use std::error::Error;
 use std::fmt;
-
-/// The most bytes that `read_all` answers.
-pub const READ_LIMIT: usize = 4_194_304;
 
 /// How many bytes one call of a source is asked for.
 const BUFFER: usize = 4096;
@@ -21,7 +19,7 @@ const BUFFER: usize = 4096;
 pub enum ReadRefusal {
     /// A read failed.
     ReadFault,
-    /// More than `READ_LIMIT` bytes came.
+    /// More than `MOST_BYTES` bytes came.
     TooLong,
     /// No memory was left.
     Memory,
@@ -62,37 +60,37 @@ fn read_more<S: Source>(
     bytes: &mut Vec<u8>,
 ) -> Result<usize, ReadRefusal>
     requires nonempty { 0 < length buffer.old }
-    requires within { vec_len bytes.old ≤ READ_LIMIT }
+    requires within { vec_len bytes.old ≤ MOST_BYTES }
     ensures takes_next { IfOk result (λ k. Consumes (S.left source.old) (S.left source.new) (take k buffer.new)) }
     ensures adds { IfOk result (λ k. bytes.new.items ≡ bytes.old.items ++ take k buffer.new) }
     ensures counts { IfOk result (λ k. vec_len bytes.new ≡ vec_len bytes.old + k) }
-    ensures limit { OnOk result (vec_len bytes.new ≤ READ_LIMIT) }
+    ensures limit { OnOk result (vec_len bytes.new ≤ MOST_BYTES) }
     ensures end { result ≡ Ok 0 → IsAtEnd (S.left source.new) }
     ensures buffer { length buffer.new ≡ length buffer.old }
     ensures loses_front { LosesFront (S.left source.old) (S.left source.new) }
     ensures too_long { result ≡ Err ReadRefusal.TooLong → IfSome (S.left source.old) (λ left.
-        READ_LIMIT < length bytes.old.items + length left) }
+        MOST_BYTES < length bytes.old.items + length left) }
     ensures fault { result ≡ Err ReadRefusal.ReadFault → Rose (S.faults source.old) (S.faults source.new) }
     ensures never_falls { S.faults source.old ≤ S.faults source.new }
 {
     let count = source.read(buffer)?;
-    if count > READ_LIMIT - bytes.len() {
+    if count > MOST_BYTES - bytes.len() {
         return Err(ReadRefusal::TooLong);
     }
     bytes.extend_from_slice(&buffer[..count])?;
     Ok(count)
 }
 
-/// All bytes that the source has left, in order, where they are at most `READ_LIMIT`.
+/// All bytes that the source has left, in order, where they are at most `MOST_BYTES`.
 pub fn read_all<S: Source>(alloc: Global, source: &mut S) -> Result<Vec<u8>, ReadRefusal>
     ensures all { IfOk result (λ bytes. IfSome (S.left source.old) (λ left. bytes.items ≡ left)) }
     ensures to_the_end { OnOk result (IsAtEnd (S.left source.new)) }
-    ensures limit { IfOk result (λ bytes. vec_len bytes ≤ READ_LIMIT) }
+    ensures limit { IfOk result (λ bytes. vec_len bytes ≤ MOST_BYTES) }
     ensures err { OnErr result (LosesFront (S.left source.old) (S.left source.new)) }
 
     // A source is refused as too long only where more than the limit were left, and as faulty only
     // where its count rose.
-    ensures too_long { result ≡ Err ReadRefusal.TooLong → IfSome (S.left source.old) (λ left. READ_LIMIT < length left) }
+    ensures too_long { result ≡ Err ReadRefusal.TooLong → IfSome (S.left source.old) (λ left. MOST_BYTES < length left) }
     ensures fault { result ≡ Err ReadRefusal.ReadFault → Rose (S.faults source.old) (S.faults source.new) }
     ensures never_falls { S.faults source.old ≤ S.faults source.new }
 {

@@ -2,9 +2,10 @@
 ghost use Rattle.std.specs.Prelude.{◌≡◌, ◌≢◌, [], IfOk};
 
 use crate::{
-    Failed, MemSink, MemSource, READ_LIMIT, ReadRefusal, Sink, Source, StdSink, StdSource,
-    SureSink, SureSource, WriteRefusal, read_all, write_all_of,
+    Failed, MemSink, MemSource, ReadRefusal, Sink, Source, StdSink, StdSource, SureSink,
+    SureSource, WriteRefusal, read_all, write_all_of,
 };
+use cs_limits::MOST_BYTES;
 use std::alloc::{AllocError, Global};
 use std::io;
 use std::io::{Cursor, ErrorKind, Read, Write};
@@ -74,8 +75,8 @@ fn reads_through_short_calls_up_to_a_fault(rt: HostRuntime) -> Result<(), Fail> 
 fn reads_no_more_than_the_limit(rt: HostRuntime) -> Result<(), Fail> {
     let alloc = rt.alloc();
     let cases = [
-        (READ_LIMIT, Ok(4_194_304)),
-        (READ_LIMIT + 1, Err(ReadRefusal::TooLong)),
+        (MOST_BYTES, Ok(4_194_304)),
+        (MOST_BYTES + 1, Err(ReadRefusal::TooLong)),
     ];
     for (size, want) in cases {
         let bytes = vec![in alloc; b'a'; size]?;

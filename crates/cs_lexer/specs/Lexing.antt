@@ -1,5 +1,6 @@
 -- The tokens of a text, or why it has none (C11 6.4).
 use Rattle.std.specs.Prelude.{◌≡◌, ℕ, ◌<◌, ◌≤◌, List, length, slice_get, Some}
+use Rattle.cs_limits.specs.declared.TheConstants.{MOST_TOKENS}
 use Rattle.cs_ast.specs.declared.place.Place.{Place}
 use Rattle.cs_ast.specs.declared.token.Token.{Token}
 use Rattle.cs_lexer.specs.declared.found.Fault.{Fault}
@@ -21,24 +22,24 @@ pub record Lexes (text : List ℕ) (lexed : Lexed) : Type 0 where
   pub pieces : List Token
   pub whole : IsWhole text lexed.files.items pieces lexed.end
   pub tokens_are : lexed.list.items ≡ tokens_of pieces
-  pub few : length lexed.list.items ≤ 400000
+  pub few : length lexed.list.items ≤ MOST_TOKENS
 
--- the first fault of the text is at this place in the file of this name, and no more than 400,000 tokens begin before it
+-- the first fault of the text is at this place in the file of this name, and no more than `MOST_TOKENS` tokens begin before it
 pub record IsFirstFault (text : List ℕ) (fault : Fault) (place : Place) (file : List ℕ) : Type 0 where
   pub files : List (List ℕ)
   pub pieces : List Token
   pub refused : IsRefusedAt text files pieces place fault
   pub named : slice_get files place.file ≡ Some file
-  pub few : length (tokens_of pieces) ≤ 400000
+  pub few : length (tokens_of pieces) ≤ MOST_TOKENS
 
--- more than 400,000 tokens begin before the end of the text or its first fault
+-- more than `MOST_TOKENS` tokens begin before the end of the text or its first fault
 pub record HasTooMany (text : List ℕ) : Type 0 where
   pub files : List (List ℕ)
   pub pieces : List Token
   pub place : Place
   pub end : End
   pub cut : EndsAs text files pieces place end
-  pub many : 400000 < length (tokens_of pieces)
+  pub many : MOST_TOKENS < length (tokens_of pieces)
 
 abbrev pub refusal_of : Fault → Place → List ℕ → LexRefusal
 refusal_of faults.BadByte place file = BadByte place file

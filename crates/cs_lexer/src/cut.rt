@@ -10,6 +10,7 @@ use crate::part::{begins_with, following, front};
 use crate::piece::piece;
 use crate::spot::{Spot, line_of, spot_after, start};
 use cs_ast::{Place, Token, TokenKind};
+use cs_limits::MOST_BYTES;
 use cs_names::{Bytes, Name};
 use std::alloc::{AllocError, Global};
 
@@ -112,7 +113,7 @@ fn refused(
 
 /// Cuts a text into its pieces.
 pub fn cut(alloc: Global, text: &[u8]) -> Result<Cutting, AllocError>
-    requires { length text.now ≤ 4194304 }
+    requires { length text.now ≤ MOST_BYTES }
     ensures { IfOk result (λ cutting. IsCutting text.now cutting) }
 {
     let mut tokens = Vec::new(alloc);

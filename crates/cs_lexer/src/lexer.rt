@@ -7,11 +7,9 @@ use crate::cut::{End, cut};
 use crate::refusal::LexRefusal;
 use crate::texts::joined;
 use cs_ast::{Place, Token};
+use cs_limits::{MOST_BYTES, MOST_TOKENS};
 use cs_names::Name;
 use std::alloc::{AllocError, Global};
-
-/// How many tokens a text may have.
-const MOST_TOKENS: usize = 400_000;
 
 /// The tokens of a text in order, the names of its files by their numbers, and the place of its end.
 #[derive(Drop)]
@@ -29,9 +27,9 @@ fn listed(alloc: Global, pieces: Vec<Token>) -> Result<Vec<Token>, AllocError>
     joined(alloc, kept)
 }
 
-/// The tokens of a preprocessed text of at most 4,194,304 bytes (C11 6.4), with their places, or why it has none.
+/// The tokens of a preprocessed text of at most `MOST_BYTES` bytes (C11 6.4), with their places, or why it has none.
 pub fn tokens(alloc: Global, bytes: &[u8]) -> Result<Lexed, LexRefusal>
-    requires { length bytes.now ≤ 4194304 }
+    requires { length bytes.now ≤ MOST_BYTES }
     ensures lexed { IfOk result (λ lexed. Lexes bytes.now lexed) }
     ensures refused { IfErr result (λ refusal. IsRefused bytes.now refusal) }
 {

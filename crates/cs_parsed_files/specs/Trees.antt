@@ -1,5 +1,6 @@
 -- What is known of the tree of a file, from its text on.
 use Rattle.std.specs.Prelude.{ℕ, ◌≤◌, List, length}
+use Rattle.cs_limits.specs.declared.TheConstants.{MOST_BYTES}
 use Rattle.cs_ast.specs.declared.raw.external.RawExternal.{RawExternal}
 use Rattle.cs_lexer.specs.declared.lexer.Lexed.{Lexed}
 use Rattle.cs_lexer.specs.Lexing.{Lexes}
@@ -7,8 +8,8 @@ use Rattle.cs_decl_parser.specs.Files.{parts_of, IsTheFile}
 use Rattle.cs_decl_parser.specs.FilePlaces.{AreFilePlaced}
 use Rattle.cs_well_formed.specs.Files.{IsFileTree}
 
--- where a text of at most 4,194,304 bytes is lexed, and its tokens are a tree that has their places, that is the tree of a file
+-- where a text of at most `MOST_BYTES` bytes is lexed, and its tokens are a tree that has their places, that is the tree of a file
 abbrev pub LexedFilesHaveTrees : Type 0
 LexedFilesHaveTrees =
-    (text : List ℕ) (lexed : Lexed) (tree : List RawExternal) → length text ≤ 4194304 → Lexes text lexed → IsTheFile lexed.list.items (parts_of tree)
+    (text : List ℕ) (lexed : Lexed) (tree : List RawExternal) → length text ≤ MOST_BYTES → Lexes text lexed → IsTheFile lexed.list.items (parts_of tree)
     → AreFilePlaced tree lexed.list.items → IsFileTree lexed.files.items lexed.list.items tree

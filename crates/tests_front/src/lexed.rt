@@ -1,6 +1,7 @@
 //! Tokens, places and refusals of small texts, and the limit of tokens.
 use cs_ast::{IntegerConstant, Keyword, Length, Place, Punctuator, Unsupported};
 use cs_lexer::{LexRefusal, Lexed, Token, TokenKind, tokens};
+use cs_limits::MOST_BYTES;
 use cs_names::Name;
 use std::alloc::{AllocError, Global};
 use std::test::Fail;
@@ -33,7 +34,7 @@ fn refusal(fault: Fault, place: Place, file: Name) -> LexRefusal {
 
 /// The tokens of a text, whose length is tested.
 pub(crate) fn lexed(alloc: Global, text: &[u8]) -> Result<Lexed, LexRefusal> {
-    if text.len() > 4_194_304 {
+    if text.len() > MOST_BYTES {
         return Err(LexRefusal::Memory);
     }
     tokens(alloc, text)

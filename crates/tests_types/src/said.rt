@@ -7,6 +7,7 @@ use cs_consts::{TypeRefusal, discarded, value};
 use cs_expr_parser::{ExprLevel, expression};
 use cs_grammar::TypedefNames;
 use cs_lexer::tokens;
+use cs_limits::{MOST_BYTES, MOST_TOKENS};
 use cs_names::Name;
 use cs_types::DataModel;
 use std::alloc::{AllocError, Global};
@@ -14,14 +15,14 @@ use std::alloc::{AllocError, Global};
 // The tree of a whole text that is one expression.
 fn tree(alloc: Global, text: &str) -> Result<Option<RawExpr>, AllocError> {
     let bytes = text.as_bytes();
-    if bytes.len() > 4_194_304 {
+    if bytes.len() > MOST_BYTES {
         return Ok(None);
     }
     let Ok(lexed) = tokens(alloc, bytes) else {
         return Ok(None);
     };
     let list = lexed.list.as_slice();
-    if list.len() > 400_000 {
+    if list.len() > MOST_TOKENS {
         return Ok(None);
     }
     let mut names = TypedefNames::new(alloc);

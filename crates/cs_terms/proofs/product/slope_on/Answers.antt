@@ -5,7 +5,7 @@ use Rattle.std.proofs.lemmas.Int.{to_z-of_z}
 use Rattle.cs_terms.proofs.Products.{product_slope-fits, no-rise}
 use Rattle.cs_terms.proofs.product.slope_on.Goals as goal
 
-fits : (c : goal.After-struct_reported-1) → FitsSigned w128 (c.args.term.slope *ℤ c.args.factor)
+fits : (c : goal.After-struct_told-1) → FitsSigned w128 (c.args.term.slope *ℤ c.args.factor)
 fits c = elim c.in-None.ensures [
   | inl empty ↦ absurd (false≢true (sym (empty c.requires.inhabited.0) ∙ c.requires.inhabited.1))
   | inr two ↦ product_slope-fits c.args.model c.args.ty c.args.term c.args.factor c.args.range.now c.requires.term c.requires.one_quotient two
