@@ -56,7 +56,7 @@ fn parsed(rt: &HostRuntime, lexed: &Lexed) -> io::Result<()> {
             println!(rt; "syntax {}:{}", place.line, place.column)
         }
         Err(SyntaxRefusal::Unsupported(place, _)) => {
-            println!(rt; "left out {}:{}", place.line, place.column)
+            println!(rt; "unsupported {}:{}", place.line, place.column)
         }
         Err(SyntaxRefusal::TooDeep(place)) => {
             println!(rt; "too deep {}:{}", place.line, place.column)

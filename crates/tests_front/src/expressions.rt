@@ -129,7 +129,7 @@ fn two_parts(out: &mut String, left: &RawExpr, right: &RawExpr) -> Result<(), Al
 fn show_reason(reason: Reason) -> &'static str {
     match reason {
         Reason::Syntax => "syntax",
-        Reason::Unsupported => "left-out",
+        Reason::Unsupported => "unsupported",
         Reason::TooDeep => "deep",
     }
 }
@@ -172,7 +172,7 @@ fn phrase_text(alloc: Global, phrase: &Phrase) -> Result<String, AllocError> {
 fn refusal_text(alloc: Global, refusal: &SyntaxRefusal) -> Result<String, AllocError> {
     match refusal {
         SyntaxRefusal::Syntax(place) => place_text(alloc, "syntax", *place),
-        SyntaxRefusal::Unsupported(place, _) => place_text(alloc, "left-out", *place),
+        SyntaxRefusal::Unsupported(place, _) => place_text(alloc, "unsupported", *place),
         SyntaxRefusal::TooDeep(place) => place_text(alloc, "deep", *place),
         SyntaxRefusal::Memory => String::from_str(alloc, "memory"),
     }
@@ -183,7 +183,7 @@ fn place_text(alloc: Global, why: &str, place: Place) -> Result<String, AllocErr
     format!(in alloc; "{why} {column}")
 }
 
-/// Of a table of words, rooms, levels and answers, the words that are answered otherwise, with the answer.
+/// Of a table of words, limits, levels and answers, the words that are answered otherwise, with the answer.
 fn answered_otherwise(
     alloc: Global,
     table: &[(&str, u32, ExprLevel, &str)],
@@ -308,13 +308,13 @@ const TREES: [(&str, u32, ExprLevel, &str); 35] = [
         "sizeof ( T * const [ 1 + 1 ] ) {",
         200,
         ExprLevel::Expr,
-        "sizet@0 T** in@7 3 11 left-out",
+        "sizet@0 T** in@7 3 11 unsupported",
     ),
     (
         "a + sizeof ( T ) {",
         200,
         ExprLevel::Expr,
-        "in@1 x@0 sizet@2 3 6 left-out",
+        "in@1 x@0 sizet@2 3 6 unsupported",
     ),
     ("a {", 200, ExprLevel::Expr, "x@0 1 1 syntax"),
     (
@@ -323,8 +323,8 @@ const TREES: [(&str, u32, ExprLevel, &str); 35] = [
         ExprLevel::Expr,
         "call@1 x@0 x@2 3 4 syntax",
     ),
-    ("a ...", 200, ExprLevel::Expr, "x@0 1 1 left-out"),
-    ("a static", 200, ExprLevel::Expr, "x@0 1 1 left-out"),
+    ("a ...", 200, ExprLevel::Expr, "x@0 1 1 unsupported"),
+    ("a static", 200, ExprLevel::Expr, "x@0 1 1 unsupported"),
     (
         "( const unsigned long const int ) ( T ) a",
         200,
@@ -366,7 +366,7 @@ const REFUSED: [(&str, u32, ExprLevel, &str); 54] = [
     ("T", 200, ExprLevel::Expr, "syntax 0"),
     ("a", 0, ExprLevel::Expr, "deep 0"),
     ("; a", 0, ExprLevel::Expr, "syntax 0"),
-    ("float", 9, ExprLevel::Expr, "left-out 0"),
+    ("float", 9, ExprLevel::Expr, "unsupported 0"),
     ("( int", 200, ExprLevel::Expr, "syntax 99"),
     ("( int T )", 200, ExprLevel::Expr, "syntax 2"),
     ("( int char )", 200, ExprLevel::Expr, "syntax 2"),
@@ -374,17 +374,17 @@ const REFUSED: [(&str, u32, ExprLevel, &str); 54] = [
     ("( const )", 200, ExprLevel::Expr, "syntax 2"),
     ("( const * )", 200, ExprLevel::Expr, "syntax 2"),
     ("( struct )", 200, ExprLevel::Expr, "syntax 2"),
-    ("( struct {", 200, ExprLevel::Expr, "left-out 2"),
-    ("( struct s {", 200, ExprLevel::Expr, "left-out 3"),
+    ("( struct {", 200, ExprLevel::Expr, "unsupported 2"),
+    ("( struct s {", 200, ExprLevel::Expr, "unsupported 3"),
     ("( int struct {", 200, ExprLevel::Expr, "syntax 2"),
-    ("( int ) {", 200, ExprLevel::Expr, "left-out 3"),
+    ("( int ) {", 200, ExprLevel::Expr, "unsupported 3"),
     ("( int ) ;", 200, ExprLevel::Expr, "syntax 3"),
     ("( int * * a )", 200, ExprLevel::Expr, "syntax 4"),
     ("( int [ ] )", 200, ExprLevel::Expr, "syntax 3"),
     ("( int [ a = 1 ] )", 200, ExprLevel::Expr, "syntax 4"),
-    ("( sizeof ( int ) {", 200, ExprLevel::Expr, "left-out 5"),
+    ("( sizeof ( int ) {", 200, ExprLevel::Expr, "unsupported 5"),
     ("( f ( a ) {", 200, ExprLevel::Expr, "syntax 5"),
-    ("( static", 200, ExprLevel::Expr, "left-out 1"),
+    ("( static", 200, ExprLevel::Expr, "unsupported 1"),
     ("a [ b ;", 200, ExprLevel::Expr, "syntax 3"),
     ("a . 1", 200, ExprLevel::Expr, "syntax 2"),
     ("f ( a , )", 200, ExprLevel::Expr, "syntax 4"),
