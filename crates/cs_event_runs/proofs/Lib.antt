@@ -1,0 +1,3 @@
+pub mod Firsts
+pub mod Lefts
+pub mod EventLaws

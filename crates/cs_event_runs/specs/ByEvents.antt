@@ -1,0 +1,26 @@
+-- Runs by their events: each event is reached through steps that show nothing.
+use Rattle.std.specs.Prelude.{◌≡◌, ℕ, List, [], ◌∷◌, Some}
+use Rattle.cs_events.specs.declared.outcome.Outcome.{Outcome}
+use Rattle.cs_events.specs.Acts.{Act}
+use Rattle.cs_events.specs.Runs.{Setting, Log, Leads}
+use Rattle.cs_events.specs.Pending.{Pending, pending_in}
+use Rattle.cs_event_runs.specs.First.{Step, First, Silent, Shown, Ended, first_of}
+
+module _ {State : Type 0} (step : State → Act State) (setting : Setting) where
+  -- from where this stands first, a run passes these steps and ends so, with this log
+  pub data RunsTo : First State → List Step → Outcome → Log → Type 0 where
+    ends : {first : First State} {outcome : Outcome} {end : Log} → first ≡ Ended outcome end → RunsTo first [] outcome end
+    shows : {first : First State} {shown : Step} {left : Act State} {log : Log} {steps : List Step} {outcome : Outcome} {end : Log} → first ≡ Shown shown left log → RunsTo (first_of setting log left) steps outcome end → RunsTo first (shown ∷ steps) outcome end
+    silently : {first : First State} {next : State} {log : Log} {steps : List Step} {outcome : Outcome} {end : Log} → first ≡ Silent next log → RunsTo (first_of setting log (step next)) steps outcome end → RunsTo first steps outcome end
+
+  -- the steps by which a run ends so
+  pub record Found (first : First State) (outcome : Outcome) (end : Log) : Type 0 where
+    pub steps : List Step
+    pub runs : RunsTo first steps outcome end
+
+  -- the run from a state and a log is about to pass the event with this number, and this is pending there
+  pub record PendingFrom (m : State) (log : Log) (event : ℕ) (pending : Pending) : Type 0 where
+    pub last : State
+    pub before : Log
+    pub leads : Leads step setting m log last before
+    pub pends : pending_in setting before event (step last) ≡ Some pending

@@ -1,0 +1,59 @@
+-- What stands first in an act that is performed with a log.
+use Rattle.std.specs.Prelude.{ℤ, if◌then◌else◌}
+use Rattle.cs_ast.specs.declared.place.Place.{Place}
+use Rattle.cs_inputs.specs.declared.path.Path.{Path}
+use Rattle.cs_events.specs.declared.event.Event.{Event}
+use Rattle.cs_events.specs.declared.operation.Operation.{Operation}
+use Rattle.cs_events.specs.Objects.{Object}
+use Rattle.cs_events.specs.declared.outcome.Outcome.{Outcome}
+use Rattle.cs_events.specs.declared.outcome.Outcome.TheVariants.{Over}
+use Rattle.cs_events.specs.declared.outcome.Budget.TheVariants.{Events}
+use Rattle.cs_events.specs.Operations.{is_true}
+use Rattle.cs_events.specs.Acts.{Act, Goes, Stops, Reads, Asks, Allocates, Reaches, Touches}
+use Rattle.cs_events.specs.Runs.{Setting, Log, Performed, Continues, Finishes, perform, with_event, with_read, with_touch, has_room, operation_event, number_of, allocation_event, access_event}
+use Rattle.cs_events.specs.Pending.{Pending, Operates, Tries, Accesses}
+
+-- one event of a run: what was pending there, the event that it shows, and the number that leads on
+pub record Step : Type 0 where
+  pub pending : Pending
+  pub event : Event
+  pub answer : ℤ
+
+-- what stands first: the machine goes on in a state, or shows an event and has so much left, or ends
+pub data First (State : Type 0) : Type 0 where
+  Silent : (next : State) (log : Log) → First State
+  Shown : (shown : Step) (left : Act State) (log : Log) → First State
+  Ended : (outcome : Outcome) (log : Log) → First State
+
+-- an operation, an allocation and an access as events of a run
+abbrev pub operated : Setting → Log → Place → Operation → Step
+operated setting log at operation = record { pending = Operates at operation; event = operation_event setting log at operation; answer = number_of setting log operation }
+
+abbrev pub tried : Setting → Place → Path → Step
+tried setting at path = record { pending = Tries at path; event = allocation_event setting at path; answer = setting.inputs path }
+
+abbrev pub accessed : Place → Object → ℤ → Step
+accessed at object offset = record { pending = Accesses at object offset; event = access_event at offset; answer = offset }
+
+module _ {State : Type 0} where
+  -- an event that is shown where the budget of events lets it pass; else the run ends
+  abbrev pub shown_if_room : Setting → Log → Place → Step → Log → Act State → First State
+  shown_if_room setting log at shown before left =
+      if has_room setting log then Shown shown left (with_event before shown.event) else Ended (Over Events at) log
+
+  unfoldable pub first_of : Setting → Log → Act State → First State
+  first_of setting log (Goes next) = Silent next log
+  first_of setting log (Stops outcome) = Ended outcome log
+  first_of setting log (Reads path onward) = first_of setting (with_read log path) (onward (setting.inputs path))
+  first_of setting log (Touches touch act) = first_of setting (with_touch log touch) act
+  first_of setting log (Asks at operation onward) =
+      shown_if_room setting log at (operated setting log at operation) log (onward (number_of setting log operation))
+  first_of setting log (Allocates at path onward) =
+      shown_if_room setting log at (tried setting at path) (with_read log path) (onward (is_true (setting.inputs path)))
+  first_of setting log (Reaches at object offset act) = shown_if_room setting log at (accessed at object offset) log act
+
+  -- what performing makes of it
+  abbrev pub performed : Setting → First State → Performed State
+  performed setting (Silent next log) = Continues next log
+  performed setting (Shown shown left log) = perform setting log left
+  performed setting (Ended outcome log) = Finishes outcome log
