@@ -1,15 +1,13 @@
 -- Runs by their events are runs: they end alike, show the events of the log, and come to what is pending; and there is one of them.
-use Rattle.std.proofs.Common.{◌≡◌, ℕ, suc, ◌+◌, ◌<◌, ◌==◌, Bool, true, false, List, [], ◌∷◌, ◌++◌, map, Some, length, if◌then◌else◌, refl, sym, ap, ◌∙◌, subst, arith}
-use Rattle.std.proofs.lemmas.Bool.Decides.{nat_tests}
-use Rattle.std.proofs.lemmas.List.{append-nil, append_assoc, length-append}
+use Rattle.std.proofs.Common.{◌≡◌, List, [], ◌∷◌, ◌++◌, map, refl, sym, ap, ◌∙◌, subst}
+use Rattle.std.proofs.lemmas.List.{append-nil, append_assoc}
 use Rattle.cs_events.specs.declared.event.Event.{Event}
 use Rattle.cs_events.specs.declared.outcome.Outcome.{Outcome}
 use Rattle.cs_events.specs.Acts.{Act}
-use Rattle.cs_events.specs.Runs.{Setting, Log, empty, Continues, Finishes, perform, Leads, stays, goes, EndsFrom}
-use Rattle.cs_events.specs.Pending.{pending_in, IsPending}
-use Rattle.cs_event_runs.specs.First.{Step, First, Silent, Shown, Ended, first_of, performed}
-use Rattle.cs_event_runs.specs.ByEvents.{RunsTo, ends, shows, silently, Found, PendingFrom}
-use Rattle.cs_event_runs.proofs.Firsts.{performs_first, Within, then_silent, then_ended, then_shown, within, HasEvents, adds_first, first_pending, pends_first}
+use Rattle.cs_events.specs.Runs.{Setting, Log, Continues, Finishes, perform, Leads, stays, goes, EndsFrom}
+use Rattle.cs_event_runs.specs.First.{Step, First, Silent, Ended, first_of, performed}
+use Rattle.cs_event_runs.specs.ByEvents.{RunsTo, ends, shows, silently, Found}
+use Rattle.cs_event_runs.proofs.Firsts.{performs_first, Within, then_silent, then_ended, then_shown, within, HasEvents, adds_first}
 
 module _ {State : Type 0} (step : State → Act State) (setting : Setting) where
   -- a run by its events ends so from a state whose next act is performed as what stands first
@@ -93,66 +91,3 @@ module _ {State : Type 0} (step : State → Act State) (setting : Setting) where
       let same : next' ≡ next = cc in
       let same_log : log' ≡ log = cc in
       one_way rest (from_equal (λ i. first_of setting (same_log i) (step (same i))) rest')
-
-  -- the event after those of the log
-  next_is : (log : Log) (events : List Event) (shown : Event) → log.events ≡ events ++ shown ∷ [] → length log.events ≡ suc (length events)
-  next_is log events shown e =
-      let a : length log.events ≡ length (events ++ shown ∷ []) = ap length e in
-      let b = length-append events (shown ∷ []) in
-      omega arith
-
-  -- a shown event is pending at its number, and a later one in what is left
-  now_pending : (event : ℕ) (shown : Step) (left : Act State) (log : Log) → length log.events ≡ event → first_pending setting event (Shown shown left log) ≡ Some shown.pending
-  now_pending event shown left log e = by_test (length log.events == event) refl where
-    by_test : (b : Bool) → (length log.events == event) ≡ b → (if length log.events == event then Some shown.pending else pending_in setting log event left) ≡ Some shown.pending
-    by_test true t = ap (λ b. if b then Some shown.pending else pending_in setting log event left) t
-    by_test false t = absurd (grind (arith, nat_tests))
-
-  then_pending : (event : ℕ) (shown : Step) (left : Act State) (log : Log) → length log.events < event → first_pending setting event (Shown shown left log) ≡ first_pending setting event (first_of setting log left)
-  then_pending event shown left log e = by_test (length log.events == event) refl where
-    by_test : (b : Bool) → (length log.events == event) ≡ b → (if length log.events == event then Some shown.pending else pending_in setting log event left) ≡ first_pending setting event (first_of setting log left)
-    by_test true t = absurd (grind (arith, nat_tests))
-    by_test false t = ap (λ b. if b then Some shown.pending else pending_in setting log event left) t ∙ pends_first setting event log left
-
-  -- what is pending in the next act at later events is so in what stands first
-  abbrev Continued : State → Log → List Event → First State → Type 0
-  Continued m log events first =
-      (perform setting log (step m) ≡ performed setting first) × ((event : ℕ) → length events < event → pending_in setting log event (step m) ≡ first_pending setting event first)
-
-  -- each step of a run is pending at its number
-  pends_at : {first : First State} {steps : List Step} {outcome : Outcome} {end : Log} → RunsTo step setting first steps outcome end → (before after : List Step) (one : Step) → steps ≡ before ++ one ∷ after → (m : State) (log : Log) (events : List Event) → HasEvents setting events first → Continued m log events first → PendingFrom step setting m log (suc (length events + length before)) one.pending
-  pends_at (ends e) [] after one is m log events has h = cc
-  pends_at (ends e) (x ∷ before) after one is m log events has h = cc
-  pends_at (shows {shown = shown} {left = left} {log = between} e rest) [] after one is m log events has h =
-      let same : shown ≡ one = cc in
-      let count = next_is between events shown.event (subst (HasEvents setting events) e has) in
-      record {
-        last = m;
-        before = log;
-        leads = stays refl refl;
-        pends = h.1 (suc (length events + 0)) (omega arith) ∙ ap (first_pending setting (suc (length events + 0))) e ∙ now_pending (suc (length events + 0)) shown left between (omega arith) ∙ ap (λ (s : Step). Some s.pending) same;
-      }
-  pends_at (shows {shown = shown} {left = left} {log = between} {steps = steps} e rest) (x ∷ before) after one is m log events has h =
-      let tail : steps ≡ before ++ one ∷ after = cc in
-      let count = next_is between events shown.event (subst (HasEvents setting events) e has) in
-      let it = pends_at rest before after one tail m log between.events (adds_first setting between left) (
-        h.0 ∙ ap (performed setting) e ∙ performs_first setting between left,
-        λ event later. h.1 event (omega arith) ∙ ap (first_pending setting event) e ∙ then_pending event shown left between later,
-      ) in
-      let number : suc (length between.events + length before) ≡ suc (length events + suc (length before)) = omega arith in
-      subst (λ n. PendingFrom step setting m log n one.pending) number it
-  pends_at (silently {next = next} {log = between} e rest) before after one is m log events has h =
-      let same : between.events ≡ events = subst (HasEvents setting events) e has in
-      let it = pends_at rest before after one is next between between.events (adds_first setting between (step next))
-      (performs_first setting between (step next), λ event later. pends_first setting event between (step next)) in
-      subst (λ n. PendingFrom step setting m log n one.pending) (ap (λ l. suc (length l + length before)) same)
-      (record { last = it.last; before = it.before; leads = goes (h.0 ∙ ap (performed setting) e) it.leads; pends = it.pends })
-
-  -- the n-th step of a run is what is pending at its n-th event
-  pub step_pends : (start : State) {steps : List Step} {outcome : Outcome} {end : Log} → RunsTo step setting (first_of setting empty (step start)) steps outcome end → (before after : List Step) (one : Step) → steps ≡ before ++ one ∷ after → IsPending step setting start (suc (length before)) one.pending
-  step_pends start runs before after one is =
-      let it = pends_at runs before after one is start empty [] (adds_first setting empty (step start)) (performs_first setting empty (step start), λ event later. pends_first setting event empty (step start)) in
-      let none : List Event = [] in
-      let number : suc (length none + length before) ≡ suc (length before) = omega arith in
-      let there = subst (λ n. PendingFrom step setting start empty n one.pending) number it in
-      record { last = there.last; before = there.before; leads = there.leads; pends = there.pends }

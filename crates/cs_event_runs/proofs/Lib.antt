@@ -1,3 +1,5 @@
 pub mod Firsts
 pub mod Lefts
 pub mod EventLaws
+pub mod Pendings
+pub mod CellsThatMatter

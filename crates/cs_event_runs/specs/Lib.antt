@@ -1,3 +1,4 @@
+pub mod Settings
 pub mod Left
 pub mod First
 pub mod ByEvents
