@@ -3,3 +3,4 @@ pub mod Lefts
 pub mod EventLaws
 pub mod Pendings
 pub mod CellsThatMatter
+pub mod LaterGuesses
