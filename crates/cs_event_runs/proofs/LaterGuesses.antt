@@ -110,7 +110,7 @@ module _ (setting : Setting) (guesses : List Guess) (budgets : RunBudgets) (even
           let has : between.events ≡ log.events = subst (HasEvents setting log.events) (is ∙ e) (adds_first setting log act) in
           let count : length between.events ≡ length log.events = ap length has in
           let it = shows_too rest between (step next) refl (omega arith) in
-          record { one = it.one; shows = unseen same it.shows; pends = it.pends }
+          record { one = it.one; shows = unseen {one = it.one} same it.shows; pends = it.pends }
 
       -- later guesses change nothing of what is pending at the event
       pub pending_before_guesses : (start : State) (pending : Pending) → IsPending step setting start event pending → IsPending step Other start event pending

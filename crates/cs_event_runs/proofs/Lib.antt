@@ -4,3 +4,4 @@ pub mod EventLaws
 pub mod Pendings
 pub mod CellsThatMatter
 pub mod LaterGuesses
+pub mod OwnGuesses

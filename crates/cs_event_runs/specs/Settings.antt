@@ -1,10 +1,12 @@
 -- Settings that a run can't tell apart.
-use Rattle.std.specs.Prelude.{◌≡◌, ℕ, ◌<◌, ◌≤◌, ℤ, List, [], ◌∷◌}
+use Rattle.std.specs.Prelude.{◌≡◌, ℕ, suc, ◌<◌, ◌≤◌, ℤ, List, [], ◌∷◌, length}
 use Rattle.cs_inputs.specs.declared.path.Path.{Path}
 use Rattle.cs_events.specs.declared.outcome.RunBudgets.{RunBudgets}
 use Rattle.cs_events.specs.declared.guess.Guess.{Guess}
-use Rattle.cs_events.specs.Runs.{Setting, Log, guess_at}
-use Rattle.cs_event_runs.specs.First.{First, Silent, Shown, Ended}
+use Rattle.cs_events.specs.Operations.{result_with, guess_range}
+use Rattle.cs_events.specs.Runs.{Setting, Log, guess_at, used}
+use Rattle.cs_events.specs.Pending.{Operates, Tries, Accesses}
+use Rattle.cs_event_runs.specs.First.{Step, First, Silent, Shown, Ended}
 
 -- the log with which what stands first leaves off
 abbrev pub log_in : {State : Type 0} → First State → Log
@@ -29,3 +31,34 @@ with_guesses guesses budgets setting = record setting { guesses = guesses; budge
 pub record AlikeBefore (setting : Setting) (guesses : List Guess) (budgets : RunBudgets) (event : ℕ) : Type 0 where
   pub same : (earlier : ℕ) → earlier < event → guess_at guesses earlier ≡ guess_at setting.guesses earlier
   pub budget : event ≤ budgets.events
+
+-- a step that leads on with its number also where these guesses are listed
+abbrev pub LeadsAlike : Setting → List Guess → ℕ → Step → Type 0
+LeadsAlike setting guesses event one = elim one.pending [
+  | Operates at operation ↦ result_with setting.model operation (used (guess_range setting.model operation) (guess_at guesses event)) ≡ one.answer
+  | Tries at path ↦ Unit {0}
+  | Accesses at object offset ↦ Unit {0}
+]
+
+-- steps from this event on, each of which leads on with its number also where these guesses are listed
+abbrev pub LeadAlike : Setting → List Guess → ℕ → List Step → Type 0
+LeadAlike setting guesses event [] = Unit {0}
+LeadAlike setting guesses event (one ∷ steps) = LeadsAlike setting guesses event one × LeadAlike setting guesses (suc event) steps
+
+-- steps that differ at most in what they show
+pub record LabelsDiffer (one other : Step) : Type 0 where
+  pub pends : other.pending ≡ one.pending
+  pub answers : other.answer ≡ one.answer
+  pub places : other.event.place ≡ one.event.place
+
+abbrev pub AllLabelsDiffer : List Step → List Step → Type 0
+AllLabelsDiffer [] [] = Unit {0}
+AllLabelsDiffer [] (other ∷ others) = ⊥
+AllLabelsDiffer (one ∷ steps) [] = ⊥
+AllLabelsDiffer (one ∷ steps) (other ∷ others) = LabelsDiffer one other × AllLabelsDiffer steps others
+
+-- logs with as many events that have read and touched the same
+pub record LogsAlike (log other : Log) : Type 0 where
+  pub passed : length other.events ≡ length log.events
+  pub read : other.read ≡ log.read
+  pub touches : other.touches ≡ log.touches
