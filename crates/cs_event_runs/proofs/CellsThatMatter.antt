@@ -11,7 +11,8 @@ use Rattle.cs_events.specs.declared.outcome.Budget.TheVariants.{Events}
 use Rattle.cs_events.specs.Pending.{Tries}
 use Rattle.cs_events.specs.Operations.{is_true}
 use Rattle.cs_events.specs.Acts.{Act, Goes, Stops, Reads, Asks, Allocates, Reaches, Touches}
-use Rattle.cs_events.specs.Runs.{Setting, Log, EndsFrom, with_event, with_read, with_touch, has_room, operation_event, number_of, allocation_event, access_event}
+use Rattle.cs_events.specs.Runs.{Setting, Log, EndsFrom, with_event, with_read, with_touch, has_room, operation_event, number_of, allocation_event}
+use Rattle.cs_events.specs.Runs.{access_event}
 use Rattle.cs_event_runs.specs.First.{Step, First, Silent, Shown, Ended, operated, tried, accessed, first_of}
 use Rattle.cs_event_runs.specs.ByEvents.{RunsTo, ends, shows, silently}
 use Rattle.cs_event_runs.specs.Settings.{log_in, Agree, with_inputs}
@@ -45,17 +46,22 @@ module _ {State : Type 0} (setting : Setting) where
   unfolding first_of
   reads_on log (Goes next) = none_more log (Silent next log) refl
   reads_on log (Stops outcome) = none_more log (Ended outcome log) refl
-  reads_on log (Reads path onward) = one_more log path (first_of setting (with_read log path) (onward (setting.inputs path))) (reads_on (with_read log path) (onward (setting.inputs path)))
+  reads_on log (Reads path onward) =
+      one_more log path (first_of setting (with_read log path) (onward (setting.inputs path))) (reads_on (with_read log path) (onward (setting.inputs path)))
   reads_on log (Touches touch act) = reads_on (with_touch log touch) act
   reads_on log (Asks at operation onward) =
-      both log (has_room setting log) _ _ (none_more log (Shown (operated setting log at operation) (onward (number_of setting log operation)) (with_event log (operation_event setting log at operation))) refl) (none_more log (Ended (Over Events at) log) refl)
+      both log (has_room setting log) _ _
+      (none_more log (Shown (operated setting log at operation) (onward (number_of setting log operation))
+      (with_event log (operation_event setting log at operation))) refl) (none_more log (Ended (Over Events at) log) refl)
   reads_on log (Allocates at path onward) =
       both log (has_room setting log) _ _ (path ∷ [], refl) (none_more log (Ended (Over Events at) log) refl)
   reads_on log (Reaches at object offset act) =
-      both log (has_room setting log) _ _ (none_more log (Shown (accessed at object offset) act (with_event log (access_event at offset))) refl) (none_more log (Ended (Over Events at) log) refl)
+      both log (has_room setting log) _ _ (none_more log (Shown (accessed at object offset) act (with_event log (access_event at offset))) refl)
+      (none_more log (Ended (Over Events at) log) refl)
 
   -- inputs that agree on the paths up to what stands first agree on those of the log
-  agree_before : (other : Path → ℤ) (log : Log) (act : Act State) → Agree setting.inputs other (log_in (first_of setting log act)).read → Agree setting.inputs other log.read
+  agree_before : (other : Path → ℤ) (log : Log) (act : Act State) → Agree setting.inputs other (log_in (first_of setting log act)).read
+      → Agree setting.inputs other log.read
   agree_before other log act agree =
       let more = reads_on log act in
       beginning setting.inputs other log.read more.0 (subst (Agree setting.inputs other) more.1 agree)
@@ -63,22 +69,29 @@ module _ {State : Type 0} (setting : Setting) where
   -- with inputs that agree there the same stands first
   module _ (other : Path → ℤ) where
     allocates_alike : (room : Bool) (log : Log) (at : Place) (path : Path) (onward : Bool → Act State) →
-        Agree setting.inputs other (log_in (if room then Shown (tried setting at path) (onward (is_true (setting.inputs path))) (with_event (with_read log path) (allocation_event setting at path)) else Ended (Over Events at) log)).read →
-        (if room then Shown (tried (with_inputs other setting) at path) (onward (is_true (other path))) (with_event (with_read log path) (allocation_event (with_inputs other setting) at path)) else Ended (Over Events at) log)
-        ≡ (if room then Shown (tried setting at path) (onward (is_true (setting.inputs path))) (with_event (with_read log path) (allocation_event setting at path)) else Ended (Over Events at) log)
+        Agree setting.inputs other
+        (log_in (if room then Shown (tried setting at path) (onward (is_true (setting.inputs path)))
+        (with_event (with_read log path) (allocation_event setting at path)) else Ended (Over Events at) log)).read →
+        (if room then Shown (tried (with_inputs other setting) at path) (onward (is_true (other path)))
+        (with_event (with_read log path) (allocation_event (with_inputs other setting) at path)) else Ended (Over Events at) log)
+        ≡ (if room then Shown (tried setting at path) (onward (is_true (setting.inputs path)))
+        (with_event (with_read log path) (allocation_event setting at path)) else Ended (Over Events at) log)
     allocates_alike true log at path onward agree =
         let e = at_last setting.inputs other log.read path agree in
         let event : ℤ → Event = λ n. record { place = at; label = Alloc (is_true n) } in
-        ap (λ n. Shown (record { pending = Tries at path; event = event n; answer = n }) (onward (is_true n)) (with_event (with_read log path) (event n))) (sym e)
+        ap (λ n. Shown (record { pending = Tries at path; event = event n; answer = n }) (onward (is_true n)) (with_event (with_read log path) (event n)))
+        (sym e)
     allocates_alike false log at path onward agree = refl
 
-    first_alike : (log : Log) (act : Act State) → Agree setting.inputs other (log_in (first_of setting log act)).read → first_of (with_inputs other setting) log act ≡ first_of setting log act
+    first_alike : (log : Log) (act : Act State) → Agree setting.inputs other (log_in (first_of setting log act)).read
+        → first_of (with_inputs other setting) log act ≡ first_of setting log act
     unfolding first_of
     first_alike log (Goes next) agree = refl
     first_alike log (Stops outcome) agree = refl
     first_alike log (Reads path onward) agree =
         let e = at_last setting.inputs other log.read path (agree_before other (with_read log path) (onward (setting.inputs path)) agree) in
-        ap (λ n. first_of (with_inputs other setting) (with_read log path) (onward n)) (sym e) ∙ first_alike (with_read log path) (onward (setting.inputs path)) agree
+        ap (λ n. first_of (with_inputs other setting) (with_read log path) (onward n)) (sym e)
+        ∙ first_alike (with_read log path) (onward (setting.inputs path)) agree
     first_alike log (Touches touch act) agree = first_alike (with_touch log touch) act agree
     first_alike log (Asks at operation onward) agree = refl
     first_alike log (Allocates at path onward) agree = allocates_alike (has_room setting log) log at path onward agree
@@ -86,14 +99,16 @@ module _ {State : Type 0} (setting : Setting) where
 
     module _ (step : State → Act State) where
       -- inputs that agree on all that a run reads agree on what it has read before
-      agree_so_far : {first : First State} {steps : List Step} {outcome : Outcome} {end : Log} → RunsTo step setting first steps outcome end → Agree setting.inputs other end.read → Agree setting.inputs other (log_in first).read
+      agree_so_far : {first : First State} {steps : List Step} {outcome : Outcome} {end : Log} → RunsTo step setting first steps outcome end
+          → Agree setting.inputs other end.read → Agree setting.inputs other (log_in first).read
       agree_so_far (ends e) agree = subst (λ f. Agree setting.inputs other (log_in f).read) (sym e) agree
       agree_so_far (shows {left = left} {log = log} e rest) agree =
           subst (λ f. Agree setting.inputs other (log_in f).read) (sym e) (agree_before other log left (agree_so_far rest agree))
       agree_so_far (silently {next = next} {log = log} e rest) agree =
           subst (λ f. Agree setting.inputs other (log_in f).read) (sym e) (agree_before other log (step next) (agree_so_far rest agree))
 
-      runs_alike : {first : First State} {steps : List Step} {outcome : Outcome} {end : Log} → RunsTo step setting first steps outcome end → Agree setting.inputs other end.read → RunsTo step (with_inputs other setting) first steps outcome end
+      runs_alike : {first : First State} {steps : List Step} {outcome : Outcome} {end : Log} → RunsTo step setting first steps outcome end
+          → Agree setting.inputs other end.read → RunsTo step (with_inputs other setting) first steps outcome end
       runs_alike (ends e) agree = ends e
       runs_alike (shows {left = left} {log = log} {steps = steps} {outcome = outcome} {end = end} e rest) agree =
           let same = first_alike log left (agree_so_far rest agree) in
@@ -103,8 +118,10 @@ module _ {State : Type 0} (setting : Setting) where
           silently e (subst (λ f. RunsTo step (with_inputs other setting) f steps outcome end) (sym same) (runs_alike rest agree))
 
       -- with inputs that agree on all that a run reads, the run is the same
-      pub reads_alone_matter : {m : State} {log end : Log} {outcome : Outcome} → EndsFrom step setting m log outcome end → Agree setting.inputs other end.read → EndsFrom step (with_inputs other setting) m log outcome end
+      pub reads_alone_matter : {m : State} {log end : Log} {outcome : Outcome} → EndsFrom step setting m log outcome end
+          → Agree setting.inputs other end.read → EndsFrom step (with_inputs other setting) m log outcome end
       reads_alone_matter {m = m} {log = log} {end = end} {outcome = outcome} one agree =
           let found = events_by_end step setting one in
           let same = first_alike log (step m) (agree_so_far found.runs agree) in
-          ends_by_events step (with_inputs other setting) (subst (λ f. RunsTo step (with_inputs other setting) f found.steps outcome end) (sym same) (runs_alike found.runs agree))
+          ends_by_events step (with_inputs other setting)
+          (subst (λ f. RunsTo step (with_inputs other setting) f found.steps outcome end) (sym same) (runs_alike found.runs agree))

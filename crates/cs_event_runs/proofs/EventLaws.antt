@@ -11,18 +11,21 @@ use Rattle.cs_event_runs.proofs.Firsts.{performs_first, Within, then_silent, the
 
 module _ {State : Type 0} (step : State → Act State) (setting : Setting) where
   -- a run by its events ends so from a state whose next act is performed as what stands first
-  ends_from : {first : First State} {steps : List Step} {outcome : Outcome} {end : Log} → RunsTo step setting first steps outcome end → (m : State) (log : Log) → perform setting log (step m) ≡ performed setting first → EndsFrom step setting m log outcome end
+  ends_from : {first : First State} {steps : List Step} {outcome : Outcome} {end : Log} → RunsTo step setting first steps outcome end
+      → (m : State) (log : Log) → perform setting log (step m) ≡ performed setting first → EndsFrom step setting m log outcome end
   ends_from (ends e) m log h = record { last = m; before = log; leads = stays refl refl; finishes = h ∙ ap (performed setting) e }
   ends_from (shows {left = left} {log = between} e rest) m log h = ends_from rest m log (h ∙ ap (performed setting) e ∙ performs_first setting between left)
   ends_from (silently {next = next} {log = later} e rest) m log h =
       let end = ends_from rest next later (performs_first setting later (step next)) in
       record { last = end.last; before = end.before; leads = goes (h ∙ ap (performed setting) e) end.leads; finishes = end.finishes }
 
-  pub ends_by_events : {m : State} {log : Log} {steps : List Step} {outcome : Outcome} {end : Log} → RunsTo step setting (first_of setting log (step m)) steps outcome end → EndsFrom step setting m log outcome end
+  pub ends_by_events : {m : State} {log : Log} {steps : List Step} {outcome : Outcome} {end : Log}
+      → RunsTo step setting (first_of setting log (step m)) steps outcome end → EndsFrom step setting m log outcome end
   ends_by_events {m = m} {log = log} runs = ends_from runs m log (performs_first setting log (step m))
 
   -- the events of an act that ends the run
-  within_ends : {first : First State} {outcome : Outcome} {end : Log} → Within setting first → performed setting first ≡ Finishes outcome end → Found step setting first outcome end
+  within_ends : {first : First State} {outcome : Outcome} {end : Log} → Within setting first → performed setting first ≡ Finishes outcome end
+      → Found step setting first outcome end
   within_ends then_silent e = cc
   within_ends {outcome = outcome} {end = end} (then_ended {outcome = o} {log = l}) e =
       let same : o ≡ outcome = cc in
@@ -33,7 +36,9 @@ module _ {State : Type 0} (step : State → Act State) (setting : Setting) where
       record { steps = one ∷ found.steps; runs = shows refl found.runs }
 
   -- the events of an act that goes on, and those of the run from there
-  within_goes : {first : First State} {next : State} {later : Log} {outcome : Outcome} {end : Log} → Within setting first → performed setting first ≡ Continues next later → Found step setting (first_of setting later (step next)) outcome end → Found step setting first outcome end
+  within_goes : {first : First State} {next : State} {later : Log} {outcome : Outcome} {end : Log} → Within setting first
+      → performed setting first ≡ Continues next later → Found step setting (first_of setting later (step next)) outcome end
+      → Found step setting first outcome end
   within_goes {next = next} {later = later} {outcome = outcome} {end = end} (then_silent {next = n} {log = l}) e found =
       let same : n ≡ next = cc in
       let same_log : l ≡ later = cc in
@@ -43,18 +48,21 @@ module _ {State : Type 0} (step : State → Act State) (setting : Setting) where
       let more = within_goes rest (sym (performs_first setting log left) ∙ e) found in
       record { steps = one ∷ more.steps; runs = shows refl more.runs }
 
-  by_way : {m last : State} {log before end : Log} {outcome : Outcome} → Leads step setting m log last before → perform setting before (step last) ≡ Finishes outcome end → Found step setting (first_of setting log (step m)) outcome end
+  by_way : {m last : State} {log before end : Log} {outcome : Outcome} → Leads step setting m log last before
+      → perform setting before (step last) ≡ Finishes outcome end → Found step setting (first_of setting log (step m)) outcome end
   by_way {m = m} {log = log} (stays e f) finish =
       within_ends (within setting log (step m)) (sym (performs_first setting log (step m)) ∙ ((λ i. perform setting (f i) (step (e i))) ∙ finish))
   by_way {m = m} {log = log} (goes s way) finish =
       within_goes (within setting log (step m)) (sym (performs_first setting log (step m)) ∙ s) (by_way way finish)
 
   -- a run that ends does so by its events
-  pub events_by_end : {m : State} {log end : Log} {outcome : Outcome} → EndsFrom step setting m log outcome end → Found step setting (first_of setting log (step m)) outcome end
+  pub events_by_end : {m : State} {log end : Log} {outcome : Outcome} → EndsFrom step setting m log outcome end
+      → Found step setting (first_of setting log (step m)) outcome end
   events_by_end one = by_way one.leads one.finishes
 
   -- the log at the end has the events that the steps show, after those before
-  shown_events : {first : First State} {steps : List Step} {outcome : Outcome} {end : Log} → RunsTo step setting first steps outcome end → (events : List Event) → HasEvents setting events first → end.events ≡ events ++ map (λ s. s.event) steps
+  shown_events : {first : First State} {steps : List Step} {outcome : Outcome} {end : Log} → RunsTo step setting first steps outcome end
+      → (events : List Event) → HasEvents setting events first → end.events ≡ events ++ map (λ s. s.event) steps
   shown_events (ends e) events h = subst (HasEvents setting events) e h ∙ sym (append-nil events)
   shown_events (shows {shown = shown} {left = left} {log = log} {steps = steps} e rest) events h =
       let has : log.events ≡ events ++ shown.event ∷ [] = subst (HasEvents setting events) e h in
@@ -65,15 +73,18 @@ module _ {State : Type 0} (step : State → Act State) (setting : Setting) where
       let has : log.events ≡ events = subst (HasEvents setting events) e h in
       shown_events rest log.events (adds_first setting log (step next)) ∙ ap (λ l. l ++ map (λ s. s.event) steps) has
 
-  pub events_shown : (m : State) (log : Log) {steps : List Step} {outcome : Outcome} {end : Log} → RunsTo step setting (first_of setting log (step m)) steps outcome end → end.events ≡ log.events ++ map (λ s. s.event) steps
+  pub events_shown : (m : State) (log : Log) {steps : List Step} {outcome : Outcome} {end : Log}
+      → RunsTo step setting (first_of setting log (step m)) steps outcome end → end.events ≡ log.events ++ map (λ s. s.event) steps
   events_shown m log runs = shown_events runs log.events (adds_first setting log (step m))
 
   -- where what stands first is equal, runs are
-  from_equal : {first other : First State} {steps : List Step} {outcome : Outcome} {end : Log} → other ≡ first → RunsTo step setting other steps outcome end → RunsTo step setting first steps outcome end
+  from_equal : {first other : First State} {steps : List Step} {outcome : Outcome} {end : Log} → other ≡ first
+      → RunsTo step setting other steps outcome end → RunsTo step setting first steps outcome end
   from_equal {steps = steps} {outcome = outcome} {end = end} e runs = subst (λ f. RunsTo step setting f steps outcome end) e runs
 
   -- a run goes one way
-  pub one_way : {first : First State} {steps other : List Step} {outcome outcome' : Outcome} {end end' : Log} → RunsTo step setting first steps outcome end → RunsTo step setting first other outcome' end' → (other ≡ steps) × (outcome' ≡ outcome) × (end' ≡ end)
+  pub one_way : {first : First State} {steps other : List Step} {outcome outcome' : Outcome} {end end' : Log} → RunsTo step setting first steps outcome end
+      → RunsTo step setting first other outcome' end' → (other ≡ steps) × (outcome' ≡ outcome) × (end' ≡ end)
   one_way (ends e) (ends e') = (refl, cc, cc)
   one_way (ends e) (shows e' rest) = cc
   one_way (ends e) (silently e' rest) = cc

@@ -1,5 +1,6 @@
 -- What stands first in an act is what performing it meets first: for runs by their events.
-use Rattle.std.proofs.Common.{◌≡◌, ℕ, suc, ◌==◌, Bool, true, false, List, [], ◌∷◌, ◌++◌, Option, Some, None, length, if◌then◌else◌, refl, sym, ap, ◌∙◌, arith}
+use Rattle.std.proofs.Common.{◌≡◌, ℕ, suc, ◌==◌, Bool, true, false, List, [], ◌∷◌, ◌++◌, Option, Some, None, length, if◌then◌else◌}
+use Rattle.std.proofs.Common.{refl, sym, ap, ◌∙◌, arith}
 use Rattle.std.proofs.lemmas.List.{length-append}
 use Rattle.cs_events.specs.declared.event.Event.{Event}
 use Rattle.cs_events.specs.declared.outcome.Outcome.{Outcome}
@@ -15,7 +16,8 @@ one_more log shown = let a = length-append log.events (shown ∷ []) in omega ar
 
 module _ {State : Type 0} (setting : Setting) where
   -- a function of what stands first goes into both ways of a test
-  into_both : {A : Type 0} (f : First State → A) (room : Bool) (one other : First State) → (if room then f one else f other) ≡ f (if room then one else other)
+  into_both : {A : Type 0} (f : First State → A) (room : Bool) (one other : First State)
+      → (if room then f one else f other) ≡ f (if room then one else other)
   into_both f true one other = refl
   into_both f false one other = refl
 
@@ -27,9 +29,11 @@ module _ {State : Type 0} (setting : Setting) where
   performs_first log (Reads path onward) = performs_first (with_read log path) (onward (setting.inputs path))
   performs_first log (Touches touch act) = performs_first (with_touch log touch) act
   performs_first log (Asks at operation onward) =
-      into_both (performed setting) (has_room setting log) (Shown (operated setting log at operation) (onward (number_of setting log operation)) (with_event log (operation_event setting log at operation))) _
+      into_both (performed setting) (has_room setting log)
+      (Shown (operated setting log at operation) (onward (number_of setting log operation)) (with_event log (operation_event setting log at operation))) _
   performs_first log (Allocates at path onward) =
-      into_both (performed setting) (has_room setting log) (Shown (tried setting at path) (onward (is_true (setting.inputs path))) (with_event (with_read log path) (allocation_event setting at path))) _
+      into_both (performed setting) (has_room setting log)
+      (Shown (tried setting at path) (onward (is_true (setting.inputs path))) (with_event (with_read log path) (allocation_event setting at path))) _
   performs_first log (Reaches at object offset act) =
       into_both (performed setting) (has_room setting log) (Shown (accessed at object offset) act (with_event log (access_event at offset))) _
 
@@ -50,9 +54,11 @@ module _ {State : Type 0} (setting : Setting) where
   within log (Reads path onward) = within (with_read log path) (onward (setting.inputs path))
   within log (Touches touch act) = within (with_touch log touch) act
   within log (Asks at operation onward) =
-      within_both (has_room setting log) _ _ (then_shown (within (with_event log (operation_event setting log at operation)) (onward (number_of setting log operation)))) then_ended
+      within_both (has_room setting log) _ _
+      (then_shown (within (with_event log (operation_event setting log at operation)) (onward (number_of setting log operation)))) then_ended
   within log (Allocates at path onward) =
-      within_both (has_room setting log) _ _ (then_shown (within (with_event (with_read log path) (allocation_event setting at path)) (onward (is_true (setting.inputs path))))) then_ended
+      within_both (has_room setting log) _ _
+      (then_shown (within (with_event (with_read log path) (allocation_event setting at path)) (onward (is_true (setting.inputs path))))) then_ended
   within log (Reaches at object offset act) =
       within_both (has_room setting log) _ _ (then_shown (within (with_event log (access_event at offset)) act)) then_ended
 
@@ -62,7 +68,8 @@ module _ {State : Type 0} (setting : Setting) where
   HasEvents events (Shown shown left log) = log.events ≡ events ++ shown.event ∷ []
   HasEvents events (Ended outcome log) = log.events ≡ events
 
-  has_both : (events : List Event) (room : Bool) (one other : First State) → HasEvents events one → HasEvents events other → HasEvents events (if room then one else other)
+  has_both : (events : List Event) (room : Bool) (one other : First State) → HasEvents events one → HasEvents events other
+      → HasEvents events (if room then one else other)
   has_both events true one other a b = a
   has_both events false one other a b = b
 
@@ -87,7 +94,8 @@ module _ {State : Type 0} (setting : Setting) where
       (if room then (if is_next log event then Some shown.pending else pending_in setting (with_event before shown.event) event left) else None)
       ≡ first_pending event (if room then Shown shown left (with_event before shown.event) else Ended outcome log)
   asked event true log before shown left outcome same =
-      ap (λ n. if n == event then Some shown.pending else pending_in setting (with_event before shown.event) event left) (ap (λ l. suc (length l)) (sym same) ∙ one_more before shown.event)
+      ap (λ n. if n == event then Some shown.pending else pending_in setting (with_event before shown.event) event left) (ap (λ l. suc (length l)) (sym same)
+      ∙ one_more before shown.event)
   asked event false log before shown left outcome same = refl
 
   pub pends_first : (event : ℕ) (log : Log) (act : Act State) → pending_in setting log event act ≡ first_pending event (first_of setting log act)

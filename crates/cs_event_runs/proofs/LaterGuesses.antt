@@ -1,5 +1,6 @@
 -- Guesses at an event and later, and the size of the budget of events, change nothing of what is pending there.
-use Rattle.std.proofs.Common.{◌≡◌, ℕ, suc, ◌+◌, ◌<◌, ◌≤◌, ℤ, Bool, true, false, List, [], ◌∷◌, ◌++◌, Option, length, if◌then◌else◌, refl, sym, ap, ◌∙◌, subst, arith}
+use Rattle.std.proofs.Common.{◌≡◌, ℕ, suc, ◌+◌, ◌<◌, ◌≤◌, ℤ, Bool, true, false, List, [], ◌∷◌, ◌++◌, Option, length}
+use Rattle.std.proofs.Common.{if◌then◌else◌, refl, sym, ap, ◌∙◌, subst, arith}
 use Rattle.std.proofs.lemmas.Bool.Decides.{nat_tests}
 use Rattle.cs_ast.specs.declared.place.Place.{Place}
 use Rattle.cs_events.specs.declared.event.Event.{Event}
@@ -45,13 +46,15 @@ module _ (setting : Setting) (guesses : List Guess) (budgets : RunBudgets) (even
     Near (Shown shown left log) first = ShowsLike shown first
     Near (Ended outcome log) first = Unit {0}
 
-    kept_if : (room other : Bool) (shown : Step) (left : Act State) (log end : Log) (outcome : Outcome) (first rest : First State) → other ≡ true → first ≡ Shown shown left log → Kept (if room then Shown shown left log else Ended outcome end) (if other then first else rest)
+    kept_if : (room other : Bool) (shown : Step) (left : Act State) (log end : Log) (outcome : Outcome) (first rest : First State) → other ≡ true
+        → first ≡ Shown shown left log → Kept (if room then Shown shown left log else Ended outcome end) (if other then first else rest)
     kept_if true true shown left log end outcome first rest h is = is
     kept_if false true shown left log end outcome first rest h is = tt
     kept_if true false shown left log end outcome first rest h is = cc
     kept_if false false shown left log end outcome first rest h is = tt
 
-    near_if : (room other : Bool) (shown one : Step) (left left' : Act State) (log log' end : Log) (outcome : Outcome) (rest : First State) → other ≡ true → one.pending ≡ shown.pending → Near (if room then Shown shown left log else Ended outcome end) (if other then Shown one left' log' else rest)
+    near_if : (room other : Bool) (shown one : Step) (left left' : Act State) (log log' end : Log) (outcome : Outcome) (rest : First State) → other ≡ true
+        → one.pending ≡ shown.pending → Near (if room then Shown shown left log else Ended outcome end) (if other then Shown one left' log' else rest)
     near_if true true shown one left left' log log' end outcome rest h same = record { one = one; left = left'; log = log'; is = refl; pends = same }
     near_if true false shown one left left' log log' end outcome rest h same = cc
     near_if false other shown one left left' log log' end outcome rest h same = tt
@@ -63,7 +66,9 @@ module _ (setting : Setting) (guesses : List Guess) (budgets : RunBudgets) (even
         let shown : Event = record { place = at; label = shows setting.model operation (used (guess_range setting.model operation) guess) } in
         Shown (record { pending = Operates at operation; event = shown; answer = number }) (onward number) (with_event log shown)
 
-    asked_alike : (log : Log) (at : Place) (operation : Operation) (onward : ℤ → Act State) → suc (length log.events) < event → Shown (operated Other log at operation) (onward (number_of Other log operation)) (with_event log (operation_event Other log at operation)) ≡ Shown (operated setting log at operation) (onward (number_of setting log operation)) (with_event log (operation_event setting log at operation))
+    asked_alike : (log : Log) (at : Place) (operation : Operation) (onward : ℤ → Act State) → suc (length log.events) < event
+        → Shown (operated Other log at operation) (onward (number_of Other log operation)) (with_event log (operation_event Other log at operation))
+        ≡ Shown (operated setting log at operation) (onward (number_of setting log operation)) (with_event log (operation_event setting log at operation))
     unfolding with_guess
     asked_alike log at operation onward before = ap (with_guess log at operation onward) (alike.same (suc (length log.events)) before)
 
@@ -95,12 +100,15 @@ module _ (setting : Setting) (guesses : List Guess) (budgets : RunBudgets) (even
         pub shows : ShowsAfter step Other first steps one
         pub pends : one.pending ≡ pending
 
-      shows_too : {first : First State} {steps : List Step} {one : Step} → ShowsAfter step setting first steps one → (log : Log) (act : Act State) → first_of setting log act ≡ first → event ≡ suc (length log.events + length steps) → ShowsToo (first_of Other log act) steps one.pending
+      shows_too : {first : First State} {steps : List Step} {one : Step} → ShowsAfter step setting first steps one
+          → (log : Log) (act : Act State) → first_of setting log act ≡ first → event ≡ suc (length log.events + length steps)
+          → ShowsToo (first_of Other log act) steps one.pending
       shows_too (now {one = one} {left = left} {log = after} e) log act is number =
           let it : ShowsLike one (first_of Other log act) = subst (λ f. Near f (first_of Other log act)) (is ∙ e) (near log act (omega arith)) in
           record { one = it.one; shows = now it.is; pends = it.pends }
       shows_too (later {shown = shown} {one = one} {left = left} {log = between} {steps = steps} e rest) log act is number =
-          let same : first_of Other log act ≡ Shown shown left between = subst (λ f. Kept f (first_of Other log act)) (is ∙ e) (kept log act (omega arith)) in
+          let same : first_of Other log act ≡ Shown shown left between =
+          subst (λ f. Kept f (first_of Other log act)) (is ∙ e) (kept log act (omega arith)) in
           let has : between.events ≡ log.events ++ shown.event ∷ [] = subst (HasEvents setting log.events) (is ∙ e) (adds_first setting log act) in
           let count = next_is between log.events shown.event has in
           let it = shows_too rest between left refl (omega arith) in
@@ -113,10 +121,12 @@ module _ (setting : Setting) (guesses : List Guess) (budgets : RunBudgets) (even
           record { one = it.one; shows = unseen {one = it.one} same it.shows; pends = it.pends }
 
       -- later guesses change nothing of what is pending at the event
-      pub pending_before_guesses : (start : State) (pending : Pending) → IsPending step setting start event pending → IsPending step Other start event pending
+      pub pending_before_guesses : (start : State) (pending : Pending) → IsPending step setting start event pending
+          → IsPending step Other start event pending
       pending_before_guesses start pending one =
           let shown = pending_is_shown step setting start one in
           let it = shows_too shown.shows empty (step start) refl shown.number in
           let there = shown_is_pending step Other start it.shows in
           let n : event ≡ suc (length shown.steps) = let m = shown.number in omega arith in
-          subst (λ k. IsPending step Other start k pending) (sym n) (subst (IsPending step Other start (suc (length shown.steps))) (it.pends ∙ shown.pends) there)
+          subst (λ k. IsPending step Other start k pending) (sym n)
+          (subst (IsPending step Other start (suc (length shown.steps))) (it.pends ∙ shown.pends) there)

@@ -9,7 +9,8 @@ use Rattle.cs_event_runs.specs.First.{First, Silent, Shown, Ended, first_of}
 
 module _ {State : Type 0} where
   -- answers one after another
-  pub left_after : (inputs : Path → ℤ) (answers more : List ℤ) (act : Act State) → left_of inputs (answers ++ more) act ≡ left_of inputs more (left_of inputs answers act)
+  pub left_after : (inputs : Path → ℤ) (answers more : List ℤ) (act : Act State)
+      → left_of inputs (answers ++ more) act ≡ left_of inputs more (left_of inputs answers act)
   unfolding left_of
   left_after inputs answers more (Goes next) = refl
   left_after inputs answers more (Stops outcome) = refl
@@ -25,15 +26,19 @@ module _ {State : Type 0} where
   -- where what stands first is answered by its number, the same is left of the act and of what it leaves
   abbrev Answered : Setting → Act State → First State → Type 0
   Answered setting act (Silent next log) = left_of setting.inputs [] act ≡ Goes next
-  Answered setting act (Shown shown left log) = (answers : List ℤ) → left_of setting.inputs (shown.answer ∷ answers) act ≡ left_of setting.inputs answers left
+  Answered setting act (Shown shown left log) = (answers : List ℤ)
+      → left_of setting.inputs (shown.answer ∷ answers) act ≡ left_of setting.inputs answers left
   Answered setting act (Ended outcome log) = Unit {0}
 
-  either : (setting : Setting) (act : Act State) (room : Bool) (one other : First State) → Answered setting act one → Answered setting act other → Answered setting act (if room then one else other)
+  either : (setting : Setting) (act : Act State) (room : Bool) (one other : First State) → Answered setting act one → Answered setting act other
+      → Answered setting act (if room then one else other)
   either setting act true one other a b = a
   either setting act false one other a b = b
 
   -- an act from which reads and touches were gone through has the same left
-  same_left : (setting : Setting) (one other : Act State) (first : First State) → ((answers : List ℤ) → left_of setting.inputs answers one ≡ left_of setting.inputs answers other) → Answered setting other first → Answered setting one first
+  same_left : (setting : Setting) (one other : Act State) (first : First State)
+      → ((answers : List ℤ) → left_of setting.inputs answers one ≡ left_of setting.inputs answers other) → Answered setting other first
+      → Answered setting one first
   same_left setting one other (Silent next log) same it = same [] ∙ it
   same_left setting one other (Shown shown left log) same it = λ answers. same (shown.answer ∷ answers) ∙ it answers
   same_left setting one other (Ended outcome log) same it = tt
@@ -43,7 +48,8 @@ module _ {State : Type 0} where
   answered setting log (Goes next) = refl
   answered setting log (Stops outcome) = tt
   answered setting log (Reads path onward) =
-      same_left setting (Reads path onward) (onward (setting.inputs path)) _ (λ answers. refl) (answered setting (with_read log path) (onward (setting.inputs path)))
+      same_left setting (Reads path onward) (onward (setting.inputs path)) _ (λ answers. refl)
+      (answered setting (with_read log path) (onward (setting.inputs path)))
   answered setting log (Touches touch act) = same_left setting (Touches touch act) act _ (λ answers. refl) (answered setting (with_touch log touch) act)
   answered setting log (Asks at operation onward) = either setting (Asks at operation onward) (has_room setting log) _ _ (λ answers. refl) tt
   answered setting log (Allocates at path onward) = either setting (Allocates at path onward) (has_room setting log) _ _ (λ answers. refl) tt

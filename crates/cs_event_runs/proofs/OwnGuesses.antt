@@ -1,6 +1,7 @@
 -- Listing results as guesses changes labels alone: where each operation leads on with the same number, the run is the same but for
 -- what its events show.
-use Rattle.std.proofs.Common.{◌≡◌, suc, nat_lt, ℤ, Bool, true, false, List, [], ◌∷◌, ◌++◌, length, if◌then◌else◌, refl, sym, ap, ◌∙◌, subst, arith}
+use Rattle.std.proofs.Common.{◌≡◌, suc, nat_lt, ℤ, Bool, true, false, List, [], ◌∷◌, ◌++◌, length, if◌then◌else◌, refl, sym, ap}
+use Rattle.std.proofs.Common.{◌∙◌, subst, arith}
 use Rattle.std.proofs.lemmas.List.{length-append}
 use Rattle.cs_inputs.specs.declared.path.Path.{Path}
 use Rattle.cs_ast.specs.declared.place.Place.{Place}
@@ -11,7 +12,8 @@ use Rattle.cs_events.specs.declared.guess.Guess.{Guess}
 use Rattle.cs_events.specs.Operations.{guess_range, result_with}
 use Rattle.cs_events.specs.Touches.{Touch}
 use Rattle.cs_events.specs.Acts.{Act, Goes, Stops, Reads, Asks, Allocates, Reaches, Touches}
-use Rattle.cs_events.specs.Runs.{Setting, Log, with_event, with_read, with_touch, has_room, used, guess_at, operation_event, number_of, allocation_event, access_event}
+use Rattle.cs_events.specs.Runs.{Setting, Log, with_event, with_read, with_touch, has_room, used, guess_at, operation_event, number_of, allocation_event}
+use Rattle.cs_events.specs.Runs.{access_event}
 use Rattle.cs_event_runs.specs.First.{Step, First, Silent, Shown, Ended, operated, first_of}
 use Rattle.cs_event_runs.specs.ByEvents.{RunsTo, ends, shows, silently}
 use Rattle.cs_event_runs.specs.Settings.{with_guesses, LeadsAlike, LeadAlike, LabelsDiffer, AllLabelsDiffer, LogsAlike}
@@ -44,7 +46,8 @@ module _ (setting : Setting) (guesses : List Guess) where
     -- what stands first is alike
     data FirstsAlike : First State → First State → Type 0 where
       silent_alike : {next : State} {log other : Log} → LogsAlike log other → FirstsAlike (Silent next log) (Silent next other)
-      shown_alike : {one shown : Step} {left left' : Act State} {log other : Log} → LabelsDiffer one shown → left' ≡ left → LogsAlike log other → FirstsAlike (Shown one left log) (Shown shown left' other)
+      shown_alike : {one shown : Step} {left left' : Act State} {log other : Log} → LabelsDiffer one shown → left' ≡ left → LogsAlike log other
+          → FirstsAlike (Shown one left log) (Shown shown left' other)
       ended_alike : {outcome : Outcome} {log other : Log} → LogsAlike log other → FirstsAlike (Ended outcome log) (Ended outcome other)
 
     -- the step that stands first leads on with its number also with the guesses
@@ -53,7 +56,8 @@ module _ (setting : Setting) (guesses : List Guess) where
     FirstLeads (Shown shown left log) = LeadsAlike setting guesses (length log.events) shown
     FirstLeads (Ended outcome log) = Unit {0}
 
-    both_if : (room other : Bool) (one shown end end' : First State) → other ≡ room → (room ≡ true → FirstLeads one → FirstsAlike one shown) → FirstsAlike end end' → FirstLeads (if room then one else end) → FirstsAlike (if room then one else end) (if other then shown else end')
+    both_if : (room other : Bool) (one shown end end' : First State) → other ≡ room → (room ≡ true → FirstLeads one → FirstsAlike one shown)
+        → FirstsAlike end end' → FirstLeads (if room then one else end) → FirstsAlike (if room then one else end) (if other then shown else end')
     both_if true true one shown end end' e alike over leads = alike refl leads
     both_if true false one shown end end' e alike over leads = cc
     both_if false true one shown end end' e alike over leads = cc
@@ -61,7 +65,8 @@ module _ (setting : Setting) (guesses : List Guess) where
 
     asks_alike : (log other : Log) → LogsAlike log other → (at : Place) (operation : Operation) (onward : ℤ → Act State) →
         LeadsAlike setting guesses (length (with_event log (operation_event setting log at operation)).events) (operated setting log at operation) →
-        FirstsAlike (Shown (operated setting log at operation) (onward (number_of setting log operation)) (with_event log (operation_event setting log at operation)))
+        FirstsAlike (Shown (operated setting log at operation) (onward (number_of setting log operation))
+        (with_event log (operation_event setting log at operation)))
         (Shown (operated Other other at operation) (onward (number_of Other other operation)) (with_event other (operation_event Other other at operation)))
     asks_alike log other alike at operation onward leads =
         let a = length-append log.events (operation_event setting log at operation ∷ []) in
@@ -69,23 +74,30 @@ module _ (setting : Setting) (guesses : List Guess) where
         let number : suc (length other.events) ≡ length (with_event log (operation_event setting log at operation)).events = omega arith in
         let same : number_of Other other operation ≡ number_of setting log operation =
         ap (λ n. result_with setting.model operation (used (guess_range setting.model operation) (guess_at guesses n))) number ∙ leads in
-        shown_alike (record { pends = refl; answers = same; places = refl }) (ap onward same) (one_event_more (operation_event setting log at operation) (operation_event Other other at operation) alike)
+        shown_alike (record { pends = refl; answers = same; places = refl }) (ap onward same)
+        (one_event_more (operation_event setting log at operation) (operation_event Other other at operation) alike)
 
-    firsts_alike : (log other : Log) → LogsAlike log other → (act : Act State) → FirstLeads (first_of setting log act) → FirstsAlike (first_of setting log act) (first_of Other other act)
+    firsts_alike : (log other : Log) → LogsAlike log other → (act : Act State) → FirstLeads (first_of setting log act)
+        → FirstsAlike (first_of setting log act) (first_of Other other act)
     unfolding first_of
     firsts_alike log other alike (Goes next) leads = silent_alike alike
     firsts_alike log other alike (Stops outcome) leads = ended_alike alike
-    firsts_alike log other alike (Reads path onward) leads = firsts_alike (with_read log path) (with_read other path) (one_read_more path alike) (onward (setting.inputs path)) leads
+    firsts_alike log other alike (Reads path onward) leads =
+        firsts_alike (with_read log path) (with_read other path) (one_read_more path alike) (onward (setting.inputs path)) leads
     firsts_alike log other alike (Touches touch act) leads = firsts_alike (with_touch log touch) (with_touch other touch) (one_touch_more touch alike) act leads
     firsts_alike log other alike (Asks at operation onward) leads =
-        both_if (has_room setting log) (has_room Other other) _ _ _ _ (same_room log other alike) (λ room h. asks_alike log other alike at operation onward h) (ended_alike alike) leads
+        both_if (has_room setting log) (has_room Other other) _ _ _ _ (same_room log other alike) (λ room h. asks_alike log other alike at operation onward h)
+        (ended_alike alike) leads
     firsts_alike log other alike (Allocates at path onward) leads =
         both_if (has_room setting log) (has_room Other other) _ _ _ _ (same_room log other alike)
-        (λ room h. shown_alike (record { pends = refl; answers = refl; places = refl }) refl (one_event_more (allocation_event setting at path) (allocation_event setting at path) (one_read_more path alike)))
+        (λ room h.
+        shown_alike (record { pends = refl; answers = refl; places = refl }) refl
+        (one_event_more (allocation_event setting at path) (allocation_event setting at path) (one_read_more path alike)))
         (ended_alike alike) leads
     firsts_alike log other alike (Reaches at object offset act) leads =
         both_if (has_room setting log) (has_room Other other) _ _ _ _ (same_room log other alike)
-        (λ room h. shown_alike (record { pends = refl; answers = refl; places = refl }) refl (one_event_more (access_event at offset) (access_event at offset) alike))
+        (λ room h.
+        shown_alike (record { pends = refl; answers = refl; places = refl }) refl (one_event_more (access_event at offset) (access_event at offset) alike))
         (ended_alike alike) leads
 
     -- what is alike to a state, an event or an end
@@ -114,16 +126,24 @@ module _ (setting : Setting) (guesses : List Guess) where
     silent_too e (shown_alike labels lefts logs) = cc
     silent_too e (ended_alike logs) = cc
 
-    shown_too : {one : Step} {left : Act State} {log : Log} {first other : First State} → first ≡ Shown one left log → FirstsAlike first other → ShownToo one left log other
+    shown_too : {one : Step} {left : Act State} {log : Log} {first other : First State} → first ≡ Shown one left log → FirstsAlike first other
+        → ShownToo one left log other
     shown_too e (silent_alike logs) = cc
     shown_too {one = one} {left = left} {log = log} e (shown_alike {one = a} {shown = s} {left = r} {left' = r'} {log = l} {other = o} labels lefts logs) =
         let same : a ≡ one = cc in
         let same_left : r ≡ left = cc in
         let same_log : l ≡ log = cc in
-        record { shown = s; other = o; is = ap (λ x. Shown s x o) (lefts ∙ same_left); labels = subst (λ x. LabelsDiffer x s) same labels; logs = subst (λ x. LogsAlike x o) same_log logs }
+        record {
+          shown = s;
+          other = o;
+          is = ap (λ x. Shown s x o) (lefts ∙ same_left);
+          labels = subst (λ x. LabelsDiffer x s) same labels;
+          logs = subst (λ x. LogsAlike x o) same_log logs;
+        }
     shown_too e (ended_alike logs) = cc
 
-    ended_too : {outcome : Outcome} {log : Log} {first other : First State} → first ≡ Ended outcome log → FirstsAlike first other → EndedToo outcome log other
+    ended_too : {outcome : Outcome} {log : Log} {first other : First State} → first ≡ Ended outcome log → FirstsAlike first other
+        → EndedToo outcome log other
     ended_too e (silent_alike logs) = cc
     ended_too e (shown_alike labels lefts logs) = cc
     ended_too {outcome = outcome} {log = log} e (ended_alike {outcome = x} {log = l} {other = o} logs) =
@@ -140,7 +160,9 @@ module _ (setting : Setting) (guesses : List Guess) where
         pub labels : AllLabelsDiffer steps others
         pub logs : LogsAlike end other
 
-      runs_alike : {first : First State} {steps : List Step} {outcome : Outcome} {end : Log} → RunsTo step setting first steps outcome end → (log other : Log) → LogsAlike log other → (act : Act State) → first_of setting log act ≡ first → LeadAlike setting guesses (suc (length log.events)) steps → EndsAlike (first_of Other other act) steps outcome end
+      runs_alike : {first : First State} {steps : List Step} {outcome : Outcome} {end : Log} → RunsTo step setting first steps outcome end
+          → (log other : Log) → LogsAlike log other → (act : Act State) → first_of setting log act ≡ first
+          → LeadAlike setting guesses (suc (length log.events)) steps → EndsAlike (first_of Other other act) steps outcome end
       runs_alike (ends e) log other alike act is leads =
           let it = ended_too (is ∙ e) (firsts_alike log other alike act (subst FirstLeads (sym (is ∙ e)) tt)) in
           record { others = []; other = it.other; runs = ends it.is; labels = tt; logs = it.logs }
@@ -154,9 +176,12 @@ module _ (setting : Setting) (guesses : List Guess) where
       runs_alike (silently {next = next} {log = between} {steps = steps} e rest) log other alike act is leads =
           let has : between.events ≡ log.events = subst (HasEvents setting log.events) (is ∙ e) (adds_first setting log act) in
           let it = silent_too (is ∙ e) (firsts_alike log other alike act (subst FirstLeads (sym (is ∙ e)) tt)) in
-          let more = runs_alike rest between it.other it.logs (step next) refl (subst (λ l. LeadAlike setting guesses (suc (length l)) steps) (sym has) leads) in
+          let more = runs_alike rest between it.other it.logs (step next) refl
+          (subst (λ l. LeadAlike setting guesses (suc (length l)) steps) (sym has) leads) in
           record { others = more.others; other = more.other; runs = silently it.is more.runs; labels = more.labels; logs = more.logs }
 
       -- listing results as guesses changes labels alone
-      pub labels_alone : (m : State) (log : Log) {steps : List Step} {outcome : Outcome} {end : Log} → RunsTo step setting (first_of setting log (step m)) steps outcome end → LeadAlike setting guesses (suc (length log.events)) steps → EndsAlike (first_of Other log (step m)) steps outcome end
+      pub labels_alone : (m : State) (log : Log) {steps : List Step} {outcome : Outcome} {end : Log}
+          → RunsTo step setting (first_of setting log (step m)) steps outcome end → LeadAlike setting guesses (suc (length log.events)) steps
+          → EndsAlike (first_of Other log (step m)) steps outcome end
       labels_alone m log runs leads = runs_alike runs log log (record { passed = refl; read = refl; touches = refl }) (step m) refl leads

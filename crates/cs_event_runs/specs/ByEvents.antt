@@ -10,14 +10,18 @@ module _ {State : Type 0} (step : State → Act State) (setting : Setting) where
   -- from where this stands first, a run passes these steps and ends so, with this log
   pub data RunsTo : First State → List Step → Outcome → Log → Type 0 where
     ends : {first : First State} {outcome : Outcome} {end : Log} → first ≡ Ended outcome end → RunsTo first [] outcome end
-    shows : {first : First State} {shown : Step} {left : Act State} {log : Log} {steps : List Step} {outcome : Outcome} {end : Log} → first ≡ Shown shown left log → RunsTo (first_of setting log left) steps outcome end → RunsTo first (shown ∷ steps) outcome end
-    silently : {first : First State} {next : State} {log : Log} {steps : List Step} {outcome : Outcome} {end : Log} → first ≡ Silent next log → RunsTo (first_of setting log (step next)) steps outcome end → RunsTo first steps outcome end
+    shows : {first : First State} {shown : Step} {left : Act State} {log : Log} {steps : List Step} {outcome : Outcome} {end : Log}
+        → first ≡ Shown shown left log → RunsTo (first_of setting log left) steps outcome end → RunsTo first (shown ∷ steps) outcome end
+    silently : {first : First State} {next : State} {log : Log} {steps : List Step} {outcome : Outcome} {end : Log} → first ≡ Silent next log
+        → RunsTo (first_of setting log (step next)) steps outcome end → RunsTo first steps outcome end
 
   -- from where this stands first, a run passes these steps, and then shows this one
   pub data ShowsAfter : First State → List Step → Step → Type 0 where
     now : {first : First State} {one : Step} {left : Act State} {log : Log} → first ≡ Shown one left log → ShowsAfter first [] one
-    later : {first : First State} {shown one : Step} {left : Act State} {log : Log} {steps : List Step} → first ≡ Shown shown left log → ShowsAfter (first_of setting log left) steps one → ShowsAfter first (shown ∷ steps) one
-    unseen : {first : First State} {next : State} {log : Log} {steps : List Step} {one : Step} → first ≡ Silent next log → ShowsAfter (first_of setting log (step next)) steps one → ShowsAfter first steps one
+    later : {first : First State} {shown one : Step} {left : Act State} {log : Log} {steps : List Step} → first ≡ Shown shown left log
+        → ShowsAfter (first_of setting log left) steps one → ShowsAfter first (shown ∷ steps) one
+    unseen : {first : First State} {next : State} {log : Log} {steps : List Step} {one : Step} → first ≡ Silent next log
+        → ShowsAfter (first_of setting log (step next)) steps one → ShowsAfter first steps one
 
   -- the steps by which a run ends so
   pub record Found (first : First State) (outcome : Outcome) (end : Log) : Type 0 where

@@ -10,7 +10,8 @@ use Rattle.cs_events.specs.declared.outcome.Outcome.TheVariants.{Over}
 use Rattle.cs_events.specs.declared.outcome.Budget.TheVariants.{Events}
 use Rattle.cs_events.specs.Operations.{is_true}
 use Rattle.cs_events.specs.Acts.{Act, Goes, Stops, Reads, Asks, Allocates, Reaches, Touches}
-use Rattle.cs_events.specs.Runs.{Setting, Log, Performed, Continues, Finishes, perform, with_event, with_read, with_touch, has_room, operation_event, number_of, allocation_event, access_event}
+use Rattle.cs_events.specs.Runs.{Setting, Log, Performed, Continues, Finishes, perform, with_event, with_read, with_touch, has_room, operation_event, number_of}
+use Rattle.cs_events.specs.Runs.{allocation_event, access_event}
 use Rattle.cs_events.specs.Pending.{Pending, Operates, Tries, Accesses}
 
 -- one event of a run: what was pending there, the event that it shows, and the number that leads on
@@ -27,7 +28,11 @@ pub data First (State : Type 0) : Type 0 where
 
 -- an operation, an allocation and an access as events of a run
 abbrev pub operated : Setting → Log → Place → Operation → Step
-operated setting log at operation = record { pending = Operates at operation; event = operation_event setting log at operation; answer = number_of setting log operation }
+operated setting log at operation = record {
+  pending = Operates at operation;
+  event = operation_event setting log at operation;
+  answer = number_of setting log operation;
+}
 
 abbrev pub tried : Setting → Place → Path → Step
 tried setting at path = record { pending = Tries at path; event = allocation_event setting at path; answer = setting.inputs path }
