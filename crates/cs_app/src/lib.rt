@@ -12,4 +12,5 @@ mod replay;
 mod status;
 
 pub use app::csa;
+pub use replay::entry_of;
 pub use status::Status;

@@ -29,7 +29,7 @@ fn is_entry(function: &Function, name: &Name) -> bool
 }
 
 /// The index of the first function with this name and a body, if there is one.
-fn entry_of(functions: &[Function], name: &Name) -> Option<usize>
+pub fn entry_of(functions: &[Function], name: &Name) -> Option<usize>
     ensures { result ≡ position (λ f. is_entry name.now (routine f)) functions.now }
 {
     functions

@@ -24,6 +24,24 @@ pub fn answered(alloc: Global, words: &str, file: &str) -> Result<(Status, Vec<u
     Ok((ended, written))
 }
 
+/// Adds the text that csa gives to words and a file, unless it answers by this status and text.
+pub fn add_if_otherwise(
+    alloc: Global,
+    found: &mut String,
+    words: &str,
+    file: &str,
+    status: Status,
+    text: &str,
+) -> Result<(), AllocError> {
+    let (ended, written) = answered(alloc, words, file)?;
+    if ended == status && written.as_slice() == text.as_bytes() {
+        return Ok(());
+    }
+    let given = str::from_utf8(&written).unwrap_or("no text");
+    let reported = format!(in alloc; "{words}: {file} gives {given}")?;
+    found.push_str(reported.as_str())
+}
+
 /// Of a table of words, files, statuses and texts, the rows that csa answers otherwise, with the text that it gives.
 pub fn answered_otherwise(
     alloc: Global,
@@ -31,12 +49,7 @@ pub fn answered_otherwise(
 ) -> Result<String, AllocError> {
     let mut found = String::new(alloc);
     for (words, file, status, text) in table {
-        let (ended, written) = answered(alloc, words, file)?;
-        if ended != *status || written.as_slice() != text.as_bytes() {
-            let given = str::from_utf8(&written).unwrap_or("no text");
-            let reported = format!(in alloc; "{words}: {file} gives {given}")?;
-            found.push_str(reported.as_str())?;
-        }
+        add_if_otherwise(alloc, &mut found, words, file, *status, text)?;
     }
     Ok(found)
 }

@@ -2,9 +2,9 @@
 ghost use Rattle.cs_ast.specs.TypedProgram.{typed_program};
 ghost use Rattle.cs_well_formed.specs.Programs.{IsWellFormed};
 
+use cs_app::entry_of;
 use cs_ast::typed::program::Program;
 use cs_lower::lower;
-use cs_names::Name;
 use cs_reference::run;
 use cs_replay::{Replayed, replay};
 use cs_run_state::{Log, Setting};
@@ -21,18 +21,6 @@ fn coded(alloc: Global, setting: &Setting, entry: u32) -> Option<Replayed>
         Ok(code) => replay(alloc, setting, &code, entry).ok(),
         Err(_) => None,
     }
-}
-
-/// The number of the first function with this name and a body, if there is one.
-fn entry_of(program: &Program, name: &Name) -> Option<u32> {
-    let mut number: u32 = 0;
-    for function in &program.functions {
-        if function.name == *name && function.body.is_some() {
-            return Some(number);
-        }
-        number = number.checked_add(1)?;
-    }
-    None
 }
 
 /// Whether two runs have shown, read and touched the same.
@@ -54,7 +42,7 @@ fn runs_agree(alloc: Global, setting: &Setting, entry: u32) -> Option<bool>
 fn agree(alloc: Global, words: &ReplayWords, program: &Program) -> Option<bool>
     requires { IsWellFormed (typed_program program.now) }
 {
-    let entry = entry_of(program, &words.entry)?;
+    let entry = u32::try_from(entry_of(&program.functions, &words.entry)?).ok()?;
     let guesses = Vec::new(alloc);
     let setting = Setting {
         program,

@@ -2,8 +2,7 @@
 
 use cs_app::Status;
 use std::alloc::{AllocError, Global};
-use std::str;
-use tests_csa::asked::answered;
+use tests_csa::asked::add_if_otherwise;
 
 /// The status that a line has.
 fn status_of(line: &str) -> Status {
@@ -20,12 +19,7 @@ fn status_of(line: &str) -> Status {
 pub fn differing(alloc: Global, table: &[(&str, &str, &str)]) -> Result<String, AllocError> {
     let mut found = String::new(alloc);
     for (words, file, line) in table {
-        let (ended, written) = answered(alloc, words, file)?;
-        if written.as_slice() != line.as_bytes() || ended != status_of(line) {
-            let text = str::from_utf8(&written).unwrap_or("no text");
-            let reported = format!(in alloc; "{words} on {file} gives {text}")?;
-            found.push_str(reported.as_str())?;
-        }
+        add_if_otherwise(alloc, &mut found, words, file, status_of(line), line)?;
     }
     Ok(found)
 }
