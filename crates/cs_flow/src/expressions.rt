@@ -20,7 +20,7 @@ impl Points {
         ensures points { OnOk result (points_of self.new ≡ cfg.points (typed e.now) (next_of following) ++ points_of self.old) }
         ensures first { IfOk result (λ first. next_of first ≡ cfg.first (typed e.now) (next_of following)) }
     {
-        match &e.kind {
+        match &*e.kind {
             ExprKind::Number(_) | ExprKind::Null | ExprKind::Text(_) => Ok(following),
             ExprKind::Local(_) | ExprKind::Global(_) => Ok(following),
             ExprKind::Through(a)

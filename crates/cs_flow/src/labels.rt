@@ -45,7 +45,7 @@ impl Labels {
     fn find(&mut self, s: &Stmt) -> Result<(), AllocError>
         ensures { OnOk result ((label : ℕ) → labels_of self.new label ≡ at_label (labels_of self.old label) (label_in label (statement s.now))) }
     {
-        match &s.kind {
+        match &*s.kind {
             StmtKind::Block(list) => self.find_in(list),
             StmtKind::If(_, body) => self.find(body),
             StmtKind::IfElse(_, body, other) => {

@@ -28,7 +28,7 @@ impl Points {
         ensures first { IfOk result (λ first. next_of first ≡ cfg.starts (targets_of to.entry) (statement s.now) (next_of following)) }
     {
         let place = s.place;
-        match &s.kind {
+        match &*s.kind {
             StmtKind::Block(list) => self.statements(list, to, following),
             StmtKind::Declare(_, Some(initial)) => self.initial(initial, following),
             StmtKind::Declare(_, None) => Ok(following),

@@ -1,4 +1,4 @@
-use Rattle.std.proofs.Common.{refl, ap, ◌∙◌}
+use Rattle.std.proofs.Common.{refl, sym, ap, ◌∙◌}
 use Rattle.cs_ast.specs.TypedView.{form}
 use Rattle.cs_ast.proofs.TypedRows.{form-Call, form-Allocate}
 use Rattle.cs_flow.specs.PointView.{next_of, points_of}
@@ -7,21 +7,21 @@ use Rattle.cs_flow.proofs.points.Points.+expression.Goals as goal
 
 pub expression-returns-in-Call-clause-points : goal.expression-returns-in-Call-clause-points
 expression-returns-in-Call-clause-points t c =
-    rw (ap form c.in-Call.is ∙ form-Call _ c.in-Call.arguments) (rw c.deref-in-Call.ensures.value at c.expressions.ensures.points)
+    rw (ap form (sym c.deref.ensures ∙ c.in-Call.is) ∙ form-Call _ c.in-Call.arguments) (rw c.deref-in-Call.ensures.value at c.expressions.ensures.points)
 
 pub expression-returns-in-Call-clause-first : goal.expression-returns-in-Call-clause-first
 expression-returns-in-Call-clause-first t c =
-    rw (ap form c.in-Call.is ∙ form-Call _ c.in-Call.arguments) (rw c.deref-in-Call.ensures.value at c.expressions.ensures.first)
+    rw (ap form (sym c.deref.ensures ∙ c.in-Call.is) ∙ form-Call _ c.in-Call.arguments) (rw c.deref-in-Call.ensures.value at c.expressions.ensures.first)
 
 pub expression-returns-in-Allocate-clause-points :
     goal.expression-returns-in-Allocate-clause-points
 expression-returns-in-Allocate-clause-points t c =
-    rw (ap form c.in-Allocate.is ∙ form-Allocate _ c.in-Allocate.arguments _) (rw c.deref-in-Allocate.ensures.value at c.expressions-in-Allocate.ensures.points)
+    rw (ap form (sym c.deref.ensures ∙ c.in-Allocate.is) ∙ form-Allocate _ c.in-Allocate.arguments _) (rw c.deref-in-Allocate.ensures.value at c.expressions-in-Allocate.ensures.points)
 
 pub expression-returns-in-Allocate-clause-first :
     goal.expression-returns-in-Allocate-clause-first
 expression-returns-in-Allocate-clause-first t c =
-    rw (ap form c.in-Allocate.is ∙ form-Allocate _ c.in-Allocate.arguments _) (rw c.deref-in-Allocate.ensures.value at c.expressions-in-Allocate.ensures.first)
+    rw (ap form (sym c.deref.ensures ∙ c.in-Allocate.is) ∙ form-Allocate _ c.in-Allocate.arguments _) (rw c.deref-in-Allocate.ensures.value at c.expressions-in-Allocate.ensures.first)
 
 pub expressions-loop-e-init : goal.expressions-loop-e-init
 expressions-loop-e-init t c =

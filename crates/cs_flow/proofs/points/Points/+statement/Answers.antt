@@ -1,4 +1,4 @@
-use Rattle.std.proofs.Common.{◌≡◌, map, refl, ap, ◌∙◌, append_assoc}
+use Rattle.std.proofs.Common.{◌≡◌, map, refl, sym, ap, ◌∙◌, append_assoc}
 use Rattle.cs_ast.specs.TypedView.{statement_at, statement_list}
 use Rattle.cs_ast.proofs.TypedRows.{statement_at-Block, statement_at-For, statement_at-Switch}
 use Rattle.cs_cfg.specs.ControlPoints.{in_switch}
@@ -11,25 +11,25 @@ use Rattle.cs_flow.proofs.points.Points.+statement.Goals as goal
 
 pub statement-returns-in-Block-clause-points : goal.statement-returns-in-Block-clause-points
 statement-returns-in-Block-clause-points t c =
-    rw (ap (statement_at c.args.s.now.place) c.in-Block.is ∙ statement_at-Block c.args.s.now.place c.in-Block.list) (rw c.deref.ensures.value at c.statements.ensures.points)
+    rw (ap (statement_at c.args.s.now.place) (sym c.deref.ensures ∙ c.in-Block.is) ∙ statement_at-Block c.args.s.now.place c.in-Block.list) (rw c.deref-in-Block.ensures.value at c.statements.ensures.points)
 
 pub statement-returns-in-Block-clause-first : goal.statement-returns-in-Block-clause-first
 statement-returns-in-Block-clause-first t c =
-    rw (ap (statement_at c.args.s.now.place) c.in-Block.is ∙ statement_at-Block c.args.s.now.place c.in-Block.list) (rw c.deref.ensures.value at c.statements.ensures.first)
+    rw (ap (statement_at c.args.s.now.place) (sym c.deref.ensures ∙ c.in-Block.is) ∙ statement_at-Block c.args.s.now.place c.in-Block.list) (rw c.deref-in-Block.ensures.value at c.statements.ensures.first)
 
 pub statement-returns-in-For-clause-points : goal.statement-returns-in-For-clause-points
 statement-returns-in-For-clause-points t c =
-    rw (ap (statement_at c.args.s.now.place) c.in-For.is ∙ statement_at-For c.args.s.now.place c.in-For.first c.in-For.test c.in-For.last c.in-For.body)
-    (rw (c.deref-in-For.ensures.value, c.deref-in-For-2.ensures) at c.for_loop.ensures.points)
+    rw (ap (statement_at c.args.s.now.place) (sym c.deref.ensures ∙ c.in-For.is) ∙ statement_at-For c.args.s.now.place c.in-For.first c.in-For.test c.in-For.last c.in-For.body)
+    (rw c.deref-in-For.ensures.value at c.for_loop.ensures.points)
 
 pub statement-returns-in-For-clause-first : goal.statement-returns-in-For-clause-first
 statement-returns-in-For-clause-first t c =
-    rw (ap (statement_at c.args.s.now.place) c.in-For.is ∙ statement_at-For c.args.s.now.place c.in-For.first c.in-For.test c.in-For.last c.in-For.body)
+    rw (ap (statement_at c.args.s.now.place) (sym c.deref.ensures ∙ c.in-For.is) ∙ statement_at-For c.args.s.now.place c.in-For.first c.in-For.test c.in-For.last c.in-For.body)
     (rw c.deref-in-For.ensures.value at c.for_loop.ensures.first)
 
 pub statement-returns-in-Switch-clause-points : goal.statement-returns-in-Switch-clause-points
 statement-returns-in-Switch-clause-points t c =
-    rw (ap (statement_at c.args.s.now.place) c.in-Switch.is ∙ statement_at-Switch c.args.s.now.place c.in-Switch.value c.in-Switch.cases c.in-Switch.list)
+    rw (ap (statement_at c.args.s.now.place) (sym c.deref.ensures ∙ c.in-Switch.is) ∙ statement_at-Switch c.args.s.now.place c.in-Switch.value c.in-Switch.cases c.in-Switch.list)
     (rw (c.deref-in-Switch.ensures.value, c.deref-in-Switch-2.ensures.value) at c.switch.ensures.points)
 
 pub statements-loop-s-preserved : goal.statements-loop-s-preserved
