@@ -53,9 +53,6 @@ map_reverse f (x ∷ xs) =
     ∙ (map-append f (reverse xs) (x ∷ [])
     ∙ (ap (λ l. l ++ f x ∷ []) (map_reverse f xs) ∙ sym (reverse-append (f x ∷ []) (map f xs))))
 
-pub reverse_map_push : {X Y : Type 0} (f : X → Y) (xs : List X) (x : X) → reverse (map f (xs ++ x ∷ [])) ≡ f x ∷ reverse (map f xs)
-reverse_map_push f xs x = ap reverse (map-append f xs (x ∷ [])) ∙ reverse-append (map f xs) (f x ∷ [])
-
 -- nothing more, and more and more
 pub nothing_more : (built : Built) → Grows 0 built built
 nothing_more built = record { same = refl; counts = omega arith; keeps = λ flow has. has }

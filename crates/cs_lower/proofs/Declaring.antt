@@ -98,10 +98,6 @@ module _ {program : TypedProgram} {routine : Routine} where
     adds = λ flow has args following m. same_before is (adds_silent at 0 (graph.Spell declaration offset bytes) q refl);
   }
 
-  -- pieces in a row, lowered from the end
-  pub none_stored : (at : Place) (declaration : ℕ) (built : Built) (p : Point) → StoresPieces program routine at declaration [] built built p p
-  none_stored at declaration built p = record { grows = nothing_more built; does = λ flow has args. refl; adds = λ flow has args following m. adds_nothing }
-
   pub stored_then : {at : Place} {declaration : ℕ} {one : Piece} {others : List Piece} {old mid new : Built} {p r q : Point} → StoresPieces program routine at declaration others old mid r q → StoresPieces program routine at declaration (one ∷ []) mid new p r
       → StoresPieces program routine at declaration (one ∷ others) old new p q
   stored_then {at = at} {declaration = declaration} {one = one} {others = others} {p = p} {r = r} {q = q} rest first = record {

@@ -4,7 +4,7 @@ use Rattle.cs_types.specs.Shape.{Shape, void}
 use Rattle.cs_ast.specs.declared.place.Place.{Place}
 use Rattle.cs_ast.specs.declared.typed.expression.Expr.{Expr}
 use Rattle.cs_ast.specs.TypedView.{typed, typed_list}
-use Rattle.cs_ast.specs.TypedTree.{Typed, Of, And, Or, Choice, NoMore}
+use Rattle.cs_ast.specs.TypedTree.{Typed, Of, And, Or, Choice, Comma, NoMore}
 use Rattle.cs_ast.specs.TypedProgram.{TypedProgram}
 use Rattle.cs_events.specs.declared.point.PointKind.TheVariants as point
 use Rattle.cs_cfg.specs.ControlPoints.{met, ControlPoint, first, first_in, points_in}
@@ -18,7 +18,7 @@ use Rattle.cs_cfg.proofs.Meeting.{joins_meet, does_meets, split_meets, same_meet
 use Rattle.cs_lower.specs.Allocations.{HasArguments, AllHaveArguments}
 use Rattle.cs_lower.specs.Building.{jump_to, Built, blocks, Has}
 use Rattle.cs_lower.specs.Sealing.{Seals}
-use Rattle.cs_lower.specs.Expressions.{Evaluates, Uses, UsesBoth, UsesAll, UsesIn, Ands, Ors, Chooses, Commas}
+use Rattle.cs_lower.specs.Expressions.{Evaluates, EvaluatesForm, Uses, UsesBoth, UsesAll, UsesIn}
 use Rattle.cs_lower.proofs.Built.{nothing_more, grows_on, adds_nothing}
 
 module _ {flow : Flow} {some : List ControlPoint} where
@@ -66,10 +66,12 @@ module _ {program : TypedProgram} where
       let is : next ≡ suc number = omega arith in
       record {
         grows = grows_on last.grows before.grows;
-        does = λ flow has a b. (r, before.does flow has a, subst (λ (n : ℕ). used program flow other n r q) is (last.does flow (before.grows.keeps flow has) b));
-        adds = λ flow has a b following m.
+        does = λ flow has args.
+            (r, before.does flow has args.0, subst (λ (n : ℕ). used program flow other n r q) is (last.does flow (before.grows.keeps flow has) args.1));
+        adds = λ flow has args following m.
             let in_mid = before.grows.keeps flow has in
-            adds_both (last.adds flow in_mid b following m) (before.adds flow has a (first other following) (used_meets program flow other next r q (last.does flow in_mid b) m));
+            let other_meets = used_meets program flow other next r q (last.does flow in_mid args.1) m in
+            adds_both (last.adds flow in_mid args.1 following m) (before.adds flow has args.0 (first other following) other_meets);
       }
 
   -- expressions in a row
@@ -103,86 +105,86 @@ module _ {program : TypedProgram} where
       }
 
   -- the comma
-  pub commas : {at : Place} {a b : Typed} {number : ℕ} {old mid new : Built} {p s r q : Point} → Uses program b number old mid r q → s ≡ does at number graph.Drop r → Evaluates program a number mid new p s → Commas program at a b number old new p q
+  pub commas : {at : Place} {a b : Typed} {number : ℕ} {old mid new : Built} {p s r q : Point} → Uses program b number old mid r q → s ≡ does at number graph.Drop r → Evaluates program a number mid new p s → EvaluatesForm program at (Comma a b) number old new p q
   commas {at = at} {a = a} {b = b} {number = number} {p = p} {r = r} {q = q} last is one = record {
     grows = grows_on last.grows one.grows;
-    does = λ flow has in_a in_b ty. (r, subst (λ s. evaluates program flow a number p s) is (one.does flow has in_a), last.does flow (one.grows.keeps flow has) in_b);
-    adds = λ flow has in_a in_b following m.
+    does = λ flow has args ty. (r, subst (λ s. evaluates program flow a number p s) is (one.does flow has args.0), last.does flow (one.grows.keeps flow has) args.1);
+    adds = λ flow has args following m.
         let in_mid = one.grows.keeps flow has in
-        let dropped = does_meets at number graph.Drop r refl (used_meets program flow b number r q (last.does flow in_mid in_b) m) in
-        adds_both (last.adds flow in_mid in_b following m) (adds_past at number graph.Drop r refl (same_after is (one.adds flow has in_a (first b following) (same_meets is dropped))));
+        let dropped = does_meets at number graph.Drop r refl (used_meets program flow b number r q (last.does flow in_mid args.1) m) in
+        adds_both (last.adds flow in_mid args.1 following m) (adds_past at number graph.Drop r refl (same_after is (one.adds flow has args.0 (first b following) (same_meets is dropped))));
   }
 
   -- the ways of a branch, each of which ends with a jump to one block
-  pub ands : {at : Place} {a b : Typed} {number end one other : ℕ} {old x y z new : Built} {p q s t : Point} → Seals old x end q → s ≡ does at number graph.Judge (jump_to end) → UsesIn program b number x y one s → Seals y z other (does at number (graph.Number (pos 0)) (jump_to end)) → t ≡ split at number one other → Uses program a number z new p t → Ands program at a b number old new p q
+  pub ands : {at : Place} {a b : Typed} {number end one other : ℕ} {old x y z new : Built} {p q s t : Point} → Seals old x end q → s ≡ does at number graph.Judge (jump_to end) → UsesIn program b number x y one s → Seals y z other (does at number (graph.Number (pos 0)) (jump_to end)) → t ≡ split at number one other → Uses program a number z new p t → EvaluatesForm program at (And a b) number old new p q
   ands {at = at} {a = a} {b = b} {number = number} {end = end} {one = one} {other = other} {z = z} {new = new} {p = p} {q = q} ends judges way knows tests test =
       let joins : (flow : Flow) → Has flow z → Joins program flow (jump_to end) q = λ flow in_z. jump_joins program flow end q (ends.is flow (way.grows.keeps flow (knows.grows.keeps flow in_z))) in
-      let placed : (flow : Flow) → Has flow new → HasArguments a → HasArguments b → (ty : Shape) → evaluates_form program flow at ty (And a b) number p q = λ flow has in_a in_b ty.
+      let placed : (flow : Flow) → Has flow new → HasArguments a × HasArguments b → (ty : Shape) → evaluates_form program flow at ty (And a b) number p q = λ flow has args ty.
       let in_z = test.grows.keeps flow has in
       let in_y = knows.grows.keeps flow in_z in (
         one,
         other,
-        subst (λ r. used program flow a number p r) tests (test.does flow has in_a),
-        judged_is program flow at b number (block_of flow one) (jump_to end) q (subst (λ r. used program flow b number (block_of flow one) r) judges (way.does flow in_y in_b)) (joins flow in_z),
+        subst (λ r. used program flow a number p r) tests (test.does flow has args.0),
+        judged_is program flow at b number (block_of flow one) (jump_to end) q (subst (λ r. used program flow b number (block_of flow one) r) judges (way.does flow in_y args.1)) (joins flow in_z),
         (jump_to end, knows.is flow in_z, joins flow in_z),
       ) in
       record {
         grows = grows_on ends.grows (grows_on way.grows (grows_on knows.grows test.grows));
         does = placed;
-        adds = λ flow has in_a in_b following m.
+        adds = λ flow has args following m.
             let in_z = test.grows.keeps flow has in
             let in_y = knows.grows.keeps flow in_z in
             let truth = does_meets at number graph.Judge (jump_to end) refl (joins_meet (joins flow in_z) m) in
-            let right = same_after judges (way.adds flow in_y in_b following (same_meets judges truth)) in
-            let left = same_after tests (test.adds flow has in_a (met point.Branch at) (same_meets tests (split_meets at number one other))) in
-            and_adds program flow at void number end following p q m a b (placed flow has in_a in_b void) (ends.adds flow) right (knows.adds flow) left;
+            let right = same_after judges (way.adds flow in_y args.1 following (same_meets judges truth)) in
+            let left = same_after tests (test.adds flow has args.0 (met point.Branch at) (same_meets tests (split_meets at number one other))) in
+            and_adds program flow at void number end following p q m a b (placed flow has args void) (ends.adds flow) right (knows.adds flow) left;
       }
 
-  pub ors : {at : Place} {a b : Typed} {number end one other : ℕ} {old x y z new : Built} {p q s t : Point} → Seals old x end q → s ≡ does at number graph.Judge (jump_to end) → UsesIn program b number x y other s → Seals y z one (does at number (graph.Number (pos 1)) (jump_to end)) → t ≡ split at number one other → Uses program a number z new p t → Ors program at a b number old new p q
+  pub ors : {at : Place} {a b : Typed} {number end one other : ℕ} {old x y z new : Built} {p q s t : Point} → Seals old x end q → s ≡ does at number graph.Judge (jump_to end) → UsesIn program b number x y other s → Seals y z one (does at number (graph.Number (pos 1)) (jump_to end)) → t ≡ split at number one other → Uses program a number z new p t → EvaluatesForm program at (Or a b) number old new p q
   ors {at = at} {a = a} {b = b} {number = number} {end = end} {one = one} {other = other} {z = z} {new = new} {p = p} {q = q} ends judges way knows tests test =
       let joins : (flow : Flow) → Has flow z → Joins program flow (jump_to end) q = λ flow in_z. jump_joins program flow end q (ends.is flow (way.grows.keeps flow (knows.grows.keeps flow in_z))) in
-      let placed : (flow : Flow) → Has flow new → HasArguments a → HasArguments b → (ty : Shape) → evaluates_form program flow at ty (Or a b) number p q = λ flow has in_a in_b ty.
+      let placed : (flow : Flow) → Has flow new → HasArguments a × HasArguments b → (ty : Shape) → evaluates_form program flow at ty (Or a b) number p q = λ flow has args ty.
       let in_z = test.grows.keeps flow has in
       let in_y = knows.grows.keeps flow in_z in (
         one,
         other,
-        subst (λ r. used program flow a number p r) tests (test.does flow has in_a),
+        subst (λ r. used program flow a number p r) tests (test.does flow has args.0),
         (jump_to end, knows.is flow in_z, joins flow in_z),
-        judged_is program flow at b number (block_of flow other) (jump_to end) q (subst (λ r. used program flow b number (block_of flow other) r) judges (way.does flow in_y in_b)) (joins flow in_z),
+        judged_is program flow at b number (block_of flow other) (jump_to end) q (subst (λ r. used program flow b number (block_of flow other) r) judges (way.does flow in_y args.1)) (joins flow in_z),
       ) in
       record {
         grows = grows_on ends.grows (grows_on way.grows (grows_on knows.grows test.grows));
         does = placed;
-        adds = λ flow has in_a in_b following m.
+        adds = λ flow has args following m.
             let in_z = test.grows.keeps flow has in
             let in_y = knows.grows.keeps flow in_z in
             let truth = does_meets at number graph.Judge (jump_to end) refl (joins_meet (joins flow in_z) m) in
-            let right = same_after judges (way.adds flow in_y in_b following (same_meets judges truth)) in
-            let left = same_after tests (test.adds flow has in_a (met point.Branch at) (same_meets tests (split_meets at number one other))) in
-            or_adds program flow at void number end following p q m a b (placed flow has in_a in_b void) (ends.adds flow) right (knows.adds flow) left;
+            let right = same_after judges (way.adds flow in_y args.1 following (same_meets judges truth)) in
+            let left = same_after tests (test.adds flow has args.0 (met point.Branch at) (same_meets tests (split_meets at number one other))) in
+            or_adds program flow at void number end following p q m a b (placed flow has args void) (ends.adds flow) right (knows.adds flow) left;
       }
 
-  pub chooses : {at : Place} {a b c : Typed} {number end one other : ℕ} {old x y z new : Built} {p q t u v : Point} → Seals old x end q → u ≡ jump_to end → UsesIn program b number x y one u → v ≡ jump_to end → UsesIn program c number y z other v → t ≡ split at number one other → Uses program a number z new p t → Chooses program at a b c number old new p q
+  pub chooses : {at : Place} {a b c : Typed} {number end one other : ℕ} {old x y z new : Built} {p q t u v : Point} → Seals old x end q → u ≡ jump_to end → UsesIn program b number x y one u → v ≡ jump_to end → UsesIn program c number y z other v → t ≡ split at number one other → Uses program a number z new p t → EvaluatesForm program at (Choice a b c) number old new p q
   chooses {at = at} {a = a} {b = b} {c = c} {number = number} {end = end} {one = one} {other = other} {y = y} {new = new} {p = p} {q = q} ends jump_one way_one jump_other way_other tests test =
       let joins : (flow : Flow) → Has flow y → Joins program flow (jump_to end) q = λ flow in_y. jump_joins program flow end q (ends.is flow (way_one.grows.keeps flow in_y)) in
-      let placed : (flow : Flow) → Has flow new → HasArguments a → HasArguments b → HasArguments c → (ty : Shape) → evaluates_form program flow at ty (Choice a b c) number p q = λ flow has in_a in_b in_c ty.
+      let placed : (flow : Flow) → Has flow new → HasArguments a × HasArguments b × HasArguments c → (ty : Shape) → evaluates_form program flow at ty (Choice a b c) number p q = λ flow has args ty.
       let in_z = test.grows.keeps flow has in
       let in_y = way_other.grows.keeps flow in_z in (
         one,
         other,
-        subst (λ r. used program flow a number p r) tests (test.does flow has in_a),
-        joined_is program flow b number (block_of flow one) (jump_to end) q (subst (λ r. used program flow b number (block_of flow one) r) jump_one (way_one.does flow in_y in_b)) (joins flow in_y),
-        joined_is program flow c number (block_of flow other) (jump_to end) q (subst (λ r. used program flow c number (block_of flow other) r) jump_other (way_other.does flow in_z in_c)) (joins flow in_y),
+        subst (λ r. used program flow a number p r) tests (test.does flow has args.0),
+        joined_is program flow b number (block_of flow one) (jump_to end) q (subst (λ r. used program flow b number (block_of flow one) r) jump_one (way_one.does flow in_y args.1)) (joins flow in_y),
+        joined_is program flow c number (block_of flow other) (jump_to end) q (subst (λ r. used program flow c number (block_of flow other) r) jump_other (way_other.does flow in_z args.2)) (joins flow in_y),
       ) in
       record {
         grows = grows_on ends.grows (grows_on way_one.grows (grows_on way_other.grows test.grows));
         does = placed;
-        adds = λ flow has in_a in_b in_c following m.
+        adds = λ flow has args following m.
             let in_z = test.grows.keeps flow has in
             let in_y = way_other.grows.keeps flow in_z in
             let on = joins_meet (joins flow in_y) m in
-            let second = same_after jump_one (way_one.adds flow in_y in_b following (same_meets jump_one on)) in
-            let third = same_after jump_other (way_other.adds flow in_z in_c following (same_meets jump_other on)) in
-            let left = same_after tests (test.adds flow has in_a (met point.Branch at) (same_meets tests (split_meets at number one other))) in
-            choice_adds program flow at void number end following p q m a b c (placed flow has in_a in_b in_c void) (ends.adds flow) second third left;
+            let second = same_after jump_one (way_one.adds flow in_y args.1 following (same_meets jump_one on)) in
+            let third = same_after jump_other (way_other.adds flow in_z args.2 following (same_meets jump_other on)) in
+            let left = same_after tests (test.adds flow has args.0 (met point.Branch at) (same_meets tests (split_meets at number one other))) in
+            choice_adds program flow at void number end following p q m a b c (placed flow has args void) (ends.adds flow) second third left;
       }

@@ -1,5 +1,5 @@
 -- What is built of an expression, by its form: for the contract of `lower_expression`.
-use Rattle.std.proofs.Common.{◌≡◌, ℕ, suc, ◌+◌, ◌++◌, List, [], ◌∷◌, Option, Some, None, refl, sym, subst}
+use Rattle.std.proofs.Common.{◌≡◌, ℕ, suc, ◌+◌, ◌++◌, List, [], ◌∷◌, Option, Some, None, refl, sym, ap, subst}
 use Rattle.std.specs.Prelude.{Result, Ok, Err, IfOk}
 use Rattle.cs_types.specs.declared.int_type.IntType.{IntType}
 use Rattle.cs_types.specs.declared.ctype.CType.{CType, Void, Int, Pointer', Array', Struct}
@@ -9,7 +9,9 @@ use Rattle.cs_ast.specs.declared.typed.operator.Allocator.{Allocator}
 use Rattle.cs_ast.specs.declared.typed.operator.BinOp.{BinOp}
 use Rattle.cs_ast.specs.declared.typed.operator.Direction.{Direction}
 use Rattle.cs_ast.specs.declared.typed.operator.Gives.{Gives}
-use Rattle.cs_ast.specs.TypedTree.{Typed, Of, Form, Convert, And, Or, Choice, Comma, Update, Move, Call, Allocate, TypedList}
+use Rattle.cs_ast.specs.declared.typed.operator.Order.{Order}
+use Rattle.cs_ast.specs.declared.typed.operator.Order.TheVariants.{PointerFirst, AmountFirst}
+use Rattle.cs_ast.specs.TypedTree.{Typed, Of, Form, Index, Sum, Convert, Update, Move, Call, Allocate, TypedList}
 use Rattle.cs_ast.specs.TypedProgram.{TypedProgram}
 use Rattle.cs_meaning.specs.Access.{access_of}
 use Rattle.cs_cfg.specs.ControlPoints.{Next, ControlPoint, first, points, points_of}
@@ -24,7 +26,7 @@ use Rattle.cs_cfg.proofs.Fitting.{adds_both, adds_past}
 use Rattle.cs_cfg.proofs.Meeting.{does_meets, same_meets, used_meets}
 use Rattle.cs_lower.specs.Allocations.{HasArguments}
 use Rattle.cs_lower.specs.Building.{Built, blocks, Has, Grows}
-use Rattle.cs_lower.specs.Expressions.{Evaluates, Uses, UsesBoth, UsesAll, Ands, Ors, Chooses, Commas, does_if, acted, fetched}
+use Rattle.cs_lower.specs.Expressions.{Evaluates, EvaluatesForm, Uses, UsesBoth, UsesAll, UsesAround, earlier, later, does_if, acted, fetched}
 use Rattle.cs_lower.proofs.Built.{nothing_more, grows_on, adds_nothing}
 use Rattle.cs_lower.proofs.Evaluating.{same_after}
 
@@ -76,11 +78,11 @@ module _ {program : TypedProgram} {at : Place} {ty : Shape} {number : ℕ} {old 
   pair {a = a} {b = b} is does args points_are acts h = from_parts is acts h.grows
       (λ flow at_once has all.
       let both = args all in
-      let placed = h.does flow has both.0 both.1 in
+      let placed = h.does flow has both in
       does flow placed.0 placed.1 (subst (λ r. used program flow b (suc number) placed.0 r) at_once placed.2))
       (λ flow has all following m.
       let both = args all in
-      subst (λ some. AddsPoints flow some (s ∷ blocks old) (p ∷ blocks new)) (points_are following) (h.adds flow has both.0 both.1 following m))
+      subst (λ some. AddsPoints flow some (s ∷ blocks old) (p ∷ blocks new)) (points_are following) (h.adds flow has both following m))
 
   -- a conversion to void doesn't use the value
   pub convert_away : {form : Form} {a : Typed} → form ≡ Convert a → ty ≡ void → s ≡ acted program (Of at ty form) number q → Evaluates program a number old new p s → Evaluates program (Of at ty form) number old new p q
@@ -101,25 +103,24 @@ module _ {program : TypedProgram} {at : Place} {ty : Shape} {number : ℕ} {old 
       (λ flow at_once has args. (args.0, subst (λ r. used_all program flow row number p r) at_once (parts.does flow has args.1)))
       (λ flow has args following m. parts.adds flow has args.1 following m)
 
-  pub and : {form : Form} {a b : Typed} → form ≡ And a b → s ≡ acted program (Of at ty form) number q → Ands program at a b number old new p s → Evaluates program (Of at ty form) number old new p q
-  and {a = a} {b = b} is acts parts = from_parts is acts parts.grows
-      (λ flow at_once has args. subst (λ r. evaluates program flow (Of at ty (And a b)) number p r) at_once (parts.does flow has args.0 args.1 ty))
-      (λ flow has args following m. parts.adds flow has args.0 args.1 following m)
+  -- a form whose parts are put together before the form is known to be that of the expression
+  pub formed : {form it : Form} → form ≡ it
+      → ((flow : Flow) → evaluates_form program flow at ty it number p (acted program (Of at ty it) number q) → evaluates_form program flow at ty it number p q)
+      → s ≡ acted program (Of at ty form) number q → EvaluatesForm program at it number old new p s → Evaluates program (Of at ty form) number old new p q
+  formed {it = it} is does acts parts = from_parts is acts parts.grows
+      (λ flow at_once has args. does flow (subst (λ r. evaluates_form program flow at ty it number p r) at_once (parts.does flow has args ty)))
+      (λ flow has args following m. parts.adds flow has args following m)
 
-  pub or : {form : Form} {a b : Typed} → form ≡ Or a b → s ≡ acted program (Of at ty form) number q → Ors program at a b number old new p s → Evaluates program (Of at ty form) number old new p q
-  or {a = a} {b = b} is acts parts = from_parts is acts parts.grows
-      (λ flow at_once has args. subst (λ r. evaluates program flow (Of at ty (Or a b)) number p r) at_once (parts.does flow has args.0 args.1 ty))
-      (λ flow has args following m. parts.adds flow has args.0 args.1 following m)
+  -- a pointer and an amount, in their order
+  pub index : {form : Form} {a b : Typed} (order : Order) → form ≡ Index a b order → s ≡ acted program (Of at ty form) number q
+      → UsesBoth program (earlier order a b) (later order a b) number old new p s → Evaluates program (Of at ty form) number old new p q
+  index PointerFirst is acts h = pair is (λ flow r one other. (r, one, other)) (λ args. (args.0, args.1)) (λ following. refl) acts h
+  index AmountFirst is acts h = pair is (λ flow r one other. (r, one, other)) (λ args. (args.1, args.0)) (λ following. refl) acts h
 
-  pub choice : {form : Form} {a b c : Typed} → form ≡ Choice a b c → s ≡ acted program (Of at ty form) number q → Chooses program at a b c number old new p s → Evaluates program (Of at ty form) number old new p q
-  choice {a = a} {b = b} {c = c} is acts parts = from_parts is acts parts.grows
-      (λ flow at_once has args. subst (λ r. evaluates program flow (Of at ty (Choice a b c)) number p r) at_once (parts.does flow has args.0 args.1 args.2 ty))
-      (λ flow has args following m. parts.adds flow has args.0 args.1 args.2 following m)
-
-  pub comma : {form : Form} {a b : Typed} → form ≡ Comma a b → s ≡ acted program (Of at ty form) number q → Commas program at a b number old new p s → Evaluates program (Of at ty form) number old new p q
-  comma {a = a} {b = b} is acts parts = from_parts is acts parts.grows
-      (λ flow at_once has args. subst (λ r. evaluates program flow (Of at ty (Comma a b)) number p r) at_once (parts.does flow has args.0 args.1 ty))
-      (λ flow has args following m. parts.adds flow has args.0 args.1 following m)
+  pub sum : {form : Form} {a b : Typed} {direction : Direction} (order : Order) → form ≡ Sum a b direction order → s ≡ acted program (Of at ty form) number q
+      → UsesBoth program (earlier order a b) (later order a b) number old new p s → Evaluates program (Of at ty form) number old new p q
+  sum PointerFirst is acts h = pair is (λ flow r one other. (r, one, other)) (λ args. (args.0, args.1)) (λ following. refl) acts h
+  sum AmountFirst is acts h = pair is (λ flow r one other. (r, one, other)) (λ args. (args.1, args.0)) (λ following. refl) acts h
 
 -- an expression without parts
 pub alone : {program : TypedProgram} {at : Place} {ty : Shape} {number : ℕ} {built : Built} {s q : Point} {form it : Form} → form ≡ it
@@ -139,33 +140,39 @@ convert (Array' place element count) used is acts h = part is (λ flow it. it) (
 convert (Struct number) used is acts h = part is (λ flow it. it) (λ args. args) (λ following. refl) acts h
 
 -- updates: the load stands between the two parts
-module _ {program : TypedProgram} {at : Place} {ty : Shape} {number next : ℕ} {old mid new : Built} {p t r s q : Point} where
-  pub update : {form : Form} {a b : Typed} {op : BinOp} {works_in : IntType} {gives : Gives} → form ≡ Update op a b works_in gives → s ≡ acted program (Of at ty form) number q → next ≡ 3 + number → Uses program b next old mid r s → t ≡ fetched (Of at ty form) number r → Uses program a number mid new p t → Evaluates program (Of at ty form) number old new p q
-  update {a = a} {b = b} {works_in = works_in} is acts above last fetch one =
+module _ {program : TypedProgram} {at : Place} {ty : Shape} {number : ℕ} {old new : Built} {p s q : Point} where
+  pub update : {form : Form} {a b : Typed} {op : BinOp} {works_in : IntType} {gives : Gives} → form ≡ Update op a b works_in gives → s ≡ acted program (Of at ty form) number q
+      → UsesAround program (Of at ty form) a b 3 number old new p s → Evaluates program (Of at ty form) number old new p q
+  update {form = form} {a = a} {b = b} {works_in = works_in} is acts parts =
       let load = graph.FetchNumber (access_of a) works_in in
-      let loads : t ≡ does at number load r = subst (λ f. t ≡ fetched (Of at ty f) number r) is fetch in
-      from_parts is acts (grows_on last.grows one.grows)
+      let r = parts.middle in
+      let loads : fetched (Of at ty form) number r ≡ does at number load r = ap (λ f. fetched (Of at ty f) number r) is in
+      from_parts is acts (grows_on parts.last.grows parts.one.grows)
       (λ flow at_once has args. (
         r,
-        subst (λ u. used program flow a number p u) loads (one.does flow has args.0),
-        subst (λ u. used program flow b (3 + number) r u) at_once (subst (λ (n : ℕ). used program flow b n r s) above (last.does flow (one.grows.keeps flow has) args.1)),
+        subst (λ u. used program flow a number p u) loads (parts.one.does flow has args.0),
+        subst (λ u. used program flow b (3 + number) r u) at_once (parts.last.does flow (parts.one.grows.keeps flow has) args.1),
       ))
       (λ flow has args following m.
-      let in_mid = one.grows.keeps flow has in
-      let loaded = does_meets at number load r refl (used_meets program flow b next r s (last.does flow in_mid args.1) m) in
-      adds_both (last.adds flow in_mid args.1 following m) (adds_past at number load r refl (same_after loads (one.adds flow has args.0 (first b following) (same_meets loads loaded)))))
+      let in_mid = parts.one.grows.keeps flow has in
+      let loaded = does_meets at number load r refl (used_meets program flow b (3 + number) r s (parts.last.does flow in_mid args.1) m) in
+      let object = parts.one.adds flow has args.0 (first b following) (same_meets loads loaded) in
+      adds_both (parts.last.adds flow in_mid args.1 following m) (adds_past at number load r refl (same_after loads object)))
 
-  pub move : {form : Form} {a b : Typed} {direction : Direction} {gives : Gives} → form ≡ Move a b direction gives → s ≡ acted program (Of at ty form) number q → next ≡ 2 + number → Uses program b next old mid r s → t ≡ fetched (Of at ty form) number r → Uses program a number mid new p t → Evaluates program (Of at ty form) number old new p q
-  move {a = a} {b = b} is acts above last fetch one =
+  pub move : {form : Form} {a b : Typed} {direction : Direction} {gives : Gives} → form ≡ Move a b direction gives → s ≡ acted program (Of at ty form) number q
+      → UsesAround program (Of at ty form) a b 2 number old new p s → Evaluates program (Of at ty form) number old new p q
+  move {form = form} {a = a} {b = b} is acts parts =
       let load = graph.FetchPointer (access_of a) in
-      let loads : t ≡ does at number load r = subst (λ f. t ≡ fetched (Of at ty f) number r) is fetch in
-      from_parts is acts (grows_on last.grows one.grows)
+      let r = parts.middle in
+      let loads : fetched (Of at ty form) number r ≡ does at number load r = ap (λ f. fetched (Of at ty f) number r) is in
+      from_parts is acts (grows_on parts.last.grows parts.one.grows)
       (λ flow at_once has args. (
         r,
-        subst (λ u. used program flow a number p u) loads (one.does flow has args.0),
-        subst (λ u. used program flow b (2 + number) r u) at_once (subst (λ (n : ℕ). used program flow b n r s) above (last.does flow (one.grows.keeps flow has) args.1)),
+        subst (λ u. used program flow a number p u) loads (parts.one.does flow has args.0),
+        subst (λ u. used program flow b (2 + number) r u) at_once (parts.last.does flow (parts.one.grows.keeps flow has) args.1),
       ))
       (λ flow has args following m.
-      let in_mid = one.grows.keeps flow has in
-      let loaded = does_meets at number load r refl (used_meets program flow b next r s (last.does flow in_mid args.1) m) in
-      adds_both (last.adds flow in_mid args.1 following m) (adds_past at number load r refl (same_after loads (one.adds flow has args.0 (first b following) (same_meets loads loaded)))))
+      let in_mid = parts.one.grows.keeps flow has in
+      let loaded = does_meets at number load r refl (used_meets program flow b (2 + number) r s (parts.last.does flow in_mid args.1) m) in
+      let object = parts.one.adds flow has args.0 (first b following) (same_meets loads loaded) in
+      adds_both (parts.last.adds flow in_mid args.1 following m) (adds_past at number load r refl (same_after loads object)))

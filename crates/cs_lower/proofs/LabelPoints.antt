@@ -49,9 +49,6 @@ mutual
   same_counted_points wanted (Then first others) counted_point one other = either _ _ _ _ (same_counted_point wanted first counted_point _ _) (same_counted_points wanted others (counted_point + counted_points first) one other)
 
 -- the labels of each kind of statement that has some
-pub label_in-Block : (wanted : ℕ) (at : _) (statements : Statements) (counted_point : ℕ) → label_in wanted (Block at statements) counted_point ≡ label_among wanted statements counted_point
-label_in-Block wanted at statements counted_point = refl
-
 pub label_in-Switch : (wanted : ℕ) (at : _) (value : _) (cases : _) (statements : Statements) (counted_point : ℕ) → label_in wanted (Switch at value cases statements) counted_point ≡ label_among wanted statements counted_point
 label_in-Switch wanted at value cases statements counted_point = same_counted_points wanted statements counted_point _ _
 

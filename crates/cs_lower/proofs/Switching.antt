@@ -159,16 +159,3 @@ no_default blocks end cases i past is =
     let past_all : length blocks ≤ length blocks = omega arith in
     let none : default_item cases (length blocks) ≡ length blocks = sym is ∙ ap (λ l. default_item l (length blocks)) (dropped cases i past) in
     sym (ap (block_at blocks end) none ∙ ap (λ b. unwrap_or b end) (slice_get_past blocks (length blocks) past_all))
-
--- one more case with its block
-pub one_more_case : (blocks : List ℕ) (end : ℕ) (cases : List Case) (i : ℕ) (one : Case) (block : ℕ) (ways more : List SwitchCase) → suc i ≤ length cases → one ≡ get_or cases i one → block ≡ block_at blocks end one.item → more ≡ ways ++ with_case one.value block []
-    → ways ++ cases_to blocks end (drop i cases) ≡ cases_to blocks end cases → more ++ cases_to blocks end (drop (i + 1) cases) ≡ cases_to blocks end cases
-one_more_case blocks end cases i one block ways more within is at adds so_far =
-    ap (λ l. l ++ cases_to blocks end (drop (i + 1) cases)) (adds ∙ ap (λ (b : ℕ). ways ++ with_case one.value b []) at)
-    ∙ (append_assoc ways (with_case one.value (block_at blocks end one.item) []) (cases_to blocks end (drop (i + 1) cases))
-    ∙ (ap (λ l. ways ++ l) (sym (cases_to-on blocks end cases i one within is)) ∙ so_far))
-
--- all cases
-pub all_cases : (blocks : List ℕ) (end : ℕ) (cases : List Case) (i : ℕ) (ways : List SwitchCase) → length cases ≤ i → ways ++ cases_to blocks end (drop i cases) ≡ cases_to blocks end cases → ways ≡ cases_to blocks end cases
-all_cases blocks end cases i ways past so_far =
-    sym (nothing_after ways) ∙ (ap (λ l. ways ++ cases_to blocks end l) (sym (dropped cases i past)) ∙ so_far)

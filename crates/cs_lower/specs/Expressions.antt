@@ -1,79 +1,60 @@
 -- What the lowering of expressions ensures: in every graph that has what was built, the point evaluates the expression, and after it
 -- stands the other one; and of the blocks that were there before, the other point first, those that are there now were made, the point
 -- first, which brings in no control points but those of the expression.
-use Rattle.std.specs.Prelude.{ℕ, suc, ◌++◌, ◌∷◌, Option, Some, None}
+use Rattle.std.specs.Prelude.{ℕ, suc, ◌+◌, List, ◌++◌, ◌∷◌, Option, Some, None}
 use Rattle.cs_types.specs.Shape.{Shape}
 use Rattle.cs_ast.specs.declared.place.Place.{Place}
-use Rattle.cs_ast.specs.TypedTree.{Typed, Of, Form, And, Or, Choice, Comma, Update, Move, TypedList}
+use Rattle.cs_ast.specs.declared.typed.operator.Order.{Order}
+use Rattle.cs_ast.specs.declared.typed.operator.Order.TheVariants.{PointerFirst, AmountFirst}
+use Rattle.cs_ast.specs.TypedTree.{Typed, Of, Form, Update, Move, TypedList}
 use Rattle.cs_ast.specs.TypedProgram.{TypedProgram}
 use Rattle.cs_meaning.specs.Access.{access_of}
-use Rattle.cs_cfg.specs.ControlPoints.{Next, first, points, points_of, points_in}
+use Rattle.cs_cfg.specs.ControlPoints.{Next, ControlPoint, first, points, points_of, points_in}
 use Rattle.cs_cfg.specs.Fitting.{AddsPoints}
 use Rattle.cs_cfg.specs.Graph as graph
 use Rattle.cs_cfg.specs.Graph.{Point, Flow, Work, block_of}
 use Rattle.cs_cfg.specs.GraphPoints.{MeetsNext}
 use Rattle.cs_cfg.specs.Placing.{does, evaluates, evaluates_form, used, used_all}
 use Rattle.cs_cfg.specs.Standing.{work_of}
-use Rattle.cs_lower.specs.Allocations.{HasArguments, AllHaveArguments}
+use Rattle.cs_lower.specs.Allocations.{HasArguments, FormHasArguments, AllHaveArguments}
 use Rattle.cs_lower.specs.Building.{Built, blocks, Has, Grows}
 
-module _ (program : TypedProgram) where
-  -- a point evaluates an expression into the temporary with a number
-  pub record Evaluates (e : Typed) (number : ℕ) (old new : Built) (p q : Point) : Type 0 where
-    pub grows : Grows 0 old new
-    pub does : (flow : Flow) → Has flow new → HasArguments e → evaluates program flow e number p q
-    pub adds : (flow : Flow) → Has flow new → HasArguments e → (following : Next) → MeetsNext flow q following → AddsPoints flow (points e following) (q ∷ blocks old) (p ∷ blocks new)
+-- what code is built for
+pub data Task : Type 0 where
+  -- an expression, evaluated into the temporary with a number
+  evaluated : Typed → ℕ → Task
+  -- a form of expressions that stands at a place, whatever its type
+  formed : Place → Form → ℕ → Task
+  -- an expression whose value is used
+  used_one : Typed → ℕ → Task
+  -- two of them
+  used_both : Typed → Typed → ℕ → Task
+  -- expressions in a row whose values are used
+  used_row : TypedList → ℕ → Task
 
-  -- the same of an expression whose value is used
-  pub record Uses (e : Typed) (number : ℕ) (old new : Built) (p q : Point) : Type 0 where
-    pub grows : Grows 0 old new
-    pub does : (flow : Flow) → Has flow new → HasArguments e → used program flow e number p q
-    pub adds : (flow : Flow) → Has flow new → HasArguments e → (following : Next) → MeetsNext flow q following → AddsPoints flow (points e following) (q ∷ blocks old) (p ∷ blocks new)
+-- its allocations have their arguments
+abbrev pub TaskHasArguments : Task → Type 0
+TaskHasArguments (evaluated e number) = HasArguments e
+TaskHasArguments (formed at form number) = FormHasArguments form
+TaskHasArguments (used_one e number) = HasArguments e
+TaskHasArguments (used_both one other number) = HasArguments one × HasArguments other
+TaskHasArguments (used_row row number) = AllHaveArguments row
 
-  -- the same of two expressions
-  pub record UsesBoth (one other : Typed) (number : ℕ) (old new : Built) (p q : Point) : Type 0 where
-    pub grows : Grows 0 old new
-    pub does : (flow : Flow) → Has flow new → HasArguments one → HasArguments other →
-        (r : Point) × used program flow one number p r × used program flow other (suc number) r q
-    pub adds : (flow : Flow) → Has flow new → HasArguments one → HasArguments other → (following : Next) → MeetsNext flow q following →
-        AddsPoints flow (points one (first other following) ++ points other following) (q ∷ blocks old) (p ∷ blocks new)
+-- its control points, after which this is met
+abbrev pub task_points : Task → Next → List ControlPoint
+task_points (evaluated e number) following = points e following
+task_points (formed at form number) following = points_of at form following
+task_points (used_one e number) following = points e following
+task_points (used_both one other number) following = points one (first other following) ++ points other following
+task_points (used_row row number) following = points_in row following
 
-  -- the same of expressions in a row
-  pub record UsesAll (row : TypedList) (number : ℕ) (old new : Built) (p q : Point) : Type 0 where
-    pub grows : Grows 0 old new
-    pub does : (flow : Flow) → Has flow new → AllHaveArguments row → used_all program flow row number p q
-    pub adds : (flow : Flow) → Has flow new → AllHaveArguments row → (following : Next) → MeetsNext flow q following → AddsPoints flow (points_in row following) (q ∷ blocks old) (p ∷ blocks new)
-
-  -- the same of an expression with which a block begins
-  pub record UsesIn (e : Typed) (number : ℕ) (old new : Built) (block : ℕ) (q : Point) : Type 0 where
-    pub grows : Grows 0 old new
-    pub does : (flow : Flow) → Has flow new → HasArguments e → used program flow e number (block_of flow block) q
-    pub adds : (flow : Flow) → Has flow new → HasArguments e → (following : Next) → MeetsNext flow q following → AddsPoints flow (points e following) (q ∷ blocks old) (blocks new)
-
-  -- the same of `&&`, `||`, `?:` and the comma at a place
-  pub record Ands (at : Place) (a b : Typed) (number : ℕ) (old new : Built) (p q : Point) : Type 0 where
-    pub grows : Grows 0 old new
-    pub does : (flow : Flow) → Has flow new → HasArguments a → HasArguments b → (ty : Shape) → evaluates_form program flow at ty (And a b) number p q
-    pub adds : (flow : Flow) → Has flow new → HasArguments a → HasArguments b → (following : Next) → MeetsNext flow q following →
-        AddsPoints flow (points_of at (And a b) following) (q ∷ blocks old) (p ∷ blocks new)
-
-  pub record Ors (at : Place) (a b : Typed) (number : ℕ) (old new : Built) (p q : Point) : Type 0 where
-    pub grows : Grows 0 old new
-    pub does : (flow : Flow) → Has flow new → HasArguments a → HasArguments b → (ty : Shape) → evaluates_form program flow at ty (Or a b) number p q
-    pub adds : (flow : Flow) → Has flow new → HasArguments a → HasArguments b → (following : Next) → MeetsNext flow q following →
-        AddsPoints flow (points_of at (Or a b) following) (q ∷ blocks old) (p ∷ blocks new)
-
-  pub record Chooses (at : Place) (a b c : Typed) (number : ℕ) (old new : Built) (p q : Point) : Type 0 where
-    pub grows : Grows 0 old new
-    pub does : (flow : Flow) → Has flow new → HasArguments a → HasArguments b → HasArguments c → (ty : Shape) → evaluates_form program flow at ty (Choice a b c) number p q
-    pub adds : (flow : Flow) → Has flow new → HasArguments a → HasArguments b → HasArguments c → (following : Next) → MeetsNext flow q following →
-        AddsPoints flow (points_of at (Choice a b c) following) (q ∷ blocks old) (p ∷ blocks new)
-
-  pub record Commas (at : Place) (a b : Typed) (number : ℕ) (old new : Built) (p q : Point) : Type 0 where
-    pub grows : Grows 0 old new
-    pub does : (flow : Flow) → Has flow new → HasArguments a → HasArguments b → (ty : Shape) → evaluates_form program flow at ty (Comma a b) number p q
-    pub adds : (flow : Flow) → Has flow new → HasArguments a → HasArguments b → (following : Next) → MeetsNext flow q following →
-        AddsPoints flow (points_of at (Comma a b) following) (q ∷ blocks old) (p ∷ blocks new)
+-- a point does it, and then the other one stands
+abbrev pub PerformsTask : TypedProgram → Flow → Task → Point → Point → Type 0
+PerformsTask program flow (evaluated e number) p q = evaluates program flow e number p q
+PerformsTask program flow (formed at form number) p q = (ty : Shape) → evaluates_form program flow at ty form number p q
+PerformsTask program flow (used_one e number) p q = used program flow e number p q
+PerformsTask program flow (used_both one other number) p q = (r : Point) × used program flow one number p r × used program flow other (suc number) r q
+PerformsTask program flow (used_row row number) p q = used_all program flow row number p q
 
 -- an operation, if there is one, and then a point
 abbrev pub does_if : Place → ℕ → Option Work → Point → Point
@@ -92,3 +73,54 @@ fetch_of other = None
 
 abbrev pub fetched : Typed → ℕ → Point → Point
 fetched (Of at ty form) number q = does_if at number (fetch_of form) q
+
+module _ (program : TypedProgram) where
+  -- a point was built for a task, before another one
+  pub record Lowers (task : Task) (old new : Built) (p q : Point) : Type 0 where
+    pub grows : Grows 0 old new
+    pub does : (flow : Flow) → Has flow new → TaskHasArguments task → PerformsTask program flow task p q
+    pub adds : (flow : Flow) → Has flow new → TaskHasArguments task → (following : Next) → MeetsNext flow q following →
+        AddsPoints flow (task_points task following) (q ∷ blocks old) (p ∷ blocks new)
+
+  -- a point evaluates an expression into the temporary with a number
+  abbrev pub Evaluates : Typed → ℕ → Built → Built → Point → Point → Type 0
+  Evaluates e number old new p q = Lowers (evaluated e number) old new p q
+
+  -- the same of a form of expressions
+  abbrev pub EvaluatesForm : Place → Form → ℕ → Built → Built → Point → Point → Type 0
+  EvaluatesForm at form number old new p q = Lowers (formed at form number) old new p q
+
+  -- the same of an expression whose value is used
+  abbrev pub Uses : Typed → ℕ → Built → Built → Point → Point → Type 0
+  Uses e number old new p q = Lowers (used_one e number) old new p q
+
+  -- the same of two expressions
+  abbrev pub UsesBoth : Typed → Typed → ℕ → Built → Built → Point → Point → Type 0
+  UsesBoth one other number old new p q = Lowers (used_both one other number) old new p q
+
+  -- the same of expressions in a row
+  abbrev pub UsesAll : TypedList → ℕ → Built → Built → Point → Point → Type 0
+  UsesAll row number old new p q = Lowers (used_row row number) old new p q
+
+  -- the same of an expression with which a block begins
+  pub record UsesIn (e : Typed) (number : ℕ) (old new : Built) (block : ℕ) (q : Point) : Type 0 where
+    pub grows : Grows 0 old new
+    pub does : (flow : Flow) → Has flow new → HasArguments e → used program flow e number (block_of flow block) q
+    pub adds : (flow : Flow) → Has flow new → HasArguments e → (following : Next) → MeetsNext flow q following →
+        AddsPoints flow (points e following) (q ∷ blocks old) (blocks new)
+
+  -- the same of the object of an update and its right part, so many temporaries above it, between which the object is loaded
+  pub record UsesAround (update object right : Typed) (more number : ℕ) (old new : Built) (p q : Point) : Type 0 where
+    pub mid : Built
+    pub middle : Point
+    pub last : Uses right (more + number) old mid middle q
+    pub one : Uses object number mid new p (fetched update number middle)
+
+-- a pointer and an amount, of which the order says which comes first
+abbrev pub earlier : Order → Typed → Typed → Typed
+earlier PointerFirst pointer amount = pointer
+earlier AmountFirst pointer amount = amount
+
+abbrev pub later : Order → Typed → Typed → Typed
+later PointerFirst pointer amount = amount
+later AmountFirst pointer amount = pointer

@@ -1,5 +1,6 @@
 pub mod Allocations
 pub mod Building
+pub mod Builds
 pub mod Expressions
 pub mod Functions
 pub mod Keeping

@@ -1,14 +1,15 @@
 //! The lowering of expressions (C11 6.5).
 ghost use Rattle.std.specs.Prelude.{◌≡◌, ◌+◌, IfOk};
 ghost use Rattle.cs_types.specs.Layout.{IsLaidOut};
-ghost use Rattle.cs_ast.specs.TypedProgram.{typed_program};
+ghost use Rattle.cs_ast.specs.TypedTree.{And, Or, Choice, Comma};
 ghost use Rattle.cs_ast.specs.TypedView.{typed, typed_list};
 ghost use Rattle.cs_lower.specs.Building.{point_of, built_of};
 ghost use Rattle.cs_cfg.specs.Graph.{Number, Judge};
 ghost use Rattle.cs_cfg.specs.Placing.{does, used_then};
 ghost use Rattle.cs_lower.specs.Building.{jump_to};
 ghost use Rattle.cs_lower.specs.Sealing.{Seals};
-ghost use Rattle.cs_lower.specs.Expressions.{Evaluates, Uses, UsesBoth, UsesAll, UsesIn, Ands, Ors, Chooses, Commas};
+ghost use Rattle.cs_lower.specs.Expressions.{UsesIn, UsesAround, earlier, later, evaluated, formed, used_one, used_both, used_row};
+ghost use Rattle.cs_lower.specs.Builds.{program_of, Builds};
 
 use crate::building::GraphBuilder;
 use crate::context::Lowering;
@@ -31,58 +32,36 @@ impl Lowering<'_> {
         following: Strip,
     ) -> Result<Strip, AllocError>
         requires { IsLaidOut self.now.program.now.model self.now.program.now.table.list }
-        ensures { IfOk result (λ made. Evaluates (typed_program self.now.program.now) (typed e.now) number (built_of graph.old) (built_of graph.new) (point_of made) (point_of following)) }
+        ensures { IfOk result (λ made. Builds self.now graph.old graph.new (evaluated (typed e.now) number) made following) }
     {
-        let place = e.place;
-        let following = self.act(e, number, following)?;
-        match &e.kind {
-            ExprKind::Number(_) | ExprKind::Null | ExprKind::Text(_) => Ok(following),
-            ExprKind::Local(_) | ExprKind::Global(_) => Ok(following),
-            ExprKind::Through(a) => self.lower_used(graph, a, number, following),
-            ExprKind::Member(a, _) => self.lower_used(graph, a, number, following),
-            ExprKind::Arrow(a, _) => self.lower_used(graph, a, number, following),
-            ExprKind::Load(a) => self.lower_used(graph, a, number, following),
-            ExprKind::Address(a) => self.lower_used(graph, a, number, following),
-            ExprKind::Decay(a) => self.lower_used(graph, a, number, following),
+        let next = self.act(e, number, following)?;
+        match &*e.kind {
+            ExprKind::Number(_) | ExprKind::Null | ExprKind::Text(_) => Ok(next),
+            ExprKind::Local(_) | ExprKind::Global(_) => Ok(next),
+            ExprKind::Through(a) | ExprKind::Load(a) => self.lower_used(graph, a, number, next),
+            ExprKind::Address(a) | ExprKind::Decay(a) => self.lower_used(graph, a, number, next),
+            ExprKind::Not(a) | ExprKind::Free(a) => self.lower_used(graph, a, number, next),
+            ExprKind::Member(a, _) => self.lower_used(graph, a, number, next),
+            ExprKind::Arrow(a, _) => self.lower_used(graph, a, number, next),
+            ExprKind::Unary(_, a) => self.lower_used(graph, a, number, next),
             ExprKind::Convert(a) => match e.ty {
-                CType::Void => self.lower_expression(graph, a, number, following),
-                _ => self.lower_used(graph, a, number, following),
+                CType::Void => self.lower_expression(graph, a, number, next),
+                _ => self.lower_used(graph, a, number, next),
             },
-            ExprKind::Unary(_, a) => self.lower_used(graph, a, number, following),
-            ExprKind::Not(a) => self.lower_used(graph, a, number, following),
-            ExprKind::Free(a) => self.lower_used(graph, a, number, following),
-            ExprKind::Index(a, b, order) => match order {
-                Order::PointerFirst => self.lower_pair(graph, a, b, number, following),
-                Order::AmountFirst => self.lower_pair(graph, b, a, number, following),
-            },
-            ExprKind::Sum(a, b, _, order) => match order {
-                Order::PointerFirst => self.lower_pair(graph, a, b, number, following),
-                Order::AmountFirst => self.lower_pair(graph, b, a, number, following),
-            },
-            ExprKind::Binary(_, a, b) => self.lower_pair(graph, a, b, number, following),
-            ExprKind::Compare(_, a, b) => self.lower_pair(graph, a, b, number, following),
-            ExprKind::Difference(a, b) => self.lower_pair(graph, a, b, number, following),
-            ExprKind::Assign(a, b) => self.lower_pair(graph, a, b, number, following),
-            ExprKind::And(a, b) => self.lower_and(graph, a, b, place, number, following),
-            ExprKind::Or(a, b) => self.lower_or(graph, a, b, place, number, following),
-            ExprKind::Choice(a, b, c) => self.lower_choice(
-                graph, a, b, c, place, number, following,
-            ),
-            ExprKind::Comma(a, b) => self.lower_comma(graph, a, b, place, number, following),
-            ExprKind::Update(_, a, b, _, _) => {
-                let made = self.lower_used(graph, b, above(number, 3)?, following)?;
-                let fetched = self.fetch(e, number, made)?;
-                self.lower_used(graph, a, number, fetched)
-            }
-            ExprKind::Move(a, b, _, _) => {
-                let made = self.lower_used(graph, b, above(number, 2)?, following)?;
-                let fetched = self.fetch(e, number, made)?;
-                self.lower_used(graph, a, number, fetched)
-            }
-            ExprKind::Call(_, arguments) => self.lower_row(graph, arguments, number, following),
-            ExprKind::Allocate(_, arguments, _) => self.lower_row(
-                graph, arguments, number, following,
-            ),
+            ExprKind::Index(a, b, order) => self.lower_sum(graph, a, b, *order, number, next),
+            ExprKind::Sum(a, b, _, order) => self.lower_sum(graph, a, b, *order, number, next),
+            ExprKind::Binary(_, a, b) => self.lower_pair(graph, a, b, number, next),
+            ExprKind::Compare(_, a, b) => self.lower_pair(graph, a, b, number, next),
+            ExprKind::Difference(a, b) => self.lower_pair(graph, a, b, number, next),
+            ExprKind::Assign(a, b) => self.lower_pair(graph, a, b, number, next),
+            ExprKind::And(a, b) => self.lower_and(graph, a, b, e.place, number, next),
+            ExprKind::Or(a, b) => self.lower_or(graph, a, b, e.place, number, next),
+            ExprKind::Choice(a, b, c) => self.lower_choice(graph, a, b, c, e.place, number, next),
+            ExprKind::Comma(a, b) => self.lower_comma(graph, a, b, e.place, number, next),
+            ExprKind::Update(_, a, b, _, _) => self.lower_update(graph, e, a, b, 3, number, next),
+            ExprKind::Move(a, b, _, _) => self.lower_update(graph, e, a, b, 2, number, next),
+            ExprKind::Call(_, arguments) => self.lower_row(graph, arguments, number, next),
+            ExprKind::Allocate(_, arguments, _) => self.lower_row(graph, arguments, number, next),
         }
     }
 
@@ -96,7 +75,7 @@ impl Lowering<'_> {
         following: Strip,
     ) -> Result<Strip, AllocError>
         requires { IsLaidOut self.now.program.now.model self.now.program.now.table.list }
-        ensures { IfOk result (λ made. Uses (typed_program self.now.program.now) (typed e.now) number (built_of graph.old) (built_of graph.new) (point_of made) (point_of following)) }
+        ensures { IfOk result (λ made. Builds self.now graph.old graph.new (used_one (typed e.now) number) made following) }
     {
         let following = used_before(e, number, following)?;
         let made = self.lower_expression(graph, e, number, following)?;
@@ -113,7 +92,7 @@ impl Lowering<'_> {
         following: Strip,
     ) -> Result<u32, AllocError>
         requires { IsLaidOut self.now.program.now.model self.now.program.now.table.list }
-        ensures { IfOk result (λ made. UsesIn (typed_program self.now.program.now) (typed e.now) number (built_of graph.old) (built_of graph.new) made (point_of following)) }
+        ensures { IfOk result (λ made. UsesIn (program_of self.now) (typed e.now) number (built_of graph.old) (built_of graph.new) made (point_of following)) }
     {
         let made = self.lower_used(graph, e, number, following)?;
         let block = graph.seal(made)?;
@@ -131,10 +110,52 @@ impl Lowering<'_> {
         following: Strip,
     ) -> Result<Strip, AllocError>
         requires { IsLaidOut self.now.program.now.model self.now.program.now.table.list }
-        ensures { IfOk result (λ made. UsesBoth (typed_program self.now.program.now) (typed first.now) (typed second.now) number (built_of graph.old) (built_of graph.new) (point_of made) (point_of following)) }
+        ensures { IfOk result (λ made. Builds self.now graph.old graph.new (used_both (typed first.now) (typed second.now) number) made following) }
     {
         let made = self.lower_used(graph, second, above(number, 1)?, following)?;
         let made = self.lower_used(graph, first, number, made)?;
+        Ok(made)
+    }
+
+    // A pointer and an amount whose values are used, in their order.
+    #[cycle(expressions)]
+    fn lower_sum(
+        &self,
+        graph: &mut GraphBuilder,
+        pointer: &Expr,
+        amount: &Expr,
+        order: Order,
+        number: u32,
+        following: Strip,
+    ) -> Result<Strip, AllocError>
+        requires { IsLaidOut self.now.program.now.model self.now.program.now.table.list }
+        ensures { IfOk result (λ made. Builds self.now graph.old graph.new (used_both (earlier order (typed pointer.now) (typed amount.now)) (later order (typed pointer.now) (typed amount.now)) number) made following) }
+    {
+        match order {
+            Order::PointerFirst => self.lower_pair(graph, pointer, amount, number, following),
+            Order::AmountFirst => self.lower_pair(graph, amount, pointer, number, following),
+        }
+    }
+
+    // The object of an update and its right part, so many temporaries above it, whose values are used. The object is loaded between
+    // them.
+    #[cycle(expressions)]
+    fn lower_update(
+        &self,
+        graph: &mut GraphBuilder,
+        update: &Expr,
+        object: &Expr,
+        right: &Expr,
+        more: usize,
+        number: u32,
+        following: Strip,
+    ) -> Result<Strip, AllocError>
+        requires { IsLaidOut self.now.program.now.model self.now.program.now.table.list }
+        ensures { IfOk result (λ made. UsesAround (program_of self.now) (typed update.now) (typed object.now) (typed right.now) more number (built_of graph.old) (built_of graph.new) (point_of made) (point_of following)) }
+    {
+        let made = self.lower_used(graph, right, above(number, more)?, following)?;
+        let fetched = self.fetch(update, number, made)?;
+        let made = self.lower_used(graph, object, number, fetched)?;
         Ok(made)
     }
 
@@ -148,7 +169,7 @@ impl Lowering<'_> {
         following: Strip,
     ) -> Result<Strip, AllocError>
         requires { IsLaidOut self.now.program.now.model self.now.program.now.table.list }
-        ensures { IfOk result (λ made. UsesAll (typed_program self.now.program.now) (typed_list row.now) number (built_of graph.old) (built_of graph.new) (point_of made) (point_of following)) }
+        ensures { IfOk result (λ made. Builds self.now graph.old graph.new (used_row (typed_list row.now) number) made following) }
     {
         let mut made = following;
         let mut left = row.len();
@@ -171,7 +192,7 @@ impl Lowering<'_> {
         following: Strip,
     ) -> Result<Strip, AllocError>
         requires { IsLaidOut self.now.program.now.model self.now.program.now.table.list }
-        ensures { IfOk result (λ made. Ands (typed_program self.now.program.now) place (typed left.now) (typed right.now) number (built_of graph.old) (built_of graph.new) (point_of made) (point_of following)) }
+        ensures { IfOk result (λ made. Builds self.now graph.old graph.new (formed place (And (typed left.now) (typed right.now)) number) made following) }
     {
         let end = graph.seal(following)?;
         let judged = self.judged(place, number, end)?;
@@ -194,7 +215,7 @@ impl Lowering<'_> {
         following: Strip,
     ) -> Result<Strip, AllocError>
         requires { IsLaidOut self.now.program.now.model self.now.program.now.table.list }
-        ensures { IfOk result (λ made. Ors (typed_program self.now.program.now) place (typed left.now) (typed right.now) number (built_of graph.old) (built_of graph.new) (point_of made) (point_of following)) }
+        ensures { IfOk result (λ made. Builds self.now graph.old graph.new (formed place (Or (typed left.now) (typed right.now)) number) made following) }
     {
         let end = graph.seal(following)?;
         let judged = self.judged(place, number, end)?;
@@ -218,7 +239,7 @@ impl Lowering<'_> {
         following: Strip,
     ) -> Result<Strip, AllocError>
         requires { IsLaidOut self.now.program.now.model self.now.program.now.table.list }
-        ensures { IfOk result (λ made. Chooses (typed_program self.now.program.now) place (typed test.now) (typed first.now) (typed second.now) number (built_of graph.old) (built_of graph.new) (point_of made) (point_of following)) }
+        ensures { IfOk result (λ made. Builds self.now graph.old graph.new (formed place (Choice (typed test.now) (typed first.now) (typed second.now)) number) made following) }
     {
         let end = graph.seal(following)?;
         let one = self.lower_way(graph, first, number, self.jump(end))?;
@@ -240,10 +261,10 @@ impl Lowering<'_> {
         following: Strip,
     ) -> Result<Strip, AllocError>
         requires { IsLaidOut self.now.program.now.model self.now.program.now.table.list }
-        ensures { IfOk result (λ made. Commas (typed_program self.now.program.now) place (typed first.now) (typed second.now) number (built_of graph.old) (built_of graph.new) (point_of made) (point_of following)) }
+        ensures { IfOk result (λ made. Builds self.now graph.old graph.new (formed place (Comma (typed first.now) (typed second.now)) number) made following) }
     {
         let made = self.lower_used(graph, second, number, following)?;
-        let dropped = made.following(place, number, Work::Drop)?;
+        let dropped = made.prepend(place, number, Work::Drop)?;
         let made = self.lower_expression(graph, first, number, dropped)?;
         Ok(made)
     }
@@ -259,9 +280,7 @@ impl Lowering<'_> {
     ) -> Result<u32, AllocError>
         ensures { IfOk result (λ block. Seals (built_of graph.old) (built_of graph.new) block (does place number (Number value) (jump_to end))) }
     {
-        let made = self
-            .jump(end)
-            .following(place, number, Work::Number(value))?;
+        let made = self.jump(end).prepend(place, number, Work::Number(value))?;
         let block = graph.seal(made)?;
         Ok(block)
     }
@@ -270,7 +289,7 @@ impl Lowering<'_> {
     fn judged(&self, place: Place, number: u32, end: u32) -> Result<Strip, AllocError>
         ensures { IfOk result (λ made. point_of made ≡ does place number Judge (jump_to end)) }
     {
-        self.jump(end).following(place, number, Work::Judge)
+        self.jump(end).prepend(place, number, Work::Judge)
     }
 }
 
@@ -286,8 +305,8 @@ fn above(number: u32, more: usize) -> Result<u32, AllocError>
 fn used_before(e: &Expr, number: u32, following: Strip) -> Result<Strip, AllocError>
     ensures { IfOk result (λ made. point_of made ≡ used_then (typed e.now) number (point_of following)) }
 {
-    match &e.kind {
-        ExprKind::Call(_, _) => following.following(e.place, number, Work::Use),
+    match &*e.kind {
+        ExprKind::Call(_, _) => following.prepend(e.place, number, Work::Use),
         ExprKind::Number(_) | ExprKind::Null | ExprKind::Text(_) => Ok(following),
         ExprKind::Local(_) | ExprKind::Global(_) | ExprKind::Through(_) => Ok(following),
         ExprKind::Index(_, _, _) | ExprKind::Member(_, _) | ExprKind::Arrow(_, _) => Ok(following),

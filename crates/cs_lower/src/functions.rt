@@ -13,6 +13,7 @@ ghost use Rattle.cs_lower.specs.Allocations.{StatementHasArguments, AllocationsH
 ghost use Rattle.cs_lower.specs.Building.{built_of};
 ghost use Rattle.cs_lower.specs.Functions.{BeginsBody, IsGraphOf, HasGraph};
 ghost use Rattle.cs_lower.specs.Ready.{IsReady};
+ghost use Rattle.cs_lower.specs.Builds.{program_of, function_of};
 
 use crate::building::GraphBuilder;
 use crate::context::Lowering;
@@ -97,7 +98,7 @@ impl Lowering<'_> {
     // The body of a function between its beginning and its end. Gives the block in which a call begins.
     fn lower_whole(&self, graph: &mut GraphBuilder, body: &Stmt) -> Result<u32, AllocError>
         requires { IsReady self.now }
-        ensures { IfOk result (λ entry. BeginsBody (typed_program self.now.program.now) (routine self.now.function.now) (statement body.now) (built_of graph.old) (built_of graph.new) entry) }
+        ensures { IfOk result (λ entry. BeginsBody (program_of self.now) (function_of self.now) (statement body.now) (built_of graph.old) (built_of graph.new) entry) }
     {
         let function = self.function;
         let finish = Strip::ending(self.alloc, BlockEnd::Finish);
@@ -108,10 +109,10 @@ impl Lowering<'_> {
         };
         let nothing = gives_nothing(&function.result);
         let leaving = Strip::ending(self.alloc, BlockEnd::Return(0));
-        let following = leaving.following(function.end, 0, Work::Close(nothing))?;
+        let following = leaving.prepend(function.end, 0, Work::Close(nothing))?;
         let inside = self.lower_statement(graph, body, exits, following)?;
         let enter = Work::Meet(PointKind::Enter);
-        let entry = inside.following(function.place, 0, enter)?;
+        let entry = inside.prepend(function.place, 0, enter)?;
         let block = graph.seal(entry)?;
         Ok(block)
     }

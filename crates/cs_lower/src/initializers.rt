@@ -1,7 +1,6 @@
 //! The lowering of declarations (C11 6.7.9).
 ghost use Rattle.std.specs.Prelude.{◌≡◌, ◌∷◌, [], map, IfOk, Some, option_map, option_copied};
 ghost use Rattle.cs_types.specs.Layout.{IsLaidOut};
-ghost use Rattle.cs_ast.specs.TypedProgram.{typed_program, routine};
 ghost use Rattle.cs_ast.specs.TypedView.{typed, initial};
 ghost use Rattle.cs_meaning.specs.Initials as initials;
 ghost use Rattle.cs_meaning.specs.Types as types;
@@ -9,6 +8,7 @@ ghost use Rattle.cs_cfg.specs.Executing.{type_in};
 ghost use Rattle.cs_run_state.specs.MemoryView.{type_of, piece_of};
 ghost use Rattle.cs_lower.specs.Building.{point_of, built_of};
 ghost use Rattle.cs_lower.specs.Statements.{Declares, StoresPieces};
+ghost use Rattle.cs_lower.specs.Builds.{program_of, function_of};
 
 use crate::building::GraphBuilder;
 use crate::context::Lowering;
@@ -34,12 +34,12 @@ impl Lowering<'_> {
         following: Strip,
     ) -> Result<Strip, AllocError>
         requires { IsLaidOut self.now.program.now.model self.now.program.now.table.list }
-        ensures { IfOk result (λ made. Declares (typed_program self.now.program.now) (routine self.now.function.now) place declaration (option_map initial (option_copied first.entry)) (built_of graph.old) (built_of graph.new) (point_of made) (point_of following)) }
+        ensures { IfOk result (λ made. Declares (program_of self.now) (function_of self.now) place declaration (option_map initial (option_copied first.entry)) (built_of graph.old) (built_of graph.new) (point_of made) (point_of following)) }
     {
         match first {
             None => {
                 let scalar = self.is_scalar_local(declaration);
-                following.following(place, 0, Work::Clear(declaration, scalar))
+                following.prepend(place, 0, Work::Clear(declaration, scalar))
             }
             Some(first) => {
                 let made = self.lower_initial(graph, place, declaration, first, following)?;
@@ -58,7 +58,7 @@ impl Lowering<'_> {
         following: Strip,
     ) -> Result<Strip, AllocError>
         requires { IsLaidOut self.now.program.now.model self.now.program.now.table.list }
-        ensures { IfOk result (λ made. Declares (typed_program self.now.program.now) (routine self.now.function.now) place declaration (Some (initial first.now)) (built_of graph.old) (built_of graph.new) (point_of made) (point_of following)) }
+        ensures { IfOk result (λ made. Declares (program_of self.now) (function_of self.now) place declaration (Some (initial first.now)) (built_of graph.old) (built_of graph.new) (point_of made) (point_of following)) }
     {
         match first {
             Initial::Value(value) => {
@@ -67,11 +67,11 @@ impl Lowering<'_> {
             }
             Initial::List(_) => {
                 let stored = self.lower_parts(graph, place, declaration, first, following)?;
-                stored.following(place, 0, Work::Zero(declaration))
+                stored.prepend(place, 0, Work::Zero(declaration))
             }
             Initial::Text(_) => {
                 let stored = self.lower_parts(graph, place, declaration, first, following)?;
-                stored.following(place, 0, Work::Zero(declaration))
+                stored.prepend(place, 0, Work::Zero(declaration))
             }
         }
     }
@@ -86,7 +86,7 @@ impl Lowering<'_> {
         following: Strip,
     ) -> Result<Strip, AllocError>
         requires { IsLaidOut self.now.program.now.model self.now.program.now.table.list }
-        ensures { IfOk result (λ made. StoresPieces (typed_program self.now.program.now) (routine self.now.function.now) place declaration (initials.pieces (typed_program self.now.program.now) (type_in (routine self.now.function.now) declaration) 0 (initial first.now)) (built_of graph.old) (built_of graph.new) (point_of made) (point_of following)) }
+        ensures { IfOk result (λ made. StoresPieces (program_of self.now) (function_of self.now) place declaration (initials.pieces (program_of self.now) (type_in (function_of self.now) declaration) 0 (initial first.now)) (built_of graph.old) (built_of graph.new) (point_of made) (point_of following)) }
     {
         let ty = self.local_type(declaration);
         let pieces = pieces(self.alloc, self.program, ty, first)?;
@@ -104,7 +104,7 @@ impl Lowering<'_> {
         following: Strip,
     ) -> Result<Strip, AllocError>
         requires { IsLaidOut self.now.program.now.model self.now.program.now.table.list }
-        ensures { IfOk result (λ made. StoresPieces (typed_program self.now.program.now) (routine self.now.function.now) place declaration (map piece_of pieces.now) (built_of graph.old) (built_of graph.new) (point_of made) (point_of following)) }
+        ensures { IfOk result (λ made. StoresPieces (program_of self.now) (function_of self.now) place declaration (map piece_of pieces.now) (built_of graph.old) (built_of graph.new) (point_of made) (point_of following)) }
     {
         let mut made = following;
         let mut left = pieces.len();
@@ -125,7 +125,7 @@ impl Lowering<'_> {
         following: Strip,
     ) -> Result<Strip, AllocError>
         requires { IsLaidOut self.now.program.now.model self.now.program.now.table.list }
-        ensures { IfOk result (λ made. StoresPieces (typed_program self.now.program.now) (routine self.now.function.now) place declaration (piece_of piece.entry ∷ []) (built_of graph.old) (built_of graph.new) (point_of made) (point_of following)) }
+        ensures { IfOk result (λ made. StoresPieces (program_of self.now) (function_of self.now) place declaration (piece_of piece.entry ∷ []) (built_of graph.old) (built_of graph.new) (point_of made) (point_of following)) }
     {
         match piece {
             Piece::Value(offset, value) => {
@@ -133,7 +133,7 @@ impl Lowering<'_> {
             }
             Piece::Text(offset, bytes) => {
                 let bytes = Bytes::from_slice(self.alloc, bytes)?;
-                following.following(place, 0, Work::Spell(declaration, offset, bytes))
+                following.prepend(place, 0, Work::Spell(declaration, offset, bytes))
             }
         }
     }
@@ -149,18 +149,18 @@ impl Lowering<'_> {
         following: Strip,
     ) -> Result<Strip, AllocError>
         requires { IsLaidOut self.now.program.now.model self.now.program.now.table.list }
-        ensures { IfOk result (λ made. StoresPieces (typed_program self.now.program.now) (routine self.now.function.now) place declaration (initials.Evaluated offset (typed value.now) ∷ []) (built_of graph.old) (built_of graph.new) (point_of made) (point_of following)) }
+        ensures { IfOk result (λ made. StoresPieces (program_of self.now) (function_of self.now) place declaration (initials.Evaluated offset (typed value.now) ∷ []) (built_of graph.old) (built_of graph.new) (point_of made) (point_of following)) }
     {
         let ty = value.ty.copy(self.alloc)?;
         let scalar = self.is_scalar_local(declaration);
         let work = Work::StoreLocal(declaration, offset, ty, scalar);
-        let following = following.following(place, 0, work)?;
+        let following = following.prepend(place, 0, work)?;
         self.lower_used(graph, value, 0, following)
     }
 
     // Whether a local is a scalar.
     fn is_scalar_local(&self, declaration: u32) -> bool
-        ensures { result ≡ types.is_scalar (type_in (routine self.now.function.now) declaration) }
+        ensures { result ≡ types.is_scalar (type_in (function_of self.now) declaration) }
     {
         match self.function.locals.get(declaration as usize) {
             Some(local) => is_scalar(&local.ty),
@@ -170,7 +170,7 @@ impl Lowering<'_> {
 
     // The type of a local.
     fn local_type(&self, declaration: u32) -> BlockType<'_>
-        ensures { type_of result ≡ type_in (routine self.now.function.now) declaration }
+        ensures { type_of result ≡ type_in (function_of self.now) declaration }
     {
         match self.function.locals.get(declaration as usize) {
             Some(local) => BlockType::Of(&local.ty),

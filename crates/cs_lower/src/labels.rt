@@ -23,7 +23,7 @@ pub fn add_labels(
     ensures next { IfOk result (λ next. next ≡ counted_point + meaning.counted_points (statement s.now)) }
     ensures labels { OnOk result ((wanted : ℕ) → get nat_cmp labels.new wanted ≡ option_or (get nat_cmp labels.old wanted) (label_in wanted (statement s.now) counted_point)) }
 {
-    match &s.kind {
+    match &*s.kind {
         StmtKind::Block(statements) => add_labels_in(labels, statements, counted_point),
         StmtKind::Declare(_, _) => Ok(counted_point),
         StmtKind::Run(_) => Ok(counted_point),

@@ -2,13 +2,13 @@
 ghost use Rattle.std.specs.Prelude.{ℕ, IfOk, option_map, option_copied};
 ghost use Rattle.cs_types.specs.Layout.{IsLaidOut};
 ghost use Rattle.cs_ast.specs.TypedTree.{While, Do, For};
-ghost use Rattle.cs_ast.specs.TypedProgram.{typed_program, routine};
 ghost use Rattle.cs_ast.specs.TypedView.{typed, some_typed, statement, statement_list};
 ghost use Rattle.cs_cfg.specs.Placing.{split};
 ghost use Rattle.cs_lower.specs.Building.{point_of, built_of};
-ghost use Rattle.cs_lower.specs.Expressions.{Uses};
+ghost use Rattle.cs_lower.specs.Expressions.{used_one};
 ghost use Rattle.cs_lower.specs.Ready.{IsReady};
-ghost use Rattle.cs_lower.specs.Statements.{Executes, TestsFor, EndsFor};
+ghost use Rattle.cs_lower.specs.Statements.{TestsFor, EndsFor};
+ghost use Rattle.cs_lower.specs.Builds.{program_of, BuildsBefore, BuildsStatement};
 
 use crate::building::GraphBuilder;
 use crate::context::Lowering;
@@ -34,7 +34,7 @@ impl Lowering<'_> {
         following: Strip,
     ) -> Result<Strip, AllocError>
         requires { IsReady self.now }
-        ensures { IfOk result (λ made. (out again : ℕ) → Executes (typed_program self.now.program.now) (routine self.now.function.now) (While place (typed test.now) (statement body.now)) out again (built_of graph.old) (built_of graph.new) (point_of made) (point_of following)) }
+        ensures { IfOk result (λ made. (out again : ℕ) → BuildsStatement self.now graph.old graph.new (While place (typed test.now) (statement body.now)) out again made following) }
     {
         let inner = counted_points(body)?;
         let head = graph.counted_point_before(inner)?;
@@ -60,7 +60,7 @@ impl Lowering<'_> {
         following: Strip,
     ) -> Result<Strip, AllocError>
         requires { IsReady self.now }
-        ensures { IfOk result (λ made. (out again : ℕ) → Executes (typed_program self.now.program.now) (routine self.now.function.now) (Do place (statement body.now) (typed test.now)) out again (built_of graph.old) (built_of graph.new) (point_of made) (point_of following)) }
+        ensures { IfOk result (λ made. (out again : ℕ) → BuildsStatement self.now graph.old graph.new (Do place (statement body.now) (typed test.now)) out again made following) }
     {
         let inner = counted_points(body)?;
         let start = graph.counted_point_before(inner)?;
@@ -87,7 +87,7 @@ impl Lowering<'_> {
         following: Strip,
     ) -> Result<Strip, AllocError>
         requires { IsReady self.now }
-        ensures { IfOk result (λ made. (out : ℕ) → Executes (typed_program self.now.program.now) (routine self.now.function.now) (For place (statement_list first.now) (some_typed test.now) (some_typed last.now) (statement body.now)) out around (built_of graph.old) (built_of graph.new) (point_of made) (point_of following)) }
+        ensures { IfOk result (λ made. (out : ℕ) → BuildsStatement self.now graph.old graph.new (For place (statement_list first.now) (some_typed test.now) (some_typed last.now) (statement body.now)) out around made following) }
     {
         let before = counted_points_in(first)?;
         let inside = counted_points(body)?;
@@ -122,7 +122,7 @@ impl Lowering<'_> {
         other: u32,
     ) -> Result<Strip, AllocError>
         requires { IsLaidOut self.now.program.now.model self.now.program.now.table.list }
-        ensures { IfOk result (λ made. Uses (typed_program self.now.program.now) (typed test.now) 0 (built_of graph.old) (built_of graph.new) (point_of made) (split place 0 one other)) }
+        ensures { IfOk result (λ made. BuildsBefore self.now graph.old graph.new (used_one (typed test.now) 0) made (split place 0 one other)) }
     {
         self.lower_used(graph, test, 0, self.branch(place, 0, one, other))
     }
@@ -137,7 +137,7 @@ impl Lowering<'_> {
         end: u32,
     ) -> Result<Strip, AllocError>
         requires { IsLaidOut self.now.program.now.model self.now.program.now.table.list }
-        ensures { IfOk result (λ made. TestsFor (typed_program self.now.program.now) place (option_map typed (option_copied test.entry)) (built_of graph.old) (built_of graph.new) (point_of made) (point_of body) end) }
+        ensures { IfOk result (λ made. TestsFor (program_of self.now) place (option_map typed (option_copied test.entry)) (built_of graph.old) (built_of graph.new) (point_of made) (point_of body) end) }
     {
         match test {
             None => Ok(body),
@@ -157,12 +157,12 @@ impl Lowering<'_> {
         head: u32,
     ) -> Result<u32, AllocError>
         requires { IsLaidOut self.now.program.now.model self.now.program.now.table.list }
-        ensures { IfOk result (λ made. EndsFor (typed_program self.now.program.now) (option_map typed (option_copied last.entry)) (built_of graph.old) (built_of graph.new) made head) }
+        ensures { IfOk result (λ made. EndsFor (program_of self.now) (option_map typed (option_copied last.entry)) (built_of graph.old) (built_of graph.new) made head) }
     {
         match last {
             None => Ok(head),
             Some(last) => {
-                let following = self.jump(head).following(place, 0, Work::Drop)?;
+                let following = self.jump(head).prepend(place, 0, Work::Drop)?;
                 let made = self.lower_used(graph, last, 0, following)?;
                 graph.seal(made)
             }

@@ -2,13 +2,13 @@
 ghost use Rattle.std.specs.Prelude.{ℕ, IfOk, option_map, option_copied};
 ghost use Rattle.cs_types.specs.Layout.{IsLaidOut};
 ghost use Rattle.cs_ast.specs.declared.place.Place.{Place};
-ghost use Rattle.cs_ast.specs.TypedTree.{Goto, Label};
-ghost use Rattle.cs_ast.specs.TypedProgram.{typed_program, routine};
+ghost use Rattle.cs_ast.specs.TypedTree.{Run, If, IfElse, Goto, Label};
 ghost use Rattle.cs_ast.specs.TypedView.{typed, statement, statement_list};
 ghost use Rattle.cs_lower.specs.Building.{point_of, built_of};
 ghost use Rattle.cs_lower.specs.Keeping.{LeadsOff};
 ghost use Rattle.cs_lower.specs.Ready.{IsReady};
 ghost use Rattle.cs_lower.specs.Statements.{Executes, ExecutesAll, ExecutesIn, EntersAll, Returns};
+ghost use Rattle.cs_lower.specs.Builds.{program_of, function_of, BuildsStatement};
 
 use crate::building::GraphBuilder;
 use crate::context::Lowering;
@@ -36,66 +36,96 @@ impl Lowering<'_> {
         graph: &mut GraphBuilder,
         s: &Stmt,
         exits: Exits,
-        following: Strip,
+        next: Strip,
     ) -> Result<Strip, AllocError>
         requires { IsReady self.now }
-        ensures { IfOk result (λ made. Executes (typed_program self.now.program.now) (routine self.now.function.now) (statement s.now) exits.out exits.again (built_of graph.old) (built_of graph.new) (point_of made) (point_of following)) }
+        ensures { IfOk result (λ made. BuildsStatement self.now graph.old graph.new (statement s.now) exits.out exits.again made next) }
     {
         let place = s.place;
-        match &s.kind {
-            StmtKind::Block(statements) => self.lower_all(graph, statements, exits, following),
+        match &*s.kind {
+            StmtKind::Block(statements) => self.lower_all(graph, statements, exits, next),
             StmtKind::Declare(declaration, first) => {
-                self.lower_declaration(graph, place, *declaration, first.as_ref(), following)
+                self.lower_declaration(graph, place, *declaration, first.as_ref(), next)
             }
-            StmtKind::Run(e) => {
-                let following = following.following(place, 0, Work::Drop)?;
-                self.lower_expression(graph, e, 0, following)
-            }
-            StmtKind::If(test, body) => {
-                let end = graph.seal(following)?;
-                let one = self.lower_way_out(graph, body, exits, end)?;
-                self.lower_test(graph, place, test, one, end)
-            }
+            StmtKind::Run(e) => self.lower_run(graph, place, e, next),
+            StmtKind::If(test, body) => self.lower_if(graph, body, place, test, exits, next),
             StmtKind::IfElse(test, body, other) => {
-                let end = graph.seal(following)?;
-                let other = self.lower_way_out(graph, other, exits, end)?;
-                let one = self.lower_way_out(graph, body, exits, end)?;
-                self.lower_test(graph, place, test, one, other)
+                self.lower_if_else(graph, body, other, place, test, exits, next)
             }
-            StmtKind::While(test, body) => self.lower_while(graph, body, place, test, following),
-            StmtKind::Do(body, test) => self.lower_do(graph, body, place, test, following),
+            StmtKind::While(test, body) => self.lower_while(graph, body, place, test, next),
+            StmtKind::Do(body, test) => self.lower_do(graph, body, place, test, next),
             StmtKind::For(first, test, last, body) => {
-                self.lower_for(
-                    graph,
-                    first,
-                    body,
-                    place,
-                    test,
-                    last,
-                    exits.again,
-                    following,
-                )
+                self.lower_for(graph, first, body, place, test, last, exits.again, next)
             }
-            StmtKind::Switch(value, cases, statements) => {
-                self.lower_switch(
-                    graph,
-                    statements,
-                    place,
-                    value,
-                    cases,
-                    exits.again,
-                    following,
-                )
+            StmtKind::Switch(value, cases, list) => {
+                self.lower_switch(graph, list, place, value, cases, exits.again, next)
             }
-            StmtKind::Goto(label) => self.lower_goto(graph, *label, following),
-            StmtKind::Label(_, body) => self.lower_label(graph, body, place, exits, following),
-            StmtKind::Break => self.lower_jump(graph, exits.out, following),
-            StmtKind::Continue => self.lower_jump(graph, exits.again, following),
+            StmtKind::Goto(label) => self.lower_goto(graph, *label, next),
+            StmtKind::Label(_, body) => self.lower_label(graph, body, place, exits, next),
+            StmtKind::Break => self.lower_jump(graph, exits.out, next),
+            StmtKind::Continue => self.lower_jump(graph, exits.again, next),
             StmtKind::Return(value) => {
-                graph.keep(following)?;
+                graph.keep(next)?;
                 self.lower_return(graph, place, value.as_ref())
             }
         }
+    }
+
+    // An expression whose value is dropped (C11 6.8.3).
+    fn lower_run(
+        &self,
+        graph: &mut GraphBuilder,
+        place: Place,
+        e: &Expr,
+        following: Strip,
+    ) -> Result<Strip, AllocError>
+        requires { IsLaidOut self.now.program.now.model self.now.program.now.table.list }
+        ensures { IfOk result (λ made. (out again : ℕ) → BuildsStatement self.now graph.old graph.new (Run place (typed e.now)) out again made following) }
+    {
+        let dropped = following.prepend(place, 0, Work::Drop)?;
+        self.lower_expression(graph, e, 0, dropped)
+    }
+
+    // `if` without `else` (C11 6.8.4.1).
+    #[cycle(statements)]
+    fn lower_if(
+        &self,
+        graph: &mut GraphBuilder,
+        body: &Stmt,
+        place: Place,
+        test: &Expr,
+        exits: Exits,
+        following: Strip,
+    ) -> Result<Strip, AllocError>
+        requires { IsReady self.now }
+        ensures { IfOk result (λ made. BuildsStatement self.now graph.old graph.new (If place (typed test.now) (statement body.now)) exits.out exits.again made following) }
+    {
+        let end = graph.seal(following)?;
+        let one = self.lower_way_out(graph, body, exits, end)?;
+        let made = self.lower_test(graph, place, test, one, end)?;
+        Ok(made)
+    }
+
+    // `if` with `else`.
+    #[cycle(statements)]
+    fn lower_if_else(
+        &self,
+        graph: &mut GraphBuilder,
+        body: &Stmt,
+        otherwise: &Stmt,
+        place: Place,
+        test: &Expr,
+        exits: Exits,
+        following: Strip,
+    ) -> Result<Strip, AllocError>
+        requires { IsReady self.now }
+        ensures { IfOk result (λ made. BuildsStatement self.now graph.old graph.new (IfElse place (typed test.now) (statement body.now) (statement otherwise.now)) exits.out exits.again made following) }
+    {
+        let end = graph.seal(following)?;
+        let other = self.lower_way_out(graph, otherwise, exits, end)?;
+        let one = self.lower_way_out(graph, body, exits, end)?;
+        let made = self.lower_test(graph, place, test, one, other)?;
+        Ok(made)
     }
 
     /// Statements one after another, and then a strip.
@@ -108,7 +138,7 @@ impl Lowering<'_> {
         following: Strip,
     ) -> Result<Strip, AllocError>
         requires { IsReady self.now }
-        ensures { IfOk result (λ made. ExecutesAll (typed_program self.now.program.now) (routine self.now.function.now) (statement_list statements.now) exits.out exits.again (built_of graph.old) (built_of graph.new) (point_of made) (point_of following)) }
+        ensures { IfOk result (λ made. ExecutesAll (program_of self.now) (function_of self.now) (statement_list statements.now) exits.out exits.again (built_of graph.old) (built_of graph.new) (point_of made) (point_of following)) }
     {
         let mut made = following;
         let mut left = statements.len();
@@ -129,7 +159,7 @@ impl Lowering<'_> {
         end: u32,
     ) -> Result<Vec<u32>, AllocError>
         requires { IsReady self.now }
-        ensures { IfOk result (λ made. EntersAll (typed_program self.now.program.now) (routine self.now.function.now) (statement_list statements.now) exits.out exits.again (built_of graph.old) (built_of graph.new) made.items end) }
+        ensures { IfOk result (λ made. EntersAll (program_of self.now) (function_of self.now) (statement_list statements.now) exits.out exits.again (built_of graph.old) (built_of graph.new) made.items end) }
     {
         let mut entries = Vec::new(self.alloc);
         let mut next = end;
@@ -153,7 +183,7 @@ impl Lowering<'_> {
         end: u32,
     ) -> Result<u32, AllocError>
         requires { IsReady self.now }
-        ensures { IfOk result (λ made. ExecutesIn (typed_program self.now.program.now) (routine self.now.function.now) (statement s.now) exits.out exits.again (built_of graph.old) (built_of graph.new) made end) }
+        ensures { IfOk result (λ made. ExecutesIn (program_of self.now) (function_of self.now) (statement s.now) exits.out exits.again (built_of graph.old) (built_of graph.new) made end) }
     {
         let made = self.lower_statement(graph, s, exits, self.jump(end))?;
         let block = graph.seal(made)?;
@@ -171,7 +201,7 @@ impl Lowering<'_> {
         following: Strip,
     ) -> Result<Strip, AllocError>
         requires { IsReady self.now }
-        ensures { IfOk result (λ made. (label : ℕ) → Executes (typed_program self.now.program.now) (routine self.now.function.now) (Label place label (statement body.now)) exits.out exits.again (built_of graph.old) (built_of graph.new) (point_of made) (point_of following)) }
+        ensures { IfOk result (λ made. (label : ℕ) → BuildsStatement self.now graph.old graph.new (Label place label (statement body.now)) exits.out exits.again made following) }
     {
         let inner = counted_points(body)?;
         let counted_point = graph.counted_point_before(inner)?;
@@ -201,7 +231,7 @@ impl Lowering<'_> {
         following: Strip,
     ) -> Result<Strip, AllocError>
         requires { IsReady self.now }
-        ensures { IfOk result (λ made. (place : Place) (out again : ℕ) → Executes (typed_program self.now.program.now) (routine self.now.function.now) (Goto place label) out again (built_of graph.old) (built_of graph.new) (point_of made) (point_of following)) }
+        ensures { IfOk result (λ made. (place : Place) (out again : ℕ) → BuildsStatement self.now graph.old graph.new (Goto place label) out again made following) }
     {
         match self.labels.get(&label) {
             Some(counted_point) => self.lower_jump(graph, *counted_point, following),
@@ -217,12 +247,12 @@ impl Lowering<'_> {
         value: Option<&Expr>,
     ) -> Result<Strip, AllocError>
         requires { IsLaidOut self.now.program.now.model self.now.program.now.table.list }
-        ensures { IfOk result (λ made. Returns (typed_program self.now.program.now) (routine self.now.function.now) place (option_map typed (option_copied value.entry)) (built_of graph.old) (built_of graph.new) (point_of made)) }
+        ensures { IfOk result (λ made. Returns (program_of self.now) (function_of self.now) place (option_map typed (option_copied value.entry)) (built_of graph.old) (built_of graph.new) (point_of made)) }
     {
         let leaving = Strip::ending(self.alloc, BlockEnd::Return(0));
-        let leaving = leaving.following(place, 1, Work::Meet(PointKind::Return))?;
+        let leaving = leaving.prepend(place, 1, Work::Meet(PointKind::Return))?;
         match value {
-            None => leaving.following(place, 0, Work::Nothing),
+            None => leaving.prepend(place, 0, Work::Nothing),
             Some(value) => self.lower_used(graph, value, 0, leaving),
         }
     }

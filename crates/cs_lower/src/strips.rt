@@ -27,12 +27,7 @@ impl Strip {
     }
 
     /// An operation on the temporaries from a number on, and then the strip.
-    pub fn following(
-        mut self,
-        place: Place,
-        temporary: u32,
-        work: Work,
-    ) -> Result<Strip, AllocError>
+    pub fn prepend(mut self, place: Place, temporary: u32, work: Work) -> Result<Strip, AllocError>
         ensures { IfOk result (λ made. point_of made ≡ does place temporary (view.work work) (point_of self)) }
     {
         self.operations.push(Operation {

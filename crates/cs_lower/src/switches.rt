@@ -2,16 +2,15 @@
 ghost use Rattle.std.specs.Prelude.{◌≡◌, ◌++◌, ℕ, [], IfOk, OnOk, length, map};
 ghost use Rattle.cs_types.specs.Layout.{IsLaidOut};
 ghost use Rattle.cs_ast.specs.TypedTree.{Switch};
-ghost use Rattle.cs_ast.specs.TypedProgram.{typed_program, routine};
 ghost use Rattle.cs_ast.specs.TypedView.{typed, statement_list};
 ghost use Rattle.cs_meaning.specs.Statements.{default_item};
 ghost use Rattle.cs_cfg.specs.GraphView.{switch_case};
-ghost use Rattle.cs_lower.specs.Building.{point_of, built_of};
-ghost use Rattle.cs_lower.specs.Expressions.{Uses};
+ghost use Rattle.cs_lower.specs.Building.{point_of};
+ghost use Rattle.cs_lower.specs.Expressions.{used_one};
 ghost use Rattle.cs_lower.specs.Ready.{IsReady};
 ghost use Rattle.cs_lower.specs.Statements as statements;
-ghost use Rattle.cs_lower.specs.Statements.{Executes};
 ghost use Rattle.cs_lower.specs.Switching.{with_case, cases_to, leads_to};
+ghost use Rattle.cs_lower.specs.Builds.{BuildsBefore, BuildsStatement};
 
 use crate::building::GraphBuilder;
 use crate::context::Lowering;
@@ -37,7 +36,7 @@ impl Lowering<'_> {
         following: Strip,
     ) -> Result<Strip, AllocError>
         requires { IsReady self.now }
-        ensures { IfOk result (λ made. (out : ℕ) → Executes (typed_program self.now.program.now) (routine self.now.function.now) (Switch place (typed value.now) cases.now (statement_list statements.now)) out around (built_of graph.old) (built_of graph.new) (point_of made) (point_of following)) }
+        ensures { IfOk result (λ made. (out : ℕ) → BuildsStatement self.now graph.old graph.new (Switch place (typed value.now) cases.now (statement_list statements.now)) out around made following) }
     {
         let end = graph.seal(following)?;
         let exits = Exits {
@@ -60,7 +59,7 @@ impl Lowering<'_> {
         end: u32,
     ) -> Result<Strip, AllocError>
         requires { IsLaidOut self.now.program.now.model self.now.program.now.table.list }
-        ensures { IfOk result (λ made. Uses (typed_program self.now.program.now) (typed value.now) 0 (built_of graph.old) (built_of graph.new) (point_of made) (leads_to place cases.now blocks.now end)) }
+        ensures { IfOk result (λ made. BuildsBefore self.now graph.old graph.new (used_one (typed value.now) 0) made (leads_to place cases.now blocks.now end)) }
     {
         let following = self.choice(place, cases, blocks, end)?;
         self.lower_used(graph, value, 0, following)

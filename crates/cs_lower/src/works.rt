@@ -1,34 +1,37 @@
 //! What an expression does with its parts.
-ghost use Rattle.std.specs.Prelude.{◌≡◌, IfOk, option_map};
+ghost use Rattle.std.specs.Prelude.{◌≡◌, IfOk, Some, option_map};
 ghost use Rattle.cs_types.specs.Shape.{shape_of};
 ghost use Rattle.cs_types.specs.Layout.{IsLaidOut};
-ghost use Rattle.cs_ast.specs.TypedProgram.{typed_program};
 ghost use Rattle.cs_ast.specs.TypedView.{typed, typed_list, form};
 ghost use Rattle.cs_meaning.specs.Access as meaning;
 ghost use Rattle.cs_meaning.specs.Expressions.{count_all};
+ghost use Rattle.cs_cfg.specs.Graph as graph;
 ghost use Rattle.cs_cfg.specs.GraphView as view;
+ghost use Rattle.cs_cfg.specs.Placing.{step_of};
 ghost use Rattle.cs_cfg.specs.Standing as standing;
 ghost use Rattle.cs_lower.specs.Building.{point_of};
 ghost use Rattle.cs_lower.specs.Expressions.{acted, fetched, fetch_of};
+ghost use Rattle.cs_lower.specs.Builds.{program_of};
 
 use crate::context::Lowering;
 use crate::strips::Strip;
 use cs_ast::typed::expression::{Expr, ExprKind};
-use cs_ast::typed::operator::Direction;
+use cs_ast::typed::operator::{Allocator, BinOp, Direction, Gives};
 use cs_cfg::{Access, Work};
 use cs_run_state::access::access_of;
 use cs_run_state::constants::{integer_of, target_size};
 use cs_run_state::types::size_of;
+use cs_types::{CType, IntType};
 use std::alloc::AllocError;
 
 impl Lowering<'_> {
     /// What an expression does with its parts, before a strip.
     pub fn act(&self, e: &Expr, number: u32, following: Strip) -> Result<Strip, AllocError>
         requires { IsLaidOut self.now.program.now.model self.now.program.now.table.list }
-        ensures { IfOk result (λ made. point_of made ≡ acted (typed_program self.now.program.now) (typed e.now) number (point_of following)) }
+        ensures { IfOk result (λ made. point_of made ≡ acted (program_of self.now) (typed e.now) number (point_of following)) }
     {
         match self.work_of(e)? {
-            Some(work) => following.following(e.place, number, work),
+            Some(work) => following.prepend(e.place, number, work),
             None => Ok(following),
         }
     }
@@ -38,7 +41,7 @@ impl Lowering<'_> {
         ensures { IfOk result (λ made. point_of made ≡ fetched (typed e.now) number (point_of following)) }
     {
         match self.fetch_of(e)? {
-            Some(work) => following.following(e.place, number, work),
+            Some(work) => following.prepend(e.place, number, work),
             None => Ok(following),
         }
     }
@@ -46,9 +49,9 @@ impl Lowering<'_> {
     // The operation that does what an expression does with its parts, if it does something with them.
     fn work_of(&self, e: &Expr) -> Result<Option<Work>, AllocError>
         requires { IsLaidOut self.now.program.now.model self.now.program.now.table.list }
-        ensures { IfOk result (λ made. option_map view.work made ≡ standing.work_of (typed_program self.now.program.now) (shape_of e.now.ty) (form e.now.kind)) }
+        ensures { IfOk result (λ made. option_map view.work made ≡ standing.work_of (program_of self.now) (shape_of e.now.ty) (form e.now.kind.value)) }
     {
-        match &e.kind {
+        match &*e.kind {
             ExprKind::Number(value) => Ok(Some(Work::Number(*value))),
             ExprKind::Null => Ok(Some(Work::Null)),
             ExprKind::Text(literal) => Ok(Some(Work::Text(*literal))),
@@ -60,20 +63,11 @@ impl Lowering<'_> {
             }
             ExprKind::Member(_, offset) => Ok(Some(Work::Member(*offset))),
             ExprKind::Arrow(_, offset) => Ok(Some(Work::Arrow(*offset))),
-            ExprKind::Load(object) => {
-                let access = self.access(object)?;
-                Ok(Some(Work::Load(access)))
-            }
-            ExprKind::Convert(value) => {
-                let from = value.ty.copy(self.alloc)?;
-                let to = e.ty.copy(self.alloc)?;
-                Ok(Some(Work::Convert(from, to)))
-            }
+            ExprKind::Load(object) => Ok(Some(Work::Load(self.access(object)?))),
+            ExprKind::Convert(value) => self.conversion(&value.ty, &e.ty),
             ExprKind::Unary(operator, _) => { Ok(Some(Work::Unary(*operator, integer_of(&e.ty)))) }
             ExprKind::Not(_) => Ok(Some(Work::Not)),
-            ExprKind::Binary(operator, _, _) => {
-                Ok(Some(Work::Binary(*operator, integer_of(&e.ty))))
-            }
+            ExprKind::Binary(op, _, _) => Ok(Some(Work::Binary(*op, integer_of(&e.ty)))),
             ExprKind::Compare(operator, _, _) => Ok(Some(Work::Compare(*operator))),
             ExprKind::Sum(_, _, direction, order) => {
                 let bytes = target_size(self.program, &e.ty)?;
@@ -83,27 +77,11 @@ impl Lowering<'_> {
                 let bytes = target_size(self.program, &left.ty)?;
                 Ok(Some(Work::Difference(bytes)))
             }
-            ExprKind::Assign(object, _) => {
-                let access = self.access(object)?;
-                Ok(Some(Work::Store(access)))
-            }
-            ExprKind::Update(operator, object, _, works_in, gives) => {
-                let access = self.access(object)?;
-                Ok(Some(Work::Update(*operator, access, *works_in, *gives)))
-            }
-            ExprKind::Move(object, _, direction, gives) => {
-                let bytes = target_size(self.program, &object.ty)?;
-                let access = self.access(object)?;
-                Ok(Some(Work::Move(access, bytes, *direction, *gives)))
-            }
-            ExprKind::Call(function, arguments) => {
-                let count = count_of(arguments)?;
-                Ok(Some(Work::Call(*function, count)))
-            }
-            ExprKind::Allocate(allocator, _, element) => {
-                let element = element.copy(self.alloc)?;
-                Ok(Some(Work::Allocate(*allocator, element)))
-            }
+            ExprKind::Assign(object, _) => Ok(Some(Work::Store(self.access(object)?))),
+            ExprKind::Update(op, object, _, ty, gives) => self.updating(*op, object, *ty, *gives),
+            ExprKind::Move(object, _, direction, gives) => self.moving(object, *direction, *gives),
+            ExprKind::Call(function, row) => Ok(Some(Work::Call(*function, count_of(row)?))),
+            ExprKind::Allocate(allocator, _, element) => self.allocation(*allocator, element),
             ExprKind::Free(_) => Ok(Some(Work::Free)),
             ExprKind::Through(_) | ExprKind::Address(_) | ExprKind::Decay(_) => Ok(None),
             ExprKind::And(_, _) | ExprKind::Or(_, _) => Ok(None),
@@ -111,11 +89,57 @@ impl Lowering<'_> {
         }
     }
 
+    // A conversion from a type to another.
+    fn conversion(&self, from: &CType, to: &CType) -> Result<Option<Work>, AllocError>
+        ensures { IfOk result (λ made. option_map view.work made ≡ Some (graph.Convert (shape_of from.now) (shape_of to.now))) }
+    {
+        let from = from.copy(self.alloc)?;
+        let to = to.copy(self.alloc)?;
+        Ok(Some(Work::Convert(from, to)))
+    }
+
+    // A store of what an operator gives, which works in a type.
+    fn updating(
+        &self,
+        operator: BinOp,
+        object: &Expr,
+        works_in: IntType,
+        gives: Gives,
+    ) -> Result<Option<Work>, AllocError>
+        ensures { IfOk result (λ made. option_map view.work made ≡ Some (graph.Update operator (meaning.access_of (typed object.now)) works_in gives)) }
+    {
+        let access = self.access(object)?;
+        Ok(Some(Work::Update(operator, access, works_in, gives)))
+    }
+
+    // A store of a pointer that has moved.
+    fn moving(
+        &self,
+        object: &Expr,
+        direction: Direction,
+        gives: Gives,
+    ) -> Result<Option<Work>, AllocError>
+        requires { IsLaidOut self.now.program.now.model self.now.program.now.table.list }
+        ensures { IfOk result (λ made. option_map view.work made ≡ Some (graph.Move (meaning.access_of (typed object.now)) (step_of (program_of self.now) (shape_of object.now.ty)) direction gives)) }
+    {
+        let bytes = target_size(self.program, &object.ty)?;
+        let access = self.access(object)?;
+        Ok(Some(Work::Move(access, bytes, direction, gives)))
+    }
+
+    // An allocation of elements of a type.
+    fn allocation(&self, allocator: Allocator, element: &CType) -> Result<Option<Work>, AllocError>
+        ensures { IfOk result (λ made. option_map view.work made ≡ Some (graph.Allocate allocator (shape_of element.now))) }
+    {
+        let element = element.copy(self.alloc)?;
+        Ok(Some(Work::Allocate(allocator, element)))
+    }
+
     // The load of an update.
     fn fetch_of(&self, e: &Expr) -> Result<Option<Work>, AllocError>
-        ensures { IfOk result (λ made. option_map view.work made ≡ fetch_of (form e.now.kind)) }
+        ensures { IfOk result (λ made. option_map view.work made ≡ fetch_of (form e.now.kind.value)) }
     {
-        match &e.kind {
+        match &*e.kind {
             ExprKind::Update(_, object, _, works_in, _) => {
                 let access = self.access(object)?;
                 Ok(Some(Work::FetchNumber(access, *works_in)))

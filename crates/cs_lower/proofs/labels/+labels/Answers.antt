@@ -12,29 +12,29 @@ use Rattle.cs_lower.proofs.labels.+labels.Goals as goal
 
 pub add_labels-returns-in-Block-clause-next : goal.add_labels-returns-in-Block-clause-next
 add_labels-returns-in-Block-clause-next t c =
-    let is = block_is c.args.s.now _ c.in-Block.is in
-    rw is (rw c.deref.ensures.value at c.add_labels_in.ensures.next)
+    let is = block_is c.args.s.now _ (sym c.deref.ensures ∙ c.in-Block.is) in
+    rw is (rw c.deref-in-Block.ensures.value at c.add_labels_in.ensures.next)
 
 pub add_labels-returns-in-Block-clause-labels : goal.add_labels-returns-in-Block-clause-labels
 add_labels-returns-in-Block-clause-labels t c =
-    let is = block_is c.args.s.now _ c.in-Block.is in
-    labels_added c.add_labels_in.result (get nat_cmp c.args.labels.now) (get nat_cmp c.add_labels_in.new.labels) _ _ (λ wanted. ap (λ s. label_in wanted s c.args.counted_point) is ∙ ap (λ l. label_among wanted (statement_list l) c.args.counted_point) (sym c.deref.ensures.value)) c.add_labels_in.ensures.labels
+    let is = block_is c.args.s.now _ (sym c.deref.ensures ∙ c.in-Block.is) in
+    labels_added c.add_labels_in.result (get nat_cmp c.args.labels.now) (get nat_cmp c.add_labels_in.new.labels) _ _ (λ wanted. ap (λ s. label_in wanted s c.args.counted_point) is ∙ ap (λ l. label_among wanted (statement_list l) c.args.counted_point) (sym c.deref-in-Block.ensures.value)) c.add_labels_in.ensures.labels
 
 pub add_labels-returns-in-Switch-clause-next : goal.add_labels-returns-in-Switch-clause-next
 add_labels-returns-in-Switch-clause-next t c =
-    let is = switch_is c.args.s.now _ _ _ c.in-Switch.is in
+    let is = switch_is c.args.s.now _ _ _ (sym c.deref.ensures ∙ c.in-Switch.is) in
     rw is (rw c.deref-in-Switch.ensures.value at c.add_labels_in-in-Switch.ensures.next)
 
 pub add_labels-returns-in-Switch-clause-labels : goal.add_labels-returns-in-Switch-clause-labels
 add_labels-returns-in-Switch-clause-labels t c =
-    let is = switch_is c.args.s.now _ _ _ c.in-Switch.is in
+    let is = switch_is c.args.s.now _ _ _ (sym c.deref.ensures ∙ c.in-Switch.is) in
     labels_added c.add_labels_in-in-Switch.result (get nat_cmp c.args.labels.now) (get nat_cmp c.add_labels_in-in-Switch.new.labels) _ _
     (λ wanted. ap (λ s. label_in wanted s c.args.counted_point) is ∙ (label_in-Switch wanted c.args.s.now.place (typed c.in-Switch.field-0) c.in-Switch.field-1.items (statement_list c.in-Switch.statements.items) c.args.counted_point ∙ ap (λ l. label_among wanted (statement_list l) c.args.counted_point) (sym c.deref-in-Switch.ensures.value)))
     c.add_labels_in-in-Switch.ensures.labels
 
 pub add_labels-returns-in_ok-together-in-While-clause-labels : goal.add_labels-returns-in_ok-together-in-While-clause-labels
 add_labels-returns-in_ok-together-in-While-clause-labels t c =
-    let body = statement c.deref-in-While.result.now in
+    let body = statement c.in-While.body in
     let is : statement c.args.s.now ≡ While c.args.s.now.place (typed c.in-While.field-0) body = search rules in
     labels_added c.add_labels-in-While.result (get nat_cmp c.args.labels.now) (get nat_cmp c.add_labels-in-While.new.labels) _ _
     (λ wanted. ap (λ s. label_in wanted s c.args.counted_point) is ∙ (label_in-While wanted c.args.s.now.place (typed c.in-While.field-0) body c.args.counted_point ∙ ap (λ (n : ℕ). label_in wanted body n) (sym c.in_ok-together-in-While.ensures)))
@@ -42,7 +42,7 @@ add_labels-returns-in_ok-together-in-While-clause-labels t c =
 
 pub add_labels-returns-in_ok-together-in-Do-clause-labels : goal.add_labels-returns-in_ok-together-in-Do-clause-labels
 add_labels-returns-in_ok-together-in-Do-clause-labels t c =
-    let body = statement c.deref-in-Do.result.now in
+    let body = statement c.in-Do.body in
     let is : statement c.args.s.now ≡ Do c.args.s.now.place body (typed c.in-Do.field-1) = search rules in
     labels_added c.add_labels-in-Do.result (get nat_cmp c.args.labels.now) (get nat_cmp c.add_labels-in-Do.new.labels) _ _
     (λ wanted. ap (λ s. label_in wanted s c.args.counted_point) is ∙ (label_in-Do wanted c.args.s.now.place body (typed c.in-Do.field-1) c.args.counted_point ∙ ap (λ (n : ℕ). label_in wanted body n) (sym c.in_ok-together-in-Do.ensures)))
@@ -50,26 +50,25 @@ add_labels-returns-in_ok-together-in-Do-clause-labels t c =
 
 pub add_labels-returns-in_ok-next-in-For-clause-next : goal.add_labels-returns-in_ok-next-in-For-clause-next
 add_labels-returns-in_ok-next-in-For-clause-next t c =
-    let is = for_is c.args.s.now _ _ _ _ c.in-For.is in
+    let is = for_is c.args.s.now _ _ _ _ (sym c.deref.ensures ∙ c.in-For.is) in
     let before : c.in_ok-counted_points_in-in-For.field-0 ≡ counted_points_in (statement_list c.in-For.first.items) = rw c.deref-in-For.ensures.value at c.in_ok-counted_points_in-in-For.ensures in
     let head = c.in_ok-head-in-For.ensures in
     let next = c.in_ok-next-in-For.ensures in
-    let all : c.in_ok-next-in-For.next + counted_points (statement c.in-For.body.value) ≡ c.args.counted_point + (1 + counted_points_in (statement_list c.in-For.first.items) + counted_points (statement c.in-For.body.value)) = omega arith in
+    let all : c.in_ok-next-in-For.next + counted_points (statement c.in-For.body) ≡ c.args.counted_point + (1 + counted_points_in (statement_list c.in-For.first.items) + counted_points (statement c.in-For.body)) = omega arith in
     let counts : ℕ → Type 0 = λ n. IfOk c.add_labels-in-For.result (λ next. next ≡ n) in
-    rw is (subst counts all (rw c.deref-in-For-2.ensures at c.add_labels-in-For.ensures.next))
+    rw is (subst counts all c.add_labels-in-For.ensures.next)
 
 pub add_labels-returns-in_ok-next-in-For-clause-labels : goal.add_labels-returns-in_ok-next-in-For-clause-labels
 add_labels-returns-in_ok-next-in-For-clause-labels t c =
-    let is = for_is c.args.s.now _ _ _ _ c.in-For.is in
+    let is = for_is c.args.s.now _ _ _ _ (sym c.deref.ensures ∙ c.in-For.is) in
     let before : c.in_ok-counted_points_in-in-For.field-0 ≡ counted_points_in (statement_list c.in-For.first.items) = rw c.deref-in-For.ensures.value at c.in_ok-counted_points_in-in-For.ensures in
     let head = c.in_ok-head-in-For.ensures in
     let next = c.in_ok-next-in-For.ensures in
     let here : c.args.counted_point + 1 + counted_points_in (statement_list c.in-For.first.items) ≡ c.in_ok-next-in-For.next = omega arith in
-    let inner : statement c.in-For.body.value ≡ statement c.deref-in-For-2.result.now = ap statement (sym c.deref-in-For-2.ensures) in
     labels_added c.add_labels-in-For.result (get nat_cmp c.args.labels.now) (get nat_cmp c.add_labels-in-For.new.labels) _ _
     (λ wanted. ap (λ s. label_in wanted s c.args.counted_point) is
-    ∙ (label_in-For wanted c.args.s.now.place (statement_list c.in-For.first.items) (some_typed c.in-For.field-1) (some_typed c.in-For.field-2) (statement c.in-For.body.value) c.args.counted_point
-    ∙ (ap (λ (n : ℕ). label_in wanted (statement c.in-For.body.value) n) here ∙ ap (λ (s : Statement). label_in wanted s c.in_ok-next-in-For.next) inner)))
+    ∙ (label_in-For wanted c.args.s.now.place (statement_list c.in-For.first.items) (some_typed c.in-For.field-1) (some_typed c.in-For.field-2) (statement c.in-For.body) c.args.counted_point
+    ∙ ap (λ (n : ℕ). label_in wanted (statement c.in-For.body) n) here))
     c.add_labels-in-For.ensures.labels
 
 pub add_labels_in-loop-s-preserved : goal.add_labels_in-loop-s-preserved

@@ -21,6 +21,12 @@ decreases-lower_row l = 4 * goal.size-lower_row l + 2
 abbrev pub decreases-lower_pair : goal.decreases-lower_pair
 decreases-lower_pair l = 4 * max (goal.size-lower_pair l) (goal.size-lower_pair (record l { first = l.second })) + 2
 
+abbrev pub decreases-lower_sum : goal.decreases-lower_sum
+decreases-lower_sum l = 4 * max (goal.size-lower_sum l) (goal.size-lower_sum (record l { pointer = l.amount })) + 3
+
+abbrev pub decreases-lower_update : goal.decreases-lower_update
+decreases-lower_update l = 4 * max (goal.size-lower_update (record l { update = l.object })) (goal.size-lower_update (record l { update = l.right })) + 2
+
 abbrev pub decreases-lower_and : goal.decreases-lower_and
 decreases-lower_and l = 4 * max (goal.size-lower_and l) (goal.size-lower_and (record l { left = l.right })) + 3
 

@@ -20,45 +20,51 @@ use Rattle.cs_lower.proofs.context.Lowering.+statements.Goals as goal
 
 pub lower_statement-returns-in-Block : goal.lower_statement-returns-in-Block
 lower_statement-returns-in-Block t c =
-    let is = block_is c.args.s.now c.in-Block.statements c.in-Block.is ∙ ap (λ l. Block c.args.s.now.place (statement_list l)) (sym c.deref.ensures.value) in
+    let is = block_is c.args.s.now c.in-Block.statements (sym c.deref.ensures ∙ c.in-Block.is) ∙ ap (λ l. Block c.args.s.now.place (statement_list l)) (sym c.deref-in-Block.ensures.value) in
     if_made c.lower_all.result (λ strip h. as_statement is (made.block h)) c.lower_all.ensures
 
 pub lower_statement-returns-in-Declare : goal.lower_statement-returns-in-Declare
 lower_statement-returns-in-Declare t c =
     let d = c.in-Declare.declaration in
     let is : statement c.args.s.now ≡ Declare c.args.s.now.place d (option_map initial (option_copied c.as_ref.result)) =
-    ap (statement_at c.args.s.now.place) c.in-Declare.is ∙ ap (λ o. Declare c.args.s.now.place d (option_map initial o)) (sym c.as_ref.ensures.value) in
+    ap (statement_at c.args.s.now.place) (sym c.deref.ensures ∙ c.in-Declare.is) ∙ ap (λ o. Declare c.args.s.now.place d (option_map initial o)) (sym c.as_ref.ensures.value) in
     if_made c.lower_declaration.result (λ strip h. as_statement is (made.declare h)) c.lower_declaration.ensures
 
-pub lower_statement-returns-in_ok-following-in-Run : goal.lower_statement-returns-in_ok-following-in-Run
-lower_statement-returns-in_ok-following-in-Run t c =
-    let is : statement c.args.s.now ≡ Run c.args.s.now.place (typed c.in-Run.e) = ap (statement_at c.args.s.now.place) c.in-Run.is in
-    if_made c.lower_expression.result (λ strip h. as_statement is (made.run c.in_ok-following-in-Run.ensures h)) c.lower_expression.ensures
+pub lower_statement-returns-in-Run : goal.lower_statement-returns-in-Run
+lower_statement-returns-in-Run t c =
+    let is : statement c.args.s.now ≡ Run c.args.s.now.place (typed c.in-Run.e) = ap (statement_at c.args.s.now.place) (sym c.deref.ensures ∙ c.in-Run.is) in
+    if_made c.lower_run.result (λ strip h. as_statement is (h c.args.exits.out c.args.exits.again)) c.lower_run.ensures
 
-pub lower_statement-returns-in_ok-one-in-If : goal.lower_statement-returns-in_ok-one-in-If
-lower_statement-returns-in_ok-one-in-If t c =
-    let is : statement c.args.s.now ≡ If c.args.s.now.place (typed c.in-If.test) (statement c.deref-in-If.result.now) = search rules in
-    if_made c.lower_test.result (λ strip h. as_statement is (made.if c.in_ok-end-in-If.ensures c.in_ok-one-in-If.ensures h)) c.lower_test.ensures
+pub lower_statement-returns-in-If : goal.lower_statement-returns-in-If
+lower_statement-returns-in-If t c =
+    let is : statement c.args.s.now ≡ If c.args.s.now.place (typed c.in-If.test) (statement c.in-If.body) = search rules in
+    if_made c.lower_if.result (λ strip h. as_statement is h) c.lower_if.ensures
 
-pub lower_statement-returns-in_ok-one-in-IfElse : goal.lower_statement-returns-in_ok-one-in-IfElse
-lower_statement-returns-in_ok-one-in-IfElse t c =
-    let is : statement c.args.s.now ≡ IfElse c.args.s.now.place (typed c.in-IfElse.test) (statement c.deref-in-IfElse-2.result.now) (statement c.deref-in-IfElse.result.now) = search rules in
-    if_made c.lower_test-in-IfElse.result (λ strip h. as_statement is (made.if_else c.in_ok-end-in-IfElse.ensures c.in_ok-other-in-IfElse.ensures c.in_ok-one-in-IfElse.ensures h)) c.lower_test-in-IfElse.ensures
+pub lower_statement-returns-in-IfElse : goal.lower_statement-returns-in-IfElse
+lower_statement-returns-in-IfElse t c =
+    let is : statement c.args.s.now ≡ IfElse c.args.s.now.place (typed c.in-IfElse.test) (statement c.in-IfElse.body) (statement c.in-IfElse.other) = search rules in
+    if_made c.lower_if_else.result (λ strip h. as_statement is h) c.lower_if_else.ensures
+
+pub lower_if-returns : goal.lower_if-returns
+lower_if-returns t c = made.if c.in_ok-end.ensures c.in_ok-one.ensures c.in_ok-made.ensures
+
+pub lower_if_else-returns : goal.lower_if_else-returns
+lower_if_else-returns t c = made.if_else c.in_ok-end.ensures c.in_ok-other.ensures c.in_ok-one.ensures c.in_ok-made.ensures
 
 pub lower_statement-returns-in-While : goal.lower_statement-returns-in-While
 lower_statement-returns-in-While t c =
-    let is : statement c.args.s.now ≡ While c.args.s.now.place (typed c.in-While.test) (statement c.deref-in-While.result.now) = search rules in
+    let is : statement c.args.s.now ≡ While c.args.s.now.place (typed c.in-While.test) (statement c.in-While.body) = search rules in
     if_made c.lower_while.result (λ strip h. as_statement is (h c.args.exits.out c.args.exits.again)) c.lower_while.ensures
 
 pub lower_statement-returns-in-Do : goal.lower_statement-returns-in-Do
 lower_statement-returns-in-Do t c =
-    let is : statement c.args.s.now ≡ Do c.args.s.now.place (statement c.deref-in-Do.result.now) (typed c.in-Do.test) = search rules in
+    let is : statement c.args.s.now ≡ Do c.args.s.now.place (statement c.in-Do.body) (typed c.in-Do.test) = search rules in
     if_made c.lower_do.result (λ strip h. as_statement is (h c.args.exits.out c.args.exits.again)) c.lower_do.ensures
 
 pub lower_statement-lower_for-requires : goal.lower_statement-lower_for-requires
 lower_statement-lower_for-requires t c =
     let deeper = size_is-Stmt c.args.s.now in
-    let parts = ap size-StmtKind c.in-For.is ∙ sized-For c.in-For.first c.in-For.test c.in-For.last c.in-For.body in
+    let parts = ap size-StmtKind (sym c.deref.ensures ∙ c.in-For.is) ∙ sized-For c.in-For.first c.in-For.test c.in-For.last c.in-For.body in
     (grind arith, c.requires)
 
 pub lower_statement-returns-in-For : goal.lower_statement-returns-in-For
@@ -67,45 +73,44 @@ lower_statement-returns-in-For t c =
     let first = statement_list c.deref-in-For.result.now in
     let test = some_typed c.in-For.test in
     let last = some_typed c.in-For.last in
-    let is : statement s ≡ For s.place first test last (statement c.deref-in-For-2.result.now) =
-    for_is s c.in-For.first c.in-For.test c.in-For.last c.in-For.body c.in-For.is
-    ∙ (ap (λ l. For s.place (statement_list l) test last (statement c.in-For.body.value)) (sym c.deref-in-For.ensures.value)
-    ∙ ap (λ (b : Stmt). For s.place first test last (statement b)) (sym c.deref-in-For-2.ensures)) in
+    let is : statement s ≡ For s.place first test last (statement c.in-For.body) =
+    for_is s c.in-For.first c.in-For.test c.in-For.last c.in-For.body (sym c.deref.ensures ∙ c.in-For.is)
+    ∙ ap (λ l. For s.place (statement_list l) test last (statement c.in-For.body)) (sym c.deref-in-For.ensures.value) in
     if_made c.lower_for.result (λ strip h. as_statement is (h c.args.exits.out)) c.lower_for.ensures
 
 pub lower_statement-returns-in-Switch : goal.lower_statement-returns-in-Switch
 lower_statement-returns-in-Switch t c =
-    let statements = c.in-Switch.statements.items in
+    let statements = c.in-Switch.list.items in
     let is : statement c.args.s.now ≡ Switch c.args.s.now.place (typed c.in-Switch.value) c.deref-in-Switch-2.result.now (statement_list c.deref-in-Switch.result.now) =
-    switch_is c.args.s.now c.in-Switch.value c.in-Switch.cases c.in-Switch.statements c.in-Switch.is
+    switch_is c.args.s.now c.in-Switch.value c.in-Switch.cases c.in-Switch.list (sym c.deref.ensures ∙ c.in-Switch.is)
     ∙ (ap (λ l. Switch c.args.s.now.place (typed c.in-Switch.value) l (statement_list statements)) (sym c.deref-in-Switch-2.ensures.value)
     ∙ ap (λ l. Switch c.args.s.now.place (typed c.in-Switch.value) c.deref-in-Switch-2.result.now (statement_list l)) (sym c.deref-in-Switch.ensures.value)) in
     if_made c.lower_switch.result (λ strip h. as_statement is (h c.args.exits.out)) c.lower_switch.ensures
 
 pub lower_statement-returns-in-Goto : goal.lower_statement-returns-in-Goto
 lower_statement-returns-in-Goto t c =
-    let is : statement c.args.s.now ≡ Goto c.args.s.now.place c.in-Goto.label = ap (statement_at c.args.s.now.place) c.in-Goto.is in
+    let is : statement c.args.s.now ≡ Goto c.args.s.now.place c.in-Goto.label = ap (statement_at c.args.s.now.place) (sym c.deref.ensures ∙ c.in-Goto.is) in
     if_made c.lower_goto.result (λ strip h. as_statement is (h c.args.s.now.place c.args.exits.out c.args.exits.again)) c.lower_goto.ensures
 
 pub lower_statement-returns-in-Label : goal.lower_statement-returns-in-Label
 lower_statement-returns-in-Label t c =
-    let is : statement c.args.s.now ≡ Label c.args.s.now.place c.in-Label.field-0 (statement c.deref-in-Label.result.now) = search rules in
+    let is : statement c.args.s.now ≡ Label c.args.s.now.place c.in-Label.field-0 (statement c.in-Label.body) = search rules in
     if_made c.lower_label.result (λ strip h. as_statement is (h c.in-Label.field-0)) c.lower_label.ensures
 
 pub lower_statement-returns-in-Break : goal.lower_statement-returns-in-Break
 lower_statement-returns-in-Break t c =
-    let is : statement c.args.s.now ≡ Break c.args.s.now.place = ap (statement_at c.args.s.now.place) c.in-Break.is in
+    let is : statement c.args.s.now ≡ Break c.args.s.now.place = ap (statement_at c.args.s.now.place) (sym c.deref.ensures ∙ c.in-Break.is) in
     if_made c.lower_jump.result (λ strip h. as_statement is (leave.break h)) c.lower_jump.ensures
 
 pub lower_statement-returns-in-Continue : goal.lower_statement-returns-in-Continue
 lower_statement-returns-in-Continue t c =
-    let is : statement c.args.s.now ≡ Continue c.args.s.now.place = ap (statement_at c.args.s.now.place) c.in-Continue.is in
+    let is : statement c.args.s.now ≡ Continue c.args.s.now.place = ap (statement_at c.args.s.now.place) (sym c.deref.ensures ∙ c.in-Continue.is) in
     if_made c.lower_jump-in-Continue.result (λ strip h. as_statement is (leave.continue h)) c.lower_jump-in-Continue.ensures
 
 pub lower_statement-returns-in_ok-keep-in-Return : goal.lower_statement-returns-in_ok-keep-in-Return
 lower_statement-returns-in_ok-keep-in-Return t c =
     let is : statement c.args.s.now ≡ Return c.args.s.now.place (option_map typed (option_copied c.as_ref-in-Return.result)) =
-    ap (statement_at c.args.s.now.place) c.in-Return.is ∙ ap (λ o. Return c.args.s.now.place (option_map typed o)) (sym c.as_ref-in-Return.ensures.value) in
+    ap (statement_at c.args.s.now.place) (sym c.deref.ensures ∙ c.in-Return.is) ∙ ap (λ o. Return c.args.s.now.place (option_map typed o)) (sym c.as_ref-in-Return.ensures.value) in
     if_made c.lower_return.result (λ strip h. as_statement is (leave.returns c.in_ok-keep-in-Return.ensures h)) c.lower_return.ensures
 
 pub lower_all-loop-left-preserved : goal.lower_all-loop-left-preserved

@@ -45,6 +45,12 @@ decreases-lower_switch l = 4 * goal.size-lower_switch l + 3
 abbrev pub decreases-lower_label : goal.decreases-lower_label
 decreases-lower_label l = 4 * size-Stmt l.body.now + 1
 
+abbrev pub decreases-lower_if : goal.decreases-lower_if
+decreases-lower_if l = 4 * size-Stmt l.body.now + 2
+
+abbrev pub decreases-lower_if_else : goal.decreases-lower_if_else
+decreases-lower_if_else l = 4 * max (size-Stmt l.body.now) (size-Stmt l.otherwise.now) + 2
+
 abbrev pub decreases-lower_while : goal.decreases-lower_while
 decreases-lower_while l = 4 * size-Stmt l.body.now + 2
 

@@ -15,8 +15,8 @@ returns-in_ok-made-in-Value c =
 
 pub returns-in_ok-stored-in-List : goal.returns-in_ok-stored-in-List
 returns-in_ok-stored-in-List c =
-    if_made c.following.result (λ made zeroed. declared_parts (ap initial c.in-List.is ∙ initial-List c.in-List.field-0) zeroed c.in_ok-stored-in-List.ensures) c.following.ensures
+    if_made c.prepend.result (λ made zeroed. declared_parts (ap initial c.in-List.is ∙ initial-List c.in-List.field-0) zeroed c.in_ok-stored-in-List.ensures) c.prepend.ensures
 
 pub returns-in_ok-stored-in-Text : goal.returns-in_ok-stored-in-Text
 returns-in_ok-stored-in-Text c =
-    if_made c.following-in-Text.result (λ made zeroed. declared_text (ap initial c.in-Text.is) zeroed c.in_ok-stored-in-Text.ensures) c.following-in-Text.ensures
+    if_made c.prepend-in-Text.result (λ made zeroed. declared_text (ap initial c.in-Text.is) zeroed c.in_ok-stored-in-Text.ensures) c.prepend-in-Text.ensures

@@ -12,10 +12,10 @@ use Rattle.cs_lower.proofs.context.Lowering.lower_return.Goals as goal
 pub returns-in-None : goal.returns-in-None
 returns-in-None c =
     let built = built_of c.args.graph.now in
-    if_made c.following-in-None.result
+    if_made c.prepend-in-None.result
     (λ made is. subst (λ (o : Option (Bor Expr)). Returns (typed_program c.args.self.now.program.now) (routine c.args.self.now.function.now) c.args.place (option_map typed (option_copied o)) built built (point_of made)) (sym c.in-None.is)
     (returns_nothing c.ending-leaving.ensures c.in_ok-leaving.ensures is))
-    c.following-in-None.ensures
+    c.prepend-in-None.ensures
 
 pub returns-in-Some : goal.returns-in-Some
 returns-in-Some c =
