@@ -1,5 +1,5 @@
 -- A run of code on its way, seen as the run of the code that its definition speaks of: its state, and what an act does to it.
-use Rattle.std.specs.Prelude.{◌≡◌, List, map, reverse}
+use Rattle.std.specs.Prelude.{◌≡◌, List, map, reverse, Result, ⊤, OnOk, IfErr}
 use Rattle.cs_ast.specs.TypedProgram.{TypedProgram}
 use Rattle.cs_events.specs.declared.outcome.RunBudgets.{RunBudgets}
 use Rattle.cs_events.specs.Acts.{Act}
@@ -67,3 +67,9 @@ module _ (old new : Replayer) where
   pub record KeepsSetting : Type 0 where
     pub setting : new.runner.setting ≡ old.runner.setting
     pub code : new.code ≡ old.code
+
+  -- what a call comes to that performs an act: the act leads the run on, by the same program, inputs and budgets, or has ended it
+  pub record Performs (result : Result ⊤ Stop) (act : Act CodeState) : Type 0 where
+    pub ok : OnOk result (LeadsOn act)
+    pub err : IfErr result (Ends act)
+    pub kept : OnOk result KeepsSetting

@@ -1,5 +1,5 @@
 //! Calls, and frames that are left (C11 6.5.2.2, 6.8.6.4).
-ghost use Rattle.std.specs.Prelude.{◌≡◌, [], Some, OnOk, IfErr, IfSome, IfNone, map};
+ghost use Rattle.std.specs.Prelude.{◌≡◌, [], Some, OnOk, IfSome, IfNone, map};
 ghost use Rattle.cs_ast.specs.TypedProgram.{typed_program, variable};
 ghost use Rattle.cs_cfg.specs.Graph as graph;
 ghost use Rattle.cs_cfg.specs.GraphView as view;
@@ -10,7 +10,7 @@ ghost use Rattle.cs_run_state.specs.View.{operand_of};
 ghost use Rattle.cs_run_state.specs.MemoryView.{block_at};
 ghost use Rattle.cs_run_state.specs.MachineView.{state_of, frame_of};
 ghost use Rattle.cs_replay.specs.FrameChanges.{inside_with, called_by, back_in};
-ghost use Rattle.cs_replay.specs.ReplayerView.{program_of, budgets_of, code_of, caller_of, state_in, IsReady, LeadsOn, Ends, KeepsSetting};
+ghost use Rattle.cs_replay.specs.ReplayerView.{program_of, budgets_of, code_of, caller_of, state_in, IsReady, KeepsSetting, Performs};
 
 use crate::frames::new_frame;
 use crate::nexts::flow_at;
@@ -31,9 +31,7 @@ impl<'a> Replayer<'a> {
     /// A call with so many arguments, which are the newest temporaries. A function without a graph has no body.
     pub fn call(&mut self, place: Place, function: u32, count: u32) -> Result<(), Stop>
         requires { IsReady self.old }
-        ensures ok { OnOk result (LeadsOn self.old self.new (working.call_flow (program_of self.old) (budgets_of self.old) place function (machine.routine_of (program_of self.old) function) (graph.flow_of (code_of self.old) function) (machine.newest count (state_in self.old)) (machine.pop_many count (state_in self.old)))) }
-        ensures err { IfErr result (Ends self.old self.new (working.call_flow (program_of self.old) (budgets_of self.old) place function (machine.routine_of (program_of self.old) function) (graph.flow_of (code_of self.old) function) (machine.newest count (state_in self.old)) (machine.pop_many count (state_in self.old)))) }
-        ensures kept { OnOk result (KeepsSetting self.old self.new) }
+        ensures { Performs self.old self.new result (working.call_flow (program_of self.old) (budgets_of self.old) place function (machine.routine_of (program_of self.old) function) (graph.flow_of (code_of self.old) function) (machine.newest count (state_in self.old)) (machine.pop_many count (state_in self.old))) }
     {
         match flow_at(self.code, function) {
             Some(flow) => {
@@ -57,9 +55,7 @@ impl<'a> Replayer<'a> {
     ) -> Result<(), Stop>
         requires ready { IsReady self.old }
         requires graph { graph.flow_of (code_of self.old) function ≡ Some (view.flow flow.now) }
-        ensures ok { OnOk result (LeadsOn self.old self.new (calls.enter_as (program_of self.old) (budgets_of self.old) (working.code_frame function (view.flow flow.now)) place function (machine.routine_of (program_of self.old) function) (map operand_of arguments.items) (state_in self.old))) }
-        ensures err { IfErr result (Ends self.old self.new (calls.enter_as (program_of self.old) (budgets_of self.old) (working.code_frame function (view.flow flow.now)) place function (machine.routine_of (program_of self.old) function) (map operand_of arguments.items) (state_in self.old))) }
-        ensures kept { OnOk result (KeepsSetting self.old self.new) }
+        ensures { Performs self.old self.new result (calls.enter_as (program_of self.old) (budgets_of self.old) (working.code_frame function (view.flow flow.now)) place function (machine.routine_of (program_of self.old) function) (map operand_of arguments.items) (state_in self.old)) }
     {
         let setting = self.runner.setting;
         if self.callers.len() as u64 >= u64::from(setting.budgets.depth.saturating_sub(1)) {
@@ -101,9 +97,7 @@ impl<'a> Replayer<'a> {
 
     /// The frame that runs ends, and gives a value to the one that called it; the run is done where none did.
     pub fn leave(&mut self, value: Operand) -> Result<(), Stop>
-        ensures ok { OnOk result (LeadsOn self.old self.new (calls.leave (operand_of value) (state_in self.old))) }
-        ensures err { IfErr result (Ends self.old self.new (calls.leave (operand_of value) (state_in self.old))) }
-        ensures kept { OnOk result (KeepsSetting self.old self.new) }
+        ensures { Performs self.old self.new result (calls.leave (operand_of value) (state_in self.old)) }
     {
         match self.pop_caller() {
             Some(caller) => {

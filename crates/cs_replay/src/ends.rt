@@ -1,9 +1,9 @@
 //! What the end of a block does.
-ghost use Rattle.std.specs.Prelude.{◌≡◌, OnOk, IfErr, map, if◌then◌else◌};
+ghost use Rattle.std.specs.Prelude.{◌≡◌, map, if◌then◌else◌};
 ghost use Rattle.cs_cfg.specs.CodeSteps as steps;
 ghost use Rattle.cs_cfg.specs.Graph as graph;
 ghost use Rattle.cs_cfg.specs.GraphView as view;
-ghost use Rattle.cs_replay.specs.ReplayerView.{code_of, state_in, LeadsOn, Ends, KeepsSetting};
+ghost use Rattle.cs_replay.specs.ReplayerView.{code_of, state_in, KeepsSetting, Performs};
 
 use crate::operands::cut;
 use crate::positions::Position;
@@ -17,9 +17,7 @@ use cs_run_state::{Cell, Operand, Stop, Touch};
 impl<'a> Replayer<'a> {
     /// The end of a block: to another one, or out of the frame.
     pub fn end_block(&mut self, end: &BlockEnd) -> Result<(), Stop>
-        ensures ok { OnOk result (LeadsOn self.old self.new (steps.do_end (code_of self.old) (view.block_end end.now) (state_in self.old))) }
-        ensures err { IfErr result (Ends self.old self.new (steps.do_end (code_of self.old) (view.block_end end.now) (state_in self.old))) }
-        ensures kept { OnOk result (KeepsSetting self.old self.new) }
+        ensures { Performs self.old self.new result (steps.do_end (code_of self.old) (view.block_end end.now) (state_in self.old)) }
     {
         match end {
             BlockEnd::Jump(block) => {
@@ -48,9 +46,7 @@ impl<'a> Replayer<'a> {
 
     // A test: the way that it takes shows (C11 6.8.4.1, 6.8.5).
     fn branch(&mut self, place: Place, temporary: u32, one: u32, other: u32) -> Result<(), Stop>
-        ensures ok { OnOk result (LeadsOn self.old self.new (steps.do_end (code_of self.old) (graph.Branch place temporary one other) (state_in self.old))) }
-        ensures err { IfErr result (Ends self.old self.new (steps.do_end (code_of self.old) (graph.Branch place temporary one other) (state_in self.old))) }
-        ensures kept { OnOk result (KeepsSetting self.old self.new) }
+        ensures { Performs self.old self.new result (steps.do_end (code_of self.old) (graph.Branch place temporary one other) (state_in self.old)) }
     {
         cut(&mut self.runner.machine, u64::from(temporary) + 1);
         let runner = &mut self.runner;
@@ -68,9 +64,7 @@ impl<'a> Replayer<'a> {
         cases: &[SwitchCase],
         otherwise: u32,
     ) -> Result<(), Stop>
-        ensures ok { OnOk result (LeadsOn self.old self.new (steps.do_end (code_of self.old) (graph.Switch place temporary (map view.switch_case cases.now) otherwise) (state_in self.old))) }
-        ensures err { IfErr result (Ends self.old self.new (steps.do_end (code_of self.old) (graph.Switch place temporary (map view.switch_case cases.now) otherwise) (state_in self.old))) }
-        ensures kept { OnOk result (KeepsSetting self.old self.new) }
+        ensures { Performs self.old self.new result (steps.do_end (code_of self.old) (graph.Switch place temporary (map view.switch_case cases.now) otherwise) (state_in self.old)) }
     {
         cut(&mut self.runner.machine, u64::from(temporary) + 1);
         let number = self.runner.machine.pop_cell().number();
@@ -85,9 +79,7 @@ impl<'a> Replayer<'a> {
 
     // The frame is left with a temporary.
     fn give_back(&mut self, temporary: u32) -> Result<(), Stop>
-        ensures ok { OnOk result (LeadsOn self.old self.new (steps.do_end (code_of self.old) (graph.Return temporary) (state_in self.old))) }
-        ensures err { IfErr result (Ends self.old self.new (steps.do_end (code_of self.old) (graph.Return temporary) (state_in self.old))) }
-        ensures kept { OnOk result (KeepsSetting self.old self.new) }
+        ensures { Performs self.old self.new result (steps.do_end (code_of self.old) (graph.Return temporary) (state_in self.old)) }
     {
         cut(&mut self.runner.machine, u64::from(temporary) + 1);
         let value = self.runner.machine.pop();

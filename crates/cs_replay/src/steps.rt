@@ -1,10 +1,10 @@
 //! The steps of a run of code.
-ghost use Rattle.std.specs.Prelude.{◌≡◌, ◌+◌, OnOk, IfErr};
+ghost use Rattle.std.specs.Prelude.{◌≡◌, ◌+◌, OnOk};
 ghost use Rattle.cs_cfg.specs.CodeSteps as steps;
 ghost use Rattle.cs_cfg.specs.GraphView as view;
 ghost use Rattle.cs_cfg.specs.Working as working;
 ghost use Rattle.cs_replay.specs.Nexts.{reaching};
-ghost use Rattle.cs_replay.specs.ReplayerView.{program_of, budgets_of, code_of, state_in, IsReady, LeadsOn, Ends, KeepsSetting};
+ghost use Rattle.cs_replay.specs.ReplayerView.{program_of, budgets_of, code_of, state_in, IsReady, Performs};
 
 use crate::nexts::{Next, next_at};
 use crate::operands::cut;
@@ -19,9 +19,7 @@ impl<'a> Replayer<'a> {
     /// One step: the next operation of the block, or its end.
     pub fn step(&mut self) -> Result<(), Stop>
         requires { IsReady self.old }
-        ensures ok { OnOk result (LeadsOn self.old self.new (steps.code_step (code_of self.old) (program_of self.old) (budgets_of self.old) (state_in self.old))) }
-        ensures err { IfErr result (Ends self.old self.new (steps.code_step (code_of self.old) (program_of self.old) (budgets_of self.old) (state_in self.old))) }
-        ensures kept { OnOk result (KeepsSetting self.old self.new) }
+        ensures { Performs self.old self.new result (steps.code_step (code_of self.old) (program_of self.old) (budgets_of self.old) (state_in self.old)) }
     {
         let function = self.runner.machine.frame.function;
         match next_at(self.code, function, self.position) {
@@ -48,9 +46,7 @@ impl<'a> Replayer<'a> {
 
     // A loop head or a label is reached.
     fn reach(&mut self, counted_point: &CountedPoint) -> Result<(), Stop>
-        ensures ok { OnOk result (LeadsOn self.old self.new (steps.do_operation (code_of self.old) (program_of self.old) (budgets_of self.old) (reaching counted_point.now) (state_in self.old))) }
-        ensures err { IfErr result (Ends self.old self.new (steps.do_operation (code_of self.old) (program_of self.old) (budgets_of self.old) (reaching counted_point.now) (state_in self.old))) }
-        ensures kept { OnOk result (KeepsSetting self.old self.new) }
+        ensures { Performs self.old self.new result (steps.do_operation (code_of self.old) (program_of self.old) (budgets_of self.old) (reaching counted_point.now) (state_in self.old)) }
     {
         cut(&mut self.runner.machine, 0);
         self.runner.reach_counted_point(
@@ -64,9 +60,7 @@ impl<'a> Replayer<'a> {
     // An operation works on the temporaries from its number on; those after its operands are dropped.
     fn operate(&mut self, operation: &'a Operation) -> Result<(), Stop>
         requires { IsReady self.old }
-        ensures ok { OnOk result (LeadsOn self.old self.new (steps.do_operation (code_of self.old) (program_of self.old) (budgets_of self.old) (view.operation operation.now) (state_in self.old))) }
-        ensures err { IfErr result (Ends self.old self.new (steps.do_operation (code_of self.old) (program_of self.old) (budgets_of self.old) (view.operation operation.now) (state_in self.old))) }
-        ensures kept { OnOk result (KeepsSetting self.old self.new) }
+        ensures { Performs self.old self.new result (steps.do_operation (code_of self.old) (program_of self.old) (budgets_of self.old) (view.operation operation.now) (state_in self.old)) }
     {
         let needed = u64::from(operation.temporary) + u64::from(takes(&operation.work));
         cut(&mut self.runner.machine, needed);
@@ -76,9 +70,7 @@ impl<'a> Replayer<'a> {
     // An operation works, whose operands are the newest temporaries.
     fn work(&mut self, place: Place, one: &'a Work) -> Result<(), Stop>
         requires { IsReady self.old }
-        ensures ok { OnOk result (LeadsOn self.old self.new (working.do_work (code_of self.old) (program_of self.old) (budgets_of self.old) place (view.work one.now) (state_in self.old))) }
-        ensures err { IfErr result (Ends self.old self.new (working.do_work (code_of self.old) (program_of self.old) (budgets_of self.old) place (view.work one.now) (state_in self.old))) }
-        ensures kept { OnOk result (KeepsSetting self.old self.new) }
+        ensures { Performs self.old self.new result (working.do_work (code_of self.old) (program_of self.old) (budgets_of self.old) place (view.work one.now) (state_in self.old)) }
     {
         match one {
             Work::Call(function, count) => self.call(place, *function, *count),

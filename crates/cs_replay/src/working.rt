@@ -1,5 +1,7 @@
 //! What an operation does with its operands, which are the newest temporaries.
 ghost use Rattle.std.specs.Prelude.{◌≡◌, OnOk, IfErr};
+ghost use Rattle.cs_events.specs.Acts.{Goes};
+ghost use Rattle.cs_meaning.specs.Machine as machine;
 ghost use Rattle.cs_cfg.specs.Graph as graph;
 ghost use Rattle.cs_cfg.specs.GraphView as view;
 ghost use Rattle.cs_cfg.specs.Working as working;
@@ -45,32 +47,29 @@ pub fn work<'a>(run: &mut Runner<'a>, place: Place, one: &'a Work) -> Result<(),
         Work::Judge => run.machine.judge(&mut run.log, run.setting, place),
         Work::Store(object) => assign(run, place, object),
         Work::FetchNumber(object, works_in) => fetch_number(run, place, object, *works_in),
-        Work::Update(operator, object, works_in, gives) => {
-            update(run, place, *operator, object, *works_in, *gives)
-        }
+        Work::Update(op, object, ty, gives) => update(run, place, *op, object, *ty, *gives),
         Work::FetchPointer(object) => fetch_pointer(run, place, object),
-        Work::Move(object, bytes, direction, gives) => {
-            move_pointer(run, place, object, *bytes, *direction, *gives)
-        }
+        Work::Move(object, n, way, gives) => move_pointer(run, place, object, *n, *way, *gives),
         Work::Call(_, _) => Ok(()),
         Work::Allocate(allocator, element) => run.allocate(place, *allocator, element),
         Work::Free => free(run, place),
         Work::Use => run.machine.use_result(&run.log, run.setting, place),
-        Work::Drop => {
-            run.machine.pop();
-            Ok(())
-        }
+        Work::Drop => drop_newest(run),
         Work::Clear(declaration, scalar) => clear(run, place, *declaration, *scalar),
         Work::Zero(declaration) => zero(run, place, *declaration),
-        Work::StoreLocal(declaration, offset, ty, scalar) => {
-            store_local(run, place, *declaration, *offset, ty, *scalar)
-        }
-        Work::Spell(declaration, offset, bytes) => {
-            spell(run, place, *declaration, *offset, bytes.as_bytes())
-        }
+        Work::StoreLocal(n, at, ty, scalar) => store_local(run, place, *n, *at, ty, *scalar),
+        Work::Spell(n, at, bytes) => spell(run, place, *n, *at, bytes.as_bytes()),
         Work::Meet(kind) => meet(run, place, *kind),
         Work::Close(nothing) => close(run, place, *nothing),
     }
+}
+
+// The newest temporary is dropped.
+fn drop_newest(run: &mut Runner) -> Result<(), Stop>
+    ensures { Performs run.old run.new result (Goes (machine.pop (state_in run.old))) }
+{
+    run.machine.pop();
+    Ok(())
 }
 
 // A call of `free`, whose argument is the newest temporary (C11 7.22.3.3).

@@ -1,4 +1,4 @@
-use Rattle.std.proofs.Common.{◌≡◌, ◌+◌, OnOk, IfErr, ap, subst}
+use Rattle.std.proofs.Common.{rules, ◌≡◌, ◌+◌, OnOk, IfErr, ap, subst}
 use Rattle.cs_events.specs.Acts.{Act}
 use Rattle.cs_meaning.specs.Machine.{State}
 use Rattle.cs_run_state.specs.MachineView.{state_of}
@@ -10,18 +10,19 @@ use Rattle.cs_replay.specs.ReplayerView.{program_of, budgets_of, code_of, caller
 use Rattle.cs_replay.specs.Works.{cut_to}
 use Rattle.cs_replay.proofs.replayer.Replayer.operate.Goals as goal
 
-pub returns-clause-ok : goal.returns-clause-ok
-returns-clause-ok c =
-    let run = c.args.self.now in
-    let operation = c.args.operation.now in
-    let cut : state_of c.cut.new.state ≡ cut_to (operation.temporary + takes (view.work operation.work)) (state_of run.runner.machine) = rw (c.from.ensures, c.from-2.ensures, c.takes.ensures) at c.cut.ensures in
-    let same = ap (λ (m : State). do_work (code_of run) (program_of run) (budgets_of run) operation.place (view.work operation.work) (code_state (point_of run.code.now run.position) (callers_of run.code.now run.callers.items) m)) cut in
-    subst (λ (act : Act CodeState). OnOk c.work.result (LeadsOn run c.work.new.self act)) same c.work.ensures.ok
-
-pub returns-clause-err : goal.returns-clause-err
-returns-clause-err c =
-    let run = c.args.self.now in
-    let operation = c.args.operation.now in
-    let cut : state_of c.cut.new.state ≡ cut_to (operation.temporary + takes (view.work operation.work)) (state_of run.runner.machine) = rw (c.from.ensures, c.from-2.ensures, c.takes.ensures) at c.cut.ensures in
-    let same = ap (λ (m : State). do_work (code_of run) (program_of run) (budgets_of run) operation.place (view.work operation.work) (code_state (point_of run.code.now run.position) (callers_of run.code.now run.callers.items) m)) cut in
-    subst (λ (act : Act CodeState). IfErr c.work.result (Ends run c.work.new.self act)) same c.work.ensures.err
+pub returns : goal.returns
+returns c = record {
+  ok =
+      let run = c.args.self.now in
+      let operation = c.args.operation.now in
+      let cut : state_of c.cut.new.state ≡ cut_to (operation.temporary + takes (view.work operation.work)) (state_of run.runner.machine) = rw (c.from.ensures, c.from-2.ensures, c.takes.ensures) at c.cut.ensures in
+      let same = ap (λ (m : State). do_work (code_of run) (program_of run) (budgets_of run) operation.place (view.work operation.work) (code_state (point_of run.code.now run.position) (callers_of run.code.now run.callers.items) m)) cut in
+      subst (λ (act : Act CodeState). OnOk c.work.result (LeadsOn run c.work.new.self act)) same c.work.ensures.ok;
+  err =
+      let run = c.args.self.now in
+      let operation = c.args.operation.now in
+      let cut : state_of c.cut.new.state ≡ cut_to (operation.temporary + takes (view.work operation.work)) (state_of run.runner.machine) = rw (c.from.ensures, c.from-2.ensures, c.takes.ensures) at c.cut.ensures in
+      let same = ap (λ (m : State). do_work (code_of run) (program_of run) (budgets_of run) operation.place (view.work operation.work) (code_state (point_of run.code.now run.position) (callers_of run.code.now run.callers.items) m)) cut in
+      subst (λ (act : Act CodeState). IfErr c.work.result (Ends run c.work.new.self act)) same c.work.ensures.err;
+  kept = search rules;
+}

@@ -12,23 +12,31 @@ use Rattle.cs_replay.proofs.Performs.{leads_so}
 use Rattle.cs_replay.proofs.Reported.{counted_point_reported}
 use Rattle.cs_replay.proofs.replayer.Replayer.reach.Goals as goal
 
-pub returns-in_err-reach_counted_point-clause-err : goal.returns-in_err-reach_counted_point-clause-err
-returns-in_err-reach_counted_point-clause-err c =
-    let run = c.args.self.now in
-    let counted_point = c.args.counted_point.now in
-    let m = cut_to 0 (state_of run.runner.machine) in
-    let points = point_of run.code.now run.position in
-    let callers = callers_of run.code.now run.callers.items in
-    let there : c.from_residual.result ≡ Err c.in_err-reach_counted_point.field-0.0 = search rules in
-    let ends = rw (c.cut.ensures, c.from.ensures) at c.in_err-reach_counted_point.ensures.err in
-    rw there (ends_so (setting_of run.runner.setting.now) (log_of run.runner.log) (log_of c.reach_counted_point.new.self.log) (code_state points callers) (reach_counted_point (budgets_of run) counted_point.place counted_point.kind counted_point.number m) (reach_counted_point (budgets_of run) counted_point.place counted_point.kind counted_point.number (working.cut 0 (state_in run))) c.in_err-reach_counted_point.field-0.0 (counted_point_reported points callers (code_of run) (program_of run) (budgets_of run) counted_point.place counted_point.kind counted_point.number m) ends)
+pub returns-in_err-reach_counted_point : goal.returns-in_err-reach_counted_point
+returns-in_err-reach_counted_point c = record {
+  ok = search rules;
+  err =
+      let run = c.args.self.now in
+      let counted_point = c.args.counted_point.now in
+      let m = cut_to 0 (state_of run.runner.machine) in
+      let points = point_of run.code.now run.position in
+      let callers = callers_of run.code.now run.callers.items in
+      let there : c.from_residual.result ≡ Err c.in_err-reach_counted_point.field-0.0 = search rules in
+      let ends = rw (c.cut.ensures, c.from.ensures) at c.in_err-reach_counted_point.ensures.err in
+      rw there (ends_so (setting_of run.runner.setting.now) (log_of run.runner.log) (log_of c.reach_counted_point.new.self.log) (code_state points callers) (reach_counted_point (budgets_of run) counted_point.place counted_point.kind counted_point.number m) (reach_counted_point (budgets_of run) counted_point.place counted_point.kind counted_point.number (working.cut 0 (state_in run))) c.in_err-reach_counted_point.field-0.0 (counted_point_reported points callers (code_of run) (program_of run) (budgets_of run) counted_point.place counted_point.kind counted_point.number m) ends);
+  kept = search rules;
+}
 
-pub returns-clause-ok : goal.returns-clause-ok
-returns-clause-ok c =
-    let run = c.args.self.now in
-    let counted_point = c.args.counted_point.now in
-    let m = cut_to 0 (state_of run.runner.machine) in
-    let points = point_of run.code.now run.position in
-    let callers = callers_of run.code.now run.callers.items in
-    let leads = rw (c.cut.ensures, c.from.ensures) at c.in_ok-reach_counted_point.ensures.ok in
-    leads_so (code_state points callers) (setting_of run.runner.setting.now) (log_of run.runner.log) (log_of c.reach_counted_point.new.self.log) (reach_counted_point (budgets_of run) counted_point.place counted_point.kind counted_point.number m) (reach_counted_point (budgets_of run) counted_point.place counted_point.kind counted_point.number (working.cut 0 (state_in run))) (state_of c.reach_counted_point.new.self.machine) (counted_point_reported points callers (code_of run) (program_of run) (budgets_of run) counted_point.place counted_point.kind counted_point.number m) leads
+pub returns : goal.returns
+returns c = record {
+  ok =
+      let run = c.args.self.now in
+      let counted_point = c.args.counted_point.now in
+      let m = cut_to 0 (state_of run.runner.machine) in
+      let points = point_of run.code.now run.position in
+      let callers = callers_of run.code.now run.callers.items in
+      let leads = rw (c.cut.ensures, c.from.ensures) at c.in_ok-reach_counted_point.ensures.ok in
+      leads_so (code_state points callers) (setting_of run.runner.setting.now) (log_of run.runner.log) (log_of c.reach_counted_point.new.self.log) (reach_counted_point (budgets_of run) counted_point.place counted_point.kind counted_point.number m) (reach_counted_point (budgets_of run) counted_point.place counted_point.kind counted_point.number (working.cut 0 (state_in run))) (state_of c.reach_counted_point.new.self.machine) (counted_point_reported points callers (code_of run) (program_of run) (budgets_of run) counted_point.place counted_point.kind counted_point.number m) leads;
+  err = search rules;
+  kept = search rules;
+}
