@@ -139,9 +139,6 @@ module _ {flow : Flow} {points : List ControlPoint} where
   pub fit_others : {block : Point} {blocks : List Point} → AllFit flow points (block ∷ blocks) → AllFit flow points blocks
   fit_others {block = block} {blocks = blocks} fit = record { all = All-tail (BlockFits flow points) block blocks fit.all }
 
-  pub fit_both : {xs ys : List Point} → AllFit flow points xs → AllFit flow points ys → AllFit flow points (xs ++ ys)
-  fit_both {xs = xs} {ys = ys} one other = record { all = All-append (BlockFits flow points) xs ys one.all other.all }
-
   -- blocks that are among others, in whatever order
   pub fit_among : (some blocks : List Point) → All (Contains blocks) some → AllFit flow points blocks → AllFit flow points some
   fit_among some blocks among fit = record { all = All-weaker (Contains blocks) (BlockFits flow points) (λ block contains. All-contains (BlockFits flow points) blocks block fit.all contains) some among }
@@ -153,14 +150,6 @@ module _ {flow : Flow} {points : List ControlPoint} where
   pub fit_point : {one : ControlPoint} {blocks : List Point} (at : Place) (number : ℕ) (work : Work) (q : Point) → Contains points one → Fits flow one (does at number work q) →
       AllFit flow points (q ∷ blocks) → AllFit flow points (does at number work q ∷ blocks)
   fit_point at number work q among fits fit = fit_more (block_point at number work q among fits (fit_first fit)) (fit_others fit)
-
--- more control points to fit
-pub fit_wider : {flow : Flow} {some points : List ControlPoint} {blocks : List Point} → Includes points some → AllFit flow some blocks → AllFit flow points blocks
-fit_wider {flow = flow} {some = some} {points = points} {blocks = blocks} wider fit =
-    record { all = All-weaker (BlockFits flow some) (BlockFits flow points) (λ block fits. record { each = λ p m rest is. more p m (fits.each p m rest is) }) blocks fit.all }
-  where
-    more : (p : Point) (m : Met) → FitsSome flow some p m → FitsSome flow points p m
-    more p m it = (it.0, All-contains (Contains points) some it.0 wider.all it.1, it.2, it.3)
 
 -- a list with others among it has each part of them
 module _ {points : List ControlPoint} where
@@ -212,10 +201,6 @@ module _ {flow : Flow} where
   pub adds_silent : {blocks : List Point} (at : Place) (number : ℕ) (work : Work) (q : Point) → met_in at work ≡ None → AddsPoints flow [] (q ∷ blocks) (does at number work q ∷ blocks)
   adds_silent at number work q silent = record { keeps = λ points includes fit. fit_silent at number work q silent fit }
 
-  pub adds_point : {one : ControlPoint} {blocks : List Point} (at : Place) (number : ℕ) (work : Work) (q : Point) → Fits flow one (does at number work q) →
-      AddsPoints flow (one ∷ []) (q ∷ blocks) (does at number work q ∷ blocks)
-  adds_point at number work q fits = record { keeps = λ points includes fit. fit_point at number work q (includes_one includes) fits fit }
-
   -- one after another: what is done first is met last, since code is put together from its end
   pub adds_both : {xs ys : List ControlPoint} {old between new : List Point} → AddsPoints flow ys old between → AddsPoints flow xs between new → AddsPoints flow (xs ++ ys) old new
   adds_both {xs = xs} {ys = ys} later sooner = record { keeps = λ points includes fit. sooner.keeps points (includes_first xs ys includes) (later.keeps points (includes_second xs ys includes) fit) }
@@ -231,7 +216,3 @@ module _ {flow : Flow} where
   pub adds_past : {some : List ControlPoint} {old new : List Point} (at : Place) (number : ℕ) (work : Work) (q : Point) → met_in at work ≡ None →
       AddsPoints flow some (does at number work q ∷ old) new → AddsPoints flow some (q ∷ old) new
   adds_past at number work q silent rest = nothing_then (adds_silent at number work q silent) rest
-
-  -- more is allowed
-  pub adds_wider : {some more : List ControlPoint} {old new : List Point} → All (Contains more) some → AddsPoints flow some old new → AddsPoints flow more old new
-  adds_wider wider adds = record { keeps = λ points includes fit. adds.keeps points (includes_part includes wider) fit }
