@@ -7,13 +7,13 @@ ghost use Rattle.cs_types.specs.Layout.{IsLaidOut};
 
 use cs_ast::raw::external::RawExternal;
 use cs_ast::typed::program::Program;
-use cs_consts::TypeRefusal;
 use cs_decl_parser::parse;
 use cs_grammar::SyntaxRefusal;
 use cs_io::{StdSource, read_all};
 use cs_lexer::{Lexed, tokens};
 use cs_limits::{MOST_BYTES, MOST_TOKENS};
 use cs_lower::lower;
+use cs_scopes::TypeRefusal;
 use cs_types::DataModel;
 use cs_typing::typed;
 use std::{env, io};

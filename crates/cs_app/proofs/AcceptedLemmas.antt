@@ -8,8 +8,8 @@ use Rattle.cs_ast.specs.TypedProgram.{TypedProgram}
 use Rattle.cs_lexer.specs.declared.lexer.Lexed.{Lexed}
 use Rattle.cs_lexer.proofs.OneLexing.{lexed_once, lexed_or_refused}
 use Rattle.cs_decl_parser.specs.Files.{parts_of, IsTheFile}
-use Rattle.cs_consts.specs.declared.refusal.TypeCode.{TypeCode}
-use Rattle.cs_consts.specs.Verdicts.{Verdict, Fine, Fault}
+use Rattle.cs_scopes.specs.declared.refusal.TypeCode.{TypeCode}
+use Rattle.cs_scopes.specs.Verdicts.{Verdict, Fine, Fault}
 use Rattle.cs_words.specs.declared.command.Command.{Command}
 use Rattle.cs_words.specs.declared.command.Command.TheVariants.{Analyze, Flow, Replay}
 use Rattle.cs_app.specs.Trees.{Parses, typed_tree}

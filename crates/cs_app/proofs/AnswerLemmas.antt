@@ -11,10 +11,10 @@ use Rattle.cs_lexer.specs.declared.refusal.LexRefusal.{LexRefusal}
 use Rattle.cs_lexer.specs.Lexing.{Lexes, IsRefused}
 use Rattle.cs_grammar.specs.declared.refusal.SyntaxRefusal.{SyntaxRefusal}
 use Rattle.cs_decl_parser.specs.Files.{IsFileRefusal}
-use Rattle.cs_consts.specs.declared.refusal.TypeRefusal.{TypeRefusal}
-use Rattle.cs_consts.specs.declared.refusal.TypeRefusal.TheVariants as types
-use Rattle.cs_consts.specs.Verdicts as verdicts
-use Rattle.cs_consts.specs.Verdicts.{Fine}
+use Rattle.cs_scopes.specs.declared.refusal.TypeRefusal.{TypeRefusal}
+use Rattle.cs_scopes.specs.declared.refusal.TypeRefusal.TheVariants as types
+use Rattle.cs_scopes.specs.Verdicts as verdicts
+use Rattle.cs_scopes.specs.Verdicts.{Fine}
 use Rattle.cs_words.specs.declared.command.Command.{Command}
 use Rattle.cs_words.specs.declared.command.Command.TheVariants.{Analyze, Flow, Replay}
 use Rattle.cs_words.specs.declared.refusal.WordsRefusal.{WordsRefusal}

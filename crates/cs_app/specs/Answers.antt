@@ -9,7 +9,7 @@ use Rattle.cs_ast.specs.declared.raw.external.RawExternal.{RawExternal}
 use Rattle.cs_small_meaning.specs.Tree.{Definition}
 use Rattle.cs_ast.specs.TypedProgram.{TypedProgram}
 use Rattle.cs_lexer.specs.declared.lexer.Lexed.{Lexed}
-use Rattle.cs_consts.specs.Verdicts.{Fine}
+use Rattle.cs_scopes.specs.Verdicts.{Fine}
 use Rattle.cs_small_form.specs.Reading.{IsOfForm}
 use Rattle.cs_events.specs.declared.outcome.Outcome.{Outcome}
 use Rattle.cs_events.specs.declared.outcome.Outcome.TheVariants.{Done, Fault, Over}

@@ -12,10 +12,10 @@ use Rattle.cs_lexer.specs.Lexing.{Lexes, IsRefused}
 use Rattle.cs_grammar.specs.declared.refusal.SyntaxRefusal.{SyntaxRefusal}
 use Rattle.cs_grammar.specs.declared.refusal.SyntaxRefusal.TheVariants as syntax
 use Rattle.cs_decl_parser.specs.Files.{IsFileRefusal}
-use Rattle.cs_consts.specs.declared.refusal.TypeCode.{TypeCode}
-use Rattle.cs_consts.specs.declared.refusal.TypeRefusal.{TypeRefusal}
-use Rattle.cs_consts.specs.declared.refusal.TypeRefusal.TheVariants as refused
-use Rattle.cs_consts.specs.Verdicts.{Fault, number_of}
+use Rattle.cs_scopes.specs.declared.refusal.TypeCode.{TypeCode}
+use Rattle.cs_scopes.specs.declared.refusal.TypeRefusal.{TypeRefusal}
+use Rattle.cs_scopes.specs.declared.refusal.TypeRefusal.TheVariants as refused
+use Rattle.cs_scopes.specs.Verdicts.{Fault, number_of}
 use Rattle.cs_report.specs.RefusalLines.{refusal_line}
 use Rattle.cs_app.specs.Trees.{Parses, typed_tree}
 

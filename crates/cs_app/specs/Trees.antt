@@ -11,7 +11,7 @@ use Rattle.cs_lexer.specs.declared.lexer.Lexed.{Lexed}
 use Rattle.cs_lexer.specs.Lexing.{Lexes}
 use Rattle.cs_decl_parser.specs.Files.{parts_of, IsTheFile}
 use Rattle.cs_decl_parser.specs.FilePlaces.{AreFilePlaced}
-use Rattle.cs_consts.specs.Verdicts.{Verdict, Fine}
+use Rattle.cs_scopes.specs.Verdicts.{Verdict, Fine}
 use Rattle.cs_typing.specs.Programs.{typed}
 use Rattle.cs_small_form.specs.Reading.{IsOfForm}
 

@@ -6,11 +6,11 @@ ghost use Rattle.cs_app.specs.Refusals.{IsLexLine, IsSyntaxLine, IsTypeLine, lin
 use crate::answer::Answer;
 use crate::status::Status;
 use cs_ast::Place;
-use cs_consts::TypeRefusal;
 use cs_grammar::SyntaxRefusal;
 use cs_lexer::LexRefusal;
 use cs_names::Name;
 use cs_report::append_refusal;
+use cs_scopes::TypeRefusal;
 use std::alloc::{AllocError, Global};
 
 /// The answer to a file that is too long.

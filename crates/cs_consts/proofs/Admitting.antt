@@ -3,10 +3,10 @@ use Rattle.std.proofs.Common.{◌≡◌, ℕ, Bool, true, false, cond, length, e
 use Rattle.std.proofs.lemmas.Bool.Decides.{nat_tests}
 use Rattle.cs_types.specs.Shape.{Shape}
 use Rattle.cs_ast.specs.declared.place.Place.{Place}
-use Rattle.cs_consts.specs.declared.refusal.TypeCode.TheVariants as code
-use Rattle.cs_consts.specs.Meanings.{Signature}
-use Rattle.cs_consts.specs.Verdicts.{Verdict, Fine, Fault}
-use Rattle.cs_consts.specs.Calls.{admitted}
+use Rattle.cs_scopes.specs.declared.refusal.TypeCode.TheVariants as code
+use Rattle.cs_scopes.specs.Meanings.{Signature}
+use Rattle.cs_scopes.specs.Verdicts.{Verdict, Fine, Fault}
+use Rattle.cs_expressions.specs.Calls.{admitted}
 
 counted : (n count : ℕ) (at : Place) (v : Verdict Signature) (g : Signature) → cond (eqb n count) v (Fault code.ArgumentCount at) ≡ Fine g → n ≡ count
 counted n count at v g h = elim (eqb n count) as (λ t. eqb n count ≡ t → cond t v (Fault code.ArgumentCount at) ≡ Fine g → n ≡ count) [ true ↦ λ e _. grind (arith, nat_tests) | false ↦ λ _ p. absurd cc ] refl h

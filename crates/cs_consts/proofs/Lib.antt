@@ -1,12 +1,6 @@
-pub mod Lifting
-pub mod Numbers
 pub mod Productions
 pub mod ProductionRows
-pub mod DeclaredNames
-pub mod ScalarCounts
 pub mod RowsSoFar
 pub mod SingleParts
-pub mod ArgumentConversions
-pub mod ArraySizes
 pub mod Admitting
 pub mod Heights

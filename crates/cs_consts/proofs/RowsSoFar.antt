@@ -6,16 +6,16 @@ use Rattle.cs_ast.specs.declared.raw.expression.RawExpr.{RawExpr}
 use Rattle.cs_ast.specs.declared.typed.expression.Expr.{Expr}
 use Rattle.cs_ast.specs.TypedTree.{Typed, TypedList, NoMore, Further}
 use Rattle.cs_ast.specs.TypedView.{typed, typed_list}
-use Rattle.cs_consts.specs.declared.context.Context.{Context}
+use Rattle.cs_scopes.specs.declared.context.Context.{Context}
 use Rattle.cs_consts.specs.declared.purpose.Purpose.{Purpose}
 use Rattle.cs_consts.specs.declared.purpose.Purpose.TheVariants.{Constant}
-use Rattle.cs_consts.specs.declared.refusal.TypeRefusal.{TypeRefusal}
-use Rattle.cs_consts.specs.Verdicts.{Verdict, Fine, Fault, lift, lift2, IsRefused}
-use Rattle.cs_consts.specs.Integers.{form_of}
-use Rattle.cs_consts.specs.Typing.{Literals, literals_after, formed, done, operand_in, further, arguments_listed, number_at, number_before, numbers_listed}
+use Rattle.cs_scopes.specs.declared.refusal.TypeRefusal.{TypeRefusal}
+use Rattle.cs_scopes.specs.Verdicts.{Verdict, Fine, Fault, lift, lift2, IsRefused}
+use Rattle.cs_folding.specs.TypedParts.{form_of}
+use Rattle.cs_expressions.specs.Primary.{Literals}
+use Rattle.cs_consts.specs.Typing.{literals_after, formed, done, operand_in, further, arguments_listed, number_at, number_before, numbers_listed}
 use Rattle.cs_consts.specs.Rows.{put_before, expressions_before, numbers_before}
-use Rattle.cs_consts.proofs.Lifting.{lift-fine, lift-fault, lift2-fine, lift2-second, lift-refused, lift2-refused-first}
-use Rattle.cs_consts.proofs.Productions.{refused_as}
+use Rattle.cs_scopes.proofs.Lifting.{lift-fine, lift-fault, lift2-fine, lift2-second, lift-refused, lift2-refused-first, refused_as}
 
 put_before-push : (made : List Expr) (e : Expr) (rest : TypedList) → put_before (made ++ e ∷ []) rest ≡ put_before made (Further (typed e) rest)
 put_before-push [] e rest = refl
@@ -34,16 +34,16 @@ argument_more made e (Fault code place) =
     ap (lift (expressions_before made)) (lift2-second further (typed e) code place) ∙ lift-fault (expressions_before made) code place ∙ sym (lift-fault (expressions_before (made ++ e ∷ [])) code place)
 
 module _ (c : Context) (p : Purpose) where
-  pub arguments_turn : (made : List Expr) (e : Expr) (whole : Verdict TypedList) (ty : Shape) (types following : List Shape) (a : RawExpr) (arguments rest : List RawExpr) (ls ms : Literals) → types ≡ ty ∷ following → arguments ≡ a ∷ rest → operand_in c p (formed c p ls (Some ty) a.place a.kind) ≡ Fine (typed e) → ms ≡ literals_after ls a.kind → lift (expressions_before made) (arguments_listed c p ls types arguments) ≡ whole → lift (expressions_before (made ++ e ∷ [])) (arguments_listed c p ms following rest) ≡ whole
+  pub arguments_turn : (made : List Expr) (e : Expr) (whole : Verdict TypedList) (ty : Shape) (types following : List Shape) (a : RawExpr) (arguments rest : List RawExpr) (ls ms : Literals) → types ≡ ty ∷ following → arguments ≡ a ∷ rest → operand_in c p (formed c p ls (Some ty) a.place a.kind.value) ≡ Fine (typed e) → ms ≡ literals_after ls a.kind.value → lift (expressions_before made) (arguments_listed c p ls types arguments) ≡ whole → lift (expressions_before (made ++ e ∷ [])) (arguments_listed c p ms following rest) ≡ whole
   arguments_turn made e whole ty types following a arguments rest ls ms is_types is_arguments is_value is_literals so_far =
       ap (λ l. lift (expressions_before (made ++ e ∷ [])) (arguments_listed c p l following rest)) is_literals
-      ∙ sym (argument_more made e (arguments_listed c p (literals_after ls a.kind) following rest))
-      ∙ ap (λ v. lift (expressions_before made) (lift2 further v (arguments_listed c p (literals_after ls a.kind) following rest))) (sym is_value)
+      ∙ sym (argument_more made e (arguments_listed c p (literals_after ls a.kind.value) following rest))
+      ∙ ap (λ v. lift (expressions_before made) (lift2 further v (arguments_listed c p (literals_after ls a.kind.value) following rest))) (sym is_value)
       ∙ ap (λ t. lift (expressions_before made) (arguments_listed c p ls t (a ∷ rest))) (sym is_types)
       ∙ ap (λ l. lift (expressions_before made) (arguments_listed c p ls types l)) (sym is_arguments)
       ∙ so_far
 
-  pub arguments_stop : (made : List Expr) (whole : Verdict TypedList) (ty : Shape) (types following : List Shape) (a : RawExpr) (arguments rest : List RawExpr) (ls : Literals) (r : TypeRefusal) → types ≡ ty ∷ following → arguments ≡ a ∷ rest → IsRefused (operand_in c p (formed c p ls (Some ty) a.place a.kind)) r → lift (expressions_before made) (arguments_listed c p ls types arguments) ≡ whole → IsRefused whole r
+  pub arguments_stop : (made : List Expr) (whole : Verdict TypedList) (ty : Shape) (types following : List Shape) (a : RawExpr) (arguments rest : List RawExpr) (ls : Literals) (r : TypeRefusal) → types ≡ ty ∷ following → arguments ≡ a ∷ rest → IsRefused (operand_in c p (formed c p ls (Some ty) a.place a.kind.value)) r → lift (expressions_before made) (arguments_listed c p ls types arguments) ≡ whole → IsRefused whole r
   arguments_stop made whole ty types following a arguments rest ls r is_types is_arguments h so_far =
       refused_as r (sym so_far ∙ ap (λ t. lift (expressions_before made) (arguments_listed c p ls t arguments)) is_types ∙ ap (λ l. lift (expressions_before made) (arguments_listed c p ls (ty ∷ following) l)) is_arguments)
       (lift-refused (expressions_before made) _ r (lift2-refused-first further _ _ r h))
@@ -61,15 +61,15 @@ number_more made e n (Fault code place) h =
     ap (lift (numbers_before made)) (lift2-second number_before e code place) ∙ lift-fault (numbers_before made) code place ∙ sym (lift-fault (numbers_before (made ++ n ∷ [])) code place)
 
 module _ (c : Context) where
-  pub numbers_turn : (made : List ℤ) (e : Typed) (n : ℤ) (whole : Verdict (List ℤ)) (a : RawExpr) (bounds rest : List RawExpr) (ls ms : Literals) → bounds ≡ a ∷ rest → done c Constant (formed c Constant ls None a.place a.kind) ≡ Fine e → number_at (form_of e) ≡ Fine n → ms ≡ literals_after ls a.kind → lift (numbers_before made) (numbers_listed c ls bounds) ≡ whole → lift (numbers_before (made ++ n ∷ [])) (numbers_listed c ms rest) ≡ whole
+  pub numbers_turn : (made : List ℤ) (e : Typed) (n : ℤ) (whole : Verdict (List ℤ)) (a : RawExpr) (bounds rest : List RawExpr) (ls ms : Literals) → bounds ≡ a ∷ rest → done c Constant (formed c Constant ls None a.place a.kind.value) ≡ Fine e → number_at (form_of e) ≡ Fine n → ms ≡ literals_after ls a.kind.value → lift (numbers_before made) (numbers_listed c ls bounds) ≡ whole → lift (numbers_before (made ++ n ∷ [])) (numbers_listed c ms rest) ≡ whole
   numbers_turn made e n whole a bounds rest ls ms is_bounds is_value is_number is_literals so_far =
       ap (λ l. lift (numbers_before (made ++ n ∷ [])) (numbers_listed c l rest)) is_literals
-      ∙ sym (number_more made e n (numbers_listed c (literals_after ls a.kind) rest) is_number)
-      ∙ ap (λ v. lift (numbers_before made) (lift2 number_before v (numbers_listed c (literals_after ls a.kind) rest))) (sym is_value)
+      ∙ sym (number_more made e n (numbers_listed c (literals_after ls a.kind.value) rest) is_number)
+      ∙ ap (λ v. lift (numbers_before made) (lift2 number_before v (numbers_listed c (literals_after ls a.kind.value) rest))) (sym is_value)
       ∙ ap (λ l. lift (numbers_before made) (numbers_listed c ls l)) (sym is_bounds)
       ∙ so_far
 
-  pub numbers_stop : (made : List ℤ) (whole : Verdict (List ℤ)) (a : RawExpr) (bounds rest : List RawExpr) (ls : Literals) (r : TypeRefusal) → bounds ≡ a ∷ rest → IsRefused (done c Constant (formed c Constant ls None a.place a.kind)) r → lift (numbers_before made) (numbers_listed c ls bounds) ≡ whole → IsRefused whole r
+  pub numbers_stop : (made : List ℤ) (whole : Verdict (List ℤ)) (a : RawExpr) (bounds rest : List RawExpr) (ls : Literals) (r : TypeRefusal) → bounds ≡ a ∷ rest → IsRefused (done c Constant (formed c Constant ls None a.place a.kind.value)) r → lift (numbers_before made) (numbers_listed c ls bounds) ≡ whole → IsRefused whole r
   numbers_stop made whole a bounds rest ls r is_bounds h so_far =
       refused_as r (sym so_far ∙ ap (λ l. lift (numbers_before made) (numbers_listed c ls l)) is_bounds)
       (lift-refused (numbers_before made) _ r (lift2-refused-first number_before _ _ r h))

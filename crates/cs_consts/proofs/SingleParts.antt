@@ -7,14 +7,13 @@ use Rattle.cs_ast.specs.declared.typed.expression.Expr.{Expr}
 use Rattle.cs_ast.specs.declared.typed.operator.BinOp.{BinOp}
 use Rattle.cs_ast.specs.declared.typed.operator.Gives.{Gives}
 use Rattle.cs_ast.specs.TypedTree.{Typed}
-use Rattle.cs_consts.specs.declared.context.Context.{Context}
-use Rattle.cs_consts.specs.declared.refusal.TypeRefusal.{TypeRefusal}
-use Rattle.cs_consts.specs.Verdicts.{Verdict, Fine, lift, lift2, IsRefused, Yields}
-use Rattle.cs_consts.specs.Stores.{updatable}
-use Rattle.cs_consts.specs.TypeNames.{complete_at}
+use Rattle.cs_scopes.specs.declared.context.Context.{Context}
+use Rattle.cs_scopes.specs.declared.refusal.TypeRefusal.{TypeRefusal}
+use Rattle.cs_scopes.specs.Verdicts.{Verdict, Fine, lift, lift2, IsRefused, Yields}
+use Rattle.cs_expressions.specs.Stores.{updatable}
+use Rattle.cs_scopes.specs.TypeNames.{complete_at}
 use Rattle.cs_consts.specs.Typing.{stepped_object, measured_arrays}
-use Rattle.cs_consts.proofs.Lifting.{lift-fine, lift2-fine, lift-refused, lift2-refused-first, lift2-refused-second}
-use Rattle.cs_consts.proofs.Productions.{yields_as, refused_as}
+use Rattle.cs_scopes.proofs.Lifting.{lift-fine, lift2-fine, lift-refused, lift2-refused-first, lift2-refused-second, yields_as, refused_as}
 
 pub lift_is : {A B : Type 0} (rule : A → Verdict B) (v : Verdict A) (a : A) → v ≡ Fine a → lift rule v ≡ rule a
 lift_is rule v a e = ap (lift rule) e ∙ lift-fine rule a

@@ -1,16 +1,9 @@
 -- The typing of expressions (C11 6.5): one rule for each production, told at the first failing place.
 use Rattle.std.specs.Prelude.{◌≡◌, ℕ, zero, suc, ◌+◌, ℤ, pos, int_le, nat_le, length, Bool, true, false, not, ◌&&◌, if◌then◌else◌, List, [], ◌∷◌, ◌++◌, Option, Some, None, Result, Ok, Err}
 use Rattle.std.specs.Ordering.{int_eq}
-use Rattle.cs_types.specs.declared.data_model.DataModel.{DataModel}
-use Rattle.cs_types.specs.declared.int_type.IntType.{IntType}
 use Rattle.cs_types.specs.declared.int_type.IntType.TheVariants as int_type
-use Rattle.cs_types.specs.declared.structs.StructType.{StructType}
-use Rattle.cs_types.specs.IntType.{greatest_of}
 use Rattle.cs_types.specs.Shape.{Shape, void, integer, pointer, array, struct}
 use Rattle.cs_ast.specs.declared.place.Place.{Place}
-use Rattle.cs_ast.specs.declared.token.IntegerConstant.{IntegerConstant}
-use Rattle.cs_ast.specs.declared.token.Length.{Length}
-use Rattle.cs_ast.specs.declared.token.Length.TheVariants as size
 use Rattle.cs_ast.specs.declared.raw.expression.RawExpr.{RawExpr}
 use Rattle.cs_ast.specs.declared.raw.expression.RawExprKind.{RawExprKind, Row_of-RawExpr, end_of-RawExpr, more_of-RawExpr}
 use Rattle.cs_ast.specs.declared.raw.expression.RawExprKind.TheVariants as kind
@@ -26,75 +19,26 @@ use Rattle.cs_ast.specs.declared.typed.operator.BinOp.TheVariants as bin
 use Rattle.cs_ast.specs.declared.typed.operator.UnOp.TheVariants as un
 use Rattle.cs_ast.specs.declared.typed.operator.Gives.{Gives}
 use Rattle.cs_ast.specs.declared.typed.operator.Gives.TheVariants.{Old, New}
-use Rattle.cs_ast.specs.TypedTree.{Typed, Of, Form, Number, Text, Local, Global, TypedList, NoMore, Further}
-use Rattle.cs_consts.specs.declared.context.Context.{Context}
+use Rattle.cs_ast.specs.TypedTree.{Typed, Of, Form, Number, TypedList, NoMore, Further}
+use Rattle.cs_scopes.specs.declared.context.Context.{Context}
 use Rattle.cs_consts.specs.declared.purpose.Purpose.{Purpose}
 use Rattle.cs_consts.specs.declared.purpose.Purpose.TheVariants.{Run, Constant, Unneeded}
-use Rattle.cs_consts.specs.declared.refusal.TypeCode.TheVariants as code
-use Rattle.cs_consts.specs.Meanings.{Signature, Meaning, Declaration}
-use Rattle.cs_consts.specs.Meanings as meaning
-use Rattle.cs_consts.specs.Verdicts.{Verdict, Fine, Fault, lift, lift2, lift3}
-use Rattle.cs_consts.specs.Integers.{type_of, form_of, raised, turned}
-use Rattle.cs_consts.specs.Objects.{is_void, is_array, valued, operand, measured}
+use Rattle.cs_scopes.specs.declared.refusal.TypeCode.TheVariants as code
+use Rattle.cs_scopes.specs.Meanings.{Signature, Meaning, Declaration}
+use Rattle.cs_scopes.specs.Verdicts.{Verdict, Fine, Fault, lift, lift2, lift3}
+use Rattle.cs_folding.specs.TypedParts.{type_of, form_of}
+use Rattle.cs_expressions.specs.Integers.{raised, turned}
+use Rattle.cs_types.specs.Kinds.{is_void, is_array}
+use Rattle.cs_expressions.specs.Objects.{valued, operand, measured}
 use Rattle.cs_consts.specs.Constants.{finished}
-use Rattle.cs_consts.specs.Conversions.{converted, recast}
-use Rattle.cs_consts.specs.Operators.{combined, tested, denied, chosen, followed}
-use Rattle.cs_consts.specs.Places.{address_of, through, indexed, selected, selected_through}
-use Rattle.cs_consts.specs.Stores.{assignable, assigned, updatable, updated, step_operator, stepped}
-use Rattle.cs_consts.specs.Scopes.{newest}
-use Rattle.cs_consts.specs.TypeNames.{type_named, arrayed, complete_at}
-use Rattle.cs_consts.specs.Calls.{called, parameters_of, admitted, converted_list, call_of}
-
--- string literals by their numbers: the bytes of each
-abbrev pub Literals : Type 0
-Literals = List (List ℕ)
-
--- the greatest number of a type is at least this
-abbrev pub has_room : DataModel → IntType → ℕ → Bool
-has_room model ty n = int_le (pos n) (greatest_of model ty)
-
--- the first of some types that holds a number
-abbrev pub first_with_room : DataModel → ℕ → IntType → List IntType → IntType
-first_with_room model n last [] = last
-first_with_room model n last (ty ∷ types) = if has_room model ty n then ty else first_with_room model n last types
-
--- the types of an integer constant in their order: with `u`, decimal, or neither, by the `l`s of its suffix (C11 6.4.4.1, paragraph 5);
--- the last one is taken where none before it holds the number
-abbrev pub unsigned_types : Length → List IntType
-unsigned_types size.Plain = int_type.UInt ∷ int_type.ULong ∷ []
-unsigned_types size.Long = int_type.ULong ∷ []
-unsigned_types size.LongLong = []
-
-abbrev pub decimal_types : Length → List IntType
-decimal_types size.Plain = int_type.Int ∷ int_type.Long ∷ []
-decimal_types size.Long = int_type.Long ∷ []
-decimal_types size.LongLong = []
-
-abbrev pub other_types : Length → List IntType
-other_types size.Plain = int_type.Int ∷ int_type.UInt ∷ int_type.Long ∷ int_type.ULong ∷ int_type.LLong ∷ []
-other_types size.Long = int_type.Long ∷ int_type.ULong ∷ int_type.LLong ∷ []
-other_types size.LongLong = int_type.LLong ∷ []
-
--- the type of an integer constant
-unfoldable pub constant_type : DataModel → IntegerConstant → IntType
-constant_type model k =
-    if k.unsigned then first_with_room model k.value int_type.ULLong (unsigned_types k.length)
-    else (if k.decimal then first_with_room model k.value int_type.LLong (decimal_types k.length)
-    else first_with_room model k.value int_type.ULLong (other_types k.length))
-
--- a name (C11 6.5.1): a function's may only be called
-unfoldable pub named : Place → Option Meaning → Verdict Typed
-named at (Some (meaning.Constant n)) = Fine (Of at (integer int_type.Int) (Number n))
-named at (Some (meaning.Global number ty)) = Fine (Of at ty (Global number))
-named at (Some (meaning.Local number ty)) = Fine (Of at ty (Local number))
-named at (Some (meaning.Function f)) = Fault code.FunctionName at
-named at (Some (meaning.Typedef ty)) = Fault code.UnknownName at
-named at None = Fault code.UnknownName at
-
--- a string literal, after those before it (C11 6.4.5, paragraph 6)
-unfoldable pub text_at : Literals → Place → List ℕ → Verdict Typed
-text_at literals at bytes =
-    if nat_le (length bytes) 65535 then Fine (Of at (array (integer int_type.Char) (length bytes + 1)) (Text (length literals))) else Fault code.Size at
+use Rattle.cs_expressions.specs.Conversions.{converted, recast}
+use Rattle.cs_expressions.specs.Operators.{combined, tested, denied, chosen, followed}
+use Rattle.cs_expressions.specs.Places.{address_of, through, indexed, selected, selected_through}
+use Rattle.cs_expressions.specs.Stores.{assignable, assigned, updatable, updated, step_operator, stepped}
+use Rattle.cs_expressions.specs.Primary.{Literals, constant_type, named, text_at}
+use Rattle.cs_scopes.specs.Scopes.{newest}
+use Rattle.cs_scopes.specs.TypeNames.{type_named, arrayed, complete_at}
+use Rattle.cs_expressions.specs.Calls.{called, parameters_of, admitted, converted_list, call_of}
 
 abbrev mutual
   -- the literals after those of an expression
@@ -103,32 +47,32 @@ abbrev mutual
   literals_after literals (kind.Number constant) = literals
   literals_after literals (kind.Character value) = literals
   literals_after literals (kind.Text bytes) = literals ++ bytes ∷ []
-  literals_after literals (kind.Parenthesis' p place inner) = literals_after literals inner
-  literals_after literals (kind.Index' p place left q place' right) = literals_after (literals_after literals left) right
-  literals_after literals (kind.Call' p place function shape row) = literals_after_row literals row
-  literals_after literals (kind.Member' p place object name) = literals_after literals object
-  literals_after literals (kind.Arrow' p place e name) = literals_after literals e
-  literals_after literals (kind.StepAfter' step p place object) = literals_after literals object
-  literals_after literals (kind.StepBefore' step p place object) = literals_after literals object
-  literals_after literals (kind.Prefix' operator p place e) = literals_after literals e
-  literals_after literals (kind.SizeOf' p place e) = literals_after literals e
+  literals_after literals (kind.Parenthesis' place p inner) = literals_after literals inner
+  literals_after literals (kind.Index' place p left place' q right) = literals_after (literals_after literals left) right
+  literals_after literals (kind.Call' place p function shape row) = literals_after_row literals row
+  literals_after literals (kind.Member' place p object name) = literals_after literals object
+  literals_after literals (kind.Arrow' place p e name) = literals_after literals e
+  literals_after literals (kind.StepAfter' step place p object) = literals_after literals object
+  literals_after literals (kind.StepBefore' step place p object) = literals_after literals object
+  literals_after literals (kind.Prefix' operator place p e) = literals_after literals e
+  literals_after literals (kind.SizeOf' place p e) = literals_after literals e
   literals_after literals (kind.SizeOfType' ty shape row) = literals_after_row literals row
-  literals_after literals (kind.Cast' ty shape row p place e) = literals_after literals e
-  literals_after literals (kind.Infix' operator p place left q place' right) = literals_after (literals_after literals left) right
-  literals_after literals (kind.Choice' p place test q place' one r place'' other) =
+  literals_after literals (kind.Cast' ty shape row place p e) = literals_after literals e
+  literals_after literals (kind.Infix' operator place p left place' q right) = literals_after (literals_after literals left) right
+  literals_after literals (kind.Choice' place p test place' q one place'' r other) =
       literals_after (literals_after (literals_after literals test) one) other
-  literals_after literals (kind.Assign' operator p place object q place' value) = literals_after (literals_after literals object) value
-  literals_after literals (kind.Comma' p place first q place' second) = literals_after (literals_after literals first) second
+  literals_after literals (kind.Assign' operator place p object place' q value) = literals_after (literals_after literals object) value
+  literals_after literals (kind.Comma' place p first place' q second) = literals_after (literals_after literals first) second
 
   -- the same of expressions in a row
   pub literals_after_row : Literals → {n : _} → Row_of-RawExpr n → Literals
   literals_after_row literals end_of-RawExpr = literals
-  literals_after_row literals (more_of-RawExpr place k rest) = literals_after_row (literals_after literals k) rest
+  literals_after_row literals (more_of-RawExpr place p k rest) = literals_after_row (literals_after literals k) rest
 
 -- how many expressions stand in a row
 abbrev pub row_length : {n : _} → Row_of-RawExpr n → ℕ
 row_length end_of-RawExpr = 0
-row_length (more_of-RawExpr place k rest) = suc (row_length rest)
+row_length (more_of-RawExpr place p k rest) = suc (row_length rest)
 
 -- an expression for its purpose
 unfoldable pub done : Context → Purpose → Verdict Typed → Verdict Typed
@@ -305,62 +249,62 @@ abbrev mutual
   formed c purpose literals target at (kind.Number k) = Fine (Of at (integer (constant_type c.model k)) (Number (pos k.value)))
   formed c purpose literals target at (kind.Character n) = Fine (Of at (integer int_type.Int) (Number n))
   formed c purpose literals target at (kind.Text bytes) = text_at literals at bytes
-  formed c purpose literals target at (kind.Parenthesis' p place inner) = done c purpose (formed c purpose literals target place inner)
+  formed c purpose literals target at (kind.Parenthesis' place p inner) = done c purpose (formed c purpose literals target place inner)
   -- C11 6.5.2.1
-  formed c purpose literals target at (kind.Index' p place left q place' right) =
+  formed c purpose literals target at (kind.Index' place p left place' q right) =
       lift2 (indexed_values c at)
       (operand_in c purpose (formed c purpose literals None place left))
       (operand_in c purpose (formed c purpose (literals_after literals left) None place' right))
   -- C11 6.5.2.2
-  formed c purpose literals target at (kind.Call' p place function shape row) =
+  formed c purpose literals target at (kind.Call' place p function shape row) =
       call_or_not c at target (called c.scope.declarations function) (row_length row)
       (operand_in c purpose (formed c purpose literals None place function))
       (arguments_formed c purpose literals (parameters_of (called c.scope.declarations function)) row)
   -- C11 6.5.2.3
-  formed c purpose literals target at (kind.Member' p place object name) =
+  formed c purpose literals target at (kind.Member' place p object name) =
       lift (selected c.table.list at name.place name.name) (done c purpose (formed c purpose literals None place object))
-  formed c purpose literals target at (kind.Arrow' p place e name) =
+  formed c purpose literals target at (kind.Arrow' place p e name) =
       lift (arrow_on c at name.place name.name) (operand_in c purpose (formed c purpose literals None place e))
   -- C11 6.5.2.4
-  formed c purpose literals target at (kind.StepAfter' step p place object) =
+  formed c purpose literals target at (kind.StepAfter' step place p object) =
       lift (stepped_object c (step_operator step) Old at)
       (lift (updatable c.table.list (step_operator step) at) (done c purpose (formed c purpose literals None place object)))
   -- C11 6.5.3.1
-  formed c purpose literals target at (kind.StepBefore' step p place object) =
+  formed c purpose literals target at (kind.StepBefore' step place p object) =
       lift (stepped_object c (step_operator step) New at)
       (lift (updatable c.table.list (step_operator step) at) (done c purpose (formed c purpose literals None place object)))
   -- C11 6.5.3.2, 6.5.3.3
-  formed c purpose literals target at (kind.Prefix' operator p place e) =
+  formed c purpose literals target at (kind.Prefix' operator place p e) =
       lift (prefixed c operator at) (done c purpose (formed c purpose literals None place e))
   -- C11 6.5.3.4: the operand isn't evaluated
-  formed c purpose literals target at (kind.SizeOf' p place e) =
+  formed c purpose literals target at (kind.SizeOf' place p e) =
       lift (measured_type c at) (done c Run (formed c Run literals None place e))
   formed c purpose literals target at (kind.SizeOfType' ty shape row) =
       lift2 (measured_arrays c at) (lift (complete_at c.table.list at) (base_in c at ty)) (numbers_formed c literals row)
   -- C11 6.5.4
-  formed c purpose literals target at (kind.Cast' ty shape row p place e) =
+  formed c purpose literals target at (kind.Cast' ty shape row place p e) =
       lift2 (cast_to c at) (cast_type at (row_length row) (base_in c at ty))
       (done c purpose (formed c purpose literals (given_shape (cast_type at (row_length row) (base_in c at ty))) place e))
   -- C11 6.5.5 to 6.5.14
-  formed c purpose literals target at (kind.Infix' operator p place left q place' right) =
+  formed c purpose literals target at (kind.Infix' operator place p left place' q right) =
       let one = operand_in c purpose (formed c purpose literals None place left) in
       let following = purpose_after operator purpose one in
       lift2 (combined c.model c.table.list operator at) one
       (operand_in c following (formed c following (literals_after literals left) None place' right))
   -- C11 6.5.15
-  formed c purpose literals target at (kind.Choice' p place test q place' one r place'' other) =
+  formed c purpose literals target at (kind.Choice' place p test place' q one place'' r other) =
       let yields = lift (tested at) (operand_in c purpose (formed c purpose literals None place test)) in
       let following = literals_after literals test in
       lift3 (chosen_values c at) yields
       (value_in c (purpose_if true purpose yields) (formed c (purpose_if true purpose yields) following None place' one))
       (value_in c (purpose_if false purpose yields) (formed c (purpose_if false purpose yields) (literals_after following one) None place'' other))
   -- C11 6.5.16
-  formed c purpose literals target at (kind.Assign' operator p place object q place' value) =
+  formed c purpose literals target at (kind.Assign' operator place p object place' q value) =
       let left = lift (left_side c operator at) (done c purpose (formed c purpose literals None place object)) in
       lift2 (stored c operator at) left
       (operand_in c purpose (formed c purpose (literals_after literals object) (right_target operator left) place' value))
   -- C11 6.5.17
-  formed c purpose literals target at (kind.Comma' p place first q place' second) =
+  formed c purpose literals target at (kind.Comma' place p first place' q second) =
       lift2 (followed at)
       (value_in c purpose (formed c purpose literals None place first))
       (value_in c purpose (formed c purpose (literals_after literals first) None place' second))
@@ -368,8 +312,8 @@ abbrev mutual
   -- the values of the arguments of a call, each for a parameter
   pub arguments_formed : Context → Purpose → Literals → List Shape → {n : _} → Row_of-RawExpr n → Verdict TypedList
   arguments_formed c purpose literals types end_of-RawExpr = Fine NoMore
-  arguments_formed c purpose literals [] (more_of-RawExpr place k rest) = Fine NoMore
-  arguments_formed c purpose literals (ty ∷ types) (more_of-RawExpr place k rest) =
+  arguments_formed c purpose literals [] (more_of-RawExpr place p k rest) = Fine NoMore
+  arguments_formed c purpose literals (ty ∷ types) (more_of-RawExpr place p k rest) =
       lift2 further
       (operand_in c purpose (formed c purpose literals (Some ty) place k))
       (arguments_formed c purpose (literals_after literals k) types rest)
@@ -377,7 +321,7 @@ abbrev mutual
   -- the numbers of bounds, which are constant
   pub numbers_formed : Context → Literals → {n : _} → Row_of-RawExpr n → Verdict (List ℤ)
   numbers_formed c literals end_of-RawExpr = Fine []
-  numbers_formed c literals (more_of-RawExpr place k rest) =
+  numbers_formed c literals (more_of-RawExpr place p k rest) =
       lift2 number_before
       (done c Constant (formed c Constant literals None place k))
       (numbers_formed c (literals_after literals k) rest)
@@ -385,56 +329,56 @@ abbrev mutual
 -- the rules of the productions with more than one part, each on the parts themselves: what the functions for them promise
 abbrev pub infix_formed : Context → Purpose → Literals → Place → InfixOp → RawExpr → RawExpr → Verdict Typed
 infix_formed c purpose literals at operator left right =
-    let one = operand_in c purpose (formed c purpose literals None left.place left.kind) in
+    let one = operand_in c purpose (formed c purpose literals None left.place left.kind.value) in
     let following = purpose_after operator purpose one in
     lift2 (combined c.model c.table.list operator at) one
-    (operand_in c following (formed c following (literals_after literals left.kind) None right.place right.kind))
+    (operand_in c following (formed c following (literals_after literals left.kind.value) None right.place right.kind.value))
 
 abbrev pub choice_formed : Context → Purpose → Literals → Place → RawExpr → RawExpr → RawExpr → Verdict Typed
 choice_formed c purpose literals at test one other =
-    let yields = lift (tested at) (operand_in c purpose (formed c purpose literals None test.place test.kind)) in
-    let following = literals_after literals test.kind in
+    let yields = lift (tested at) (operand_in c purpose (formed c purpose literals None test.place test.kind.value)) in
+    let following = literals_after literals test.kind.value in
     lift3 (chosen_values c at) yields
-    (value_in c (purpose_if true purpose yields) (formed c (purpose_if true purpose yields) following None one.place one.kind))
-    (value_in c (purpose_if false purpose yields) (formed c (purpose_if false purpose yields) (literals_after following one.kind) None other.place other.kind))
+    (value_in c (purpose_if true purpose yields) (formed c (purpose_if true purpose yields) following None one.place one.kind.value))
+    (value_in c (purpose_if false purpose yields) (formed c (purpose_if false purpose yields) (literals_after following one.kind.value) None other.place other.kind.value))
 
 abbrev pub store_formed : Context → Purpose → Literals → Place → AssignOp → RawExpr → RawExpr → Verdict Typed
 store_formed c purpose literals at operator object value =
-    let left = lift (left_side c operator at) (done c purpose (formed c purpose literals None object.place object.kind)) in
+    let left = lift (left_side c operator at) (done c purpose (formed c purpose literals None object.place object.kind.value)) in
     lift2 (stored c operator at) left
-    (operand_in c purpose (formed c purpose (literals_after literals object.kind) (right_target operator left) value.place value.kind))
+    (operand_in c purpose (formed c purpose (literals_after literals object.kind.value) (right_target operator left) value.place value.kind.value))
 
 abbrev pub cast_formed : Context → Purpose → Literals → Place → WrittenType → ℕ → RawExpr → Verdict Typed
 cast_formed c purpose literals at ty bounds e =
     lift2 (cast_to c at) (cast_type at bounds (base_in c at ty))
-    (done c purpose (formed c purpose literals (given_shape (cast_type at bounds (base_in c at ty))) e.place e.kind))
+    (done c purpose (formed c purpose literals (given_shape (cast_type at bounds (base_in c at ty))) e.place e.kind.value))
 
 -- the same along lists: the arguments of a call, and the numbers of bounds
 abbrev pub literals_after_list : Literals → List RawExpr → Literals
 literals_after_list literals [] = literals
-literals_after_list literals (e ∷ rest) = literals_after_list (literals_after literals e.kind) rest
+literals_after_list literals (e ∷ rest) = literals_after_list (literals_after literals e.kind.value) rest
 
 abbrev pub arguments_listed : Context → Purpose → Literals → List Shape → List RawExpr → Verdict TypedList
 arguments_listed c purpose literals types [] = Fine NoMore
 arguments_listed c purpose literals [] (e ∷ rest) = Fine NoMore
 arguments_listed c purpose literals (ty ∷ types) (e ∷ rest) =
     lift2 further
-    (operand_in c purpose (formed c purpose literals (Some ty) e.place e.kind))
-    (arguments_listed c purpose (literals_after literals e.kind) types rest)
+    (operand_in c purpose (formed c purpose literals (Some ty) e.place e.kind.value))
+    (arguments_listed c purpose (literals_after literals e.kind.value) types rest)
 
 abbrev pub numbers_listed : Context → Literals → List RawExpr → Verdict (List ℤ)
 numbers_listed c literals [] = Fine []
 numbers_listed c literals (e ∷ rest) =
     lift2 number_before
-    (done c Constant (formed c Constant literals None e.place e.kind))
-    (numbers_listed c (literals_after literals e.kind) rest)
+    (done c Constant (formed c Constant literals None e.place e.kind.value))
+    (numbers_listed c (literals_after literals e.kind.value) rest)
 
 abbrev pub call_formed : Context → Purpose → Literals → Option Shape → Place → RawExpr → List RawExpr → Verdict Typed
 call_formed c purpose literals target at function arguments =
-    call_or_not c at target (called c.scope.declarations function.kind) (length arguments)
-    (operand_in c purpose (formed c purpose literals None function.place function.kind))
-    (arguments_listed c purpose literals (parameters_of (called c.scope.declarations function.kind)) arguments)
+    call_or_not c at target (called c.scope.declarations function.kind.value) (length arguments)
+    (operand_in c purpose (formed c purpose literals None function.place function.kind.value))
+    (arguments_listed c purpose literals (parameters_of (called c.scope.declarations function.kind.value)) arguments)
 
 -- the typing of an expression
 abbrev pub judged : Context → Purpose → Literals → Option Shape → RawExpr → Verdict Typed
-judged c purpose literals target e = done c purpose (formed c purpose literals target e.place e.kind)
+judged c purpose literals target e = done c purpose (formed c purpose literals target e.place e.kind.value)

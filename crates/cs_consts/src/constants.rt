@@ -1,119 +1,38 @@
-//! Integer constant expressions (C11 6.6) and null pointer constants (C11 6.3.2.3).
-ghost use Rattle.std.specs.Prelude.{◌≡◌, IfSome};
+//! Integer constant expressions as the numbers that they are (C11 6.6).
+ghost use Rattle.std.specs.Prelude.{◌≡◌};
 ghost use Rattle.cs_types.specs.Shape.{shape_of};
-ghost use Rattle.cs_types.specs.IntType.{IsIntegerOfC};
-ghost use Rattle.cs_ast.specs.TypedView.{typed, form};
-ghost use Rattle.cs_consts.specs.Verdicts.{Yields};
-ghost use Rattle.cs_consts.specs.Constants.{number_in, is_null, is_null_form, is_void_pointer, integer_in, constant_at, finished};
+ghost use Rattle.cs_ast.specs.TypedView.{typed};
+ghost use Rattle.cs_folding.specs.Folding.{number_in};
+ghost use Rattle.cs_scopes.specs.Verdicts.{Yields};
+ghost use Rattle.cs_consts.specs.Constants.{integer_in, constant_at, finished};
 
-use crate::arithmetic::{applied, compared, is_zero, kept, truth, turned};
-use crate::nodes::number;
-use crate::objects::is_void;
 use crate::purpose::Purpose;
-use crate::refusal::{TypeCode, TypeRefusal};
-use cs_ast::typed::expression::{Expr, ExprKind};
-use cs_types::{CType, DataModel, IntType, wrap};
-
-/// The number of an integer constant expression, if the expression is one and its operators have results. In one that isn't
-/// needed they may have none.
-pub fn number_in(model: DataModel, needed: bool, value: &Expr) -> Option<i128>
-    ensures value { result ≡ number_in model needed (typed value.now) }
-    ensures small { IfSome result IsIntegerOfC }
-{
-    let CType::Int(ty) = &value.ty else {
-        return None;
-    };
-    match &value.kind {
-        ExprKind::Number(number) => kept(model, *ty, *number),
-        ExprKind::Convert(value) => Some(wrap(model, *ty, number_in(model, needed, value)?)),
-        ExprKind::Unary(operator, operand) => {
-            turned(
-                model,
-                needed,
-                *operator,
-                *ty,
-                number_in(model, needed, operand)?,
-            )
-        }
-        ExprKind::Not(operand) => Some(truth(number_in(model, needed, operand)? == 0)),
-        ExprKind::Binary(operator, left, right) => applied(
-            model,
-            needed,
-            *operator,
-            *ty,
-            number_in(model, needed, left)?,
-            number_in(model, needed, right)?,
-        ),
-        ExprKind::Compare(operator, left, right) => Some(truth(compared(
-            *operator,
-            number_in(model, needed, left)?,
-            number_in(model, needed, right)?,
-        ))),
-        ExprKind::And(left, right) => {
-            let left = number_in(model, needed, left)?;
-            let right = number_in(model, needed && left != 0, right)?;
-            Some(truth(left != 0 && right != 0))
-        }
-        ExprKind::Or(left, right) => {
-            let left = number_in(model, needed, left)?;
-            let right = number_in(model, needed && left == 0, right)?;
-            Some(truth(left != 0 || right != 0))
-        }
-        ExprKind::Choice(test, one, other) => {
-            let test = number_in(model, needed, test)?;
-            let one = number_in(model, needed && test != 0, one)?;
-            let other = number_in(model, needed && test == 0, other)?;
-            Some(if test != 0 { one } else { other })
-        }
-        _ => None,
-    }
-}
-
-/// Whether the expression is a null pointer constant.
-#[tactic(auto, unfolding(crate::specs::Constants::is_null))]
-pub fn is_null(model: DataModel, value: &Expr) -> bool
-    ensures { result ≡ is_null model (typed value.now) }
-{
-    if is_void_pointer(&value.ty) && is_null_kind(&value.kind) {
-        return true;
-    }
-    is_zero(number_in(model, true, value))
-}
-
-// Whether the type is `void *`.
-fn is_void_pointer(ty: &CType) -> bool
-    ensures { result ≡ is_void_pointer (shape_of ty.now) }
-{
-    match ty {
-        CType::Pointer(target) => is_void(target),
-        _ => false,
-    }
-}
-
-// Whether it is the null pointer.
-fn is_null_kind(kind: &ExprKind) -> bool
-    ensures { result ≡ is_null_form (form kind.now) }
-{
-    match kind {
-        ExprKind::Null => true,
-        _ => false,
-    }
-}
+use cs_ast::typed::expression::Expr;
+use cs_expressions::number;
+use cs_folding::number_in;
+use cs_scopes::{TypeCode, TypeRefusal};
+use cs_types::{CType, DataModel, IntType};
+use std::alloc::Global;
 
 /// An expression for its purpose: one of a constant is its number.
-#[tactic(auto, unfolding(crate::specs::Constants::finished))]
-pub fn finished(model: DataModel, purpose: Purpose, value: Expr) -> Result<Expr, TypeRefusal>
+#[tactic(auto, unfolding(cs_consts::specs::Constants::finished))]
+pub fn finished(
+    alloc: Global,
+    model: DataModel,
+    purpose: Purpose,
+    value: Expr,
+) -> Result<Expr, TypeRefusal>
     ensures { Yields (finished model purpose (typed value)) result }
 {
     match purpose {
         Purpose::Run => Ok(value),
-        Purpose::Constant => constant(model, true, value),
-        Purpose::Unneeded => constant(model, false, value),
+        Purpose::Constant => constant(alloc, model, true, value),
+        Purpose::Unneeded => constant(alloc, model, false, value),
     }
 }
 
 // The constant that an expression is.
-fn constant(model: DataModel, needed: bool, value: Expr) -> Result<Expr, TypeRefusal>
+fn constant(alloc: Global, model: DataModel, needed: bool, value: Expr) -> Result<Expr, TypeRefusal>
     ensures { Yields (constant_at value.place (shape_of value.ty) (number_in model needed (typed value))) result }
 {
     let place = value.place;
@@ -121,7 +40,10 @@ fn constant(model: DataModel, needed: bool, value: Expr) -> Result<Expr, TypeRef
         return Err(TypeRefusal::Code(TypeCode::NotConstant, place));
     };
     match number_in(model, needed, &value) {
-        Some(found) => Ok(number(place, ty, found)),
+        Some(found) => {
+            let made = number(alloc, place, ty, found)?;
+            Ok(made)
+        }
         None => Err(TypeRefusal::Code(TypeCode::NotConstant, place)),
     }
 }

@@ -1,39 +1,9 @@
 //! The typing of expressions and the values of constant expressions, exact to the first failing place.
 #![tactic(auto)]
 
-mod arithmetic;
-mod calls;
 mod constants;
-mod context;
-mod conversions;
-mod declarations;
-mod doors;
-mod entries;
-mod integer_words;
-mod integers;
-mod nodes;
-mod objects;
-mod operators;
-mod places;
-mod primary;
 mod purpose;
-mod refusal;
-mod scalars;
-mod scope;
-mod stores;
-mod type_names;
+mod roles;
 mod typing;
-mod ways;
 
-pub use calls::least;
-pub use constants::number_in;
-pub use context::{Context, Scope};
-pub use conversions::converted;
-pub use declarations::{Declarations, Tags};
-pub use doors::{assigned_value, discarded, operand, selector, test, value};
-pub use integer_words::{IntegerWords, is_word};
-pub use objects::{bytes_in, complete_struct, is_complete, members, pointer_bytes};
-pub use refusal::{TypeCode, TypeRefusal};
-pub use scalars::{few, scalars_in};
-pub use scope::{Callee, Declaration, Function, Meaning, Tag, TagMeaning};
-pub use type_names::{array_of, arrayed, complete_at, enum_type, starred, typedef_type};
+pub use roles::{assigned_value, discarded, operand, selector, test, value};

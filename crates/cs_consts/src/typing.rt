@@ -2,36 +2,30 @@
 ghost use Rattle.std.specs.Prelude.{◌≡◌, OnOk, IfOk, None, Some, length, vec_len, if◌then◌else◌};
 ghost use Rattle.cs_types.specs.Shape.{shape_of};
 ghost use Rattle.cs_ast.specs.TypedView.{typed, form, typed_list};
-ghost use Rattle.cs_consts.specs.Verdicts.{Fine, lift, lift2, lift3, Yields, Answers};
-ghost use Rattle.cs_consts.specs.Stores.{updatable, step_operator};
-ghost use Rattle.cs_consts.specs.TypeNames.{complete_at};
-ghost use Rattle.cs_consts.specs.Meanings.{signature_of};
-ghost use Rattle.cs_consts.specs.Calls.{shape_in};
+ghost use Rattle.cs_scopes.specs.Verdicts.{Fine, lift, lift2, lift3, Yields, Answers};
+ghost use Rattle.cs_expressions.specs.Stores.{updatable, step_operator};
+ghost use Rattle.cs_scopes.specs.TypeNames.{complete_at};
+ghost use Rattle.cs_scopes.specs.Meanings.{signature_of};
+ghost use Rattle.cs_expressions.specs.Calls.{shape_in};
 ghost use Rattle.cs_consts.specs.Typing.{literals_after, literals_after_list, formed, judged, value_in, operand_in, done, stepped_object, is_address, prefixed, prefixed_value, purpose_after, purpose_if, is_zero_number, is_plain, operator_of, left_side, stored, arguments_listed, numbers_listed, measured_arrays, base_in, number_at, call_with, cast_type, castable, cast_operand, cast_to, infix_formed, choice_formed, store_formed, call_formed, cast_formed};
 
-use crate::calls::{admitted, call_of, called, converted_list};
 use crate::constants::finished;
-use crate::context::Context;
-use crate::conversions::{converted, recast};
-use crate::integers::{raised, turned};
-use crate::nodes::number;
-use crate::objects::{is_void, measured, operand, valued};
-use crate::operators::{chosen, combined, denied, followed, tested};
-use crate::places::{address_of, indexed, selected, selected_through, through};
-use crate::primary::{constant_type, named, text};
 use crate::purpose::Purpose;
-use crate::refusal::{TypeCode, TypeRefusal};
-use crate::scope::Function;
-use crate::stores::{assignable, assigned, step_operator, stepped, updatable, updated};
-use crate::type_names::{arrayed, complete_at, type_named};
 use cs_ast::Place;
 use cs_ast::raw::expression::{RawExpr, RawExprKind};
 use cs_ast::raw::operator::{AssignOp, InfixOp, PrefixOp, Step};
 use cs_ast::raw::written_type::WrittenType;
 use cs_ast::typed::expression::{Expr, ExprKind};
 use cs_ast::typed::operator::{BinOp, Gives, UnOp};
+use cs_expressions::{
+    address_of, admitted, assignable, assigned, call_of, called, chosen, combined, constant_type,
+    converted, converted_list, denied, followed, indexed, measured, named, number, operand, raised,
+    recast, selected, selected_through, step_operator, stepped, tested, text, through, turned,
+    updatable, updated, valued,
+};
 use cs_names::Bytes;
-use cs_types::{CType, IntType};
+use cs_scopes::{Context, Function, TypeCode, TypeRefusal, arrayed, complete_at, type_named};
+use cs_types::{CType, IntType, is_void};
 use std::alloc::Global;
 
 /// The typing of an expression for its purpose. String literals are put after those that are there; the value goes to a type
@@ -46,10 +40,10 @@ pub fn judged(
     tree: &RawExpr,
 ) -> Result<Expr, TypeRefusal>
     ensures reported { Yields (judged context.now purpose literals.old.items (shape_in target.entry) tree.now) result }
-    ensures texts { OnOk result (literals.new.items ≡ literals_after literals.old.items tree.now.kind) }
+    ensures texts { OnOk result (literals.new.items ≡ literals_after literals.old.items tree.now.kind.value) }
 {
     let value = formed(alloc, context, purpose, literals, target, tree)?;
-    finished(context.model, purpose, value)
+    finished(alloc, context.model, purpose, value)
 }
 
 /// The value of an expression, if it has one.
@@ -61,8 +55,8 @@ pub fn value_in(
     literals: &mut Vec<Bytes>,
     tree: &RawExpr,
 ) -> Result<Expr, TypeRefusal>
-    ensures reported { Yields (value_in context.now purpose (formed context.now purpose literals.old.items None tree.now.place tree.now.kind)) result }
-    ensures texts { OnOk result (literals.new.items ≡ literals_after literals.old.items tree.now.kind) }
+    ensures reported { Yields (value_in context.now purpose (formed context.now purpose literals.old.items None tree.now.place tree.now.kind.value)) result }
+    ensures texts { OnOk result (literals.new.items ≡ literals_after literals.old.items tree.now.kind.value) }
 {
     let value = judged(alloc, context, purpose, literals, None, tree)?;
     valued(alloc, &context.table, value)
@@ -78,8 +72,8 @@ pub fn operand_in(
     target: Option<&CType>,
     tree: &RawExpr,
 ) -> Result<Expr, TypeRefusal>
-    ensures reported { Yields (operand_in context.now purpose (formed context.now purpose literals.old.items (shape_in target.entry) tree.now.place tree.now.kind)) result }
-    ensures texts { OnOk result (literals.new.items ≡ literals_after literals.old.items tree.now.kind) }
+    ensures reported { Yields (operand_in context.now purpose (formed context.now purpose literals.old.items (shape_in target.entry) tree.now.place tree.now.kind.value)) result }
+    ensures texts { OnOk result (literals.new.items ≡ literals_after literals.old.items tree.now.kind.value) }
 {
     let value = judged(alloc, context, purpose, literals, target, tree)?;
     operand(alloc, &context.table, value)
@@ -95,17 +89,21 @@ fn formed(
     target: Option<&CType>,
     tree: &RawExpr,
 ) -> Result<Expr, TypeRefusal>
-    ensures reported { Yields (formed context.now purpose literals.old.items (shape_in target.entry) tree.now.place tree.now.kind) result }
-    ensures texts { OnOk result (literals.new.items ≡ literals_after literals.old.items tree.now.kind) }
+    ensures reported { Yields (formed context.now purpose literals.old.items (shape_in target.entry) tree.now.place tree.now.kind.value) result }
+    ensures texts { OnOk result (literals.new.items ≡ literals_after literals.old.items tree.now.kind.value) }
 {
     let place = tree.place;
-    match &tree.kind {
+    match &*tree.kind {
         RawExprKind::Name(name) => named(alloc, place, context.scope.declarations.newest(name)),
         RawExprKind::Number(constant) => {
             let ty = constant_type(context.model, *constant);
-            Ok(number(place, ty, i128::from(constant.value)))
+            let made = number(alloc, place, ty, i128::from(constant.value))?;
+            Ok(made)
         }
-        RawExprKind::Character(value) => Ok(number(place, IntType::Int, i128::from(*value))),
+        RawExprKind::Character(value) => {
+            let made = number(alloc, place, IntType::Int, i128::from(*value))?;
+            Ok(made)
+        }
         RawExprKind::Text(bytes) => text(alloc, literals, place, bytes),
         RawExprKind::Parenthesis(inner) => {
             judged(alloc, context, purpose, literals, target, inner)
@@ -140,7 +138,7 @@ fn formed(
         }
         RawExprKind::SizeOf(operand) => {
             let operand = judged(alloc, context, Purpose::Run, literals, None, operand)?;
-            measured(context.model, &context.table, place, &operand.ty)
+            measured(alloc, context.model, &context.table, place, &operand.ty)
         }
         RawExprKind::SizeOfType(ty, bounds) => {
             size_of_type(alloc, context, literals, place, ty, bounds)
@@ -178,8 +176,8 @@ fn step(
     gives: Gives,
     object: &RawExpr,
 ) -> Result<Expr, TypeRefusal>
-    ensures reported { Yields (lift (stepped_object context.now (step_operator step) gives place) (lift (updatable context.now.table.list (step_operator step) place) (done context.now purpose (formed context.now purpose literals.old.items None object.now.place object.now.kind)))) result }
-    ensures texts { OnOk result (literals.new.items ≡ literals_after literals.old.items object.now.kind) }
+    ensures reported { Yields (lift (stepped_object context.now (step_operator step) gives place) (lift (updatable context.now.table.list (step_operator step) place) (done context.now purpose (formed context.now purpose literals.old.items None object.now.place object.now.kind.value)))) result }
+    ensures texts { OnOk result (literals.new.items ≡ literals_after literals.old.items object.now.kind.value) }
 {
     let operator = step_operator(step);
     let object = judged(alloc, context, purpose, literals, None, object)?;
@@ -188,7 +186,7 @@ fn step(
 }
 
 // An operator before one operand.
-#[tactic(auto, unfolding(crate::specs::Typing::prefixed), using(crate::proofs::Lifting::lifts))]
+#[tactic(auto, unfolding(crate::specs::Typing::prefixed), using(cs_scopes::proofs::Lifting::lifts))]
 fn prefixed(
     alloc: Global,
     context: &Context,
@@ -250,7 +248,7 @@ fn infix(
     right: &RawExpr,
 ) -> Result<Expr, TypeRefusal>
     ensures reported { Yields (infix_formed context.now purpose literals.old.items place operator left.now right.now) result }
-    ensures texts { OnOk result (literals.new.items ≡ literals_after (literals_after literals.old.items left.now.kind) right.now.kind) }
+    ensures texts { OnOk result (literals.new.items ≡ literals_after (literals_after literals.old.items left.now.kind.value) right.now.kind.value) }
 {
     let left = operand_in(alloc, context, purpose, literals, None, left)?;
     let following = purpose_after(operator, purpose, &left);
@@ -282,7 +280,7 @@ fn purpose_if(way: bool, purpose: Purpose, test: &Expr) -> Purpose
     ensures { result ≡ purpose_if way purpose (Fine (typed test.now)) }
 {
     match purpose {
-        Purpose::Constant if is_zero_number(&test.kind) == way => Purpose::Unneeded,
+        Purpose::Constant if is_zero_number(&*test.kind) == way => Purpose::Unneeded,
         _ => purpose,
     }
 }
@@ -310,7 +308,7 @@ fn select(
     other: &RawExpr,
 ) -> Result<Expr, TypeRefusal>
     ensures reported { Yields (choice_formed context.now purpose literals.old.items place test.now one.now other.now) result }
-    ensures texts { OnOk result (literals.new.items ≡ literals_after (literals_after (literals_after literals.old.items test.now.kind) one.now.kind) other.now.kind) }
+    ensures texts { OnOk result (literals.new.items ≡ literals_after (literals_after (literals_after literals.old.items test.now.kind.value) one.now.kind.value) other.now.kind.value) }
 {
     let test = operand_in(alloc, context, purpose, literals, None, test)?;
     let test = tested(place, test)?;
@@ -334,7 +332,7 @@ fn store(
     value: &RawExpr,
 ) -> Result<Expr, TypeRefusal>
     ensures reported { Yields (store_formed context.now purpose literals.old.items place operator object.now value.now) result }
-    ensures texts { OnOk result (literals.new.items ≡ literals_after (literals_after literals.old.items object.now.kind) value.now.kind) }
+    ensures texts { OnOk result (literals.new.items ≡ literals_after (literals_after literals.old.items object.now.kind.value) value.now.kind.value) }
 {
     let object = judged(alloc, context, purpose, literals, None, object)?;
     let object = left_side(context, operator, place, object)?;
@@ -396,7 +394,7 @@ fn left_side(
 }
 
 // An operator that stores, between an object and a value.
-#[tactic(auto, unfolding(crate::specs::Typing::stored), using(crate::proofs::Lifting::lifts))]
+#[tactic(auto, unfolding(crate::specs::Typing::stored), using(cs_scopes::proofs::Lifting::lifts))]
 fn stored(
     alloc: Global,
     context: &Context,
@@ -441,7 +439,7 @@ fn call(
 }
 
 // A call of a function with the values of its arguments.
-#[tactic(auto, unfolding(crate::specs::Typing::call_with), using(crate::proofs::Lifting::lifts))]
+#[tactic(auto, unfolding(crate::specs::Typing::call_with), using(cs_scopes::proofs::Lifting::lifts))]
 fn call_with(
     alloc: Global,
     context: &Context,
@@ -502,7 +500,7 @@ fn size_of_type(
 }
 
 // `sizeof` of arrays of these sizes.
-#[tactic(auto, unfolding(crate::specs::Typing::measured_arrays), using(crate::proofs::Lifting::lifts))]
+#[tactic(auto, unfolding(crate::specs::Typing::measured_arrays), using(cs_scopes::proofs::Lifting::lifts))]
 fn measured_arrays(
     alloc: Global,
     context: &Context,
@@ -513,7 +511,7 @@ fn measured_arrays(
     ensures { Yields (measured_arrays context.now place (shape_of base) numbers.now) result }
 {
     let ty = arrayed(alloc, context.model, &context.table, place, base, numbers)?;
-    measured(context.model, &context.table, place, &ty)
+    measured(alloc, context.model, &context.table, place, &ty)
 }
 
 // The numbers of bounds, which are constant.
@@ -530,7 +528,7 @@ fn numbers_of(
     let mut numbers = Vec::new(alloc);
     for bound in bounds {
         let value = judged(alloc, context, Purpose::Constant, literals, None, bound)?;
-        numbers.push(number_at(&value.kind))?;
+        numbers.push(number_at(&*value.kind))?;
     }
     Ok(numbers)
 }
@@ -558,7 +556,7 @@ fn cast(
     operand: &RawExpr,
 ) -> Result<Expr, TypeRefusal>
     ensures reported { Yields (cast_formed context.now purpose literals.old.items place ty.now bounds operand.now) result }
-    ensures texts { OnOk result (literals.new.items ≡ literals_after literals.old.items operand.now.kind) }
+    ensures texts { OnOk result (literals.new.items ≡ literals_after literals.old.items operand.now.kind.value) }
 {
     let target = cast_type(alloc, context, place, ty, bounds)?;
     let value = judged(alloc, context, purpose, literals, Some(&target), operand)?;
@@ -566,7 +564,7 @@ fn cast(
 }
 
 // The type of a cast with so many bounds.
-#[tactic(auto, unfolding(crate::specs::Typing::cast_type), using(crate::proofs::Lifting::lifts))]
+#[tactic(auto, unfolding(crate::specs::Typing::cast_type), using(cs_scopes::proofs::Lifting::lifts))]
 fn cast_type(
     alloc: Global,
     context: &Context,
@@ -613,7 +611,7 @@ fn cast_operand(
 }
 
 // A cast of a value to a type.
-#[tactic(auto, unfolding(crate::specs::Typing::cast_to), using(crate::proofs::Lifting::lifts))]
+#[tactic(auto, unfolding(crate::specs::Typing::cast_to), using(cs_scopes::proofs::Lifting::lifts))]
 fn cast_to(
     alloc: Global,
     context: &Context,

@@ -1,8 +1,8 @@
 -- What a function gives beside what is known: for types and members where what is known stays.
 use Rattle.std.proofs.Common.{◌≡◌, Result, Ok, Err, ap, ◌∙◌}
-use Rattle.cs_consts.specs.declared.refusal.TypeRefusal.{TypeRefusal}
-use Rattle.cs_consts.specs.Verdicts.{Verdict, Fine, lift, Answers}
-use Rattle.cs_consts.proofs.Lifting.{lift-fine, lift-refused}
+use Rattle.cs_scopes.specs.declared.refusal.TypeRefusal.{TypeRefusal}
+use Rattle.cs_scopes.specs.Verdicts.{Verdict, Fine, lift, Answers}
+use Rattle.cs_scopes.proofs.Lifting.{lift-fine, lift-refused}
 use Rattle.cs_declarations.specs.Answered.{AnswersWith}
 
 pub known_beside : {A B C K : Type 0} (view : A → B) (rule : B → Verdict C) (whole : A → K → C) (v : Verdict B) (r : Result A TypeRefusal) (k : K) → ((a : A) → rule (view a) ≡ Fine (whole a k)) → Answers view v r → AnswersWith whole (lift rule v) r k

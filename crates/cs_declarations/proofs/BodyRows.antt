@@ -10,8 +10,8 @@ use Rattle.cs_ast.specs.declared.raw.declaration.SpecWord as words
 use Rattle.cs_ast.specs.declared.raw.declaration.SpecWord.{SpecWord}
 use Rattle.cs_ast.specs.declared.raw.written_type.TypeWord.{TypeWord}
 use Rattle.cs_ast.specs.declared.raw.written_type.TypeWord.TheVariants as word
-use Rattle.cs_consts.specs.Verdicts.{Verdict, Fine, Fault, lift}
-use Rattle.cs_consts.specs.TypeNames.{tag_place}
+use Rattle.cs_scopes.specs.Verdicts.{Verdict, Fine, Fault, lift}
+use Rattle.cs_scopes.specs.TypeNames.{tag_place}
 use Rattle.cs_declarations.specs.Known.{Known}
 use Rattle.cs_declarations.specs.Bodies.{Laying, Opening, Body, nothing_laid, opening, struct_read, group_declared, first_name, plain_row, plain_words, row_type, words_type, members_read, members_of_list, struct_body, enum_body, word_type}
 

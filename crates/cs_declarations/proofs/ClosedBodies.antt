@@ -4,9 +4,9 @@ use Rattle.std.proofs.Math.Seq.{take-append_seam}
 use Rattle.cs_types.specs.Shape.{struct}
 use Rattle.cs_ast.specs.declared.place.Place.{Place}
 use Rattle.cs_ast.specs.declared.raw.declaration.RawMember.{RawMember}
-use Rattle.cs_consts.specs.declared.refusal.TypeRefusal.{TypeRefusal}
-use Rattle.cs_consts.specs.Verdicts.{Verdict, Fine, lift, IsRefused}
-use Rattle.cs_consts.proofs.Lifting.{lift-fine, lift-refused}
+use Rattle.cs_scopes.specs.declared.refusal.TypeRefusal.{TypeRefusal}
+use Rattle.cs_scopes.specs.Verdicts.{Verdict, Fine, lift, IsRefused}
+use Rattle.cs_scopes.proofs.Lifting.{lift-fine, lift-refused}
 use Rattle.cs_declarations.specs.Known.{Known, with_reading}
 use Rattle.cs_declarations.specs.Bodies.{Typing, Opening, Body, nothing_laid, opening, struct_read, members_of_list, struct_body, with_members, name_or_none}
 use Rattle.cs_declarations.proofs.SaidSoFar.{refused_by}

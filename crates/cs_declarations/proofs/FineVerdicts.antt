@@ -1,7 +1,7 @@
 -- What verdicts give, if they are fine: for properties that go from rule to rule.
 use Rattle.std.proofs.Common.{◌≡◌, Bool, true, false, cond, Result, Ok, Err, OnOk, refl, subst}
-use Rattle.cs_consts.specs.declared.refusal.TypeRefusal.{TypeRefusal}
-use Rattle.cs_consts.specs.Verdicts.{Verdict, Fine, Fault, lift}
+use Rattle.cs_scopes.specs.declared.refusal.TypeRefusal.{TypeRefusal}
+use Rattle.cs_scopes.specs.Verdicts.{Verdict, Fine, Fault, lift}
 use Rattle.cs_declarations.specs.Answered.{AnswersWith}
 
 -- what a verdict gives, if it is fine, has a property

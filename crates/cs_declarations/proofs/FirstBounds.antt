@@ -3,11 +3,11 @@ use Rattle.std.proofs.Common.{◌≡◌, ℤ, ◌≤◌, ◌-◌, List, [], ◌�
 use Rattle.std.proofs.lemmas.List.{take_all}
 use Rattle.cs_types.specs.Shape.{Shape}
 use Rattle.cs_ast.specs.declared.place.Place.{Place}
-use Rattle.cs_consts.specs.declared.context.Context.{Context}
-use Rattle.cs_consts.specs.declared.refusal.TypeRefusal.{TypeRefusal}
-use Rattle.cs_consts.specs.Verdicts.{Fine, IsRefused}
-use Rattle.cs_consts.proofs.Lifting.{lift-fine, lift-refused}
-use Rattle.cs_consts.specs.Verdicts.{lift}
+use Rattle.cs_scopes.specs.declared.context.Context.{Context}
+use Rattle.cs_scopes.specs.declared.refusal.TypeRefusal.{TypeRefusal}
+use Rattle.cs_scopes.specs.Verdicts.{Fine, IsRefused}
+use Rattle.cs_scopes.proofs.Lifting.{lift-fine, lift-refused}
+use Rattle.cs_scopes.specs.Verdicts.{lift}
 use Rattle.cs_declarations.specs.Sizes.{element_of, outermost, extent_of}
 use Rattle.cs_declarations.specs.Parameters.{array_passed, passed}
 

@@ -1,9 +1,9 @@
 -- Rules that go over a list, of which a part is read: for the loops over constants, members, typedefs and parameters.
 use Rattle.std.proofs.Common.{◌≡◌, ℕ, ◌+◌, ◌<◌, ◌≤◌, List, [], ◌∷◌, length, drop, get_or, sym, ap, ◌∙◌}
 use Rattle.std.proofs.lemmas.List.{at_drop_more, drop_all}
-use Rattle.cs_consts.specs.declared.refusal.TypeRefusal.{TypeRefusal}
-use Rattle.cs_consts.specs.Verdicts.{Verdict, Fine, lift, IsRefused}
-use Rattle.cs_consts.proofs.Lifting.{lift-fine, lift-refused}
+use Rattle.cs_scopes.specs.declared.refusal.TypeRefusal.{TypeRefusal}
+use Rattle.cs_scopes.specs.Verdicts.{Verdict, Fine, lift, IsRefused}
+use Rattle.cs_scopes.proofs.Lifting.{lift-fine, lift-refused}
 use Rattle.cs_declarations.proofs.SaidSoFar.{refused_by}
 
 -- a rule on a list of parts is that on its first part, and then that on the others

@@ -5,14 +5,14 @@ use Rattle.cs_types.specs.Shape.{Shape}
 use Rattle.cs_ast.specs.declared.place.Place.{Place}
 use Rattle.cs_ast.specs.declared.raw.declaration.RawInitial.{RawInitial}
 use Rattle.cs_ast.specs.TypedTree.{Initial}
-use Rattle.cs_consts.specs.declared.context.Context.{Context}
-use Rattle.cs_consts.specs.declared.refusal.TypeCode.TheVariants as code_of
-use Rattle.cs_consts.specs.declared.refusal.TypeRefusal.{TypeRefusal}
-use Rattle.cs_consts.specs.Typing.{Literals}
-use Rattle.cs_consts.specs.Verdicts.{Verdict, Fine, Fault, lift, IsRefused}
-use Rattle.cs_consts.proofs.Lifting.{lift-fault, lift-refused}
+use Rattle.cs_scopes.specs.declared.context.Context.{Context}
+use Rattle.cs_scopes.specs.declared.refusal.TypeCode.TheVariants as code_of
+use Rattle.cs_scopes.specs.declared.refusal.TypeRefusal.{TypeRefusal}
+use Rattle.cs_expressions.specs.Primary.{Literals}
+use Rattle.cs_scopes.specs.Verdicts.{Verdict, Fine, Fault, lift, IsRefused}
+use Rattle.cs_scopes.proofs.Lifting.{lift-fault, lift-refused}
 use Rattle.cs_consts.proofs.SingleParts.{lift_is}
-use Rattle.cs_consts.proofs.Productions.{refused_as}
+use Rattle.cs_scopes.proofs.Lifting.{refused_as}
 use Rattle.cs_declarations.specs.Initializers.{Storage, InFile, InFunction, Reading, has_form, initial_read, initial_judged, stored, limited, kept_with, initial_typed}
 
 module _ (c : Context) (literals : Literals) (storage : Storage) (at : Place) (ty : Shape) (written : RawInitial) (form : has_form c.table.list storage ty written ≡ true) where

@@ -3,8 +3,8 @@ use Rattle.std.proofs.Common.{◌≡◌, ℕ, zero, suc, true, List, [], ◌∷�
 use Rattle.std.specs.Prelude.{is_some, nat_eq, if◌then◌else◌}
 use Rattle.std.specs.Option.{option_or}
 use Rattle.std.specs.Cmp.Lexicographic.{pointwise}
-use Rattle.cs_consts.specs.Meanings.{Declaration}
-use Rattle.cs_consts.specs.Scopes.{newest}
+use Rattle.cs_scopes.specs.Meanings.{Declaration}
+use Rattle.cs_scopes.specs.Scopes.{newest}
 
 -- what is there comes first
 there_first : {A : Type 0} (o p : Option A) → is_some o ≡ true → option_or o p ≡ o

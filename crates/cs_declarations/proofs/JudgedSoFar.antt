@@ -9,17 +9,17 @@ use Rattle.cs_ast.specs.declared.typed.statement.Initial.{Initial as Held}
 use Rattle.cs_ast.specs.TypedTree.{Typed, Initial, Initials, Value, NoPart, Part, Parts}
 use Rattle.cs_ast.specs.TypedView.{initial, initial_list}
 use Rattle.cs_ast.proofs.TypedRows.{initial-List}
-use Rattle.cs_consts.specs.declared.context.Context.{Context}
-use Rattle.cs_consts.specs.declared.refusal.TypeCode.{TypeCode}
-use Rattle.cs_consts.specs.declared.refusal.TypeCode.TheVariants as code_of
-use Rattle.cs_consts.specs.declared.refusal.TypeRefusal.{TypeRefusal}
-use Rattle.cs_consts.specs.Calls.{lesser, least}
-use Rattle.cs_consts.specs.Conversions.{converted}
-use Rattle.cs_consts.specs.Integers.{type_of}
-use Rattle.cs_consts.specs.Verdicts.{Verdict, Fine, Fault, lift, IsRefused}
-use Rattle.cs_consts.proofs.Lifting.{lift-refused}
+use Rattle.cs_scopes.specs.declared.context.Context.{Context}
+use Rattle.cs_scopes.specs.declared.refusal.TypeCode.{TypeCode}
+use Rattle.cs_scopes.specs.declared.refusal.TypeCode.TheVariants as code_of
+use Rattle.cs_scopes.specs.declared.refusal.TypeRefusal.{TypeRefusal}
+use Rattle.cs_expressions.specs.Calls.{lesser, least}
+use Rattle.cs_expressions.specs.Conversions.{converted}
+use Rattle.cs_folding.specs.TypedParts.{type_of}
+use Rattle.cs_scopes.specs.Verdicts.{Verdict, Fine, Fault, lift, IsRefused}
+use Rattle.cs_scopes.proofs.Lifting.{lift-refused}
 use Rattle.cs_consts.proofs.SingleParts.{lift_is}
-use Rattle.cs_consts.proofs.Productions.{refused_as}
+use Rattle.cs_scopes.proofs.Lifting.{refused_as}
 use Rattle.cs_declarations.specs.Initializers.{Storage, part_types, types_or_none, is_admitted, value_held, value_judged, part_judged, parts_judged, before_others}
 use Rattle.cs_declarations.proofs.PartTypes.{types_from, types_past}
 use Rattle.cs_declarations.proofs.LesserCodes.{lesser-comm, lesser-assoc}

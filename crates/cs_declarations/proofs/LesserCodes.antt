@@ -2,10 +2,10 @@
 use Rattle.std.proofs.Common.{◌≡◌, List, [], ◌∷◌, get_or, Bool, true, false, refl, sym, ap, ◌∙◌, arith}
 use Rattle.std.specs.Prelude.{nat_le, if◌then◌else◌}
 use Rattle.std.proofs.lemmas.Bool.{leb-true, leb-false}
-use Rattle.cs_consts.specs.declared.refusal.TypeCode.{TypeCode}
-use Rattle.cs_consts.specs.declared.refusal.TypeCode.TheVariants.{UnknownName, DeclaredTwice, NotLvalue, OperandTypes, ArgumentCount, IncompleteType, Size, NoTarget, PointerConversion, CaseTwice, Jump, NoMember, Initializer, FunctionName, NotConstant, VoidValue, Return, TooManyScalars}
-use Rattle.cs_consts.specs.Verdicts.{number_of}
-use Rattle.cs_consts.specs.Calls.{lesser}
+use Rattle.cs_scopes.specs.declared.refusal.TypeCode.{TypeCode}
+use Rattle.cs_scopes.specs.declared.refusal.TypeCode.TheVariants.{UnknownName, DeclaredTwice, NotLvalue, OperandTypes, ArgumentCount, IncompleteType, Size, NoTarget, PointerConversion, CaseTwice, Jump, NoMember, Initializer, FunctionName, NotConstant, VoidValue, Return, TooManyScalars}
+use Rattle.cs_scopes.specs.Verdicts.{number_of}
+use Rattle.cs_expressions.specs.Calls.{lesser}
 
 -- the codes by their numbers, which begin at 1
 abbrev codes : List TypeCode

@@ -5,12 +5,12 @@ use Rattle.cs_types.specs.declared.data_model.DataModel.{DataModel}
 use Rattle.cs_types.specs.declared.structs.StructType.{StructType}
 use Rattle.cs_types.specs.Shape.{Shape, array}
 use Rattle.cs_ast.specs.declared.place.Place.{Place}
-use Rattle.cs_consts.specs.declared.context.Context.{Context}
-use Rattle.cs_consts.specs.declared.refusal.TypeCode.{TypeCode}
-use Rattle.cs_consts.specs.Verdicts.{Verdict, Fine, Fault, lift}
-use Rattle.cs_consts.specs.Objects.{bytes_in}
-use Rattle.cs_consts.specs.TypeNames.{array_of, is_array_size}
-use Rattle.cs_consts.proofs.Lifting.{lift-fine}
+use Rattle.cs_scopes.specs.declared.context.Context.{Context}
+use Rattle.cs_scopes.specs.declared.refusal.TypeCode.{TypeCode}
+use Rattle.cs_scopes.specs.Verdicts.{Verdict, Fine, Fault, lift}
+use Rattle.cs_scopes.specs.Sizes.{bytes_in}
+use Rattle.cs_scopes.specs.TypeNames.{array_of, is_array_size}
+use Rattle.cs_scopes.proofs.Lifting.{lift-fine}
 use Rattle.cs_declarations.specs.Parameters.{Passed, elements_passed, array_passed, plainly_passed}
 
 if_fine : {A : Type 0} (b : Bool) (x y : A) (code : TypeCode) (at : Place) → (if b then Fine x else Fault code at) ≡ Fine y → x ≡ y

@@ -5,7 +5,7 @@ use Rattle.cs_ast.specs.declared.raw.declaration.SpecWord as words
 use Rattle.cs_ast.specs.declared.raw.declaration.SpecWord.{SpecWord}
 use Rattle.cs_ast.specs.declared.raw.written_type.IntegerWord.{IntegerWord}
 use Rattle.cs_ast.specs.declared.raw.written_type.TypeWord.{TypeWord}
-use Rattle.cs_consts.specs.TypeNames.{times, is_word}
+use Rattle.cs_scopes.specs.TypeNames.{times, is_word}
 use Rattle.cs_declarations.specs.Bodies.{plain_words, is_kind}
 
 -- one more where the word is of the kind

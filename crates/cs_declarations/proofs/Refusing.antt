@@ -1,7 +1,7 @@
 -- What functions tell that stop at a refusal: for every one that goes on with what another one gave.
 use Rattle.std.proofs.Common.{◌≡◌, Result, Err, sym, subst}
-use Rattle.cs_consts.specs.declared.refusal.TypeRefusal.{TypeRefusal}
-use Rattle.cs_consts.specs.Verdicts.{Verdict, IsRefused, Answers}
+use Rattle.cs_scopes.specs.declared.refusal.TypeRefusal.{TypeRefusal}
+use Rattle.cs_scopes.specs.Verdicts.{Verdict, IsRefused, Answers}
 use Rattle.cs_declarations.specs.Answered.{AnswersWith}
 
 pub refused_with : {A B C : Type 0} (view : A → B → C) (verdict : Verdict C) (result : Result A TypeRefusal) (changed : B) (r : TypeRefusal) → result ≡ Err r → IsRefused verdict r → AnswersWith view verdict result changed

@@ -3,11 +3,11 @@ use Rattle.std.proofs.Common.{◌≡◌, ℕ, ℤ, ◌+◌, ◌<◌, List, [], �
 use Rattle.std.proofs.lemmas.List.{at_drop_more}
 use Rattle.cs_ast.specs.declared.place.Place.{Place}
 use Rattle.cs_ast.specs.declared.raw.expression.RawExpr.{RawExpr}
-use Rattle.cs_consts.specs.declared.context.Context.{Context}
-use Rattle.cs_consts.specs.declared.refusal.TypeCode.TheVariants.{Size}
-use Rattle.cs_consts.specs.declared.refusal.TypeRefusal.{TypeRefusal}
-use Rattle.cs_consts.specs.Verdicts.{Verdict, Fine, Fault, lift, lift2, IsRefused}
-use Rattle.cs_consts.proofs.Lifting.{lift-fault, lift-refused, lift2-refused-first}
+use Rattle.cs_scopes.specs.declared.context.Context.{Context}
+use Rattle.cs_scopes.specs.declared.refusal.TypeCode.TheVariants.{Size}
+use Rattle.cs_scopes.specs.declared.refusal.TypeRefusal.{TypeRefusal}
+use Rattle.cs_scopes.specs.Verdicts.{Verdict, Fine, Fault, lift, lift2, IsRefused}
+use Rattle.cs_scopes.proofs.Lifting.{lift-fault, lift-refused, lift2-refused-first}
 use Rattle.cs_declarations.specs.Sizes.{size_said, sizes_said, all_said}
 
 -- what is said after others

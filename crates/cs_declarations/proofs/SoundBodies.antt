@@ -14,13 +14,13 @@ use Rattle.cs_ast.specs.declared.raw.declaration.SpecWord as words
 use Rattle.cs_ast.specs.declared.raw.declaration.SpecWord.{SpecWord}
 use Rattle.cs_ast.specs.declared.raw.written_type.TypeWord.{TypeWord}
 use Rattle.cs_ast.specs.declared.raw.written_type.TypeWord.TheVariants as word
-use Rattle.cs_consts.specs.declared.refusal.TypeCode.TheVariants.{DeclaredTwice, NotConstant}
-use Rattle.cs_consts.specs.declared.refusal.TypeRefusal.{TypeRefusal}
-use Rattle.cs_consts.specs.declared.scope.TagMeaning.TheVariants as tag
-use Rattle.cs_consts.specs.Verdicts.{Verdict, Fine, Fault, lift}
-use Rattle.cs_consts.specs.Meanings.{Constant}
-use Rattle.cs_consts.specs.Scopes.{newest}
-use Rattle.cs_consts.specs.TypeNames.{whole_word, tag_place, typedef_at, enum_at}
+use Rattle.cs_scopes.specs.declared.refusal.TypeCode.TheVariants.{DeclaredTwice, NotConstant}
+use Rattle.cs_scopes.specs.declared.refusal.TypeRefusal.{TypeRefusal}
+use Rattle.cs_scopes.specs.declared.scope.TagMeaning.TheVariants as tag
+use Rattle.cs_scopes.specs.Verdicts.{Verdict, Fine, Fault, lift}
+use Rattle.cs_scopes.specs.Meanings.{Constant}
+use Rattle.cs_scopes.specs.Scopes.{newest}
+use Rattle.cs_scopes.specs.TypeNames.{whole_word, tag_place, typedef_at, enum_at}
 use Rattle.cs_declarations.specs.declared.known.Known.{Known as Held}
 use Rattle.cs_declarations.specs.Answered.{AnswersWith}
 use Rattle.cs_declarations.specs.Known.{Known, model_of, table_of, declarations_of, declaring, is_declared_here}

@@ -11,11 +11,11 @@ use Rattle.cs_types.specs.Shape.{Shape}
 use Rattle.cs_types.specs.Layout.{Layout, round_up, side_by_side, offsets, member_layouts, layout_of, HasSmallSizes, IsLaidOut}
 use Rattle.cs_ast.specs.declared.place.Place.{Place}
 use Rattle.cs_ast.specs.declared.raw.declaration.RawDeclarator.{RawDeclarator}
-use Rattle.cs_consts.specs.declared.context.Context.{Context}
-use Rattle.cs_consts.specs.declared.refusal.TypeCode.TheVariants.{Size, DeclaredTwice}
-use Rattle.cs_consts.specs.Verdicts.{Verdict, Fine, Fault, lift}
-use Rattle.cs_consts.specs.Objects.{bytes_in}
-use Rattle.cs_consts.specs.TypeNames.{complete_at}
+use Rattle.cs_scopes.specs.declared.context.Context.{Context}
+use Rattle.cs_scopes.specs.declared.refusal.TypeCode.TheVariants.{Size, DeclaredTwice}
+use Rattle.cs_scopes.specs.Verdicts.{Verdict, Fine, Fault, lift}
+use Rattle.cs_scopes.specs.Sizes.{bytes_in}
+use Rattle.cs_scopes.specs.TypeNames.{complete_at}
 use Rattle.cs_declarations.specs.Bodies.{Laying, nothing_laid, align_in, has_member, placed, placed_if, member_added, declarator_type, member_declared, members_declared}
 use Rattle.cs_declarations.proofs.AddedMembers.{offsets-push, size-push, align-push, layouts-push}
 use Rattle.cs_declarations.proofs.FineVerdicts.{IfFine, IfFine-lift, IfFine-lift_any, IfFine-cond}

@@ -7,10 +7,10 @@ use Rattle.cs_ast.specs.declared.raw.declaration.RawDeclarator.{RawDeclarator}
 use Rattle.cs_ast.specs.declared.raw.declaration.RawParameter.{RawParameter}
 use Rattle.cs_ast.specs.declared.raw.declaration.RawParameters.{RawParameters}
 use Rattle.cs_ast.specs.declared.raw.declaration.RawParameters.TheVariants as parameter_lists
-use Rattle.cs_consts.specs.declared.refusal.TypeCode.TheVariants.{DeclaredTwice}
-use Rattle.cs_consts.specs.Verdicts.{Verdict, Fine, Fault, lift}
-use Rattle.cs_consts.specs.Meanings.{Typedef}
-use Rattle.cs_consts.specs.TypeNames.{starred}
+use Rattle.cs_scopes.specs.declared.refusal.TypeCode.TheVariants.{DeclaredTwice}
+use Rattle.cs_scopes.specs.Verdicts.{Verdict, Fine, Fault, lift}
+use Rattle.cs_scopes.specs.Meanings.{Typedef}
+use Rattle.cs_scopes.specs.TypeNames.{starred}
 use Rattle.cs_declarations.specs.Known.{Known, declaring, is_declared_here}
 use Rattle.cs_declarations.specs.Bodies.{Typing, specs_type, declarator_type, typedef_added, typedefs_added}
 use Rattle.cs_declarations.specs.Parameters.{place_of, Passed, Head, naming, is_free_name, with_parameter, parameter_passed, parameter_typed, parameters_after, parameters_typed}

@@ -10,13 +10,13 @@ use Rattle.cs_types.specs.declared.structs.StructType.{StructType}
 use Rattle.cs_types.specs.Shape.{Shape}
 use Rattle.cs_types.specs.Layout.{round_up, members_of, HasSmallSizes, IsLaidOut, Fits}
 use Rattle.cs_ast.specs.declared.place.Place.{Place}
-use Rattle.cs_consts.specs.declared.refusal.TypeCode.TheVariants.{DeclaredTwice}
-use Rattle.cs_consts.specs.declared.scope.Tag.{Tag}
-use Rattle.cs_consts.specs.declared.scope.TagMeaning.{TagMeaning}
-use Rattle.cs_consts.specs.declared.scope.TagMeaning.TheVariants as tag
-use Rattle.cs_consts.specs.Verdicts.{Fine, Fault}
-use Rattle.cs_consts.specs.Objects.{bytes_in}
-use Rattle.cs_consts.specs.Scopes.{tagged}
+use Rattle.cs_scopes.specs.declared.refusal.TypeCode.TheVariants.{DeclaredTwice}
+use Rattle.cs_scopes.specs.declared.scope.Tag.{Tag}
+use Rattle.cs_scopes.specs.declared.scope.TagMeaning.{TagMeaning}
+use Rattle.cs_scopes.specs.declared.scope.TagMeaning.TheVariants as tag
+use Rattle.cs_scopes.specs.Verdicts.{Fine, Fault}
+use Rattle.cs_scopes.specs.Sizes.{bytes_in}
+use Rattle.cs_scopes.specs.Scopes.{tagged}
 use Rattle.cs_declarations.specs.Known.{Known, model_of, table_of, with_tag}
 use Rattle.cs_declarations.specs.Bodies.{Typing, Laying, Opening, Body, empty_struct, with_struct, with_tagged_struct, tag_in, struct_named, is_among, opened, opening_tagged, opening, name_or_none, struct_read}
 use Rattle.cs_declarations.specs.LaidOut.{IsOpen, IsOfTable, AreSound, IsSound}

@@ -10,7 +10,7 @@ use Rattle.cs_ast.specs.TypedTree.{Initials, NoPart, Part}
 use Rattle.cs_ast.specs.declared.typed.statement.Initial as initials
 use Rattle.cs_ast.specs.TypedView.{initial, initial_list}
 use Rattle.cs_ast.proofs.TypedRows.{initial-List}
-use Rattle.cs_consts.specs.Scalars.{few}
+use Rattle.cs_scopes.specs.Scalars.{few}
 use Rattle.cs_declarations.specs.Initializers.{part_types, types_or_none, together, stored, stored_parts}
 use Rattle.cs_declarations.proofs.PartTypes.{types_from, types_past}
 

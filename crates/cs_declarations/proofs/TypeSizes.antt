@@ -10,7 +10,7 @@ use Rattle.cs_types.specs.Shape.{Shape, void, integer, pointer, array, struct}
 use Rattle.cs_types.specs.Layout.{Layout, alone, repeated, complete_of, layout_of, HasSmallSizes, IsLaidOut}
 use Rattle.cs_types.proofs.Nesting.{mapped, chained}
 use Rattle.cs_types.proofs.StructTables.{complete-IsComplete}
-use Rattle.cs_consts.specs.Objects.{limited, bytes_in}
+use Rattle.cs_scopes.specs.Sizes.{limited, bytes_in}
 use Rattle.cs_declarations.specs.Bodies.{align_said, align_in}
 
 -- a type has a layout of so many bytes, with the alignment of the rules, and no size in it is great

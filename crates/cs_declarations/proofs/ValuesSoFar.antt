@@ -10,25 +10,26 @@ use Rattle.cs_ast.specs.declared.typed.expression.Expr.{Expr}
 use Rattle.cs_ast.specs.declared.typed.statement.Initial.{Initial as Held}
 use Rattle.cs_ast.specs.TypedTree.{Initials, Value, NoPart, Part, Parts}
 use Rattle.cs_ast.specs.TypedView.{typed, initial, initial_list}
-use Rattle.cs_consts.specs.declared.context.Context.{Context}
-use Rattle.cs_consts.specs.declared.refusal.TypeRefusal.{TypeRefusal}
-use Rattle.cs_consts.specs.Doors.{operand_of}
-use Rattle.cs_consts.specs.Typing.{Literals, literals_after}
-use Rattle.cs_consts.specs.Verdicts.{Verdict, Fine, Fault, lift, IsRefused}
-use Rattle.cs_consts.proofs.Lifting.{lift-fine, lift-fault, lift-refused}
+use Rattle.cs_scopes.specs.declared.context.Context.{Context}
+use Rattle.cs_scopes.specs.declared.refusal.TypeRefusal.{TypeRefusal}
+use Rattle.cs_consts.specs.Roles.{operand_of}
+use Rattle.cs_expressions.specs.Primary.{Literals}
+use Rattle.cs_consts.specs.Typing.{literals_after}
+use Rattle.cs_scopes.specs.Verdicts.{Verdict, Fine, Fault, lift, IsRefused}
+use Rattle.cs_scopes.proofs.Lifting.{lift-fine, lift-fault, lift-refused}
 use Rattle.cs_consts.proofs.SingleParts.{lift_is}
-use Rattle.cs_consts.proofs.Productions.{refused_as}
+use Rattle.cs_scopes.proofs.Lifting.{refused_as}
 use Rattle.cs_declarations.specs.Initializers.{Reading, Readings, part_types, types_or_none, value_read, expression_read, parts_read, one_more, initial_read, items_read, list_read}
 use Rattle.cs_declarations.proofs.PartTypes.{types_from, types_past}
 use Rattle.cs_declarations.proofs.WrittenLists.{items_of}
 
 -- an expression for something that is no array
-module _ (c : Context) (literals : Literals) (ty : Shape) (e : RawExpr) (plain : expression_read c literals ty e ≡ lift (value_read literals e.kind) (operand_of c literals (Some ty) e)) where
+module _ (c : Context) (literals : Literals) (ty : Shape) (e : RawExpr) (plain : expression_read c literals ty e ≡ lift (value_read literals e.kind.value) (operand_of c literals (Some ty) e)) where
   pub operand_refused : (r : TypeRefusal) → IsRefused (operand_of c literals (Some ty) e) r → IsRefused (expression_read c literals ty e) r
-  operand_refused r h = refused_as r plain (lift-refused (value_read literals e.kind) _ r h)
+  operand_refused r h = refused_as r plain (lift-refused (value_read literals e.kind.value) _ r h)
 
-  pub operand_read : (v : Expr) (following : Literals) → operand_of c literals (Some ty) e ≡ Fine (typed v) → following ≡ literals_after literals e.kind → expression_read c literals ty e ≡ Fine (Value (typed v), following)
-  operand_read v following h texts = plain ∙ lift_is (value_read literals e.kind) _ (typed v) h ∙ ap (λ ls. Fine (Value (typed v), ls)) (sym texts)
+  pub operand_read : (v : Expr) (following : Literals) → operand_of c literals (Some ty) e ≡ Fine (typed v) → following ≡ literals_after literals e.kind.value → expression_read c literals ty e ≡ Fine (Value (typed v), following)
+  operand_read v following h texts = plain ∙ lift_is (value_read literals e.kind.value) _ (typed v) h ∙ ap (λ ls. Fine (Value (typed v), ls)) (sym texts)
 
 -- values before others
 abbrev pub before : List Held → Initials → Initials

@@ -1,7 +1,7 @@
 -- How functions that change what they are given tell the verdicts of rules.
 use Rattle.std.specs.Prelude.{◌≡◌, Result, Ok, Err}
-use Rattle.cs_consts.specs.declared.refusal.TypeRefusal.{TypeRefusal}
-use Rattle.cs_consts.specs.Verdicts.{Verdict, Fine, IsRefused}
+use Rattle.cs_scopes.specs.declared.refusal.TypeRefusal.{TypeRefusal}
+use Rattle.cs_scopes.specs.Verdicts.{Verdict, Fine, IsRefused}
 
 -- the answer, seen in some way, and what was changed are together what the verdict has
 abbrev pub AnswersWith : {A B C : Type 0} → (A → B → C) → Verdict C → Result A TypeRefusal → B → Type 0

@@ -20,16 +20,16 @@ use Rattle.cs_ast.specs.declared.raw.expression.RawExpr.{RawExpr}
 use Rattle.cs_ast.specs.declared.raw.written_type.IntegerWord.{IntegerWord}
 use Rattle.cs_ast.specs.declared.raw.written_type.TypeWord.{TypeWord}
 use Rattle.cs_ast.specs.declared.raw.written_type.TypeWord.TheVariants as word
-use Rattle.cs_consts.specs.declared.context.Context.{Context}
-use Rattle.cs_consts.specs.declared.refusal.TypeCode.TheVariants as code
-use Rattle.cs_consts.specs.declared.scope.TagMeaning.{TagMeaning}
-use Rattle.cs_consts.specs.declared.scope.TagMeaning.TheVariants as tag
-use Rattle.cs_consts.specs.Verdicts.{Verdict, Fine, Fault, lift}
-use Rattle.cs_consts.specs.Meanings.{Typedef, Constant}
-use Rattle.cs_consts.specs.Scopes.{newest, tagged}
-use Rattle.cs_consts.specs.Doors.{value_of}
-use Rattle.cs_consts.specs.Objects.{bytes_in}
-use Rattle.cs_consts.specs.TypeNames.{is_word, integer_type, whole_word, typedef_at, enum_at, tag_place, starred, complete_at}
+use Rattle.cs_scopes.specs.declared.context.Context.{Context}
+use Rattle.cs_scopes.specs.declared.refusal.TypeCode.TheVariants as code
+use Rattle.cs_scopes.specs.declared.scope.TagMeaning.{TagMeaning}
+use Rattle.cs_scopes.specs.declared.scope.TagMeaning.TheVariants as tag
+use Rattle.cs_scopes.specs.Verdicts.{Verdict, Fine, Fault, lift}
+use Rattle.cs_scopes.specs.Meanings.{Typedef, Constant}
+use Rattle.cs_scopes.specs.Scopes.{newest, tagged}
+use Rattle.cs_consts.specs.Roles.{value_of}
+use Rattle.cs_scopes.specs.Sizes.{bytes_in}
+use Rattle.cs_scopes.specs.TypeNames.{is_word, integer_type, whole_word, typedef_at, enum_at, tag_place, starred, complete_at}
 use Rattle.cs_declarations.specs.Known.{Known, model_of, table_of, declarations_of, with_table, with_reading, with_tag, declaring, is_declared_here}
 use Rattle.cs_declarations.specs.Sizes.{sizes_said, bounded, extent_of, filled}
 

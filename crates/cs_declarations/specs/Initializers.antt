@@ -13,16 +13,17 @@ use Rattle.cs_ast.specs.TypedTree.{Typed, Of, Null, Address, Decay, Sum, Convert
 use Rattle.cs_types.specs.Layout.{members_of}
 use Rattle.cs_types.specs.Members.{Member}
 use Rattle.cs_types.specs.declared.structs.StructType.{StructType}
-use Rattle.cs_consts.specs.declared.context.Context.{Context}
-use Rattle.cs_consts.specs.declared.refusal.TypeCode.TheVariants.{Initializer, TooManyScalars}
-use Rattle.cs_consts.specs.Verdicts.{Verdict, Fine, Fault, lift}
-use Rattle.cs_consts.specs.Integers.{type_of}
-use Rattle.cs_consts.specs.Constants.{number_in}
-use Rattle.cs_consts.specs.Scalars.{few, scalars_in}
-use Rattle.cs_consts.specs.Conversions.{converted}
-use Rattle.cs_consts.specs.Calls.{lesser}
-use Rattle.cs_consts.specs.Typing.{Literals, literals_after}
-use Rattle.cs_consts.specs.Doors.{operand_of}
+use Rattle.cs_scopes.specs.declared.context.Context.{Context}
+use Rattle.cs_scopes.specs.declared.refusal.TypeCode.TheVariants.{Initializer, TooManyScalars}
+use Rattle.cs_scopes.specs.Verdicts.{Verdict, Fine, Fault, lift}
+use Rattle.cs_folding.specs.TypedParts.{type_of}
+use Rattle.cs_folding.specs.Folding.{number_in}
+use Rattle.cs_scopes.specs.Scalars.{few, scalars_in}
+use Rattle.cs_expressions.specs.Conversions.{converted}
+use Rattle.cs_expressions.specs.Calls.{lesser}
+use Rattle.cs_expressions.specs.Primary.{Literals}
+use Rattle.cs_consts.specs.Typing.{literals_after}
+use Rattle.cs_consts.specs.Roles.{operand_of}
 
 -- where the object stands: a file-scope object holds constants
 pub data Storage : Type 0 where
@@ -95,7 +96,7 @@ takes_expression storage ty e = true
 abbrev mutual
   -- the written initializer has the form that a type asks for, as far as its braces and the number of its items tell
   pub has_form : List StructType → Storage → Shape → RawInitial → Bool
-  has_form table storage ty (first_value.TheVariants.Value e) = takes_expression storage ty e.kind
+  has_form table storage ty (first_value.TheVariants.Value e) = takes_expression storage ty e.kind.value
   has_form table storage ty (first_value.TheVariants.List' shape row comma) = have_forms table storage (part_types table ty) row
 
   pub have_forms : {n : _} → List StructType → Storage → Option (List Shape) → first_value.Row_of-RawInitial n → Bool
@@ -123,8 +124,8 @@ value_read literals e v = Fine (Value v, literals_after literals e)
 
 -- an expression for something of a type: the text of an array is no literal of the program
 abbrev pub expression_read : Context → Literals → Shape → RawExpr → Verdict Reading
-expression_read c literals (array element count) e = Fine (Bytes (text_of e.kind), literals)
-expression_read c literals ty e = lift (value_read literals e.kind) (operand_of c literals (Some ty) e)
+expression_read c literals (array element count) e = Fine (Bytes (text_of e.kind.value), literals)
+expression_read c literals ty e = lift (value_read literals e.kind.value) (operand_of c literals (Some ty) e)
 
 -- the types of parts, none where there are none
 abbrev pub types_or_none : Option (List Shape) → List Shape
@@ -247,5 +248,5 @@ text_count (kind.Text bytes) = Some (length bytes + 1)
 text_count other = None
 
 abbrev pub elements_given : RawInitial → Option ℕ
-elements_given (first_value.TheVariants.Value e) = text_count e.kind
+elements_given (first_value.TheVariants.Value e) = text_count e.kind.value
 elements_given (first_value.TheVariants.List' shape row comma) = Some (row_count row)

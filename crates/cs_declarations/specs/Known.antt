@@ -2,11 +2,11 @@
 use Rattle.std.specs.Prelude.{ℕ, ◌∷◌, [], ◌++◌, List, drop, take, length, Bool, Option, is_some}
 use Rattle.cs_types.specs.declared.data_model.DataModel.{DataModel}
 use Rattle.cs_types.specs.declared.structs.StructType.{StructType}
-use Rattle.cs_consts.specs.declared.context.Context.{Context}
-use Rattle.cs_consts.specs.declared.scope.TagMeaning.{TagMeaning}
-use Rattle.cs_consts.specs.Meanings.{Declaration, Meaning}
-use Rattle.cs_consts.specs.Scopes.{newest}
-use Rattle.cs_consts.specs.Typing.{Literals}
+use Rattle.cs_scopes.specs.declared.context.Context.{Context}
+use Rattle.cs_scopes.specs.declared.scope.TagMeaning.{TagMeaning}
+use Rattle.cs_scopes.specs.Meanings.{Declaration, Meaning}
+use Rattle.cs_scopes.specs.Scopes.{newest}
+use Rattle.cs_expressions.specs.Primary.{Literals}
 
 -- the declarations of the innermost scope are those after the first `outer`; `reading` are the structs whose bodies are being read
 pub record Known : Type 0 where

@@ -4,9 +4,9 @@ use Rattle.std.specs.List.{All}
 use Rattle.cs_types.specs.declared.data_model.DataModel.{DataModel}
 use Rattle.cs_types.specs.declared.structs.StructType.{StructType}
 use Rattle.cs_types.specs.Layout.{members_of, IsLaidOut}
-use Rattle.cs_consts.specs.declared.scope.Tag.{Tag}
-use Rattle.cs_consts.specs.declared.scope.TagMeaning.{TagMeaning}
-use Rattle.cs_consts.specs.declared.scope.TagMeaning.TheVariants as tag
+use Rattle.cs_scopes.specs.declared.scope.Tag.{Tag}
+use Rattle.cs_scopes.specs.declared.scope.TagMeaning.{TagMeaning}
+use Rattle.cs_scopes.specs.declared.scope.TagMeaning.TheVariants as tag
 use Rattle.cs_declarations.specs.Known.{Known, model_of, table_of}
 
 -- a struct of the table has no members yet

@@ -6,9 +6,9 @@ use Rattle.cs_ast.specs.declared.raw.declaration.RawSpecs.{RawSpecs}
 use Rattle.cs_ast.specs.declared.raw.declaration.RawFirstValue.{RawFirstValue}
 use Rattle.cs_ast.specs.declared.raw.declaration.RawInit.{RawInit}
 use Rattle.cs_ast.specs.declared.raw.written_type.PointerWord.{PointerWord}
-use Rattle.cs_consts.specs.declared.context.Context.{Context}
-use Rattle.cs_consts.specs.Verdicts.{Verdict, lift}
-use Rattle.cs_consts.specs.TypeNames.{complete_at}
+use Rattle.cs_scopes.specs.declared.context.Context.{Context}
+use Rattle.cs_scopes.specs.Verdicts.{Verdict, lift}
+use Rattle.cs_scopes.specs.TypeNames.{complete_at}
 use Rattle.cs_declarations.specs.Bodies.{has_const, declarator_type}
 use Rattle.cs_declarations.specs.Parameters.{consts_after}
 use Rattle.cs_declarations.specs.Initializers.{elements_given}

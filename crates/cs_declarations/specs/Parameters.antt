@@ -11,11 +11,11 @@ use Rattle.cs_ast.specs.declared.raw.declaration.RawParameter.{RawParameter}
 use Rattle.cs_ast.specs.declared.raw.declaration.RawParameters.{RawParameters}
 use Rattle.cs_ast.specs.declared.raw.declaration.RawParameters.TheVariants as parameter_lists
 use Rattle.cs_ast.specs.TypedProgram.{Variable}
-use Rattle.cs_consts.specs.declared.context.Context.{Context}
-use Rattle.cs_consts.specs.declared.refusal.TypeCode.TheVariants.{DeclaredTwice, IncompleteType}
-use Rattle.cs_consts.specs.Verdicts.{Verdict, Fine, Fault, lift}
-use Rattle.cs_consts.specs.Meanings.{Local}
-use Rattle.cs_consts.specs.TypeNames.{array_of, starred}
+use Rattle.cs_scopes.specs.declared.context.Context.{Context}
+use Rattle.cs_scopes.specs.declared.refusal.TypeCode.TheVariants.{DeclaredTwice, IncompleteType}
+use Rattle.cs_scopes.specs.Verdicts.{Verdict, Fine, Fault, lift}
+use Rattle.cs_scopes.specs.Meanings.{Local}
+use Rattle.cs_scopes.specs.TypeNames.{array_of, starred}
 use Rattle.cs_declarations.specs.Known.{Known, declaring, is_declared_here}
 use Rattle.cs_declarations.specs.Sizes.{sizes_said, bounded, element_of}
 use Rattle.cs_declarations.specs.Bodies.{Typing, specs_type, has_const}

@@ -3,11 +3,11 @@ use Rattle.std.specs.Prelude.{ℕ, ℤ, pos, List, [], ◌∷◌, Option, Some, 
 use Rattle.cs_types.specs.Shape.{Shape}
 use Rattle.cs_ast.specs.declared.place.Place.{Place}
 use Rattle.cs_ast.specs.declared.raw.expression.RawExpr.{RawExpr}
-use Rattle.cs_consts.specs.declared.context.Context.{Context}
-use Rattle.cs_consts.specs.declared.refusal.TypeCode.TheVariants.{Size}
-use Rattle.cs_consts.specs.Verdicts.{Verdict, Fine, Fault, lift, lift2}
-use Rattle.cs_consts.specs.Doors.{value_of}
-use Rattle.cs_consts.specs.TypeNames.{array_of, arrayed, complete_at}
+use Rattle.cs_scopes.specs.declared.context.Context.{Context}
+use Rattle.cs_scopes.specs.declared.refusal.TypeCode.TheVariants.{Size}
+use Rattle.cs_scopes.specs.Verdicts.{Verdict, Fine, Fault, lift, lift2}
+use Rattle.cs_consts.specs.Roles.{value_of}
+use Rattle.cs_scopes.specs.TypeNames.{array_of, arrayed, complete_at}
 
 -- the size that a bound says, if it says one
 abbrev pub size_said : Context → Option RawExpr → Verdict (Option ℤ)

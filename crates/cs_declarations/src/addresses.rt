@@ -6,7 +6,7 @@ ghost use Rattle.cs_declarations.specs.View as view;
 
 use crate::storage::Storage;
 use cs_ast::typed::expression::{Expr, ExprKind};
-use cs_consts::number_in;
+use cs_folding::number_in;
 use cs_types::DataModel;
 
 // Whether the expression is an integer constant expression (C11 6.6, paragraph 6).
@@ -21,7 +21,7 @@ fn is_number(model: DataModel, value: &Expr) -> bool
 fn is_address(model: DataModel, value: &Expr) -> bool
     ensures { result ≡ is_address model (typed value.now) }
 {
-    match &value.kind {
+    match &*value.kind {
         ExprKind::Null => true,
         ExprKind::Address(object) | ExprKind::Decay(object) => is_fixed(model, object),
         ExprKind::Sum(address, amount, _, _) => {
@@ -37,7 +37,7 @@ fn is_address(model: DataModel, value: &Expr) -> bool
 fn is_fixed(model: DataModel, object: &Expr) -> bool
     ensures { result ≡ is_fixed model (typed object.now) }
 {
-    match &object.kind {
+    match &*object.kind {
         ExprKind::Global(_) | ExprKind::Text(_) => true,
         ExprKind::Member(object, _) => is_fixed(model, object),
         ExprKind::Index(elements, number, _) => {

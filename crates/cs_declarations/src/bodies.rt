@@ -5,7 +5,7 @@ ghost use Rattle.cs_declarations.specs.Answered.{AnswersWith, Leaves};
 ghost use Rattle.cs_declarations.specs.Bodies.{plain_words, word_type, specs_type, tag_in, struct_named, opening, struct_body, members_of_list, group_of, first_name, nothing_laid};
 ghost use Rattle.cs_declarations.specs.LaidOut.{IsSound};
 ghost use Rattle.cs_declarations.specs.View.{known_of, typing, opened_as, body, laying};
-ghost use Rattle.cs_consts.specs.TypeNames.{whole_word, tag_place};
+ghost use Rattle.cs_scopes.specs.TypeNames.{whole_word, tag_place};
 
 use crate::enums::enum_body;
 use crate::known::Known;
@@ -14,8 +14,8 @@ use crate::words::{integer_type, whole_word};
 use cs_ast::Place;
 use cs_ast::raw::declaration::{RawDeclarator, RawMember, RawSpecs, SpecWord};
 use cs_ast::raw::written_type::TypeWord;
-use cs_consts::{TagMeaning, TypeCode, TypeRefusal, enum_type, typedef_type};
 use cs_names::Name;
+use cs_scopes::{TagMeaning, TypeCode, TypeRefusal, enum_type, typedef_type};
 use cs_types::{CType, Members};
 use std::alloc::Global;
 

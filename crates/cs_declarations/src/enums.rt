@@ -1,6 +1,6 @@
 //! The constants of enums (C11 6.7.2.2).
 ghost use Rattle.std.specs.Prelude.{◌≡◌, pos, OnOk};
-ghost use Rattle.cs_consts.specs.Verdicts.{Answers};
+ghost use Rattle.cs_scopes.specs.Verdicts.{Answers};
 ghost use Rattle.cs_declarations.specs.Answered.{AnswersWith};
 ghost use Rattle.cs_declarations.specs.Bodies.{number_said, constant_declared, constants_declared, enum_body};
 ghost use Rattle.cs_declarations.specs.View.{known_of, typing, counting};
@@ -9,13 +9,14 @@ use crate::known::Known;
 use cs_ast::Place;
 use cs_ast::raw::declaration::RawEnumerator;
 use cs_ast::raw::expression::RawExpr;
-use cs_consts::{Context, Meaning, TagMeaning, TypeCode, TypeRefusal, value};
+use cs_consts::value;
 use cs_names::Name;
+use cs_scopes::{Context, Meaning, TagMeaning, TypeCode, TypeRefusal};
 use cs_types::{CType, IntType, in_range};
 use std::alloc::Global;
 
 // The number that a constant says, or the one that comes next.
-#[tactic(auto, using(cs_consts::proofs::Lifting::lifts))]
+#[tactic(auto, using(cs_scopes::proofs::Lifting::lifts))]
 fn number_said(
     alloc: Global,
     context: &Context,
@@ -34,7 +35,7 @@ fn number_said(
 }
 
 // Declares a constant, and gives the number that comes next.
-#[tactic(auto, using(cs_consts::proofs::Lifting::lifts))]
+#[tactic(auto, using(cs_scopes::proofs::Lifting::lifts))]
 fn declare_constant(
     alloc: Global,
     known: &mut Known,
@@ -74,7 +75,7 @@ fn declare_constants(
 }
 
 /// The type that the body of an enum names, at the place of its tag: the tag is new, and known after the body.
-#[tactic(auto, using(cs_consts::proofs::Lifting::lifts))]
+#[tactic(auto, using(cs_scopes::proofs::Lifting::lifts))]
 pub fn enum_body(
     alloc: Global,
     known: &mut Known,

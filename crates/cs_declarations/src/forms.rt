@@ -8,8 +8,7 @@ ghost use Rattle.cs_declarations.specs.View.{types_of};
 use crate::storage::Storage;
 use cs_ast::raw::declaration::RawInitial;
 use cs_ast::raw::expression::RawExprKind;
-use cs_consts::members;
-use cs_types::{CType, IntType, Member, StructTable};
+use cs_types::{CType, IntType, Member, StructTable, members_of};
 
 /// The parts that the items of a list go to: the elements of an array, or the members of a struct.
 #[derive(Clone, Copy)]
@@ -24,7 +23,7 @@ pub fn parts_of<'a>(table: &'a StructTable, ty: &'a CType) -> Option<Parts<'a>>
 {
     match ty {
         CType::Array(element, count) => Some(Parts::Elements(element, *count)),
-        CType::Struct(number) => match members(table, *number) {
+        CType::Struct(number) => match members_of(table, *number) {
             Some(members) => Some(Parts::Members(members.as_slice())),
             None => Some(Parts::Members(&[])),
         },
@@ -76,7 +75,7 @@ pub fn has_form(table: &StructTable, storage: Storage, ty: &CType, written: &Raw
     ensures { result ≡ has_form table.now.list (view.storage storage) (shape_of ty.now) written.now }
 {
     match written {
-        RawInitial::Value(tree) => takes_expression(storage, ty, &tree.kind),
+        RawInitial::Value(tree) => takes_expression(storage, ty, &*tree.kind),
         RawInitial::List(items, _) => match parts_of(table, ty) {
             Some(parts) => have_forms(table, storage, parts, items),
             None => false,
@@ -104,7 +103,7 @@ pub fn elements_given(written: &RawInitial) -> Option<usize>
     ensures { result ≡ elements_given written.now }
 {
     match written {
-        RawInitial::Value(tree) => match &tree.kind {
+        RawInitial::Value(tree) => match &*tree.kind {
             RawExprKind::Text(bytes) => Some(bytes.as_bytes().len() + 1),
             _ => None,
         },

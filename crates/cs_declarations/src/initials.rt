@@ -14,8 +14,9 @@ use cs_ast::Place;
 use cs_ast::raw::declaration::RawInitial;
 use cs_ast::raw::expression::{RawExpr, RawExprKind};
 use cs_ast::typed::statement::Initial;
-use cs_consts::{Context, TypeCode, TypeRefusal, operand};
+use cs_consts::operand;
 use cs_names::Bytes;
+use cs_scopes::{Context, TypeCode, TypeRefusal};
 use cs_types::CType;
 use std::alloc::{AllocError, Global};
 
@@ -30,7 +31,7 @@ fn expression_read(
     ensures { AnswersWith reading (expression_read context.now literals.old.items (shape_of ty.now) tree.now) result literals.new.items }
 {
     if let CType::Array(_, _) = ty {
-        let text = text_of(alloc, &tree.kind)?;
+        let text = text_of(alloc, &*tree.kind)?;
         return Ok(Initial::Text(text));
     }
     let value = operand(alloc, context, literals, Some(ty), tree)?;

@@ -1,7 +1,7 @@
 //! What the `=` of a declaration asks of the values after it (C11 6.7.9, paragraph 11).
 ghost use Rattle.std.specs.Prelude.{◌≡◌};
 ghost use Rattle.cs_types.specs.Shape.{shape_of};
-ghost use Rattle.cs_consts.specs.Verdicts.{Answers};
+ghost use Rattle.cs_scopes.specs.Verdicts.{Answers};
 ghost use Rattle.cs_ast.specs.TypedView.{typed, initial, initial_list};
 ghost use Rattle.cs_declarations.specs.Initializers.{is_braceless, value_judged, part_judged, parts_judged, initial_judged};
 ghost use Rattle.cs_declarations.specs.View as view;
@@ -13,7 +13,8 @@ use crate::storage::Storage;
 use cs_ast::Place;
 use cs_ast::typed::expression::Expr;
 use cs_ast::typed::statement::Initial;
-use cs_consts::{Context, TypeCode, TypeRefusal, converted, least};
+use cs_expressions::{converted, least};
+use cs_scopes::{Context, TypeCode, TypeRefusal};
 use cs_types::CType;
 use std::alloc::Global;
 

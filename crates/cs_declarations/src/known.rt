@@ -3,7 +3,7 @@ ghost use Rattle.std.specs.Prelude.{◌≡◌, ◌-◌, ◌||◌, None, OnOk, If
 ghost use Rattle.std.specs.Option.{option_map};
 ghost use Rattle.cs_types.specs.Layout.{members_of};
 ghost use Rattle.cs_types.specs.Shape.{shape_of};
-ghost use Rattle.cs_consts.specs.Meanings.{meaning_of};
+ghost use Rattle.cs_scopes.specs.Meanings.{meaning_of};
 ghost use Rattle.cs_declarations.specs.Known.{table_of, with_reading, with_tag, declaring, is_declared_here, meaning_here, entered, left_to, mark_of};
 ghost use Rattle.cs_declarations.specs.Bodies.{with_struct, with_tagged_struct, with_members, name_or_none, tag_in, is_among, typedef_added, typedefs_added};
 ghost use Rattle.cs_declarations.specs.Answered.{Leaves};
@@ -13,9 +13,9 @@ ghost use Rattle.cs_declarations.specs.View.{known_of, mark, laying};
 use crate::laying::{Laying, rounded_up};
 use crate::sizes::declarator_type;
 use cs_ast::raw::declaration::RawDeclarator;
-use cs_consts::{Context, Declaration, Meaning, Tag, TagMeaning, TypeCode, TypeRefusal, members};
 use cs_names::{Bytes, Name};
-use cs_types::{CType, StructType};
+use cs_scopes::{Context, Declaration, Meaning, Tag, TagMeaning, TypeCode, TypeRefusal};
+use cs_types::{CType, StructType, members_of};
 use std::alloc::{AllocError, Global};
 
 /// The structs, the tags, the declarations in force and the string literals before a point of a file.
@@ -136,7 +136,7 @@ impl Known {
     pub fn has_body(&self, number: u32) -> bool
         ensures { result ≡ (is_among number (known_of self.now).reading || is_some (members_of (table_of (known_of self.now)) number)) }
     {
-        self.is_being_read(number) || members(&self.context.table, number).is_some()
+        self.is_being_read(number) || members_of(&self.context.table, number).is_some()
     }
 
     // Whether a body of a struct is being read.
@@ -172,7 +172,7 @@ impl Known {
     }
 
     // Declares a name of a typedef (C11 6.7.8).
-    #[tactic(auto, using(cs_consts::proofs::Lifting::lifts))]
+    #[tactic(auto, using(cs_scopes::proofs::Lifting::lifts))]
     fn declare_typedef(
         &mut self,
         alloc: Global,

@@ -2,7 +2,7 @@
 ghost use Rattle.std.specs.Prelude.{◌≡◌, ◌≤◌, ◌+◌, ◌^◌, nat_le, Some, None, IfSome, if◌then◌else◌};
 ghost use Rattle.cs_types.specs.Shape.{shape_of};
 ghost use Rattle.cs_types.specs.Layout.{round_up};
-ghost use Rattle.cs_consts.specs.Verdicts.{Answers};
+ghost use Rattle.cs_scopes.specs.Verdicts.{Answers};
 ghost use Rattle.cs_declarations.specs.Answered.{Leaves};
 ghost use Rattle.cs_declarations.specs.Bodies.{align_in, has_member, placed, member_added, member_declared, members_declared};
 ghost use Rattle.cs_declarations.specs.View.{laying};
@@ -10,11 +10,11 @@ ghost use Rattle.cs_declarations.specs.View.{laying};
 use crate::sizes::declarator_type;
 use cs_ast::Place;
 use cs_ast::raw::declaration::RawDeclarator;
-use cs_consts::{
-    Context, TypeCode, TypeRefusal, bytes_in, complete_at, complete_struct, pointer_bytes,
-};
 use cs_names::Name;
-use cs_types::{CType, DataModel, Member, Members, StructTable, bytes};
+use cs_scopes::{Context, TypeCode, TypeRefusal, bytes_in, complete_at};
+use cs_types::{
+    CType, DataModel, Member, Members, StructTable, bytes, complete_struct, pointer_bytes,
+};
 use std::alloc::Global;
 
 /// The members of a struct so far, with the bytes and the alignment that they need.
@@ -68,7 +68,7 @@ pub fn rounded_up(bytes: u64, align: u64) -> Option<u64>
 
 impl Laying {
     // One more member, whose type is complete.
-    #[tactic(auto, using(cs_consts::proofs::Lifting::lifts))]
+    #[tactic(auto, using(cs_scopes::proofs::Lifting::lifts))]
     fn add(
         &mut self,
         context: &Context,
@@ -112,7 +112,7 @@ impl Laying {
 }
 
 // What a member's declarator adds, after whose words stands a type: its name is new in the struct.
-#[tactic(auto, using(cs_consts::proofs::Lifting::lifts))]
+#[tactic(auto, using(cs_scopes::proofs::Lifting::lifts))]
 fn add_member(
     alloc: Global,
     context: &Context,

@@ -1,13 +1,13 @@
 //! The types of declared objects (C11 6.7).
 ghost use Rattle.std.specs.Prelude.{◌≡◌};
 ghost use Rattle.cs_types.specs.Shape.{shape_of};
-ghost use Rattle.cs_consts.specs.Verdicts.{Answers};
+ghost use Rattle.cs_scopes.specs.Verdicts.{Answers};
 ghost use Rattle.cs_declarations.specs.Objects.{count_given, object_type};
 
 use crate::forms::elements_given;
 use crate::sizes::declarator_type;
 use cs_ast::raw::declaration::{RawFirstValue, RawInit};
-use cs_consts::{Context, TypeRefusal, complete_at};
+use cs_scopes::{Context, TypeRefusal, complete_at};
 use cs_types::CType;
 use std::alloc::Global;
 
@@ -22,7 +22,7 @@ fn count_given(first: &Option<RawFirstValue>) -> Option<usize>
 }
 
 /// The type of a declared object, which is complete (C11 6.7, paragraph 7).
-#[tactic(auto, using(cs_consts::proofs::Lifting::lifts))]
+#[tactic(auto, using(cs_scopes::proofs::Lifting::lifts))]
 pub fn object_type(
     alloc: Global,
     context: &Context,

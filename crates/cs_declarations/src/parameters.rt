@@ -1,7 +1,7 @@
 //! Parameters (C11 6.7.6.3).
 ghost use Rattle.std.specs.Prelude.{◌≡◌, not, OnOk};
 ghost use Rattle.cs_types.specs.Shape.{shape_of};
-ghost use Rattle.cs_consts.specs.Verdicts.{Answers, Fine};
+ghost use Rattle.cs_scopes.specs.Verdicts.{Answers, Fine};
 ghost use Rattle.cs_declarations.specs.Answered.{AnswersWith, Leaves};
 ghost use Rattle.cs_declarations.specs.LaidOut.{IsSound};
 ghost use Rattle.cs_declarations.specs.Parameters.{place_of, plainly_passed, array_passed, passed, parameter_passed, may_write, is_free_name, with_parameter, parameter_typed, parameters_typed};
@@ -14,8 +14,8 @@ use crate::sizes::{bounded, element_of, sizes_said};
 use cs_ast::Place;
 use cs_ast::raw::declaration::{RawParameter, RawParameters};
 use cs_ast::typed::program::Local;
-use cs_consts::{Context, Meaning, TypeCode, TypeRefusal, array_of, starred};
 use cs_names::Name;
+use cs_scopes::{Context, Meaning, TypeCode, TypeRefusal, array_of, starred};
 use cs_types::CType;
 use std::alloc::{AllocError, Global};
 
@@ -58,7 +58,7 @@ fn plainly_passed(place: Place, ty: CType) -> Result<Passed, TypeRefusal>
 }
 
 // A pointer to elements in place of an array of them, whose size is said or isn't.
-#[tactic(auto, using(cs_consts::proofs::Lifting::lifts))]
+#[tactic(auto, using(cs_scopes::proofs::Lifting::lifts))]
 fn array_passed(
     alloc: Global,
     context: &Context,
@@ -100,7 +100,7 @@ fn passed_as(
 }
 
 // How a parameter is passed whose pointers make this type.
-#[tactic(auto, using(cs_consts::proofs::Lifting::lifts))]
+#[tactic(auto, using(cs_scopes::proofs::Lifting::lifts))]
 fn parameter_passed(
     alloc: Global,
     context: &Context,
@@ -138,7 +138,7 @@ fn is_declared(known: &Known, parameter: &RawParameter) -> bool
 
 impl Head {
     // A parameter after the others.
-    #[tactic(auto, using(cs_consts::proofs::Lifting::lifts))]
+    #[tactic(auto, using(cs_scopes::proofs::Lifting::lifts))]
     fn add(
         &mut self,
         alloc: Global,

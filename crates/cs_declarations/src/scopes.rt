@@ -1,11 +1,11 @@
 //! The declarations of a scope, apart from the scope: those of a function's parameters become those of its body.
 ghost use Rattle.std.specs.Prelude.{◌≡◌, ◌++◌, map, drop, take, reverse, IfOk, OnOk};
-ghost use Rattle.cs_consts.specs.Meanings.{declaration_of};
+ghost use Rattle.cs_scopes.specs.Meanings.{declaration_of};
 ghost use Rattle.cs_declarations.specs.Known.{declarations_of, with_declarations, left_to};
 ghost use Rattle.cs_declarations.specs.View.{known_of, mark};
 
 use crate::known::{Known, Mark};
-use cs_consts::{Declaration, Declarations};
+use cs_scopes::{Declaration, Declarations};
 use std::alloc::{AllocError, Global};
 
 /// The declarations of a scope, the innermost first.

@@ -2,7 +2,7 @@
 ghost use Rattle.std.specs.Prelude.{◌≡◌, List};
 ghost use Rattle.std.specs.Option.{option_map};
 ghost use Rattle.cs_types.specs.Shape.{shape_of};
-ghost use Rattle.cs_consts.specs.Verdicts.{Answers};
+ghost use Rattle.cs_scopes.specs.Verdicts.{Answers};
 ghost use Rattle.cs_declarations.specs.Sizes.{size_said, sizes_said, all_said, bounded, element_of, outermost, extent_of, filled};
 ghost use Rattle.cs_declarations.specs.Bodies.{declarator_type};
 ghost use Rattle.cs_declarations.specs.View.{extent};
@@ -10,7 +10,8 @@ ghost use Rattle.cs_declarations.specs.View.{extent};
 use cs_ast::Place;
 use cs_ast::raw::declaration::RawDeclarator;
 use cs_ast::raw::expression::RawExpr;
-use cs_consts::{Context, TypeCode, TypeRefusal, array_of, arrayed, complete_at, starred, value};
+use cs_consts::value;
+use cs_scopes::{Context, TypeCode, TypeRefusal, array_of, arrayed, complete_at, starred};
 use cs_types::CType;
 use std::alloc::Global;
 
@@ -22,7 +23,7 @@ pub enum Extent {
 }
 
 // The size that a bound says, if it says one.
-#[tactic(auto, using(cs_consts::proofs::Lifting::lifts))]
+#[tactic(auto, using(cs_scopes::proofs::Lifting::lifts))]
 fn size_said(
     alloc: Global,
     context: &Context,
@@ -84,7 +85,7 @@ pub fn bounded(
 }
 
 /// What the elements of the outermost array are, after whose bound these stand.
-#[tactic(auto, using(cs_consts::proofs::Lifting::lifts))]
+#[tactic(auto, using(cs_scopes::proofs::Lifting::lifts))]
 pub fn element_of(
     alloc: Global,
     context: &Context,
@@ -99,7 +100,7 @@ pub fn element_of(
 }
 
 // An array of a size that is said or isn't.
-#[tactic(auto, using(cs_consts::proofs::Lifting::lifts))]
+#[tactic(auto, using(cs_scopes::proofs::Lifting::lifts))]
 fn outermost(
     alloc: Global,
     context: &Context,
@@ -162,7 +163,7 @@ pub fn filled(
 }
 
 /// The type that a declarator gives its name, after whose words stands a type; so many elements are given where its size isn't said.
-#[tactic(auto, using(cs_consts::proofs::Lifting::lifts))]
+#[tactic(auto, using(cs_scopes::proofs::Lifting::lifts))]
 pub fn declarator_type(
     alloc: Global,
     context: &Context,

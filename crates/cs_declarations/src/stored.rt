@@ -7,7 +7,7 @@ ghost use Rattle.cs_declarations.specs.View.{types_of};
 
 use crate::forms::{Parts, parts_of};
 use cs_ast::typed::statement::Initial;
-use cs_consts::{few, scalars_in};
+use cs_scopes::{few, scalars_in};
 use cs_types::{CType, StructTable};
 
 // The bytes that a text stores: with its zero byte where that has room.

@@ -1,11 +1,11 @@
 //! The words of types among those before declarators (C11 6.7.2).
 ghost use Rattle.std.specs.Prelude.{◌≡◌, option_copied};
-ghost use Rattle.cs_consts.specs.TypeNames.{times, integer_type, whole_word};
+ghost use Rattle.cs_scopes.specs.TypeNames.{times, integer_type, whole_word};
 ghost use Rattle.cs_declarations.specs.Bodies.{plain_words, is_kind};
 
 use cs_ast::raw::declaration::SpecWord;
 use cs_ast::raw::written_type::{IntegerWord, TypeWord};
-use cs_consts::{IntegerWords, is_word};
+use cs_scopes::{IntegerWords, is_word};
 use cs_types::IntType;
 
 // How often a word of an integer type stands among these.
@@ -27,7 +27,7 @@ fn is_kind(kind: IntegerWord, word: &SpecWord) -> bool
 }
 
 /// The integer type that words name.
-#[tactic(auto, unfolding(cs_consts::specs::TypeNames::integer_type))]
+#[tactic(auto, unfolding(cs_scopes::specs::TypeNames::integer_type))]
 pub fn integer_type(words: &[SpecWord]) -> IntType
     ensures { result ≡ integer_type (plain_words words.now) }
 {

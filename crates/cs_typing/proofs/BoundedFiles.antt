@@ -24,7 +24,7 @@ use Rattle.cs_ast.specs.TypedProgram.{TypedProgram}
 use Rattle.cs_grammar.specs.Text.{Kinds}
 use Rattle.cs_grammar.specs.FileText.{punctuator_text, with_commas, declarator_text, declared_text, specs_text, head_text, items_text, external_text, externals_text, file_text}
 use Rattle.cs_grammar.proofs.FileTexts.{declared_append, items_append, head_append}
-use Rattle.cs_consts.specs.Verdicts.{Verdict, Fine}
+use Rattle.cs_scopes.specs.Verdicts.{Verdict, Fine}
 use Rattle.cs_declarations.specs.Bodies.{Typing, specs_type, typedefs_added}
 use Rattle.cs_typing.specs.Objects.{Filed, with_known, objects_added}
 use Rattle.cs_typing.specs.Order.{is_of_library, is_defined, placed, all_placed, order_of}

@@ -18,12 +18,12 @@ use Rattle.cs_ast.specs.TypedProgram.{Variable, Routine}
 use Rattle.cs_grammar.specs.Text.{Kinds}
 use Rattle.cs_grammar.specs.FileText.{punctuator_text, parameters_text, head_text, items_text}
 use Rattle.cs_grammar.proofs.FileTexts.{items_append}
-use Rattle.cs_consts.specs.declared.refusal.TypeCode.TheVariants.{DeclaredTwice, IncompleteType}
-use Rattle.cs_consts.specs.declared.scope.Callee.{Callee}
-use Rattle.cs_consts.specs.declared.scope.Callee.TheVariants.{Malloc, Calloc, Free, Numbered}
-use Rattle.cs_consts.specs.Meanings.{Meaning, Typedef, Constant, Global, Local, Function, Declaration}
-use Rattle.cs_consts.specs.TypeNames.{starred}
-use Rattle.cs_consts.specs.Verdicts.{Fine, Fault, lift}
+use Rattle.cs_scopes.specs.declared.refusal.TypeCode.TheVariants.{DeclaredTwice, IncompleteType}
+use Rattle.cs_scopes.specs.declared.scope.Callee.{Callee}
+use Rattle.cs_scopes.specs.declared.scope.Callee.TheVariants.{Malloc, Calloc, Free, Numbered}
+use Rattle.cs_scopes.specs.Meanings.{Meaning, Typedef, Constant, Global, Local, Function, Declaration}
+use Rattle.cs_scopes.specs.TypeNames.{starred}
+use Rattle.cs_scopes.specs.Verdicts.{Fine, Fault, lift}
 use Rattle.cs_declarations.specs.Bodies.{specs_type}
 use Rattle.cs_declarations.specs.Known.{Known, meaning_here, entered}
 use Rattle.cs_declarations.specs.Parameters.{Head, place_of, is_free_name, with_parameter, parameter_passed, parameter_typed, parameters_after, parameters_typed}

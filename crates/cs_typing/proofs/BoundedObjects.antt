@@ -14,9 +14,9 @@ use Rattle.cs_ast.specs.RawDeclarationView.{initial, declared, declarator}
 use Rattle.cs_ast.specs.TypedProgram.{FileObject}
 use Rattle.cs_grammar.specs.Text.{Kinds}
 use Rattle.cs_grammar.specs.FileText.{each_after_comma, with_commas, first_value_text, declared_text}
-use Rattle.cs_consts.specs.declared.refusal.TypeCode.TheVariants.{DeclaredTwice}
-use Rattle.cs_consts.specs.Meanings.{Meaning, Typedef, Constant, Global, Local, Function}
-use Rattle.cs_consts.specs.Verdicts.{Fine, Fault}
+use Rattle.cs_scopes.specs.declared.refusal.TypeCode.TheVariants.{DeclaredTwice}
+use Rattle.cs_scopes.specs.Meanings.{Meaning, Typedef, Constant, Global, Local, Function}
+use Rattle.cs_scopes.specs.Verdicts.{Fine, Fault}
 use Rattle.cs_declarations.specs.Initializers.{InFile}
 use Rattle.cs_declarations.specs.Known.{Known, meaning_here}
 use Rattle.cs_declarations.specs.Objects.{object_type, is_constant_object}

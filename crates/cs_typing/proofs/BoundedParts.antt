@@ -8,10 +8,10 @@ use Rattle.cs_ast.specs.declared.raw.declaration.RawDeclarator.{RawDeclarator}
 use Rattle.cs_ast.specs.declared.raw.declaration.RawSpecs.{RawSpecs}
 use Rattle.cs_ast.specs.declared.raw.expression.RawExpr.{RawExpr}
 use Rattle.cs_ast.specs.RawDeclarationView.{initial, specs, parameters}
-use Rattle.cs_consts.specs.declared.context.Context.{Context}
-use Rattle.cs_consts.specs.Doors.{assigned_value, test_of, selector_of, discarded_value}
-use Rattle.cs_consts.specs.Typing.{Literals}
-use Rattle.cs_consts.specs.Verdicts.{Verdict, Fine, Fault}
+use Rattle.cs_scopes.specs.declared.context.Context.{Context}
+use Rattle.cs_consts.specs.Roles.{assigned_value, test_of, selector_of, discarded_value}
+use Rattle.cs_expressions.specs.Primary.{Literals}
+use Rattle.cs_scopes.specs.Verdicts.{Verdict, Fine, Fault}
 use Rattle.cs_declarations.specs.Bodies.{Typing, specs_type, typedefs_added}
 use Rattle.cs_declarations.specs.Initializers.{Storage, Reading, initial_typed}
 use Rattle.cs_declarations.specs.Known.{Known}

@@ -31,10 +31,10 @@ use Rattle.cs_ast.specs.TypedTree.{Typed, Statement}
 use Rattle.cs_ast.specs.TypedProgram.{Variable}
 use Rattle.cs_grammar.specs.Text.{Kinds, text}
 use Rattle.cs_grammar.specs.FileText.{some_text, each_after_comma, with_commas, first_value_text, declared_text, declaration_text, first_text, test_text, sentence_text, item_text, items_text, switch_item_text, switch_text, punctuator_text, word_text}
-use Rattle.cs_consts.specs.declared.refusal.TypeCode.TheVariants.{CaseTwice, DeclaredTwice, Jump, Return}
-use Rattle.cs_consts.specs.Integers.{type_of}
-use Rattle.cs_consts.specs.Verdicts.{Verdict, Fine, Fault, lift}
-use Rattle.cs_consts.specs.Doors.{value_of, assigned_value, test_of, selector_of, discarded_value}
+use Rattle.cs_scopes.specs.declared.refusal.TypeCode.TheVariants.{CaseTwice, DeclaredTwice, Jump, Return}
+use Rattle.cs_folding.specs.TypedParts.{type_of}
+use Rattle.cs_scopes.specs.Verdicts.{Verdict, Fine, Fault, lift}
+use Rattle.cs_consts.specs.Roles.{value_of, assigned_value, test_of, selector_of, discarded_value}
 use Rattle.cs_declarations.specs.Initializers.{InFunction}
 use Rattle.cs_declarations.specs.Known.{is_declared_here}
 use Rattle.cs_declarations.specs.Objects.{object_type}
@@ -66,21 +66,21 @@ module _ (Is : Place → Type 0) where
   stands-at at (form.Number constant) h = h
   stands-at at (form.Character value) h = h
   stands-at at (form.Text bytes) h = h
-  stands-at at (form.Parenthesis' p place inner) h = h.0
-  stands-at at (form.Index' p place array q place' number) h = h.0
-  stands-at at (form.Call' p place function shape row) h = h.0
-  stands-at at (form.Member' p place object name) h = h.0
-  stands-at at (form.Arrow' p place pointer name) h = h.0
-  stands-at at (form.StepAfter' step p place object) h = h.0
-  stands-at at (form.StepBefore' step p place object) h = h.0
-  stands-at at (form.Prefix' operator p place operand) h = h.0
-  stands-at at (form.SizeOf' p place operand) h = h.0
+  stands-at at (form.Parenthesis' place p inner) h = h.0
+  stands-at at (form.Index' place p array place' q number) h = h.0
+  stands-at at (form.Call' place p function shape row) h = h.0
+  stands-at at (form.Member' place p object name) h = h.0
+  stands-at at (form.Arrow' place p pointer name) h = h.0
+  stands-at at (form.StepAfter' step place p object) h = h.0
+  stands-at at (form.StepBefore' step place p object) h = h.0
+  stands-at at (form.Prefix' operator place p operand) h = h.0
+  stands-at at (form.SizeOf' place p operand) h = h.0
   stands-at at (form.SizeOfType' ty shape row) h = h
-  stands-at at (form.Cast' ty shape row p place operand) h = h.0
-  stands-at at (form.Infix' operator p place left q place' right) h = h.0
-  stands-at at (form.Choice' p place test q place' one r place'' other) h = h.0
-  stands-at at (form.Assign' operator p place object q place' value) h = h.0
-  stands-at at (form.Comma' p place first q place' second) h = h.0
+  stands-at at (form.Cast' ty shape row place p operand) h = h.0
+  stands-at at (form.Infix' operator place p left place' q right) h = h.0
+  stands-at at (form.Choice' place p test place' q one place'' r other) h = h.0
+  stands-at at (form.Assign' operator place p object place' q value) h = h.0
+  stands-at at (form.Comma' place p first place' q second) h = h.0
 
   row-stands : (before : List Statement) (last : Statement) → StatementsStandAmong Is (in_a_row before) → StatementStandsAmong Is last → StatementsStandAmong Is (in_a_row (before ++ last ∷ []))
   row-stands [] last h k = (k, tt)
@@ -229,7 +229,7 @@ module _ (Is : Place → Type 0) where
   first-room i (first_part.Run e) rest among =
       let long = size-text (written e) (punctuator_text punctuator.Semicolon rest) in
       lift-then (GivesExpression i (written_length e)) (HasRoom (weight i + 24 * text_size (first_text (first_of (first_part.Run e)) rest)) (text_size rest)) (ran_first e.place) (dropped_in i e) (dropped_in-gives i e among)
-      (λ p g. (((stands-at e.place e.kind among, g.0), tt), omega (arith, g.1, long)))
+      (λ p g. (((stands-at e.place e.kind.value among, g.0), tt), omega (arith, g.1, long)))
   first-room i (first_part.Declare s objects) rest among = declaration-room _ s objects.items (nothing_reported i) rest among (tt, omega arith)
 
   -- a statement that fits into so much, with something after it
@@ -270,15 +270,15 @@ module _ (Is : Place → Type 0) where
         let long = size-text (written e) (punctuator_text punctuator.Semicolon rest) in
         lift-then (GivesExpression i (written_length e)) (GivesStatement (weight i + 24 * length_of (kind.Run e) rest) (text_size rest)) (run_made at) (dropped_in i e) (dropped_in-gives i e among.1)
         (λ p g. ((among.0, g.0), (let k = g.1 in omega (arith, k, long))))
-    statement-fits w i at (kind.If' test p place body) rest among =
-        let Whole = GivesStatement (weight i + 24 * length_of (kind.If' test p place body) rest) (text_size rest) in
+    statement-fits w i at (kind.If' test place p body) rest among =
+        let Whole = GivesStatement (weight i + 24 * length_of (kind.If' test place p body) rest) (text_size rest) in
         let long = test-size test (sentence_text (sentence body) rest) in
         lift-then (GivesExpression i (written_length test)) Whole _ (tested_in at i test) (tested_in-gives at i test among.1)
         (λ t g.
         lift-then (GivesStatement (weight t.inside + 24 * length_of body rest) (text_size rest)) Whole (if_made at t.found) (statement_typed w t.inside place body) (statement-fits w t.inside place body rest among.2)
         (λ b k. ((among.0, g.0, k.0), (let m = g.1 in let n = k.1 in omega (arith, long, m, n)))))
-    statement-fits w i at (kind.IfElse' test p place body q place' other) rest among =
-        let Whole = GivesStatement (weight i + 24 * length_of (kind.IfElse' test p place body q place' other) rest) (text_size rest) in
+    statement-fits w i at (kind.IfElse' test place p body place' q other) rest among =
+        let Whole = GivesStatement (weight i + 24 * length_of (kind.IfElse' test place p body place' q other) rest) (text_size rest) in
         let following = word_text keyword.Else (sentence_text (sentence other) rest) in
         let long = test-size test (sentence_text (sentence body) following) in
         lift-then (GivesExpression i (written_length test)) Whole _ (tested_in at i test) (tested_in-gives at i test among.1)
@@ -288,24 +288,24 @@ module _ (Is : Place → Type 0) where
         lift-then (GivesStatement (weight one.inside + 24 * length_of other rest) (text_size rest)) Whole (if_else_made at t.found one.found) (statement_typed w one.inside place' other)
         (statement-fits w one.inside place' other rest among.3)
         (λ two l. ((among.0, g.0, k.0, l.0), (let m = g.1 in let n = k.1 in let o = l.1 in omega (arith, long, m, n, o))))))
-    statement-fits w i at (kind.While' test p place body) rest among =
-        let Whole = GivesStatement (weight i + 24 * length_of (kind.While' test p place body) rest) (text_size rest) in
+    statement-fits w i at (kind.While' test place p body) rest among =
+        let Whole = GivesStatement (weight i + 24 * length_of (kind.While' test place p body) rest) (text_size rest) in
         let long = test-size test (sentence_text (sentence body) rest) in
         lift-then (GivesExpression i (written_length test)) Whole _ (tested_in at i test) (tested_in-gives at i test among.1)
         (λ t g.
         lift-then (GivesStatement (weight t.inside + 24 * length_of body rest) (text_size rest)) Whole (while_made at t.found) (statement_typed (in_loop w) t.inside place body)
         (statement-fits (in_loop w) t.inside place body rest among.2)
         (λ b k. ((among.0, g.0, k.0), (let m = g.1 in let n = k.1 in omega (arith, long, m, n)))))
-    statement-fits w i at (kind.Do' p place body test) rest among =
-        let Whole = GivesStatement (weight i + 24 * length_of (kind.Do' p place body test) rest) (text_size rest) in
+    statement-fits w i at (kind.Do' place p body test) rest among =
+        let Whole = GivesStatement (weight i + 24 * length_of (kind.Do' place p body test) rest) (text_size rest) in
         let following = word_text keyword.While (test_text (written test) (punctuator_text punctuator.Semicolon rest)) in
         let long = test-size test (punctuator_text punctuator.Semicolon rest) in
         lift-then (GivesStatement (weight i + 24 * length_of body following) (text_size following)) Whole _ (statement_typed (in_loop w) i place body) (statement-fits (in_loop w) i place body following among.1)
         (λ b k.
         lift-then (GivesExpression b.inside (written_length test)) Whole (do_made at b.found) (tested_in at b.inside test) (tested_in-gives at b.inside test among.2)
         (λ t g. ((among.0, k.0, g.0), (let m = g.1 in let n = k.1 in omega (arith, long, m, n)))))
-    statement-fits w i at (kind.For' first test last p place body) rest among =
-        let Whole = GivesStatement (weight i + 24 * length_of (kind.For' first test last p place body) rest) (text_size rest) in
+    statement-fits w i at (kind.For' first test last place p body) rest among =
+        let Whole = GivesStatement (weight i + 24 * length_of (kind.For' first test last place p body) rest) (text_size rest) in
         let third = punctuator_text punctuator.CloseParenthesis (sentence_text (sentence body) rest) in
         let second = punctuator_text punctuator.Semicolon (some_text (option_map written last) third) in
         let following = some_text (option_map written test) second in
@@ -340,8 +340,8 @@ module _ (Is : Place → Type 0) where
         let long = some_size (option_map written value) (punctuator_text punctuator.Semicolon rest) in
         lift-then (GivesAny i (any_length value)) (GivesStatement (weight i + 24 * length_of (kind.Return value) rest) (text_size rest)) (return_made at) (returned w at i value) (returned-gives w at i value among.0 among.1)
         (λ p g. ((among.0, g.0), (let k = g.1 in omega (arith, k, long))))
-    statement-fits w i at (kind.Label' name p place body) rest among =
-        let Whole = GivesStatement (weight i + 24 * length_of (kind.Label' name p place body) rest) (text_size rest) in
+    statement-fits w i at (kind.Label' name place p body) rest among =
+        let Whole = GivesStatement (weight i + 24 * length_of (kind.Label' name place p body) rest) (text_size rest) in
         cond-then Whole (is_first i (label_number name w.labels)) _ (Fault Jump at)
         (λ _.
         lift-then (GivesStatement (weight i + 24 * length_of body rest) (text_size rest)) Whole (label_made at i.met) (statement_typed w (meeting i) place body) (statement-fits w (meeting i) place body rest among.1)
@@ -350,7 +350,7 @@ module _ (Is : Place → Type 0) where
 
     pub item-fits : (room : ℕ) (w : Where) (one : RawItem) (so_far : Reported) (rest : Kinds) → ItemAmong Is one → HasRoom room (text_size (item_text (item one) rest)) so_far → IfFine (item_typed w one so_far) (HasRoom room (text_size rest))
     item-fits room w (items.TheVariants.Declare s objects) so_far rest among h = declaration-room room s objects.items so_far rest among h
-    item-fits room w (items.TheVariants.Run' place body) so_far rest among h =
+    item-fits room w (items.TheVariants.Run' place p body) so_far rest among h =
         lift-then (GivesStatement (weight so_far.inside + 24 * length_of body rest) (text_size rest)) (HasRoom room (text_size rest)) (telling so_far.statements) (statement_typed w so_far.inside place body)
         (statement-fits w so_far.inside place body rest among) (λ p g. yields-one room (text_size rest) so_far.statements so_far.inside p.inside p.found (length_of body rest) h g.0 g.1)
 

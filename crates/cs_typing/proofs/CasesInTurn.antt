@@ -5,12 +5,12 @@ use Rattle.cs_types.specs.Shape.{Shape}
 use Rattle.cs_ast.specs.declared.place.Place.{Place}
 use Rattle.cs_ast.specs.declared.raw.expression.RawExpr.{RawExpr}
 use Rattle.cs_ast.specs.declared.typed.statement.Case.{Case}
-use Rattle.cs_consts.specs.declared.context.Context.{Context}
-use Rattle.cs_consts.specs.declared.refusal.TypeRefusal.{TypeRefusal}
-use Rattle.cs_consts.specs.Doors.{value_of}
-use Rattle.cs_consts.specs.Verdicts.{Verdict, Fine, lift, IsRefused}
-use Rattle.cs_consts.proofs.Lifting.{lift-refused}
-use Rattle.cs_consts.proofs.Productions.{refused_as}
+use Rattle.cs_scopes.specs.declared.context.Context.{Context}
+use Rattle.cs_scopes.specs.declared.refusal.TypeRefusal.{TypeRefusal}
+use Rattle.cs_consts.specs.Roles.{value_of}
+use Rattle.cs_scopes.specs.Verdicts.{Verdict, Fine, lift, IsRefused}
+use Rattle.cs_scopes.proofs.Lifting.{lift-refused}
+use Rattle.cs_scopes.proofs.Lifting.{refused_as}
 use Rattle.cs_consts.proofs.SingleParts.{lift_is}
 use Rattle.cs_declarations.specs.Known.{model_of}
 use Rattle.cs_declarations.proofs.FoldedSoFar.{GoesOver}

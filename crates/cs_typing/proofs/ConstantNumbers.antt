@@ -18,13 +18,14 @@ use Rattle.cs_ast.specs.declared.raw.expression.RawExpr.{RawExpr}
 use Rattle.cs_ast.specs.declared.typed.operator.BinOp.{BinOp}
 use Rattle.cs_ast.specs.declared.typed.operator.BinOp.TheVariants.{Add, Sub, Mul, Div, Rem, Shl, Shr, And as BitAnd, Xor, Or as BitOr}
 use Rattle.cs_ast.specs.TypedTree.{Typed, Of, Form, Number, Convert, Unary, Not, Binary, Compare, And, Or, Choice}
-use Rattle.cs_consts.specs.declared.context.Context.{Context}
+use Rattle.cs_scopes.specs.declared.context.Context.{Context}
 use Rattle.cs_consts.specs.declared.purpose.Purpose.TheVariants.{Constant}
-use Rattle.cs_consts.specs.Constants.{truth, holds, without, given, kept, is_count, bits_of, applied, turned_exactly, compared, with_both, chosen_number, needed_if, number_in, form_number, constant_at, finished}
-use Rattle.cs_consts.specs.Doors.{number_of_constant, value_of}
+use Rattle.cs_folding.specs.Folding.{truth, holds, without, given, kept, is_count, bits_of, applied, turned_exactly, compared, with_both, chosen_number, needed_if, number_in, form_number}
+use Rattle.cs_consts.specs.Constants.{constant_at, finished}
+use Rattle.cs_consts.specs.Roles.{number_of_constant, value_of}
 use Rattle.cs_consts.specs.Typing.{done}
-use Rattle.cs_consts.specs.Verdicts.{Verdict, Fine, Fault, lift}
-use Rattle.cs_consts.proofs.Numbers.{in_c}
+use Rattle.cs_scopes.specs.Verdicts.{Verdict, Fine, Fault, lift}
+use Rattle.cs_folding.proofs.Numbers.{in_c}
 use Rattle.cs_typing.specs.Statements.{wrapped_in}
 
 -- a number, if there is one, is one of C

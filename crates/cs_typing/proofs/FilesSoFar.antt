@@ -8,10 +8,10 @@ use Rattle.std.proofs.lemmas.List.Elements.{All-nil, All-same, All-take, All-app
 use Rattle.std.proofs.lemmas.Option.{same_Some, none-some}
 use Rattle.cs_types.specs.Shape.{Shape}
 use Rattle.cs_ast.specs.TypedProgram.{TypedProgram, Variable, FileObject, Routine}
-use Rattle.cs_consts.specs.declared.scope.Callee.{Callee}
-use Rattle.cs_consts.specs.declared.scope.Callee.TheVariants.{Malloc, Calloc, Free, Numbered}
-use Rattle.cs_consts.specs.Meanings.{Meaning, Typedef, Constant, Global, Local, Function, Declaration}
-use Rattle.cs_consts.specs.Scopes.{newest}
+use Rattle.cs_scopes.specs.declared.scope.Callee.{Callee}
+use Rattle.cs_scopes.specs.declared.scope.Callee.TheVariants.{Malloc, Calloc, Free, Numbered}
+use Rattle.cs_scopes.specs.Meanings.{Meaning, Typedef, Constant, Global, Local, Function, Declaration}
+use Rattle.cs_scopes.specs.Scopes.{newest}
 use Rattle.cs_declarations.specs.Known.{Known, model_of, table_of, declarations_of}
 use Rattle.cs_typing.specs.Objects.{Filed, with_known, changed}
 use Rattle.cs_typing.specs.Functions.{number_in}

@@ -56,21 +56,21 @@ abbrev mutual
   StatementHasConstants (kind.Block' shape row) = RowHasConstants row
   StatementHasConstants kind.Empty = Unit {0}
   StatementHasConstants (kind.Run e) = HasConstants (written e)
-  StatementHasConstants (kind.If' test p place body) = HasConstants (written test) × StatementHasConstants body
-  StatementHasConstants (kind.IfElse' test p place body q place' other) = HasConstants (written test) × StatementHasConstants body × StatementHasConstants other
-  StatementHasConstants (kind.While' test p place body) = HasConstants (written test) × StatementHasConstants body
-  StatementHasConstants (kind.Do' p place body test) = StatementHasConstants body × HasConstants (written test)
-  StatementHasConstants (kind.For' first test last p place body) = FirstHasConstants first × AnyHasConstants test × AnyHasConstants last × StatementHasConstants body
+  StatementHasConstants (kind.If' test place p body) = HasConstants (written test) × StatementHasConstants body
+  StatementHasConstants (kind.IfElse' test place p body place' q other) = HasConstants (written test) × StatementHasConstants body × StatementHasConstants other
+  StatementHasConstants (kind.While' test place p body) = HasConstants (written test) × StatementHasConstants body
+  StatementHasConstants (kind.Do' place p body test) = StatementHasConstants body × HasConstants (written test)
+  StatementHasConstants (kind.For' first test last place p body) = FirstHasConstants first × AnyHasConstants test × AnyHasConstants last × StatementHasConstants body
   StatementHasConstants (kind.Switch' value shape row) = HasConstants (written value) × SwitchHasConstants row
   StatementHasConstants (kind.Goto label) = Unit {0}
   StatementHasConstants kind.Continue = Unit {0}
   StatementHasConstants kind.Break = Unit {0}
   StatementHasConstants (kind.Return value) = AnyHasConstants value
-  StatementHasConstants (kind.Label' name p place body) = StatementHasConstants body
+  StatementHasConstants (kind.Label' name place p body) = StatementHasConstants body
 
   pub ItemHasConstants : RawItem → Type 0
   ItemHasConstants (items.TheVariants.Declare s objects) = ObjectsHaveConstants objects.items
-  ItemHasConstants (items.TheVariants.Run' place body) = StatementHasConstants body
+  ItemHasConstants (items.TheVariants.Run' place p body) = StatementHasConstants body
 
   pub RowHasConstants : {n : _} → kinds.Row_of-RawItem n → Type 0
   RowHasConstants kinds.end_of-RawItem = Unit {0}
@@ -218,18 +218,18 @@ mutual
   sentence-held (kind.Block' shape row) rest h = let all = row-held row _ h.1 in (all.0, all.1.1)
   sentence-held kind.Empty rest h = (tt, h.1)
   sentence-held (kind.Run e) rest h = let one = text-held (written e) _ h in (one.0, one.1.1)
-  sentence-held (kind.If' test p place body) rest h =
+  sentence-held (kind.If' test place p body) rest h =
       let one = test-held test _ h.1 in let then = sentence-held body rest one.1 in ((one.0, then.0), then.1)
-  sentence-held (kind.IfElse' test p place body q place' other) rest h =
+  sentence-held (kind.IfElse' test place p body place' q other) rest h =
       let one = test-held test _ h.1 in
       let then = sentence-held body _ one.1 in
       let else' = sentence-held other rest then.1.1 in
       ((one.0, then.0, else'.0), else'.1)
-  sentence-held (kind.While' test p place body) rest h =
+  sentence-held (kind.While' test place p body) rest h =
       let one = test-held test _ h.1 in let turn = sentence-held body rest one.1 in ((one.0, turn.0), turn.1)
-  sentence-held (kind.Do' p place body test) rest h =
+  sentence-held (kind.Do' place p body test) rest h =
       let turn = sentence-held body _ h.1 in let one = test-held test _ turn.1.1 in ((turn.0, one.0), one.1.1)
-  sentence-held (kind.For' first test last p place body) rest h =
+  sentence-held (kind.For' first test last place p body) rest h =
       let begun = first-held first _ h.1.1 in
       let one = any-held test _ begun.1 in
       let step = any-held last _ one.1.1 in
@@ -241,11 +241,11 @@ mutual
   sentence-held kind.Continue rest h = (tt, h.1.1)
   sentence-held kind.Break rest h = (tt, h.1.1)
   sentence-held (kind.Return value) rest h = let one = any-held value _ h.1 in (one.0, one.1.1)
-  sentence-held (kind.Label' name p place body) rest h = sentence-held body rest h.1.1
+  sentence-held (kind.Label' name place p body) rest h = sentence-held body rest h.1.1
 
   item-held : (i : RawItem) (rest : Kinds) → AreHeld (item_text (item i) rest) → ItemHasConstants i × AreHeld rest
   item-held (items.TheVariants.Declare s objects) rest h = declaration-held (specs s) objects.items rest h
-  item-held (items.TheVariants.Run' place body) rest h = sentence-held body rest h
+  item-held (items.TheVariants.Run' place p body) rest h = sentence-held body rest h
 
   row-held : {n : _} (row : kinds.Row_of-RawItem n) (rest : Kinds) → AreHeld (items_text (items_row row) rest) → RowHasConstants row × AreHeld rest
   row-held kinds.end_of-RawItem rest h = (tt, h)

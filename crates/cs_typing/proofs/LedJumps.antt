@@ -20,10 +20,10 @@ use Rattle.cs_ast.specs.declared.raw.statement.RawSwitchItem as switches
 use Rattle.cs_ast.specs.declared.raw.statement.RawFirst.{RawFirst}
 use Rattle.cs_ast.specs.declared.raw.statement.RawFirst.TheVariants as first_part
 use Rattle.cs_ast.specs.TypedTree.{Typed, Statement}
-use Rattle.cs_consts.specs.declared.refusal.TypeCode.TheVariants.{Jump, Return}
-use Rattle.cs_consts.specs.Doors.{value_of, assigned_value, test_of, selector_of, discarded_value}
-use Rattle.cs_consts.specs.Integers.{type_of}
-use Rattle.cs_consts.specs.Verdicts.{Verdict, Fault, lift}
+use Rattle.cs_scopes.specs.declared.refusal.TypeCode.TheVariants.{Jump, Return}
+use Rattle.cs_consts.specs.Roles.{value_of, assigned_value, test_of, selector_of, discarded_value}
+use Rattle.cs_folding.specs.TypedParts.{type_of}
+use Rattle.cs_scopes.specs.Verdicts.{Verdict, Fault, lift}
 use Rattle.cs_declarations.specs.Bodies.{specs_type}
 use Rattle.cs_declarations.specs.Initializers.{InFunction, initial_typed}
 use Rattle.cs_declarations.specs.Known.{is_declared_here}
@@ -219,12 +219,12 @@ mutual
   statement_typed-led w i at kind.Empty = record { count = refl; met = omega arith; numbered = tt; jumps = tt }
   statement_typed-led w i at (kind.Run e) =
       after_same w i 0 (run_made at) (dropped_in i e) (dropped_in-same i e) (λ p same. record { count = refl; met = same ∙ omega arith; numbered = tt; jumps = tt })
-  statement_typed-led w i at (kind.If' test p place body) =
+  statement_typed-led w i at (kind.If' test place p body) =
       let n = length (labels_of body) in
       after_same w i n _ (tested_in at i test) (tested_in-same at i test)
       (λ t same. lift-then (PartIsLed w t.inside n) (PartIsLed w i n) (if_made at t.found) _ (statement_typed-led w t.inside place body)
       (λ b h. let led = led-following w i t.inside n b same h in record { count = led.count; met = led.met; numbered = led.numbered; jumps = led.jumps }))
-  statement_typed-led w i at (kind.IfElse' test p place body q place' other) =
+  statement_typed-led w i at (kind.IfElse' test place p body place' q other) =
       let n = length (labels_of body) in
       let m = length (labels_of other) in
       let all = length-append (labels_of body) (labels_of other) in
@@ -238,17 +238,17 @@ mutual
         numbered = (first.numbered, subst (λ l. AreNumbered l b.found) (first.met ∙ ap (λ l. i.met + l) (sym first.count)) k.numbered);
         jumps = (first.jumps, k.jumps);
       })))
-  statement_typed-led w i at (kind.While' test p place body) =
+  statement_typed-led w i at (kind.While' test place p body) =
       let n = length (labels_of body) in
       after_same w i n _ (tested_in at i test) (tested_in-same at i test)
       (λ t same. lift-then (PartIsLed (in_loop w) t.inside n) (PartIsLed w i n) (while_made at t.found) _ (statement_typed-led (in_loop w) t.inside place body)
       (λ b h. let led = led-following (in_loop w) i t.inside n b same h in record { count = led.count; met = led.met; numbered = led.numbered; jumps = led.jumps }))
-  statement_typed-led w i at (kind.Do' p place body test) =
+  statement_typed-led w i at (kind.Do' place p body test) =
       let n = length (labels_of body) in
       lift-then (PartIsLed (in_loop w) i n) (PartIsLed w i n) _ _ (statement_typed-led (in_loop w) i place body)
       (λ b h. lift-then (PartSameMet b.inside) (PartIsLed w i n) (do_made at b.found) (tested_in at b.inside test) (tested_in-same at b.inside test)
       (λ t same. record { count = h.count; met = same ∙ h.met; numbered = h.numbered; jumps = h.jumps }))
-  statement_typed-led w i at (kind.For' first test last p place body) =
+  statement_typed-led w i at (kind.For' first test last place p body) =
       let n = length (labels_of body) in
       lift-then (ReportedIsLed (no_loop w) (nothing_reported (in_block i)) 0) (PartIsLed w i n) _ (first_typed (in_block i) first) (first_typed-led (no_loop w) (in_block i) first)
       (λ f begun. lift-then (PartSameMet f.inside) (PartIsLed w i n) _ (tested_if at f.inside test) (tested_if-same at f.inside test)
@@ -280,7 +280,7 @@ mutual
       cond-then (PartIsLed w i 0) w.breaks _ (Fault Jump at) (λ leads. record { count = refl; met = omega arith; numbered = tt; jumps = leads }) (λ _. tt)
   statement_typed-led w i at (kind.Return value) =
       after_same w i 0 (return_made at) (returned w at i value) (returned-same w at i value) (λ p same. record { count = refl; met = same ∙ omega arith; numbered = tt; jumps = tt })
-  statement_typed-led w i at (kind.Label' name p place body) =
+  statement_typed-led w i at (kind.Label' name place p body) =
       let n = length (labels_of body) in
       cond-then (PartIsLed w i (length (name ∷ labels_of body))) (is_first i (label_number name w.labels)) _ (Fault Jump at)
       (λ _. lift-then (PartIsLed w (meeting i) n) (PartIsLed w i (length (name ∷ labels_of body))) (label_made at i.met) _ (statement_typed-led w (meeting i) place body)
@@ -295,7 +295,7 @@ mutual
 
   item_typed-led : (w : Where) (item : RawItem) (so_far : Reported) → IfFine (item_typed w item so_far) (ReportedIsLed w so_far (length (labels_of_item item)))
   item_typed-led w (items.TheVariants.Declare s objects) so_far = declaration_typed-led w s objects.items so_far
-  item_typed-led w (items.TheVariants.Run' place body) so_far =
+  item_typed-led w (items.TheVariants.Run' place p body) so_far =
       lift-then (PartIsLed w so_far.inside (length (labels_of body))) (ReportedIsLed w so_far (length (labels_of body))) (telling so_far.statements) _ (statement_typed-led w so_far.inside place body)
       (λ p h. one-led w so_far p (length (labels_of body)) h)
 

@@ -6,10 +6,10 @@ use Rattle.cs_ast.specs.declared.place.Place.{Place}
 use Rattle.cs_ast.specs.declared.raw.expression.RawExpr.{RawExpr}
 use Rattle.cs_ast.specs.declared.raw.declaration.RawInitial.{RawInitial}
 use Rattle.cs_ast.specs.declared.raw.declaration.RawInitial as first_value
-use Rattle.cs_consts.specs.declared.context.Context.{Context}
-use Rattle.cs_consts.specs.Doors.{operand_of}
-use Rattle.cs_consts.specs.Typing.{Literals}
-use Rattle.cs_consts.specs.Verdicts.{lift}
+use Rattle.cs_scopes.specs.declared.context.Context.{Context}
+use Rattle.cs_consts.specs.Roles.{operand_of}
+use Rattle.cs_expressions.specs.Primary.{Literals}
+use Rattle.cs_scopes.specs.Verdicts.{lift}
 use Rattle.cs_declarations.specs.Initializers.{Storage, has_form, part_types, types_or_none, Reading, Readings, value_read, expression_read, parts_read, one_more, initial_read, items_read, limited, initial_judged, kept_with, initial_typed}
 use Rattle.cs_well_formed.proofs.Names.{Begins, begins-self, begins-trans, literals-begin}
 use Rattle.cs_well_formed.proofs.Verdicts.{IfFine, if_fine-any, lift-then, cond-then}
@@ -22,9 +22,9 @@ abbrev GoOnFrom : Literals → Readings → Type 0
 GoOnFrom literals r = Begins literals r.1
 
 module _ (c : Context) where
-  value-begins : (literals : Literals) (ty : Shape) (e : RawExpr) → IfFine (lift (value_read literals e.kind) (operand_of c literals (Some ty) e)) (GoesOnFrom literals)
+  value-begins : (literals : Literals) (ty : Shape) (e : RawExpr) → IfFine (lift (value_read literals e.kind.value) (operand_of c literals (Some ty) e)) (GoesOnFrom literals)
   value-begins literals ty e =
-      lift-then (λ _. Unit {0}) (GoesOnFrom literals) (value_read literals e.kind) _ (if_fine-any (operand_of c literals (Some ty) e)) (λ v _. literals-begin literals e.kind)
+      lift-then (λ _. Unit {0}) (GoesOnFrom literals) (value_read literals e.kind.value) _ (if_fine-any (operand_of c literals (Some ty) e)) (λ v _. literals-begin literals e.kind.value)
 
   expression-begins : (literals : Literals) (ty : Shape) (e : RawExpr) → IfFine (expression_read c literals ty e) (GoesOnFrom literals)
   expression-begins literals (array element count) e = begins-self literals

@@ -6,8 +6,8 @@ use Rattle.cs_ast.specs.declared.raw.external.RawExternal.{RawExternal}
 use Rattle.cs_ast.specs.TypedProgram.{TypedProgram}
 use Rattle.cs_ast.specs.declared.token.Token.{Token}
 use Rattle.std.specs.Prelude.{ℕ}
-use Rattle.cs_consts.specs.Verdicts.{Fine, lift}
-use Rattle.cs_consts.proofs.Lifting.{lift-fine}
+use Rattle.cs_scopes.specs.Verdicts.{Fine, lift}
+use Rattle.cs_scopes.proofs.Lifting.{lift-fine}
 use Rattle.cs_declarations.proofs.FineVerdicts.{IfFine, IfFine-lift, IfFine-at}
 use Rattle.cs_declarations.specs.Known.{table_of}
 use Rattle.cs_typing.specs.Objects.{Filed}

@@ -16,10 +16,10 @@ use Rattle.cs_ast.specs.declared.raw.statement.RawItem as items
 use Rattle.cs_ast.specs.declared.raw.statement.RawSwitchItem as switches
 use Rattle.cs_ast.specs.declared.raw.statement.RawFirst.{RawFirst}
 use Rattle.cs_ast.specs.declared.raw.statement.RawFirst.TheVariants as first_part
-use Rattle.cs_consts.specs.declared.refusal.TypeCode.TheVariants.{DeclaredTwice, Jump, Return}
-use Rattle.cs_consts.specs.Integers.{type_of}
-use Rattle.cs_consts.specs.Verdicts.{Fault, lift}
-use Rattle.cs_consts.specs.Doors.{value_of, assigned_value, test_of, selector_of, discarded_value}
+use Rattle.cs_scopes.specs.declared.refusal.TypeCode.TheVariants.{DeclaredTwice, Jump, Return}
+use Rattle.cs_folding.specs.TypedParts.{type_of}
+use Rattle.cs_scopes.specs.Verdicts.{Fault, lift}
+use Rattle.cs_consts.specs.Roles.{value_of, assigned_value, test_of, selector_of, discarded_value}
 use Rattle.cs_declarations.specs.Bodies.{specs_type}
 use Rattle.cs_declarations.specs.Initializers.{InFunction, initial_typed}
 use Rattle.cs_declarations.specs.LaidOut.{IsSound}
@@ -128,20 +128,20 @@ module _ (m : DataModel) where
         IfFine-lift _ (items_typed w row (nothing_reported (in_block i))) ReportedIsSound PartIsSound (items_typed-sound w row (nothing_reported (in_block i)) h) (λ reported g. g)
     statement_typed-sound w i at kind.Empty h = h
     statement_typed-sound w i at (kind.Run e) h = IfFine-lift _ (dropped_in i e) PartIsSound PartIsSound (dropped_in-sound i e h) (λ p g. g)
-    statement_typed-sound w i at (kind.If' test p place body) h =
+    statement_typed-sound w i at (kind.If' test place p body) h =
         IfFine-lift _ (tested_in at i test) PartIsSound PartIsSound (tested_in-sound at i test h)
         (λ t g. IfFine-lift _ (statement_typed w t.inside place body) PartIsSound PartIsSound (statement_typed-sound w t.inside place body g) (λ b g'. g'))
-    statement_typed-sound w i at (kind.IfElse' test p place body q place' other) h =
+    statement_typed-sound w i at (kind.IfElse' test place p body place' q other) h =
         IfFine-lift _ (tested_in at i test) PartIsSound PartIsSound (tested_in-sound at i test h)
         (λ t g. IfFine-lift _ (statement_typed w t.inside place body) PartIsSound PartIsSound (statement_typed-sound w t.inside place body g)
         (λ one g'. IfFine-lift _ (statement_typed w one.inside place' other) PartIsSound PartIsSound (statement_typed-sound w one.inside place' other g') (λ b g''. g'')))
-    statement_typed-sound w i at (kind.While' test p place body) h =
+    statement_typed-sound w i at (kind.While' test place p body) h =
         IfFine-lift _ (tested_in at i test) PartIsSound PartIsSound (tested_in-sound at i test h)
         (λ t g. IfFine-lift _ (statement_typed (in_loop w) t.inside place body) PartIsSound PartIsSound (statement_typed-sound (in_loop w) t.inside place body g) (λ b g'. g'))
-    statement_typed-sound w i at (kind.Do' p place body test) h =
+    statement_typed-sound w i at (kind.Do' place p body test) h =
         IfFine-lift _ (statement_typed (in_loop w) i place body) PartIsSound PartIsSound (statement_typed-sound (in_loop w) i place body h)
         (λ b g. IfFine-lift _ (tested_in at b.inside test) PartIsSound PartIsSound (tested_in-sound at b.inside test g) (λ t g'. g'))
-    statement_typed-sound w i at (kind.For' first test last p place body) h =
+    statement_typed-sound w i at (kind.For' first test last place p body) h =
         IfFine-lift _ (first_typed (in_block i) first) ReportedIsSound PartIsSound (first_typed-sound (in_block i) first h)
         (λ f g. IfFine-lift _ (tested_if at f.inside test) PartIsSound PartIsSound (tested_if-sound at f.inside test g)
         (λ t g'. IfFine-lift _ (dropped_if t.inside last) PartIsSound PartIsSound (dropped_if-sound t.inside last g')
@@ -154,13 +154,13 @@ module _ (m : DataModel) where
     statement_typed-sound w i at kind.Continue h = IfFine-cond w.continues _ (Fault Jump at) PartIsSound (λ yes. h) (λ no. tt)
     statement_typed-sound w i at kind.Break h = IfFine-cond w.breaks _ (Fault Jump at) PartIsSound (λ yes. h) (λ no. tt)
     statement_typed-sound w i at (kind.Return value) h = IfFine-lift _ (returned w at i value) PartIsSound PartIsSound (returned-sound w at i value h) (λ p g. g)
-    statement_typed-sound w i at (kind.Label' name p place body) h =
+    statement_typed-sound w i at (kind.Label' name place p body) h =
         IfFine-cond (is_first i (label_number name w.labels)) _ (Fault Jump at) PartIsSound
         (λ first. IfFine-lift _ (statement_typed w (meeting i) place body) PartIsSound PartIsSound (statement_typed-sound w (meeting i) place body h) (λ b g. g)) (λ other. tt)
 
     pub item_typed-sound : (w : Where) (item : RawItem) (so_far : Reported) → ReportedIsSound so_far → IfFine (item_typed w item so_far) ReportedIsSound
     item_typed-sound w (items.TheVariants.Declare s objects) so_far h = declaration_typed-sound s objects.items so_far h
-    item_typed-sound w (items.TheVariants.Run' place body) so_far h =
+    item_typed-sound w (items.TheVariants.Run' place p body) so_far h =
         IfFine-lift _ (statement_typed w so_far.inside place body) PartIsSound ReportedIsSound (statement_typed-sound w so_far.inside place body h) (λ p g. g)
 
     items_typed-sound : {n : _} → (w : Where) (row : kinds.Row_of-RawItem n) (so_far : Reported) → ReportedIsSound so_far → IfFine (items_typed w row so_far) ReportedIsSound

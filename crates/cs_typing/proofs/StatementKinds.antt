@@ -1,5 +1,5 @@
 -- What each kind of statement comes to, as it is held: for the cycle of statements.
-use Rattle.std.proofs.Common.{◌≡◌, List, [], Option, map, sym, ap, subst, ◌∙◌, Result, Box, Vec, Global}
+use Rattle.std.proofs.Common.{◌≡◌, List, [], Option, map, sym, ap, subst, ◌∙◌, Result, Vec, Global}
 use Rattle.cs_ast.specs.declared.place.Place.{Place}
 use Rattle.cs_ast.specs.declared.raw.expression.RawExpr.{RawExpr}
 use Rattle.cs_ast.specs.declared.raw.statement.RawItem.{RawItem}
@@ -14,10 +14,10 @@ use Rattle.cs_ast.specs.declared.typed.statement.StmtKind.TheVariants as held
 use Rattle.cs_ast.specs.TypedTree.{Block, If, IfElse, Switch, For}
 use Rattle.cs_ast.specs.TypedView.{typed, some_typed, statement_at, statement, statement_list}
 use Rattle.cs_ast.proofs.TypedRows.{statement_at-Block, statement_at-For, statement_at-Switch}
-use Rattle.cs_consts.specs.declared.refusal.TypeRefusal.{TypeRefusal}
-use Rattle.cs_consts.specs.Verdicts.{Fine, lift, IsRefused}
-use Rattle.cs_consts.proofs.Lifting.{lift-refused}
-use Rattle.cs_consts.proofs.Productions.{refused_as}
+use Rattle.cs_scopes.specs.declared.refusal.TypeRefusal.{TypeRefusal}
+use Rattle.cs_scopes.specs.Verdicts.{Fine, lift, IsRefused}
+use Rattle.cs_scopes.proofs.Lifting.{lift-refused}
+use Rattle.cs_scopes.proofs.Lifting.{refused_as}
 use Rattle.cs_consts.proofs.SingleParts.{lift_is}
 use Rattle.cs_declarations.specs.Answered.{AnswersWith}
 use Rattle.cs_typing.specs.declared.inside.Inside.{Inside as HeldInside}
@@ -63,61 +63,49 @@ module _ (w : Where) (i : Inside) (at : Place) (tree : RawStmtKind) where
     return_reported e now h = ap (statement_typed w i at) is ∙ lift_is (return_made at) _ (optional_part e now) h
 
   -- `if`
-  module _ (test : RawExpr) (body : Box RawStmt Global) (is : tree ≡ raw.If test body) where
+  module _ (test : RawExpr) (body : RawStmt) (is : tree ≡ raw.If test body) where
     pub if_test_refused : (r : TypeRefusal) → IsRefused (tested_in at i test) r → IsRefused (statement_typed w i at tree) r
-    if_test_refused r h = refused_as r (ap (statement_typed w i at) is) (lift-refused (if_after w at body.value.place body.value.kind) (tested_in at i test) r h)
+    if_test_refused r h = refused_as r (ap (statement_typed w i at) is) (lift-refused (if_after w at body.place body.kind.value) (tested_in at i test) r h)
 
-    module _ (t : Expr) (between : HeldInside) (tests : tested_in at i test ≡ Fine (typed_part t between)) (run : RawStmt) (same : run ≡ body.value) where
-      if_tested : statement_typed w i at tree ≡ lift (if_made at (typed t)) (statement_typed w (inside_of between) run.place run.kind)
-      if_tested =
-          ap (statement_typed w i at) is ∙ lift_is (if_after w at body.value.place body.value.kind) _ (typed_part t between) tests
-          ∙ ap (λ (b : RawStmt). lift (if_made at (typed t)) (statement_typed w (inside_of between) b.place b.kind)) (sym same)
+    module _ (t : Expr) (between : HeldInside) (tests : tested_in at i test ≡ Fine (typed_part t between)) where
+      if_tested : statement_typed w i at tree ≡ lift (if_made at (typed t)) (statement_typed w (inside_of between) body.place body.kind.value)
+      if_tested = ap (statement_typed w i at) is ∙ lift_is (if_after w at body.place body.kind.value) _ (typed_part t between) tests
 
-      pub if_body_refused : (r : TypeRefusal) → IsRefused (statement_typed w (inside_of between) run.place run.kind) r → IsRefused (statement_typed w i at tree) r
+      pub if_body_refused : (r : TypeRefusal) → IsRefused (statement_typed w (inside_of between) body.place body.kind.value) r → IsRefused (statement_typed w i at tree) r
       if_body_refused r h = refused_as r if_tested (lift-refused (if_made at (typed t)) _ r h)
 
-      pub if_reported : (one : Stmt) (now : HeldInside) (made : Box Stmt Global) → statement_typed w (inside_of between) run.place run.kind ≡ Fine (statement_part one now) → made.value ≡ one → statement_typed w i at tree ≡ Fine (kind_part at (held.If t made) now)
-      if_reported one now made runs boxed =
-          if_tested ∙ lift_is (if_made at (typed t)) _ (statement_part one now) runs
-          ∙ ap (λ (s : Stmt). part (inside_of now) (If at (typed t) (statement s))) (sym boxed)
+      pub if_reported : (one : Stmt) (now : HeldInside) → statement_typed w (inside_of between) body.place body.kind.value ≡ Fine (statement_part one now) → statement_typed w i at tree ≡ Fine (kind_part at (held.If t one) now)
+      if_reported one now runs = if_tested ∙ lift_is (if_made at (typed t)) _ (statement_part one now) runs
 
   -- `if` with `else`
-  module _ (test : RawExpr) (body other : Box RawStmt Global) (is : tree ≡ raw.IfElse test body other) where
+  module _ (test : RawExpr) (body other : RawStmt) (is : tree ≡ raw.IfElse test body other) where
     pub else_test_refused : (r : TypeRefusal) → IsRefused (tested_in at i test) r → IsRefused (statement_typed w i at tree) r
-    else_test_refused r h = refused_as r (ap (statement_typed w i at) is) (lift-refused (if_else_after w at body.value.place body.value.kind other.value) (tested_in at i test) r h)
+    else_test_refused r h = refused_as r (ap (statement_typed w i at) is) (lift-refused (if_else_after w at body.place body.kind.value other) (tested_in at i test) r h)
 
-    module _ (t : Expr) (between : HeldInside) (tests : tested_in at i test ≡ Fine (typed_part t between)) (run : RawStmt) (same : run ≡ body.value) where
-      else_tested : statement_typed w i at tree ≡ lift (else_after w at other.value (typed t)) (statement_typed w (inside_of between) run.place run.kind)
-      else_tested =
-          ap (statement_typed w i at) is ∙ lift_is (if_else_after w at body.value.place body.value.kind other.value) _ (typed_part t between) tests
-          ∙ ap (λ (b : RawStmt). lift (else_after w at other.value (typed t)) (statement_typed w (inside_of between) b.place b.kind)) (sym same)
+    module _ (t : Expr) (between : HeldInside) (tests : tested_in at i test ≡ Fine (typed_part t between)) where
+      else_tested : statement_typed w i at tree ≡ lift (else_after w at other (typed t)) (statement_typed w (inside_of between) body.place body.kind.value)
+      else_tested = ap (statement_typed w i at) is ∙ lift_is (if_else_after w at body.place body.kind.value other) _ (typed_part t between) tests
 
-      pub else_body_refused : (r : TypeRefusal) → IsRefused (statement_typed w (inside_of between) run.place run.kind) r → IsRefused (statement_typed w i at tree) r
-      else_body_refused r h = refused_as r else_tested (lift-refused (else_after w at other.value (typed t)) _ r h)
+      pub else_body_refused : (r : TypeRefusal) → IsRefused (statement_typed w (inside_of between) body.place body.kind.value) r → IsRefused (statement_typed w i at tree) r
+      else_body_refused r h = refused_as r else_tested (lift-refused (else_after w at other (typed t)) _ r h)
 
-      module _ (one : Stmt) (middle : HeldInside) (runs : statement_typed w (inside_of between) run.place run.kind ≡ Fine (statement_part one middle)) (last : RawStmt) (like : last ≡ other.value) where
-        else_ran : statement_typed w i at tree ≡ lift (if_else_made at (typed t) (statement one)) (statement_typed w (inside_of middle) last.place last.kind)
-        else_ran =
-            else_tested ∙ lift_is (else_after w at other.value (typed t)) _ (statement_part one middle) runs
-            ∙ ap (λ (b : RawStmt). lift (if_else_made at (typed t) (statement one)) (statement_typed w (inside_of middle) b.place b.kind)) (sym like)
+      module _ (one : Stmt) (middle : HeldInside) (runs : statement_typed w (inside_of between) body.place body.kind.value ≡ Fine (statement_part one middle)) where
+        else_ran : statement_typed w i at tree ≡ lift (if_else_made at (typed t) (statement one)) (statement_typed w (inside_of middle) other.place other.kind.value)
+        else_ran = else_tested ∙ lift_is (else_after w at other (typed t)) _ (statement_part one middle) runs
 
-        pub else_refused : (r : TypeRefusal) → IsRefused (statement_typed w (inside_of middle) last.place last.kind) r → IsRefused (statement_typed w i at tree) r
+        pub else_refused : (r : TypeRefusal) → IsRefused (statement_typed w (inside_of middle) other.place other.kind.value) r → IsRefused (statement_typed w i at tree) r
         else_refused r h = refused_as r else_ran (lift-refused (if_else_made at (typed t) (statement one)) _ r h)
 
-        pub else_reported : (two : Stmt) (now : HeldInside) (made made_last : Box Stmt Global) → statement_typed w (inside_of middle) last.place last.kind ≡ Fine (statement_part two now) → made.value ≡ one → made_last.value ≡ two → statement_typed w i at tree ≡ Fine (kind_part at (held.IfElse t made made_last) now)
-        else_reported two now made made_last runs_last boxed boxed_last =
-            else_ran ∙ lift_is (if_else_made at (typed t) (statement one)) _ (statement_part two now) runs_last
-            ∙ ap (λ (s : Stmt). part (inside_of now) (IfElse at (typed t) (statement s) (statement two))) (sym boxed)
-            ∙ ap (λ (s : Stmt). part (inside_of now) (IfElse at (typed t) (statement made.value) (statement s))) (sym boxed_last)
+        pub else_reported : (two : Stmt) (now : HeldInside) → statement_typed w (inside_of middle) other.place other.kind.value ≡ Fine (statement_part two now) → statement_typed w i at tree ≡ Fine (kind_part at (held.IfElse t one two) now)
+        else_reported two now runs_last = else_ran ∙ lift_is (if_else_made at (typed t) (statement one)) _ (statement_part two now) runs_last
 
 -- the parts of `for` and `switch` as they are held
-pub for_held : (at : Place) (first : Vec Stmt Global) (test last : Option Expr) (one : Stmt) (made : Box Stmt Global) (inside following : Inside) → inside ≡ following → made.value ≡ one → part following (For at (in_a_row (map statement first.items)) (some_typed test) (some_typed last) (statement one)) ≡ part inside (statement_at at (held.For first test last made))
-for_held at first test last one made inside following is boxed =
+pub for_held : (at : Place) (first : Vec Stmt Global) (test last : Option Expr) (one : Stmt) (inside following : Inside) → inside ≡ following → part following (For at (in_a_row (map statement first.items)) (some_typed test) (some_typed last) (statement one)) ≡ part inside (statement_at at (held.For first test last one))
+for_held at first test last one inside following is =
     ap (λ x. part x (For at (in_a_row (map statement first.items)) (some_typed test) (some_typed last) (statement one))) (sym is)
     ∙ ap (part inside)
     (ap (λ ss. For at ss (some_typed test) (some_typed last) (statement one)) (row-statements first.items)
-    ∙ ap (λ (s : Stmt). For at (statement_list first.items) (some_typed test) (some_typed last) (statement s)) (sym boxed)
-    ∙ sym (statement_at-For at first test last made))
+    ∙ sym (statement_at-For at first test last one))
 
 pub switch_held : (at : Place) (value : Expr) (found : List Case) (cases : Vec Case Global) (list : Vec Stmt Global) (inside following : Inside) → inside ≡ following → cases.items ≡ found → part following (Switch at (typed value) found (in_a_row (map statement list.items))) ≡ part inside (statement_at at (held.Switch value cases list))
 switch_held at value found cases list inside following is listed =

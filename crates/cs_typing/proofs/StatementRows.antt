@@ -12,8 +12,8 @@ use Rattle.cs_ast.specs.declared.raw.statement.RawSwitchItem.{RawSwitchItem}
 use Rattle.cs_ast.specs.declared.typed.statement.Stmt.{Stmt}
 use Rattle.cs_ast.specs.TypedTree.{Typed, Then}
 use Rattle.cs_ast.specs.TypedView.{statement, statement_list}
-use Rattle.cs_consts.specs.Integers.{type_of}
-use Rattle.cs_consts.specs.Verdicts.{Verdict, Fine, Fault, lift}
+use Rattle.cs_folding.specs.TypedParts.{type_of}
+use Rattle.cs_scopes.specs.Verdicts.{Verdict, Fine, Fault, lift}
 use Rattle.cs_typing.specs.Objects.{Inside, Reported}
 use Rattle.cs_typing.specs.Statements.{Where, in_switch, in_a_row, Part, Switching, in_block, nothing_reported, no_cases, block_made, switch_made, selected, statement_typed, item_typed, items_typed, body_typed, switch_item_typed, switch_typed, switch_list_typed, switch_whole, labels_of, labels_of_item, labels_in, labels_of_items, labels_of_switch_item, labels_in_switch, labels_of_switch_list}
 

@@ -14,13 +14,14 @@ use Rattle.cs_ast.specs.declared.typed.statement.Stmt.{Stmt}
 use Rattle.cs_ast.specs.declared.typed.statement.StmtKind.{StmtKind}
 use Rattle.cs_ast.specs.TypedTree.{Typed, Statement, Block}
 use Rattle.cs_ast.specs.TypedView.{typed, statement}
-use Rattle.cs_consts.specs.declared.refusal.TypeCode.TheVariants.{Jump}
-use Rattle.cs_consts.specs.declared.refusal.TypeRefusal.{TypeRefusal}
-use Rattle.cs_consts.specs.Integers.{type_of}
-use Rattle.cs_consts.specs.Typing.{Literals, literals_after}
-use Rattle.cs_consts.specs.Verdicts.{Verdict, Fine, Fault, lift, IsRefused, Yields, Answers}
-use Rattle.cs_consts.proofs.Lifting.{lift-refused}
-use Rattle.cs_consts.proofs.Productions.{refused_as}
+use Rattle.cs_scopes.specs.declared.refusal.TypeCode.TheVariants.{Jump}
+use Rattle.cs_scopes.specs.declared.refusal.TypeRefusal.{TypeRefusal}
+use Rattle.cs_folding.specs.TypedParts.{type_of}
+use Rattle.cs_expressions.specs.Primary.{Literals}
+use Rattle.cs_consts.specs.Typing.{literals_after}
+use Rattle.cs_scopes.specs.Verdicts.{Verdict, Fine, Fault, lift, IsRefused, Yields, Answers}
+use Rattle.cs_scopes.proofs.Lifting.{lift-refused}
+use Rattle.cs_scopes.proofs.Lifting.{refused_as}
 use Rattle.cs_consts.proofs.SingleParts.{lift_is}
 use Rattle.cs_declarations.specs.Answered.{AnswersWith}
 use Rattle.cs_declarations.specs.declared.known.Known.{Known as HeldKnown}
@@ -32,7 +33,7 @@ use Rattle.cs_typing.specs.Statements.{Where, in_loop, in_switch, in_a_row, Part
 use Rattle.cs_typing.specs.View.{inside_of, reported_of, typed_part, kind_part, kind_at}
 
 -- an expression with the string literals after it
-pub typed_after : (i : Inside) (tree : RawExpr) (v : Verdict Typed) (result : Result Expr TypeRefusal) (literals : Literals) (now : HeldInside) → Yields v result → OnOk result (literals ≡ literals_after i.known.literals tree.kind) → inside_of now ≡ knowing (with_literals literals i.known) i → AnswersWith typed_part (lift (part (past tree i)) v) result now
+pub typed_after : (i : Inside) (tree : RawExpr) (v : Verdict Typed) (result : Result Expr TypeRefusal) (literals : Literals) (now : HeldInside) → Yields v result → OnOk result (literals ≡ literals_after i.known.literals tree.kind.value) → inside_of now ≡ knowing (with_literals literals i.known) i → AnswersWith typed_part (lift (part (past tree i)) v) result now
 typed_after i tree v (Ok e) literals now reported texts is =
     lift_is (part (past tree i)) v (typed e) reported
     ∙ ap (λ l. part (knowing (with_literals l i.known) i) (typed e)) (sym texts)
@@ -57,44 +58,44 @@ abbrev pub if_after : Where → Place → Place → RawStmtKind → Part Typed �
 if_after w at place body t = lift (if_made at t.found) (statement_typed w t.inside place body)
 
 abbrev pub else_after : Where → Place → RawStmt → Typed → Part Statement → Verdict (Part Statement)
-else_after w at other test one = lift (if_else_made at test one.found) (statement_typed w one.inside other.place other.kind)
+else_after w at other test one = lift (if_else_made at test one.found) (statement_typed w one.inside other.place other.kind.value)
 
 abbrev pub if_else_after : Where → Place → Place → RawStmtKind → RawStmt → Part Typed → Verdict (Part Statement)
 if_else_after w at place body other t = lift (else_after w at other t.found) (statement_typed w t.inside place body)
 
 -- `while` after its test, and `do` after its body
 abbrev while_after : Where → Place → RawStmt → Part Typed → Verdict (Part Statement)
-while_after w at body t = lift (while_made at t.found) (statement_typed (in_loop w) t.inside body.place body.kind)
+while_after w at body t = lift (while_made at t.found) (statement_typed (in_loop w) t.inside body.place body.kind.value)
 
 abbrev do_after : Place → RawExpr → Part Statement → Verdict (Part Statement)
 do_after at test body = lift (do_made at body.found) (tested_in at body.inside test)
 
 module _ (w : Where) (i : Inside) (at : Place) (test : RawExpr) (body : RawStmt) where
-  pub while_test_stops : (r : TypeRefusal) → IsRefused (tested_in at i test) r → IsRefused (while_typed w i at test body.place body.kind) r
+  pub while_test_stops : (r : TypeRefusal) → IsRefused (tested_in at i test) r → IsRefused (while_typed w i at test body.place body.kind.value) r
   while_test_stops r h = lift-refused (while_after w at body) (tested_in at i test) r h
 
   module _ (within : Where) (t : Part Typed) (is : within ≡ in_loop w) (tests : tested_in at i test ≡ Fine t) where
-    while_tested : while_typed w i at test body.place body.kind ≡ lift (while_made at t.found) (statement_typed within t.inside body.place body.kind)
-    while_tested = lift_is (while_after w at body) _ t tests ∙ ap (λ x. lift (while_made at t.found) (statement_typed x t.inside body.place body.kind)) (sym is)
+    while_tested : while_typed w i at test body.place body.kind.value ≡ lift (while_made at t.found) (statement_typed within t.inside body.place body.kind.value)
+    while_tested = lift_is (while_after w at body) _ t tests ∙ ap (λ x. lift (while_made at t.found) (statement_typed x t.inside body.place body.kind.value)) (sym is)
 
-    pub while_body_stops : (r : TypeRefusal) → IsRefused (statement_typed within t.inside body.place body.kind) r → IsRefused (while_typed w i at test body.place body.kind) r
+    pub while_body_stops : (r : TypeRefusal) → IsRefused (statement_typed within t.inside body.place body.kind.value) r → IsRefused (while_typed w i at test body.place body.kind.value) r
     while_body_stops r h = refused_as r while_tested (lift-refused (while_made at t.found) _ r h)
 
-    pub while_taken : (one : Part Statement) → statement_typed within t.inside body.place body.kind ≡ Fine one → while_typed w i at test body.place body.kind ≡ while_made at t.found one
+    pub while_taken : (one : Part Statement) → statement_typed within t.inside body.place body.kind.value ≡ Fine one → while_typed w i at test body.place body.kind.value ≡ while_made at t.found one
     while_taken one runs = while_tested ∙ lift_is (while_made at t.found) _ one runs
 
   module _ (within : Where) (is : within ≡ in_loop w) where
-    do_entered : do_typed w i at test body.place body.kind ≡ lift (do_after at test) (statement_typed within i body.place body.kind)
-    do_entered = ap (λ x. lift (do_after at test) (statement_typed x i body.place body.kind)) (sym is)
+    do_entered : do_typed w i at test body.place body.kind.value ≡ lift (do_after at test) (statement_typed within i body.place body.kind.value)
+    do_entered = ap (λ x. lift (do_after at test) (statement_typed x i body.place body.kind.value)) (sym is)
 
-    pub do_body_stops : (r : TypeRefusal) → IsRefused (statement_typed within i body.place body.kind) r → IsRefused (do_typed w i at test body.place body.kind) r
+    pub do_body_stops : (r : TypeRefusal) → IsRefused (statement_typed within i body.place body.kind.value) r → IsRefused (do_typed w i at test body.place body.kind.value) r
     do_body_stops r h = refused_as r do_entered (lift-refused (do_after at test) _ r h)
 
-    module _ (one : Part Statement) (runs : statement_typed within i body.place body.kind ≡ Fine one) where
-      pub do_test_stops : (r : TypeRefusal) → IsRefused (tested_in at one.inside test) r → IsRefused (do_typed w i at test body.place body.kind) r
+    module _ (one : Part Statement) (runs : statement_typed within i body.place body.kind.value ≡ Fine one) where
+      pub do_test_stops : (r : TypeRefusal) → IsRefused (tested_in at one.inside test) r → IsRefused (do_typed w i at test body.place body.kind.value) r
       do_test_stops r h = refused_as r (do_entered ∙ lift_is (do_after at test) _ one runs) (lift-refused (do_made at one.found) _ r h)
 
-      pub do_taken : (t : Part Typed) → tested_in at one.inside test ≡ Fine t → do_typed w i at test body.place body.kind ≡ do_made at one.found t
+      pub do_taken : (t : Part Typed) → tested_in at one.inside test ≡ Fine t → do_typed w i at test body.place body.kind.value ≡ do_made at one.found t
       do_taken t tests = do_entered ∙ lift_is (do_after at test) _ one runs ∙ lift_is (do_made at one.found) _ t tests
 
 -- `for` after its parts

@@ -13,9 +13,9 @@ use Rattle.cs_ast.specs.declared.raw.external.RawExternal.{RawExternal}
 use Rattle.cs_ast.specs.declared.raw.external.RawExternalKind.{RawExternalKind}
 use Rattle.cs_ast.specs.declared.raw.external.RawExternalKind.TheVariants as external_kind
 use Rattle.cs_ast.specs.TypedProgram.{TypedProgram, Variable, FileObject}
-use Rattle.cs_consts.specs.declared.scope.Tag.{Tag}
-use Rattle.cs_consts.specs.Meanings.{Declaration}
-use Rattle.cs_consts.specs.Verdicts.{Fine, lift}
+use Rattle.cs_scopes.specs.declared.scope.Tag.{Tag}
+use Rattle.cs_scopes.specs.Meanings.{Declaration}
+use Rattle.cs_scopes.specs.Verdicts.{Fine, lift}
 use Rattle.cs_declarations.specs.Bodies.{Typing, specs_type, typedefs_added}
 use Rattle.cs_declarations.specs.Known.{Known, table_of}
 use Rattle.cs_declarations.specs.LaidOut.{IsOfTable}

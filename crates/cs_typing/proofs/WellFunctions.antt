@@ -17,13 +17,13 @@ use Rattle.cs_ast.specs.declared.raw.declaration.RawParameters.{RawParameters}
 use Rattle.cs_ast.specs.declared.raw.external.RawBody.{RawBody}
 use Rattle.cs_ast.specs.TypedTree.{Statement, Block}
 use Rattle.cs_ast.specs.TypedProgram.{TypedProgram, Variable, Routine}
-use Rattle.cs_consts.specs.declared.refusal.TypeCode.TheVariants.{DeclaredTwice, IncompleteType}
-use Rattle.cs_consts.specs.declared.scope.Callee.{Callee}
-use Rattle.cs_consts.specs.declared.scope.Callee.TheVariants.{Malloc, Calloc, Free, Numbered}
-use Rattle.cs_consts.specs.Meanings.{Meaning, Typedef, Constant, Global, Local, Function, Signature, Declaration}
-use Rattle.cs_consts.specs.Scopes.{newest}
-use Rattle.cs_consts.specs.TypeNames.{starred}
-use Rattle.cs_consts.specs.Verdicts.{Verdict, Fine, Fault, lift}
+use Rattle.cs_scopes.specs.declared.refusal.TypeCode.TheVariants.{DeclaredTwice, IncompleteType}
+use Rattle.cs_scopes.specs.declared.scope.Callee.{Callee}
+use Rattle.cs_scopes.specs.declared.scope.Callee.TheVariants.{Malloc, Calloc, Free, Numbered}
+use Rattle.cs_scopes.specs.Meanings.{Meaning, Typedef, Constant, Global, Local, Function, Signature, Declaration}
+use Rattle.cs_scopes.specs.Scopes.{newest}
+use Rattle.cs_scopes.specs.TypeNames.{starred}
+use Rattle.cs_scopes.specs.Verdicts.{Verdict, Fine, Fault, lift}
 use Rattle.cs_declarations.specs.Known.{table_of, declarations_of, meaning_here, entered, left}
 use Rattle.cs_declarations.specs.Parameters.{Head, parameters_typed}
 use Rattle.cs_typing.specs.Objects.{Filed, Reported, Inside, changed}

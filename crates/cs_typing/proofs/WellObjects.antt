@@ -12,9 +12,9 @@ use Rattle.cs_ast.specs.declared.raw.declaration.RawDeclarator.{RawDeclarator}
 use Rattle.cs_ast.specs.declared.raw.declaration.RawFirstValue.{RawFirstValue}
 use Rattle.cs_ast.specs.declared.raw.declaration.RawInit.{RawInit}
 use Rattle.cs_ast.specs.TypedProgram.{TypedProgram, FileObject, Routine}
-use Rattle.cs_consts.specs.declared.refusal.TypeCode.TheVariants.{DeclaredTwice}
-use Rattle.cs_consts.specs.Meanings.{Meaning, Typedef, Constant, Global, Local, Function, Declaration}
-use Rattle.cs_consts.specs.Verdicts.{Fault}
+use Rattle.cs_scopes.specs.declared.refusal.TypeCode.TheVariants.{DeclaredTwice}
+use Rattle.cs_scopes.specs.Meanings.{Meaning, Typedef, Constant, Global, Local, Function, Declaration}
+use Rattle.cs_scopes.specs.Verdicts.{Fault}
 use Rattle.cs_declarations.specs.Initializers.{InFile, Reading, initial_typed}
 use Rattle.cs_declarations.specs.Known.{table_of, declarations_of, with_literals, meaning_here}
 use Rattle.cs_declarations.specs.Objects.{is_constant_object, object_type}

@@ -24,11 +24,11 @@ use Rattle.cs_ast.specs.declared.typed.statement.Case.{Case}
 use Rattle.cs_ast.specs.RawView.{written}
 use Rattle.cs_ast.specs.TypedTree.{Typed, Statement}
 use Rattle.cs_ast.specs.TypedProgram.{Variable}
-use Rattle.cs_consts.specs.declared.refusal.TypeCode.TheVariants.{CaseTwice, Jump, Return}
-use Rattle.cs_consts.specs.Integers.{type_of}
-use Rattle.cs_consts.specs.Verdicts.{Verdict, Fine, Fault, lift}
-use Rattle.cs_consts.specs.Doors.{value_of, assigned_value, test_of, selector_of, discarded_value}
-use Rattle.cs_consts.specs.Meanings.{Declaration, Local}
+use Rattle.cs_scopes.specs.declared.refusal.TypeCode.TheVariants.{CaseTwice, Jump, Return}
+use Rattle.cs_folding.specs.TypedParts.{type_of}
+use Rattle.cs_scopes.specs.Verdicts.{Verdict, Fine, Fault, lift}
+use Rattle.cs_consts.specs.Roles.{value_of, assigned_value, test_of, selector_of, discarded_value}
+use Rattle.cs_scopes.specs.Meanings.{Declaration, Local}
 use Rattle.cs_declarations.specs.Bodies.{Typing, specs_type}
 use Rattle.cs_declarations.specs.Initializers.{InFunction, Reading, initial_typed}
 use Rattle.cs_declarations.specs.Known.{Known, model_of, table_of, declarations_of, with_literals, is_declared_here}
@@ -198,10 +198,10 @@ module _ (s : Setting) (laid_out : IsLaidOut s.program.model s.program.table) wh
   abbrev pub GivesPart : {A : Type 0} → Inside → (A → Type 0) → Part A → Type 0
   GivesPart i Well p = Gives i p.inside (Well p.found)
 
-  expression-well : (i : Inside) (e : RawExpr) (Well : Typed → Type 0) (v : Verdict Typed) → Knows i → HasConstants (written e) → (IsTyped s i.known.context i.known.literals e.kind → IfFine v Well) →
+  expression-well : (i : Inside) (e : RawExpr) (Well : Typed → Type 0) (v : Verdict Typed) → Knows i → HasConstants (written e) → (IsTyped s i.known.context i.known.literals e.kind.value → IfFine v Well) →
       IfFine (lift (part (past e i)) v) (GivesPart i Well)
   expression-well i e Well v knows fit h =
-      lift-then (λ a. IsTyped s i.known.context i.known.literals e.kind → Well a) (GivesPart i Well) (part (past e i)) v (under (IsTyped s i.known.context i.known.literals e.kind) Well v h)
+      lift-then (λ a. IsTyped s i.known.context i.known.literals e.kind.value → Well a) (GivesPart i Well) (part (past e i)) v (under (IsTyped s i.known.context i.known.literals e.kind.value) Well v h)
       (λ a well. record {
         knows = λ is. record { model = is.model; known = record { declarations = is.known.declarations; tags = is.known.tags; members = is.known.members }; variables = is.variables };
         longer = omega arith;
@@ -213,7 +213,7 @@ module _ (s : Setting) (laid_out : IsLaidOut s.program.model s.program.table) wh
       })
     where
       before : Has (past e i) → Has i
-      before has = record { table = has.table; texts = first-part s.program i.known.literals _ (literals-begin i.known.literals e.kind) has.texts; variables = has.variables; types = has.types }
+      before has = record { table = has.table; texts = first-part s.program i.known.literals _ (literals-begin i.known.literals e.kind.value) has.texts; variables = has.variables; types = has.types }
 
   abbrev IsTest : Typed → Type 0
   IsTest e = IsWell s e × IsScalarValue e
@@ -506,26 +506,26 @@ module _ (s : Setting) (laid_out : IsLaidOut s.program.model s.program.table) wh
     statement_typed-well w i at kind.Empty fits knows fit = nothing i
     statement_typed-well w i at (kind.Run e) fits knows fit =
         lift-then (GivesPart i IsDropped) (GivesStatement i) (run_made at) (dropped_in i e) (dropped_in-well i e knows fit) (λ p g. g)
-    statement_typed-well w i at (kind.If' test p place body) fits knows fit =
+    statement_typed-well w i at (kind.If' test place p body) fits knows fit =
         lift-then (GivesPart i IsTest) (GivesStatement i) _ (tested_in at i test) (tested_in-well at i test knows fit.0)
         (λ t g. lift-then (GivesStatement t.inside) (GivesStatement i) (if_made at t.found) _ (statement_typed-well w t.inside place body fits (g.knows knows) fit.1)
         (λ b h. so i b.inside (both i t.inside b.inside g h) (λ r. (r.0.0, r.0.1, r.1))))
-    statement_typed-well w i at (kind.IfElse' test p place body q place' other) fits knows fit =
+    statement_typed-well w i at (kind.IfElse' test place p body place' q other) fits knows fit =
         lift-then (GivesPart i IsTest) (GivesStatement i) _ (tested_in at i test) (tested_in-well at i test knows fit.0)
         (λ t g. lift-then (GivesStatement t.inside) (GivesStatement i) _ _ (statement_typed-well w t.inside place body fits (g.knows knows) fit.1)
         (λ one h.
         let front = both i t.inside one.inside g h in
         lift-then (GivesStatement one.inside) (GivesStatement i) (if_else_made at t.found one.found) _ (statement_typed-well w one.inside place' other fits (front.knows knows) fit.2)
         (λ b k. so i b.inside (both i one.inside b.inside front k) (λ r. (r.0.0.0, r.0.0.1, r.0.1, r.1)))))
-    statement_typed-well w i at (kind.While' test p place body) fits knows fit =
+    statement_typed-well w i at (kind.While' test place p body) fits knows fit =
         lift-then (GivesPart i IsTest) (GivesStatement i) _ (tested_in at i test) (tested_in-well at i test knows fit.0)
         (λ t g. lift-then (GivesStatement t.inside) (GivesStatement i) (while_made at t.found) _ (statement_typed-well (in_loop w) t.inside place body fits (g.knows knows) fit.1)
         (λ b h. so i b.inside (both i t.inside b.inside g h) (λ r. (r.0.0, r.0.1, r.1))))
-    statement_typed-well w i at (kind.Do' p place body test) fits knows fit =
+    statement_typed-well w i at (kind.Do' place p body test) fits knows fit =
         lift-then (GivesStatement i) (GivesStatement i) _ _ (statement_typed-well (in_loop w) i place body fits knows fit.0)
         (λ b g. lift-then (GivesPart b.inside IsTest) (GivesStatement i) (do_made at b.found) (tested_in at b.inside test) (tested_in-well at b.inside test (g.knows knows) fit.1)
         (λ t h. so i t.inside (both i b.inside t.inside g h) (λ r. (r.1.0, r.1.1, r.0))))
-    statement_typed-well w i at (kind.For' first test last p place body) fits knows fit =
+    statement_typed-well w i at (kind.For' first test last place p body) fits knows fit =
         lift-then (λ (f : Reported). Gives (in_block i) f.inside (Row f.statements)) (GivesStatement i) _ (first_typed (in_block i) first) (first_typed-well (in_block i) first (block-knows i knows) fit.0)
         (λ f g. lift-then (GivesPart f.inside (IsTestIfAny s)) (GivesStatement i) _ (tested_if at f.inside test) (tested_if-well at f.inside test (g.knows (block-knows i knows)) fit.1)
         (λ t h.
@@ -550,7 +550,7 @@ module _ (s : Setting) (laid_out : IsLaidOut s.program.model s.program.table) wh
     statement_typed-well w i at kind.Break fits knows fit = cond-then (GivesStatement i) w.breaks _ (Fault Jump at) (λ _. nothing i) (λ _. tt)
     statement_typed-well w i at (kind.Return value) fits knows fit =
         lift-then (GivesPart i (IsReturned s)) (GivesStatement i) (return_made at) (returned w at i value) (returned-well w at i value fits.0 knows fit) (λ p g. g)
-    statement_typed-well w i at (kind.Label' name p place body) fits knows fit =
+    statement_typed-well w i at (kind.Label' name place p body) fits knows fit =
         cond-then (GivesStatement i) (is_first i (label_number name w.labels)) _ (Fault Jump at)
         (λ first.
         let below = met-below i (label_number name w.labels) (label-below w name fits) first in
@@ -560,7 +560,7 @@ module _ (s : Setting) (laid_out : IsLaidOut s.program.model s.program.table) wh
 
     pub item_typed-well : (w : Where) (item : RawItem) (so_far : Reported) → Fits w → Knows so_far.inside → ItemHasConstants item → IfFine (item_typed w item so_far) (Yields so_far)
     item_typed-well w (items.TheVariants.Declare words objects) so_far fits knows fit = declaration_typed-well words objects.items so_far knows fit
-    item_typed-well w (items.TheVariants.Run' place body) so_far fits knows fit =
+    item_typed-well w (items.TheVariants.Run' place p body) so_far fits knows fit =
         lift-then (GivesStatement so_far.inside) (Yields so_far) (telling so_far.statements) _ (statement_typed-well w so_far.inside place body fits knows fit)
         (λ p g. yields-one so_far.statements so_far.inside p.inside p.found g)
 

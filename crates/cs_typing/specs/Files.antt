@@ -9,10 +9,10 @@ use Rattle.cs_ast.specs.declared.raw.external.RawExternalKind.{RawExternalKind}
 use Rattle.cs_ast.specs.declared.raw.external.RawExternalKind.TheVariants as external
 use Rattle.cs_ast.specs.declared.raw.external.RawExternal.{RawExternal}
 use Rattle.cs_ast.specs.TypedProgram.{Routine}
-use Rattle.cs_consts.specs.declared.scope.Callee.{Callee}
-use Rattle.cs_consts.specs.declared.scope.Callee.TheVariants.{Malloc, Calloc, Free}
-use Rattle.cs_consts.specs.Verdicts.{Verdict, Fine, lift}
-use Rattle.cs_consts.specs.Meanings.{Declaration, Function}
+use Rattle.cs_scopes.specs.declared.scope.Callee.{Callee}
+use Rattle.cs_scopes.specs.declared.scope.Callee.TheVariants.{Malloc, Calloc, Free}
+use Rattle.cs_scopes.specs.Verdicts.{Verdict, Fine, lift}
+use Rattle.cs_scopes.specs.Meanings.{Declaration, Function}
 use Rattle.cs_declarations.specs.Bodies.{Typing, specs_type, typedefs_added}
 use Rattle.cs_typing.specs.Order.{order_of}
 use Rattle.cs_typing.specs.Objects.{Filed, with_known, objects_added}

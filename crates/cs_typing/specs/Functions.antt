@@ -8,12 +8,12 @@ use Rattle.cs_ast.specs.declared.raw.declaration.RawFunction.{RawFunction}
 use Rattle.cs_ast.specs.declared.raw.external.RawBody.{RawBody}
 use Rattle.cs_ast.specs.TypedTree.{Block}
 use Rattle.cs_ast.specs.TypedProgram.{Variable, Routine}
-use Rattle.cs_consts.specs.declared.refusal.TypeCode.TheVariants.{DeclaredTwice, IncompleteType}
-use Rattle.cs_consts.specs.declared.scope.Callee.{Callee}
-use Rattle.cs_consts.specs.declared.scope.Callee.TheVariants.{Numbered}
-use Rattle.cs_consts.specs.Verdicts.{Verdict, Fine, Fault, lift}
-use Rattle.cs_consts.specs.Meanings.{Meaning, Function, Signature, Declaration}
-use Rattle.cs_consts.specs.TypeNames.{starred}
+use Rattle.cs_scopes.specs.declared.refusal.TypeCode.TheVariants.{DeclaredTwice, IncompleteType}
+use Rattle.cs_scopes.specs.declared.scope.Callee.{Callee}
+use Rattle.cs_scopes.specs.declared.scope.Callee.TheVariants.{Numbered}
+use Rattle.cs_scopes.specs.Verdicts.{Verdict, Fine, Fault, lift}
+use Rattle.cs_scopes.specs.Meanings.{Meaning, Function, Signature, Declaration}
+use Rattle.cs_scopes.specs.TypeNames.{starred}
 use Rattle.cs_declarations.specs.Known.{Known, declarations_of, with_declarations, declaring, meaning_here, entered, left}
 use Rattle.cs_declarations.specs.Parameters.{Head, parameters_typed}
 use Rattle.cs_typing.specs.Objects.{Filed, Inside, Reported, changed, with_known}

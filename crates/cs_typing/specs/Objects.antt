@@ -9,11 +9,11 @@ use Rattle.cs_ast.specs.declared.raw.declaration.RawFirstValue.{RawFirstValue}
 use Rattle.cs_ast.specs.declared.raw.declaration.RawInit.{RawInit}
 use Rattle.cs_ast.specs.TypedTree.{Initial, Statement, Declare}
 use Rattle.cs_ast.specs.TypedProgram.{Variable, FileObject, Routine}
-use Rattle.cs_consts.specs.declared.refusal.TypeCode.TheVariants.{DeclaredTwice}
-use Rattle.cs_consts.specs.Verdicts.{Verdict, Fine, Fault, lift}
-use Rattle.cs_consts.specs.Meanings.{Meaning, Global, Local}
-use Rattle.cs_consts.specs.Objects.{is_complete}
-use Rattle.cs_consts.specs.TypeNames.{starred}
+use Rattle.cs_scopes.specs.declared.refusal.TypeCode.TheVariants.{DeclaredTwice}
+use Rattle.cs_scopes.specs.Verdicts.{Verdict, Fine, Fault, lift}
+use Rattle.cs_scopes.specs.Meanings.{Meaning, Global, Local}
+use Rattle.cs_types.specs.Kinds.{is_complete}
+use Rattle.cs_scopes.specs.TypeNames.{starred}
 use Rattle.cs_declarations.specs.Known.{Known, with_literals, declaring, is_declared_here, meaning_here}
 use Rattle.cs_declarations.specs.Initializers.{InFile, InFunction, Reading, initial_typed}
 use Rattle.cs_declarations.specs.Objects.{object_type, is_constant_object}

@@ -20,11 +20,11 @@ use Rattle.cs_ast.specs.declared.raw.statement.RawFirst.TheVariants as first_par
 use Rattle.cs_ast.specs.declared.typed.statement.Case.{Case}
 use Rattle.cs_ast.specs.TypedTree.{Typed, Statement, Block, Run, If, IfElse, While, Do, For, Switch, Goto, Label, Break, Continue, Return as Returns, Statements, Empty, Then}
 use Rattle.cs_types.specs.Wrap.{wrapped}
-use Rattle.cs_consts.specs.declared.refusal.TypeCode.TheVariants.{Jump, CaseTwice, Return}
-use Rattle.cs_consts.specs.Verdicts.{Verdict, Fine, Fault, lift}
-use Rattle.cs_consts.specs.Integers.{type_of}
+use Rattle.cs_scopes.specs.declared.refusal.TypeCode.TheVariants.{Jump, CaseTwice, Return}
+use Rattle.cs_scopes.specs.Verdicts.{Verdict, Fine, Fault, lift}
+use Rattle.cs_folding.specs.TypedParts.{type_of}
 use Rattle.cs_consts.specs.Typing.{literals_after}
-use Rattle.cs_consts.specs.Doors.{value_of, assigned_value, test_of, selector_of, discarded_value}
+use Rattle.cs_consts.specs.Roles.{value_of, assigned_value, test_of, selector_of, discarded_value}
 use Rattle.cs_declarations.specs.Known.{model_of, entered, left, with_literals}
 use Rattle.cs_declarations.specs.Bodies.{Typing, specs_type}
 use Rattle.cs_typing.specs.Objects.{Inside, knowing, Reported, locals_added}
@@ -57,7 +57,7 @@ part i found = Fine (record { found = found; inside = i })
 
 -- after the string literals of an expression
 abbrev pub past : RawExpr → Inside → Inside
-past e i = knowing (with_literals (literals_after i.known.literals e.kind) i.known) i
+past e i = knowing (with_literals (literals_after i.known.literals e.kind.value) i.known) i
 
 -- an expression that is tested by a word at a place
 abbrev pub tested_in : Place → Inside → RawExpr → Verdict (Part Typed)
@@ -174,21 +174,21 @@ abbrev mutual
   labels_of (kind.Block' shape row) = labels_in row
   labels_of kind.Empty = []
   labels_of (kind.Run e) = []
-  labels_of (kind.If' test p place body) = labels_of body
-  labels_of (kind.IfElse' test p place body q place' other) = labels_of body ++ labels_of other
-  labels_of (kind.While' test p place body) = labels_of body
-  labels_of (kind.Do' p place body test) = labels_of body
-  labels_of (kind.For' first test last p place body) = labels_of body
+  labels_of (kind.If' test place p body) = labels_of body
+  labels_of (kind.IfElse' test place p body place' q other) = labels_of body ++ labels_of other
+  labels_of (kind.While' test place p body) = labels_of body
+  labels_of (kind.Do' place p body test) = labels_of body
+  labels_of (kind.For' first test last place p body) = labels_of body
   labels_of (kind.Switch' value shape row) = labels_in_switch row
   labels_of (kind.Goto label) = []
   labels_of kind.Continue = []
   labels_of kind.Break = []
   labels_of (kind.Return value) = []
-  labels_of (kind.Label' name p place body) = name ∷ labels_of body
+  labels_of (kind.Label' name place p body) = name ∷ labels_of body
 
   pub labels_of_item : RawItem → List (List ℕ)
   labels_of_item (items.TheVariants.Declare s objects) = []
-  labels_of_item (items.TheVariants.Run' place body) = labels_of body
+  labels_of_item (items.TheVariants.Run' place p body) = labels_of body
 
   pub labels_in : {n : _} → kinds.Row_of-RawItem n → List (List ℕ)
   labels_in kinds.end_of-RawItem = []
@@ -254,19 +254,19 @@ abbrev mutual
   statement_typed w i at kind.Empty = part i (Block at Empty)
   statement_typed w i at (kind.Run e) = lift (run_made at) (dropped_in i e)
   -- C11 6.8.4.1
-  statement_typed w i at (kind.If' test p place body) =
+  statement_typed w i at (kind.If' test place p body) =
       lift (λ (t : Part Typed). lift (if_made at t.found) (statement_typed w t.inside place body)) (tested_in at i test)
-  statement_typed w i at (kind.IfElse' test p place body q place' other) =
+  statement_typed w i at (kind.IfElse' test place p body place' q other) =
       lift (λ (t : Part Typed).
       lift (λ (one : Part Statement). lift (if_else_made at t.found one.found) (statement_typed w one.inside place' other))
       (statement_typed w t.inside place body))
       (tested_in at i test)
   -- C11 6.8.5
-  statement_typed w i at (kind.While' test p place body) =
+  statement_typed w i at (kind.While' test place p body) =
       lift (λ (t : Part Typed). lift (while_made at t.found) (statement_typed (in_loop w) t.inside place body)) (tested_in at i test)
-  statement_typed w i at (kind.Do' p place body test) =
+  statement_typed w i at (kind.Do' place p body test) =
       lift (λ (b : Part Statement). lift (do_made at b.found) (tested_in at b.inside test)) (statement_typed (in_loop w) i place body)
-  statement_typed w i at (kind.For' first test last p place body) =
+  statement_typed w i at (kind.For' first test last place p body) =
       lift (λ (f : Reported).
       lift (λ (t : Part (Option Typed)).
       lift (λ (l : Part (Option Typed)).
@@ -286,13 +286,13 @@ abbrev mutual
   statement_typed w i at kind.Break = if w.breaks then part i (Break at) else Fault Jump at
   statement_typed w i at (kind.Return value) = lift (return_made at) (returned w at i value)
   -- C11 6.8.1
-  statement_typed w i at (kind.Label' name p place body) =
+  statement_typed w i at (kind.Label' name place p body) =
       if is_first i (label_number name w.labels) then lift (label_made at i.met) (statement_typed w (meeting i) place body) else Fault Jump at
 
   -- what stands in a block, after some statements
   pub item_typed : Where → RawItem → Reported → Verdict Reported
   item_typed w (items.TheVariants.Declare s objects) so_far = declaration_typed s objects.items so_far
-  item_typed w (items.TheVariants.Run' place body) so_far = lift (telling so_far.statements) (statement_typed w so_far.inside place body)
+  item_typed w (items.TheVariants.Run' place p body) so_far = lift (telling so_far.statements) (statement_typed w so_far.inside place body)
 
   pub items_typed : {n : _} → Where → kinds.Row_of-RawItem n → Reported → Verdict Reported
   items_typed w kinds.end_of-RawItem so_far = Fine so_far

@@ -14,8 +14,8 @@ use Rattle.cs_typing.specs.declared.inside.Inside.{Inside as HeldInside}
 use Rattle.cs_typing.specs.declared.inside.Where.{Where as HeldWhere}
 use Rattle.cs_typing.specs.declared.switches.Switched.{Switched}
 use Rattle.cs_typing.specs.Objects.{Filed, Object, Inside, LocalDeclared, Reported}
-use Rattle.cs_consts.specs.declared.scope.Callee.{Callee}
-use Rattle.cs_consts.specs.Meanings.{Declaration, declaration_of}
+use Rattle.cs_scopes.specs.declared.scope.Callee.{Callee}
+use Rattle.cs_scopes.specs.Meanings.{Declaration, declaration_of}
 use Rattle.cs_declarations.specs.declared.scopes.Inner.{Inner}
 use Rattle.cs_typing.specs.Statements.{Where, Part, Switching}
 use Rattle.cs_typing.specs.Functions.{Routed}

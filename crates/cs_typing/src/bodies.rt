@@ -1,9 +1,9 @@
 //! The bodies of functions (C11 6.9.1).
-ghost use Rattle.std.specs.Prelude.{◌≡◌, map, option_copied};
+ghost use Rattle.std.specs.Prelude.{◌≡◌, map, option_copied, OnOk};
 ghost use Rattle.cs_types.specs.Shape.{shape_of};
 ghost use Rattle.cs_ast.specs.TypedProgram.{variable, routine};
-ghost use Rattle.cs_consts.specs.declared.scope.Callee.TheVariants as callee;
-ghost use Rattle.cs_consts.specs.Verdicts.{Answers};
+ghost use Rattle.cs_scopes.specs.declared.scope.Callee.TheVariants as callee;
+ghost use Rattle.cs_scopes.specs.Verdicts.{Answers};
 ghost use Rattle.cs_ast.specs.TypedView.{statement};
 ghost use Rattle.cs_typing.specs.Objects.{Reported as ReportedOf, changed};
 ghost use Rattle.cs_typing.specs.Functions as functions;
@@ -19,35 +19,38 @@ use cs_ast::raw::declaration::RawFunction;
 use cs_ast::raw::external::RawBody;
 use cs_ast::typed::program::{Function, Local};
 use cs_ast::typed::statement::{Stmt, StmtKind};
-use cs_consts::{Callee, TypeCode, TypeRefusal, starred};
 use cs_declarations::{Inner, parameters_typed};
+use cs_scopes::{Callee, TypeCode, TypeRefusal, starred};
 use cs_types::CType;
-use std::alloc::Global;
+use std::alloc::{AllocError, Global};
 
 // Puts a body into the function with this number.
 fn put_body(
+    alloc: Global,
     functions: &mut Vec<Function>,
     number: u32,
     head: &RawFunction,
     body: &RawBody,
     locals: Vec<Local>,
     statements: Vec<Stmt>,
-)
-    ensures { (reported : ReportedOf) → reported.inside.variables ≡ map variable locals.items → reported.statements ≡ map statement statements.items → map routine functions.new.items ≡ changed number (bodied head.now body.now reported) (map routine functions.old.items) }
+) -> Result<(), AllocError>
+    ensures { (reported : ReportedOf) → reported.inside.variables ≡ map variable locals.items → reported.statements ≡ map statement statements.items → OnOk result (map routine functions.new.items ≡ changed number (bodied head.now body.now reported) (map routine functions.old.items)) }
 {
+    let block = Box::new(alloc, StmtKind::Block(statements))?;
     if let Some(function) = functions.get_mut(number as usize) {
         function.place = head.place;
         function.locals = locals;
         function.body = Some(Stmt {
             place: body.opening,
-            kind: StmtKind::Block(statements),
+            kind: block,
         });
         function.end = body.closing;
     }
+    Ok(())
 }
 
 // A file with the body of the function with this number, whose parameters' scope declares so much.
-#[tactic(auto, using(cs_consts::proofs::Lifting::lifts))]
+#[tactic(auto, using(cs_scopes::proofs::Lifting::lifts))]
 fn with_body(
     alloc: Global,
     filed: Filed,
@@ -84,7 +87,15 @@ fn with_body(
     inside.known.leave(around);
     let mut functions = functions;
     let Inside { known, locals, .. } = inside;
-    put_body(&mut functions, number, head, body, locals, statements);
+    put_body(
+        alloc,
+        &mut functions,
+        number,
+        head,
+        body,
+        locals,
+        statements,
+    )?;
     Ok(Filed {
         known,
         globals,
@@ -94,7 +105,7 @@ fn with_body(
 }
 
 // A file with one more function, which has a result that it may have.
-#[tactic(auto, using(cs_consts::proofs::Lifting::lifts))]
+#[tactic(auto, using(cs_scopes::proofs::Lifting::lifts))]
 fn resulted(
     alloc: Global,
     filed: Filed,
@@ -122,7 +133,7 @@ fn resulted(
 }
 
 /// A file with one more function, after whose words stands a type.
-#[tactic(auto, using(cs_consts::proofs::Lifting::lifts))]
+#[tactic(auto, using(cs_scopes::proofs::Lifting::lifts))]
 pub fn with_function(
     alloc: Global,
     filed: Filed,

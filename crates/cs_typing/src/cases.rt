@@ -7,7 +7,7 @@ ghost use Rattle.cs_typing.specs.Statements.{is_case, same_value, case_put};
 
 use cs_ast::Place;
 use cs_ast::typed::statement::Case;
-use cs_consts::{TypeCode, TypeRefusal};
+use cs_scopes::{TypeCode, TypeRefusal};
 use std::alloc::{AllocError, Global};
 use std::collections::HashSet;
 use std::marker::Model;

@@ -3,7 +3,7 @@ ghost use Rattle.std.specs.Prelude.{◌≡◌, ◌++◌, [], ◌∷◌, map, IfO
 ghost use Rattle.cs_types.specs.Shape.{shape_of, void, integer, pointer};
 ghost use Rattle.cs_types.specs.DataModel.{size_type_of};
 ghost use Rattle.cs_types.specs.declared.ctype.CType.{CType as CTypeOf};
-ghost use Rattle.cs_consts.specs.Verdicts.{Answers};
+ghost use Rattle.cs_scopes.specs.Verdicts.{Answers};
 ghost use Rattle.cs_typing.specs.Files.{library_function, allocators, beginning, specs_of, external_declared, external_typed, file_typed, typed_file};
 ghost use Rattle.cs_typing.specs.View.{filed_of};
 
@@ -12,11 +12,11 @@ use crate::filed::Filed;
 use crate::order::{blanks, order_of};
 use cs_ast::raw::declaration::RawSpecs;
 use cs_ast::raw::external::{RawExternal, RawExternalKind};
-use cs_consts::{
-    Callee, Context, Declaration, Declarations, Function, Meaning, Scope, Tags, TypeRefusal,
-};
 use cs_declarations::{Known, specs_type};
 use cs_names::Name;
+use cs_scopes::{
+    Callee, Context, Declaration, Declarations, Function, Meaning, Scope, Tags, TypeRefusal,
+};
 use cs_types::{CType, DataModel, StructTable, Structs, size_type};
 use indexmap::IndexSet;
 use std::alloc::{AllocError, Global};
@@ -122,7 +122,7 @@ fn specs_of(kind: &RawExternalKind) -> &RawSpecs
 }
 
 // A file with what one more part declares, before whose declarators stands a type.
-#[tactic(auto, using(cs_consts::proofs::Lifting::lifts))]
+#[tactic(auto, using(cs_scopes::proofs::Lifting::lifts))]
 fn with_external(
     alloc: Global,
     filed: Filed,
@@ -150,7 +150,7 @@ fn with_external(
 }
 
 /// A file with one more part.
-#[tactic(auto, using(cs_consts::proofs::Lifting::lifts))]
+#[tactic(auto, using(cs_scopes::proofs::Lifting::lifts))]
 pub fn external_typed(
     alloc: Global,
     filed: Filed,

@@ -2,7 +2,7 @@
 ghost use Rattle.std.specs.Prelude.{◌≡◌, map, IfOk};
 ghost use Rattle.cs_types.specs.Shape.{shape_of};
 ghost use Rattle.cs_ast.specs.TypedProgram.{variable, routine};
-ghost use Rattle.cs_consts.specs.Meanings.{signature_of};
+ghost use Rattle.cs_scopes.specs.Meanings.{signature_of};
 ghost use Rattle.cs_declarations.specs.Answered.{AnswersWith};
 ghost use Rattle.cs_declarations.specs.Known.{meaning_here};
 ghost use Rattle.cs_declarations.specs.View.{known_of};
@@ -14,9 +14,9 @@ ghost use Rattle.cs_typing.specs.View.{filed_of, routed_of};
 use crate::filed::Filed;
 use cs_ast::raw::declaration::RawFunction;
 use cs_ast::typed::program::{Function, Local};
-use cs_consts::{Callee, Function as Signature, Meaning, TypeCode, TypeRefusal};
 use cs_declarations::Head;
 use cs_names::Name;
+use cs_scopes::{Callee, Function as Signature, Meaning, TypeCode, TypeRefusal};
 use cs_types::CType;
 use std::alloc::{AllocError, Global};
 

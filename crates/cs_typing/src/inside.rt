@@ -13,9 +13,10 @@ use cs_ast::raw::expression::RawExpr;
 use cs_ast::typed::expression::Expr;
 use cs_ast::typed::program::Local;
 use cs_ast::typed::statement::{Stmt, StmtKind};
-use cs_consts::{Meaning, TypeCode, TypeRefusal, discarded, selector, test};
+use cs_consts::{discarded, selector, test};
 use cs_declarations::{Known, Storage, initial_typed, object_type, specs_type};
 use cs_names::Name;
+use cs_scopes::{Meaning, TypeCode, TypeRefusal};
 use cs_types::CType;
 use std::alloc::{AllocError, Global};
 
@@ -145,7 +146,7 @@ impl Inside {
         let Some(first) = &declared.initial else {
             return Ok(Stmt {
                 place: declared.declarator.place,
-                kind: StmtKind::Declare(number, None),
+                kind: Box::new(alloc, StmtKind::Declare(number, None))?,
             });
         };
         let known = &mut self.known;
@@ -160,7 +161,7 @@ impl Inside {
         )?;
         Ok(Stmt {
             place: first.place,
-            kind: StmtKind::Declare(number, Some(found)),
+            kind: Box::new(alloc, StmtKind::Declare(number, Some(found)))?,
         })
     }
 

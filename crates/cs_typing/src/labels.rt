@@ -132,9 +132,9 @@ fn add_from_switch_item(labels: &mut Labels, item: &RawSwitchItem) -> Result<(),
 // Adds the labels of a statement.
 #[cycle(labels)]
 fn add_from(labels: &mut Labels, statement: &RawStmt) -> Result<(), AllocError>
-    ensures { OnOk result (labels.new ≡ labels.old ++ labels_of statement.now.kind) }
+    ensures { OnOk result (labels.new ≡ labels.old ++ labels_of statement.now.kind.value) }
 {
-    match &statement.kind {
+    match &*statement.kind {
         RawStmtKind::Block(items) => add_from_items(labels, items),
         RawStmtKind::Switch(_, items) => add_from_switch(labels, items),
         RawStmtKind::If(_, body) => add_from(labels, body),

@@ -13,10 +13,10 @@ use crate::filed::Filed;
 use cs_ast::raw::declaration::{RawDeclarator, RawFirstValue, RawInit, RawSpecs};
 use cs_ast::typed::program::Global;
 use cs_ast::typed::statement::Initial;
-use cs_consts::{Meaning, TypeCode, TypeRefusal, is_complete, starred};
 use cs_declarations::{Storage, initial_typed, is_constant_object, object_type};
 use cs_names::Name;
-use cs_types::CType;
+use cs_scopes::{Meaning, TypeCode, TypeRefusal, starred};
+use cs_types::{CType, is_complete};
 use std::alloc::{AllocError, Global as Allocation};
 
 impl Filed {
@@ -99,7 +99,7 @@ impl Filed {
     }
 
     // What an object holds at first.
-    #[tactic(auto, using(cs_consts::proofs::Lifting::lifts))]
+    #[tactic(auto, using(cs_scopes::proofs::Lifting::lifts))]
     fn initialize(
         &mut self,
         alloc: Allocation,
@@ -147,7 +147,7 @@ impl Filed {
     }
 
     // A declared object of a file.
-    #[tactic(auto, using(cs_consts::proofs::Lifting::lifts))]
+    #[tactic(auto, using(cs_scopes::proofs::Lifting::lifts))]
     fn declare_object(
         &mut self,
         alloc: Allocation,

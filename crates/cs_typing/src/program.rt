@@ -2,7 +2,7 @@
 ghost use Rattle.std.specs.Prelude.{◌≡◌, IfOk};
 ghost use Rattle.cs_types.specs.Layout.{IsLaidOut};
 ghost use Rattle.cs_ast.specs.TypedProgram.{typed_program};
-ghost use Rattle.cs_consts.specs.Verdicts.{Answers};
+ghost use Rattle.cs_scopes.specs.Verdicts.{Answers};
 ghost use Rattle.cs_typing.specs.Programs.{constants_in, typed};
 ghost use Rattle.cs_well_formed.specs.Files.{IsFileTree};
 ghost use Rattle.cs_well_formed.specs.Programs.{IsWellFormed};
@@ -12,9 +12,9 @@ use crate::filed::Filed;
 use cs_ast::raw::external::RawExternal;
 use cs_ast::typed::program::Program;
 use cs_ast::{Token, TokenKind};
-use cs_consts::TypeRefusal;
 use cs_declarations::Known;
 use cs_names::Name;
+use cs_scopes::TypeRefusal;
 use cs_types::DataModel;
 use indexmap::IndexSet;
 use std::alloc::{AllocError, Global};
@@ -48,7 +48,7 @@ fn copied(alloc: Global, names: &[Name]) -> Result<Vec<Name>, AllocError>
 /// The program that the parts of a file with these tokens are, whose places are in these files, or the first failing place. It is
 /// well formed where these are the tree and the tokens of a file's text: no constant is too wide for the types of its list (C11 6.4.4,
 /// paragraph 2), places are in the files, and the text is short.
-#[tactic(auto, using(cs_consts::proofs::Lifting::lifts))]
+#[tactic(auto, using(cs_scopes::proofs::Lifting::lifts))]
 pub fn typed(
     alloc: Global,
     model: DataModel,

@@ -5,8 +5,8 @@ ghost use Rattle.cs_declarations.specs.Answered.{AnswersWith};
 ghost use Rattle.cs_typing.specs.Objects.{Inside as InsideOf};
 ghost use Rattle.cs_typing.specs.Statements.{nothing_reported, statement_typed, while_typed, do_typed, for_typed, first_typed, block_typed, body_typed, item_typed, returned, value_returned, is_void, label_number, goto_typed, label_typed};
 ghost use Rattle.cs_typing.specs.View.{inside_of, where_of, reported_of, statement_part, kind_part, kind_at, typed_part, optional_part};
-ghost use Rattle.cs_consts.specs.Verdicts.{Answers, Fine, Fault};
-ghost use Rattle.cs_consts.specs.declared.refusal.TypeCode.TheVariants.{Jump};
+ghost use Rattle.cs_scopes.specs.Verdicts.{Answers, Fine, Fault};
+ghost use Rattle.cs_scopes.specs.declared.refusal.TypeCode.TheVariants.{Jump};
 
 use crate::inside::{Inside, Where};
 use crate::switches::switch_typed;
@@ -15,8 +15,9 @@ use cs_ast::raw::expression::RawExpr;
 use cs_ast::raw::statement::{RawFirst, RawItem, RawStmt, RawStmtKind};
 use cs_ast::typed::expression::Expr;
 use cs_ast::typed::statement::{Stmt, StmtKind};
-use cs_consts::{TypeCode, TypeRefusal, assigned_value};
+use cs_consts::assigned_value;
 use cs_names::Name;
+use cs_scopes::{TypeCode, TypeRefusal};
 use cs_types::CType;
 use std::alloc::{AllocError, Global};
 
@@ -28,12 +29,12 @@ pub fn statement_typed(
     at: Where,
     tree: &RawStmt,
 ) -> Result<Stmt, TypeRefusal>
-    ensures { AnswersWith statement_part (statement_typed (where_of at.entry) (inside_of inside.old) tree.now.place tree.now.kind) result inside.new }
+    ensures { AnswersWith statement_part (statement_typed (where_of at.entry) (inside_of inside.old) tree.now.place tree.now.kind.value) result inside.new }
 {
-    let kind = kind_typed(alloc, inside, at, tree.place, &tree.kind)?;
+    let kind = kind_typed(alloc, inside, at, tree.place, &*tree.kind)?;
     Ok(Stmt {
         place: tree.place,
-        kind,
+        kind: Box::new(alloc, kind)?,
     })
 }
 
@@ -55,13 +56,13 @@ fn kind_typed(
         RawStmtKind::If(test, body) => {
             let test = inside.tested(alloc, place, test)?;
             let body = statement_typed(alloc, inside, at, body)?;
-            Ok(StmtKind::If(test, Box::new(alloc, body)?))
+            Ok(StmtKind::If(test, body))
         }
         RawStmtKind::IfElse(test, body, other) => {
             let test = inside.tested(alloc, place, test)?;
             let body = statement_typed(alloc, inside, at, body)?;
             let other = statement_typed(alloc, inside, at, other)?;
-            Ok(StmtKind::IfElse(test, Box::new(alloc, body)?, Box::new(alloc, other)?))
+            Ok(StmtKind::IfElse(test, body, other))
         }
         RawStmtKind::While(test, body) => while_typed(alloc, inside, at, place, body, test),
         RawStmtKind::Do(body, test) => do_typed(alloc, inside, at, place, body, test),
@@ -89,11 +90,11 @@ fn while_typed(
     body: &RawStmt,
     test: &RawExpr,
 ) -> Result<StmtKind, TypeRefusal>
-    ensures { AnswersWith (kind_part place) (while_typed (where_of at.entry) (inside_of inside.old) place test.now body.now.place body.now.kind) result inside.new }
+    ensures { AnswersWith (kind_part place) (while_typed (where_of at.entry) (inside_of inside.old) place test.now body.now.place body.now.kind.value) result inside.new }
 {
     let test = inside.tested(alloc, place, test)?;
     let body = statement_typed(alloc, inside, at.in_loop(), body)?;
-    Ok(StmtKind::While(test, Box::new(alloc, body)?))
+    Ok(StmtKind::While(test, body))
 }
 
 // `do` (C11 6.8.5.2).
@@ -106,11 +107,11 @@ fn do_typed(
     body: &RawStmt,
     test: &RawExpr,
 ) -> Result<StmtKind, TypeRefusal>
-    ensures { AnswersWith (kind_part place) (do_typed (where_of at.entry) (inside_of inside.old) place test.now body.now.place body.now.kind) result inside.new }
+    ensures { AnswersWith (kind_part place) (do_typed (where_of at.entry) (inside_of inside.old) place test.now body.now.place body.now.kind.value) result inside.new }
 {
     let body = statement_typed(alloc, inside, at.in_loop(), body)?;
     let test = inside.tested(alloc, place, test)?;
-    Ok(StmtKind::Do(Box::new(alloc, body)?, test))
+    Ok(StmtKind::Do(body, test))
 }
 
 // `for`, whose parts are a scope (C11 6.8.5, paragraph 5; 6.8.5.3).
@@ -125,7 +126,7 @@ fn for_typed(
     last: &Option<RawExpr>,
     body: &RawStmt,
 ) -> Result<StmtKind, TypeRefusal>
-    ensures { AnswersWith (kind_part place) (for_typed (where_of at.entry) (inside_of inside.old) place first.now test.now last.now body.now.place body.now.kind) result inside.new }
+    ensures { AnswersWith (kind_part place) (for_typed (where_of at.entry) (inside_of inside.old) place first.now test.now last.now body.now.place body.now.kind.value) result inside.new }
 {
     let around = inside.known.enter();
     let first = first_typed(alloc, inside, first)?;
@@ -133,7 +134,7 @@ fn for_typed(
     let last = inside.dropped_if(alloc, last)?;
     let body = statement_typed(alloc, inside, at.in_loop(), body)?;
     inside.known.leave(around);
-    Ok(StmtKind::For(first, test, last, Box::new(alloc, body)?))
+    Ok(StmtKind::For(first, test, last, body))
 }
 
 // The first part of a `for`.
@@ -148,9 +149,10 @@ fn first_typed(
     match first {
         RawFirst::Empty => Ok(statements),
         RawFirst::Run(value) => {
+            let dropped = inside.dropped(alloc, value)?;
             statements.push(Stmt {
                 place: value.place,
-                kind: StmtKind::Run(inside.dropped(alloc, value)?),
+                kind: Box::new(alloc, StmtKind::Run(dropped))?,
             })?;
             Ok(statements)
         }
@@ -299,7 +301,7 @@ fn labelled(
     name: &Name,
     body: &RawStmt,
 ) -> Result<StmtKind, TypeRefusal>
-    ensures { AnswersWith (kind_part place) (label_typed (where_of at.entry) (inside_of inside.old) place name.now body.now.place body.now.kind) result inside.new }
+    ensures { AnswersWith (kind_part place) (label_typed (where_of at.entry) (inside_of inside.old) place name.now body.now.place body.now.kind.value) result inside.new }
 {
     let number = inside.met;
     if at.labels.number_of(name) != Some(number) {
@@ -308,5 +310,5 @@ fn labelled(
     let next = number.checked_add(1).ok_or(AllocError)?;
     inside.met = next;
     let body = statement_typed(alloc, inside, at, body)?;
-    Ok(StmtKind::Label(number, Box::new(alloc, body)?))
+    Ok(StmtKind::Label(number, body))
 }

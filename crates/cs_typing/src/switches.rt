@@ -12,7 +12,8 @@ use cs_ast::Place;
 use cs_ast::raw::expression::RawExpr;
 use cs_ast::raw::statement::RawSwitchItem;
 use cs_ast::typed::statement::{Stmt, StmtKind};
-use cs_consts::{TypeRefusal, value};
+use cs_consts::value;
+use cs_scopes::TypeRefusal;
 use cs_types::{CType, DataModel, wrap};
 use std::alloc::Global;
 

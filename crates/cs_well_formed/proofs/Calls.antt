@@ -9,13 +9,13 @@ use Rattle.cs_ast.specs.declared.typed.operator.Allocator.{Allocator}
 use Rattle.cs_ast.specs.declared.typed.operator.Allocator.TheVariants as allocator
 use Rattle.cs_ast.specs.TypedTree.{Typed, TypedList, NoMore, Further}
 use Rattle.cs_ast.specs.TypedProgram.{TypedProgram, Variable}
-use Rattle.cs_consts.specs.declared.context.Context.{Context}
-use Rattle.cs_consts.specs.declared.scope.Callee.{Callee}
-use Rattle.cs_consts.specs.declared.scope.Callee.TheVariants.{Malloc, Calloc, Free, Numbered}
-use Rattle.cs_consts.specs.Meanings.{Signature}
-use Rattle.cs_consts.specs.Verdicts.{Verdict, Fine, Fault}
-use Rattle.cs_consts.specs.Integers.{type_of}
-use Rattle.cs_consts.specs.Calls.{parameters_of, allocates, is_pointer_target, admitted, before_others, converted_list, allocated, freed, call_by, call_of}
+use Rattle.cs_scopes.specs.declared.context.Context.{Context}
+use Rattle.cs_scopes.specs.declared.scope.Callee.{Callee}
+use Rattle.cs_scopes.specs.declared.scope.Callee.TheVariants.{Malloc, Calloc, Free, Numbered}
+use Rattle.cs_scopes.specs.Meanings.{Signature}
+use Rattle.cs_scopes.specs.Verdicts.{Verdict, Fine, Fault}
+use Rattle.cs_folding.specs.TypedParts.{type_of}
+use Rattle.cs_expressions.specs.Calls.{parameters_of, allocates, is_pointer_target, admitted, before_others, converted_list, allocated, freed, call_by, call_of}
 use Rattle.cs_consts.specs.Typing.{call_with, call_or_not, no_function}
 use Rattle.cs_well_formed.specs.Structs.{NamesStructs, HasNamedTypes, TypesAreNamed}
 use Rattle.cs_well_formed.specs.Expressions.{Setting, IsWell, AreWell, IsValue, IsValueOf, AreValuesOf, sizes_of}

@@ -16,8 +16,9 @@ use Rattle.cs_ast.specs.declared.typed.operator.BinOp.TheVariants.{Add, Sub, Mul
 use Rattle.cs_ast.specs.TypedTree.{Typed, Of, Form, Number, Convert, Unary, Not, Binary, Compare, And, Or, Choice}
 use Rattle.cs_consts.specs.declared.purpose.Purpose.{Purpose}
 use Rattle.cs_consts.specs.declared.purpose.Purpose.TheVariants.{Run, Constant, Unneeded}
-use Rattle.cs_consts.specs.Integers.{type_of}
-use Rattle.cs_consts.specs.Constants.{truth, holds, without, given, bits_of, bitwise, is_count, applied, turned_exactly, compared, kept, with_both, chosen_number, needed_if, number_in, form_number, constant_at, finished}
+use Rattle.cs_folding.specs.TypedParts.{type_of}
+use Rattle.cs_folding.specs.Folding.{truth, holds, without, given, bits_of, bitwise, is_count, applied, turned_exactly, compared, kept, with_both, chosen_number, needed_if, number_in, form_number}
+use Rattle.cs_consts.specs.Constants.{constant_at, finished}
 use Rattle.cs_well_formed.specs.Expressions.{Setting, IsWell, IsWellForm}
 use Rattle.cs_well_formed.proofs.Verdicts.{IfFine, both_true}
 use Rattle.cs_well_formed.proofs.Numbers.{small-InRange}

@@ -6,11 +6,11 @@ use Rattle.cs_types.specs.Shape.{Shape, void, integer, pointer, array, struct, s
 use Rattle.cs_types.specs.ShapeEquality.{same_shape-true}
 use Rattle.cs_ast.specs.declared.place.Place.{Place}
 use Rattle.cs_ast.specs.TypedTree.{Typed, Of, Convert}
-use Rattle.cs_consts.specs.Integers.{type_of}
-use Rattle.cs_consts.specs.Objects.{is_void}
-use Rattle.cs_consts.specs.Constants.{is_null}
-use Rattle.cs_consts.specs.Conversions.{null_at, pointed, pointed_from_integer, converted, pointer_cast, recast, Pair, pointers_met}
-use Rattle.cs_consts.specs.Operators.{met}
+use Rattle.cs_folding.specs.TypedParts.{type_of}
+use Rattle.cs_types.specs.Kinds.{is_void}
+use Rattle.cs_folding.specs.Folding.{is_null}
+use Rattle.cs_expressions.specs.Conversions.{null_at, pointed, pointed_from_integer, converted, pointer_cast, recast, Pair, pointers_met}
+use Rattle.cs_expressions.specs.Operators.{met}
 use Rattle.cs_well_formed.specs.Structs.{NamesStructs}
 use Rattle.cs_well_formed.specs.Expressions.{Setting, IsWell, IsValueOf, IsScalarValue}
 use Rattle.cs_well_formed.proofs.Verdicts.{IfFine, if_fine-weaker, cond-then}

@@ -7,13 +7,15 @@ use Rattle.cs_ast.specs.declared.place.Place.{Place}
 use Rattle.cs_ast.specs.declared.raw.expression.RawExpr.{RawExpr}
 use Rattle.cs_ast.specs.RawView.{written}
 use Rattle.cs_ast.specs.TypedTree.{Typed, Of, Number}
-use Rattle.cs_consts.specs.declared.context.Context.{Context}
+use Rattle.cs_scopes.specs.declared.context.Context.{Context}
 use Rattle.cs_consts.specs.declared.purpose.Purpose.TheVariants.{Run, Constant}
-use Rattle.cs_consts.specs.Integers.{type_of, raised}
-use Rattle.cs_consts.specs.Conversions.{converted}
-use Rattle.cs_consts.specs.Operators.{tested}
-use Rattle.cs_consts.specs.Typing.{Literals, literals_after, formed, operand_in}
-use Rattle.cs_consts.specs.Doors.{number_of_constant, value_of, operand_of, assigned_value, test_of, selector_of, discarded_value}
+use Rattle.cs_folding.specs.TypedParts.{type_of}
+use Rattle.cs_expressions.specs.Integers.{raised}
+use Rattle.cs_expressions.specs.Conversions.{converted}
+use Rattle.cs_expressions.specs.Operators.{tested}
+use Rattle.cs_expressions.specs.Primary.{Literals}
+use Rattle.cs_consts.specs.Typing.{literals_after, formed, operand_in}
+use Rattle.cs_consts.specs.Roles.{number_of_constant, value_of, operand_of, assigned_value, test_of, selector_of, discarded_value}
 use Rattle.cs_well_formed.specs.Structs.{NamesStructs}
 use Rattle.cs_well_formed.specs.Expressions.{Setting, IsWell, IsValueOf, IsScalarValue, IsIntegerValue}
 use Rattle.cs_well_formed.specs.Constants.{HasConstants}
@@ -26,11 +28,11 @@ use Rattle.cs_well_formed.proofs.Operators.{tested-well}
 use Rattle.cs_well_formed.proofs.Typing.{IsWellValue, done-well, value_in-well, operand_in-well, formed-well}
 
 -- an expression that is run, after literals
-module _ (s : Setting) (c : Context) (literals : Literals) (e : RawExpr) (h : IsTyped s c literals e.kind) where
-  run-well : (target : Option Shape) → TargetNames s target → IfFine (formed c Run literals target e.place e.kind) (IsWell s)
-  run-well target names = formed-well s c h.agrees Run literals target names e.place e.kind h.constants h.texts
+module _ (s : Setting) (c : Context) (literals : Literals) (e : RawExpr) (h : IsTyped s c literals e.kind.value) where
+  run-well : (target : Option Shape) → TargetNames s target → IfFine (formed c Run literals target e.place e.kind.value) (IsWell s)
+  run-well target names = formed-well s c h.agrees Run literals target names e.place e.kind.value h.constants h.texts
 
-  value-well : (target : Option Shape) → TargetNames s target → IfFine (operand_in c Run (formed c Run literals target e.place e.kind)) (IsWellValue s)
+  value-well : (target : Option Shape) → TargetNames s target → IfFine (operand_in c Run (formed c Run literals target e.place e.kind.value)) (IsWellValue s)
   value-well target names = operand_in-well s c h.agrees Run _ (run-well target names)
 
   -- one that has to have a value
@@ -90,10 +92,10 @@ number-InRange s c (Of at ty form) same well = tt
 pub value_of-InRange : (s : Setting) (c : Context) (e : RawExpr) → Agrees s c → HasConstants (written e) → IfFine (value_of c e) (λ k. InRange c.model k.0 k.1)
 unfolding value_of
 value_of-InRange s c e h fit =
-    let alone = with_literals s (literals_after [] e.kind) in
-    let agrees = agrees-with_literals s c (literals_after [] e.kind) h in
+    let alone = with_literals s (literals_after [] e.kind.value) in
+    let agrees = agrees-with_literals s c (literals_after [] e.kind.value) h in
     lift-then (IsWell alone) (λ k. InRange c.model k.0 k.1) number_of_constant _
-    (done-well alone c agrees Constant _ (formed-well alone c agrees Constant [] None tt e.place e.kind fit ([], sym (append-nil _))))
+    (done-well alone c agrees Constant _ (formed-well alone c agrees Constant [] None tt e.place e.kind.value fit ([], sym (append-nil _))))
     (λ v well. number-InRange alone c v h.model well)
 
 pub formed_are_well : FormedAreWell

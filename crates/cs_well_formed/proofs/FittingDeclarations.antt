@@ -25,14 +25,14 @@ use Rattle.cs_ast.specs.RawDeclarationView.{declarator, spec, specs_row, members
 use Rattle.cs_grammar.specs.Text.{pointers_text, integer_word_text}
 use Rattle.cs_grammar.specs.FileText.{punctuator_text, each_after_comma, with_commas, brackets_text, name_text, declarator_text, spec_text, specs_text, members_text, parameter_text, parameters_text}
 use Rattle.cs_grammar.proofs.FileTexts.{declarator_append}
-use Rattle.cs_consts.specs.declared.context.Context.{Context}
-use Rattle.cs_consts.specs.declared.scope.TagMeaning.{TagMeaning}
-use Rattle.cs_consts.specs.declared.scope.TagMeaning.TheVariants as tag
-use Rattle.cs_consts.specs.Meanings.{Typedef}
-use Rattle.cs_consts.specs.Verdicts.{Verdict, Fine, lift}
-use Rattle.cs_consts.specs.Scopes.{newest}
-use Rattle.cs_consts.specs.Objects.{bytes_in}
-use Rattle.cs_consts.specs.TypeNames.{whole_word, typedef_at, enum_at, tag_place, starred, complete_at}
+use Rattle.cs_scopes.specs.declared.context.Context.{Context}
+use Rattle.cs_scopes.specs.declared.scope.TagMeaning.{TagMeaning}
+use Rattle.cs_scopes.specs.declared.scope.TagMeaning.TheVariants as tag
+use Rattle.cs_scopes.specs.Meanings.{Typedef}
+use Rattle.cs_scopes.specs.Verdicts.{Verdict, Fine, lift}
+use Rattle.cs_scopes.specs.Scopes.{newest}
+use Rattle.cs_scopes.specs.Sizes.{bytes_in}
+use Rattle.cs_scopes.specs.TypeNames.{whole_word, typedef_at, enum_at, tag_place, starred, complete_at}
 use Rattle.cs_declarations.specs.Known.{Known, table_of, declarations_of, declaring, is_declared_here}
 use Rattle.cs_declarations.specs.Bodies.{Typing, empty_struct, with_struct, with_tagged_struct, tag_in, struct_named, word_type, align_in, Laying, nothing_laid, has_member, placed_if, member_added, member_declared, declarator_type, members_declared, is_int, Counting, constant_added, number_said, constant_declared, constants_declared, with_enum_tag, is_new_enum, enum_body, Opening, is_among, opening_tagged, opening, name_or_none, Body, struct_read, group_declared, first_name, plain_row, row_type, members_read, plain_words, words_type, specs_type, typedef_added, typedefs_added}
 use Rattle.cs_declarations.specs.Parameters.{Head, Passed, name_in, may_write, naming, is_free_name, with_parameter, parameter_passed, parameter_typed, parameters_after, parameters_typed}

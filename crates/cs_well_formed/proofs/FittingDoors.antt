@@ -7,13 +7,15 @@ use Rattle.cs_ast.specs.declared.raw.expression.RawExprKind.{RawExprKind}
 use Rattle.cs_ast.specs.RawTree.{Written, Named, Numeral, Character, Literal, Enclosed, Index, Call, Member, Arrow, StepAfter, StepBefore, Prefix, SizeOf, SizeOfType, Cast, Infix, Choice, Assign, Comma}
 use Rattle.cs_ast.specs.RawView.{written_kind}
 use Rattle.cs_ast.specs.TypedTree.{Typed}
-use Rattle.cs_consts.specs.declared.context.Context.{Context}
+use Rattle.cs_scopes.specs.declared.context.Context.{Context}
 use Rattle.cs_consts.specs.declared.purpose.Purpose.TheVariants.{Run}
-use Rattle.cs_consts.specs.Integers.{type_of, raised}
-use Rattle.cs_consts.specs.Conversions.{converted}
-use Rattle.cs_consts.specs.Operators.{tested}
-use Rattle.cs_consts.specs.Typing.{Literals, literals_after, formed, operand_in}
-use Rattle.cs_consts.specs.Doors.{operand_of, assigned_value, test_of, selector_of, discarded_value}
+use Rattle.cs_folding.specs.TypedParts.{type_of}
+use Rattle.cs_expressions.specs.Integers.{raised}
+use Rattle.cs_expressions.specs.Conversions.{converted}
+use Rattle.cs_expressions.specs.Operators.{tested}
+use Rattle.cs_expressions.specs.Primary.{Literals}
+use Rattle.cs_consts.specs.Typing.{literals_after, formed, operand_in}
+use Rattle.cs_consts.specs.Roles.{operand_of, assigned_value, test_of, selector_of, discarded_value}
 use Rattle.cs_well_formed.specs.WrittenPlaces.{ExpressionAmong}
 use Rattle.cs_well_formed.specs.Bounded.{IsBounded, FormedAreBounded, OperandsAreBounded, AssignedAreBounded, TestsAreBounded, SelectorsAreBounded, DiscardedAreBounded}
 use Rattle.cs_well_formed.proofs.Verdicts.{IfFine, if_fine-at, lift-then}
@@ -54,32 +56,32 @@ module _ (Is : Place → Type 0) where
 
   module _ (c : Context) (literals : Literals) (e : RawExpr) (among : ExpressionAmong Is e) where
     -- an expression that is run
-    value-fits : (target : Option Shape) → IfFine (operand_in c Run (formed c Run literals target e.place e.kind)) (Fits Is (room_of e.kind + 1))
-    value-fits target = operand_in-fits Is c (room_of e.kind) Run _ (formed-fits Is c Run literals target e.place e.kind among)
+    value-fits : (target : Option Shape) → IfFine (operand_in c Run (formed c Run literals target e.place e.kind.value)) (Fits Is (room_of e.kind.value + 1))
+    value-fits target = operand_in-fits Is c (room_of e.kind.value) Run _ (formed-fits Is c Run literals target e.place e.kind.value among)
 
-    pub operand_of-fits : (target : Option Shape) → IfFine (operand_of c literals target e) (Fits Is (room_of e.kind + 1))
+    pub operand_of-fits : (target : Option Shape) → IfFine (operand_of c literals target e) (Fits Is (room_of e.kind.value + 1))
     unfolding operand_of
     operand_of-fits target = value-fits target
 
-    assigned_value-fits : (at : Place) (target : Shape) → Is at → IfFine (assigned_value c literals at target e) (Fits Is (room_of e.kind + 1 + 1))
+    assigned_value-fits : (at : Place) (target : Shape) → Is at → IfFine (assigned_value c literals at target e) (Fits Is (room_of e.kind.value + 1 + 1))
     unfolding assigned_value
     assigned_value-fits at target here =
-        lift-then (Fits Is (room_of e.kind + 1)) (Fits Is (room_of e.kind + 1 + 1)) (λ v. converted c.model at v target (type_of v)) _ (value-fits (Some target))
-        (λ v h. converted-fits Is at here c.model (room_of e.kind + 1) v target (type_of v) h)
+        lift-then (Fits Is (room_of e.kind.value + 1)) (Fits Is (room_of e.kind.value + 1 + 1)) (λ v. converted c.model at v target (type_of v)) _ (value-fits (Some target))
+        (λ v h. converted-fits Is at here c.model (room_of e.kind.value + 1) v target (type_of v) h)
 
-    test_of-fits : (at : Place) → IfFine (test_of c literals at e) (Fits Is (room_of e.kind + 1))
+    test_of-fits : (at : Place) → IfFine (test_of c literals at e) (Fits Is (room_of e.kind.value + 1))
     unfolding test_of
-    test_of-fits at = lift-then (Fits Is (room_of e.kind + 1)) (Fits Is (room_of e.kind + 1)) (tested at) _ (value-fits None) (λ v. tested-fits Is at (room_of e.kind + 1) v)
+    test_of-fits at = lift-then (Fits Is (room_of e.kind.value + 1)) (Fits Is (room_of e.kind.value + 1)) (tested at) _ (value-fits None) (λ v. tested-fits Is at (room_of e.kind.value + 1) v)
 
-    selector_of-fits : (at : Place) → Is at → IfFine (selector_of c literals at e) (Fits Is (room_of e.kind + 1 + 1))
+    selector_of-fits : (at : Place) → Is at → IfFine (selector_of c literals at e) (Fits Is (room_of e.kind.value + 1 + 1))
     unfolding selector_of
     selector_of-fits at here =
-        lift-then (Fits Is (room_of e.kind + 1)) (Fits Is (room_of e.kind + 1 + 1)) (λ v. raised c.model at v (type_of v)) _ (value-fits None)
-        (λ v h. raised-fits Is at here c.model (room_of e.kind + 1) v (type_of v) h)
+        lift-then (Fits Is (room_of e.kind.value + 1)) (Fits Is (room_of e.kind.value + 1 + 1)) (λ v. raised c.model at v (type_of v)) _ (value-fits None)
+        (λ v h. raised-fits Is at here c.model (room_of e.kind.value + 1) v (type_of v) h)
 
-    discarded_value-fits : IfFine (discarded_value c literals e) (Fits Is (room_of e.kind + 1))
+    discarded_value-fits : IfFine (discarded_value c literals e) (Fits Is (room_of e.kind.value + 1))
     unfolding discarded_value
-    discarded_value-fits = value_in-fits Is c (room_of e.kind) Run _ (formed-fits Is c Run literals None e.place e.kind among)
+    discarded_value-fits = value_in-fits Is c (room_of e.kind.value) Run _ (formed-fits Is c Run literals None e.place e.kind.value among)
 
   pub formed_are_bounded : FormedAreBounded Is
   formed_are_bounded c purpose literals target at k e among is =
@@ -87,20 +89,20 @@ module _ (Is : Place → Type 0) where
 
   pub operands_are_bounded : OperandsAreBounded Is
   operands_are_bounded c literals target e v among is =
-      fits-bounded literals e.kind (room_of e.kind + 1) v (if_fine-at (Fits Is (room_of e.kind + 1)) (operand_of c literals target e) v (operand_of-fits c literals e among target) is) (omega arith)
+      fits-bounded literals e.kind.value (room_of e.kind.value + 1) v (if_fine-at (Fits Is (room_of e.kind.value + 1)) (operand_of c literals target e) v (operand_of-fits c literals e among target) is) (omega arith)
 
   pub assigned_are_bounded : AssignedAreBounded Is
   assigned_are_bounded c literals at target e v here among is =
-      fits-bounded literals e.kind (room_of e.kind + 1 + 1) v (if_fine-at (Fits Is (room_of e.kind + 1 + 1)) (assigned_value c literals at target e) v (assigned_value-fits c literals e among at target here) is) (omega arith)
+      fits-bounded literals e.kind.value (room_of e.kind.value + 1 + 1) v (if_fine-at (Fits Is (room_of e.kind.value + 1 + 1)) (assigned_value c literals at target e) v (assigned_value-fits c literals e among at target here) is) (omega arith)
 
   pub tests_are_bounded : TestsAreBounded Is
   tests_are_bounded c literals at e v among is =
-      fits-bounded literals e.kind (room_of e.kind + 1) v (if_fine-at (Fits Is (room_of e.kind + 1)) (test_of c literals at e) v (test_of-fits c literals e among at) is) (omega arith)
+      fits-bounded literals e.kind.value (room_of e.kind.value + 1) v (if_fine-at (Fits Is (room_of e.kind.value + 1)) (test_of c literals at e) v (test_of-fits c literals e among at) is) (omega arith)
 
   pub selectors_are_bounded : SelectorsAreBounded Is
   selectors_are_bounded c literals at e v here among is =
-      fits-bounded literals e.kind (room_of e.kind + 1 + 1) v (if_fine-at (Fits Is (room_of e.kind + 1 + 1)) (selector_of c literals at e) v (selector_of-fits c literals e among at here) is) (omega arith)
+      fits-bounded literals e.kind.value (room_of e.kind.value + 1 + 1) v (if_fine-at (Fits Is (room_of e.kind.value + 1 + 1)) (selector_of c literals at e) v (selector_of-fits c literals e among at here) is) (omega arith)
 
   pub discarded_are_bounded : DiscardedAreBounded Is
   discarded_are_bounded c literals e v among is =
-      fits-bounded literals e.kind (room_of e.kind + 1) v (if_fine-at (Fits Is (room_of e.kind + 1)) (discarded_value c literals e) v (discarded_value-fits c literals e among) is) (omega arith)
+      fits-bounded literals e.kind.value (room_of e.kind.value + 1) v (if_fine-at (Fits Is (room_of e.kind.value + 1)) (discarded_value c literals e) v (discarded_value-fits c literals e among) is) (omega arith)

@@ -13,11 +13,11 @@ use Rattle.cs_ast.specs.RawDeclarations.{Initial as WrittenInitial, Listed, Init
 use Rattle.cs_ast.specs.RawDeclarationView.{initial, initials}
 use Rattle.cs_ast.specs.TypedTree.{Typed, Initial, Value, Parts, Bytes, Initials, NoPart, Part}
 use Rattle.cs_grammar.specs.FileText.{punctuator_text, initial_text, initials_text, further_initials_text}
-use Rattle.cs_consts.specs.declared.context.Context.{Context}
-use Rattle.cs_consts.specs.Verdicts.{Verdict, Fine, Fault, lift}
-use Rattle.cs_consts.specs.Integers.{type_of}
-use Rattle.cs_consts.specs.Typing.{Literals}
-use Rattle.cs_consts.specs.Doors.{operand_of}
+use Rattle.cs_scopes.specs.declared.context.Context.{Context}
+use Rattle.cs_scopes.specs.Verdicts.{Verdict, Fine, Fault, lift}
+use Rattle.cs_folding.specs.TypedParts.{type_of}
+use Rattle.cs_expressions.specs.Primary.{Literals}
+use Rattle.cs_consts.specs.Roles.{operand_of}
 use Rattle.cs_declarations.specs.Initializers.{Storage, InFile, InFunction, part_types, text_of, is_admitted, has_form, Reading, Readings, value_read, expression_read, types_or_none, parts_read, one_more, initial_read, items_read, is_braceless, value_held, value_judged, before_others, part_judged, parts_judged, initial_judged, stored, limited, kept_with, initial_typed}
 use Rattle.cs_well_formed.specs.Nodes.{expression_nodes, initial_nodes, initials_nodes}
 use Rattle.cs_well_formed.specs.Places.{StandsAmong, InitialStandsAmong, InitialsStandAmong}
@@ -61,17 +61,17 @@ module _ (Is : Place → Type 0) where
     no_more : 2 * initials_nodes r.0 + texts_nodes r.1 ≤ texts_nodes literals + 16 * size
 
   module _ (c : Context) where
-    value-read : (literals : Literals) (ty : Shape) (e : RawExpr) → ExpressionAmong Is e → IfFine (lift (value_read literals e.kind) (operand_of c literals (Some ty) e)) (IsReadBy literals (sized (written e)))
+    value-read : (literals : Literals) (ty : Shape) (e : RawExpr) → ExpressionAmong Is e → IfFine (lift (value_read literals e.kind.value) (operand_of c literals (Some ty) e)) (IsReadBy literals (sized (written e)))
     value-read literals ty e among =
-        lift-then (Fits Is (room_of e.kind + 1)) (IsReadBy literals (sized (written e))) (value_read literals e.kind) (operand_of c literals (Some ty) e) (operand_of-fits Is c literals e among (Some ty))
-        (λ v h. let grown = literals-grow literals e.kind in record {
+        lift-then (Fits Is (room_of e.kind.value + 1)) (IsReadBy literals (sized (written e))) (value_read literals e.kind.value) (operand_of c literals (Some ty) e) (operand_of-fits Is c literals e among (Some ty))
+        (λ v h. let grown = literals-grow literals e.kind.value in record {
           stands = h.stands;
           no_fewer = grown.no_fewer;
           no_more = omega (arith, h.nodes, grown.no_more, sized-some (written e));
         })
 
     expression-read : (literals : Literals) (ty : Shape) (e : RawExpr) → ExpressionAmong Is e → IfFine (expression_read c literals ty e) (IsReadBy literals (sized (written e)))
-    expression-read literals (array element count) e among = record { stands = tt; no_fewer = omega arith; no_more = omega (arith, text-room e.kind) }
+    expression-read literals (array element count) e among = record { stands = tt; no_fewer = omega arith; no_more = omega (arith, text-room e.kind.value) }
     expression-read literals void e among = value-read literals void e among
     expression-read literals (integer ty) e among = value-read literals (integer ty) e among
     expression-read literals (pointer target) e among = value-read literals (pointer target) e among

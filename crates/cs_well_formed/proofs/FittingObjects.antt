@@ -14,17 +14,18 @@ use Rattle.cs_ast.specs.declared.typed.operator.Gives.{Gives}
 use Rattle.cs_ast.specs.declared.typed.operator.Order.{Order}
 use Rattle.cs_ast.specs.declared.typed.operator.Order.TheVariants.{PointerFirst, AmountFirst}
 use Rattle.cs_ast.specs.TypedTree.{Typed, TypedList, NoMore, Further}
-use Rattle.cs_consts.specs.declared.context.Context.{Context}
-use Rattle.cs_consts.specs.declared.scope.Callee.{Callee}
-use Rattle.cs_consts.specs.declared.scope.Callee.TheVariants.{Malloc, Calloc, Free, Numbered}
-use Rattle.cs_consts.specs.Meanings.{Signature}
-use Rattle.cs_consts.specs.Verdicts.{Verdict, Fine, Fault}
-use Rattle.cs_consts.specs.Integers.{type_of, form_of}
-use Rattle.cs_consts.specs.Objects.{is_object, is_void, is_complete}
-use Rattle.cs_consts.specs.Scalars.{has_few_scalars}
-use Rattle.cs_consts.specs.Places.{address_of, through, element, indexed, member_found, member_in, member_after, struct_number, struct_after, member_by, selected, selected_through}
-use Rattle.cs_consts.specs.Stores.{is_stored_to, assignable, assigned, is_additive, updatable_as, updatable, updated, taken_in, stepped}
-use Rattle.cs_consts.specs.Calls.{parameters_of, admitted, before_others, converted_list, allocated, freed, call_by, call_of}
+use Rattle.cs_scopes.specs.declared.context.Context.{Context}
+use Rattle.cs_scopes.specs.declared.scope.Callee.{Callee}
+use Rattle.cs_scopes.specs.declared.scope.Callee.TheVariants.{Malloc, Calloc, Free, Numbered}
+use Rattle.cs_scopes.specs.Meanings.{Signature}
+use Rattle.cs_scopes.specs.Verdicts.{Verdict, Fine, Fault}
+use Rattle.cs_folding.specs.TypedParts.{type_of, form_of}
+use Rattle.cs_expressions.specs.Objects.{is_object}
+use Rattle.cs_types.specs.Kinds.{is_void, is_complete}
+use Rattle.cs_scopes.specs.Scalars.{has_few_scalars}
+use Rattle.cs_expressions.specs.Places.{address_of, through, element, indexed, member_found, member_in, member_after, struct_number, struct_after, member_by, selected, selected_through}
+use Rattle.cs_expressions.specs.Stores.{is_stored_to, assignable, assigned, is_additive, updatable_as, updatable, updated, taken_in, stepped}
+use Rattle.cs_expressions.specs.Calls.{parameters_of, admitted, before_others, converted_list, allocated, freed, call_by, call_of}
 use Rattle.cs_consts.specs.Typing.{is_plain, operator_of, left_side, stored, call_with, call_or_not, no_function}
 use Rattle.cs_well_formed.specs.Nodes.{expression_nodes, row_nodes}
 use Rattle.cs_well_formed.specs.Places.{RowStandsAmong}

@@ -13,22 +13,24 @@ use Rattle.cs_ast.specs.declared.typed.operator.Gives.TheVariants.{Old, New}
 use Rattle.cs_ast.specs.RawView.{written_kind, written_row}
 use Rattle.cs_ast.specs.TypedTree.{Typed, TypedList}
 use Rattle.cs_grammar.specs.Text.{after_commas}
-use Rattle.cs_consts.specs.declared.context.Context.{Context}
+use Rattle.cs_scopes.specs.declared.context.Context.{Context}
 use Rattle.cs_consts.specs.declared.purpose.Purpose.{Purpose}
-use Rattle.cs_consts.specs.Meanings.{Meaning}
-use Rattle.cs_consts.specs.Meanings as meaning
-use Rattle.cs_consts.specs.Verdicts.{Verdict, lift, lift2}
-use Rattle.cs_consts.specs.Integers.{type_of}
-use Rattle.cs_consts.specs.Objects.{is_void, valued, operand, measured}
+use Rattle.cs_scopes.specs.Meanings.{Meaning}
+use Rattle.cs_scopes.specs.Meanings as meaning
+use Rattle.cs_scopes.specs.Verdicts.{Verdict, lift, lift2}
+use Rattle.cs_folding.specs.TypedParts.{type_of}
+use Rattle.cs_types.specs.Kinds.{is_void}
+use Rattle.cs_expressions.specs.Objects.{valued, operand, measured}
 use Rattle.cs_consts.specs.Constants.{finished}
-use Rattle.cs_consts.specs.Conversions.{recast}
-use Rattle.cs_consts.specs.Operators.{combined, tested, followed}
-use Rattle.cs_consts.specs.Places.{selected}
-use Rattle.cs_consts.specs.Stores.{updatable, step_operator}
-use Rattle.cs_consts.specs.Scopes.{newest}
-use Rattle.cs_consts.specs.TypeNames.{arrayed}
-use Rattle.cs_consts.specs.Calls.{called, parameters_of}
-use Rattle.cs_consts.specs.Typing.{Literals, literals_after, row_length, named, text_at, done, value_in, operand_in, purpose_if, purpose_after, is_address, prefixed_value, prefixed, indexed_values, arrow_on, stepped_object, left_side, stored, right_target, cast_type, given_shape, cast_operand, cast_to, chosen_values, measured_type, measured_arrays, base_in, further, formed, arguments_formed}
+use Rattle.cs_expressions.specs.Conversions.{recast}
+use Rattle.cs_expressions.specs.Operators.{combined, tested, followed}
+use Rattle.cs_expressions.specs.Places.{selected}
+use Rattle.cs_expressions.specs.Stores.{updatable, step_operator}
+use Rattle.cs_scopes.specs.Scopes.{newest}
+use Rattle.cs_scopes.specs.TypeNames.{arrayed}
+use Rattle.cs_expressions.specs.Calls.{called, parameters_of}
+use Rattle.cs_expressions.specs.Primary.{Literals, named, text_at}
+use Rattle.cs_consts.specs.Typing.{literals_after, row_length, done, value_in, operand_in, purpose_if, purpose_after, is_address, prefixed_value, prefixed, indexed_values, arrow_on, stepped_object, left_side, stored, right_target, cast_type, given_shape, cast_operand, cast_to, chosen_values, measured_type, measured_arrays, base_in, further, formed, arguments_formed}
 use Rattle.cs_well_formed.specs.Nodes.{row_nodes}
 use Rattle.cs_well_formed.specs.Places.{RowStandsAmong}
 use Rattle.cs_well_formed.specs.WrittenPlaces.{WrittenAmong, RowAmong}
@@ -126,16 +128,16 @@ module _ (Is : Place → Type 0) (c : Context) where
     formed-fits purpose literals target at (kind.Number k) h = record { stands = (h, tt); nodes = omega arith }
     formed-fits purpose literals target at (kind.Character n) h = record { stands = (h, tt); nodes = omega arith }
     formed-fits purpose literals target at (kind.Text bytes) h = if_fine-more Is 1 _ _ (text-fits at h literals bytes) (omega arith)
-    formed-fits purpose literals target at (kind.Parenthesis' p place inner) h =
+    formed-fits purpose literals target at (kind.Parenthesis' place p inner) h =
         if_fine-more Is (room_of inner) _ _ (done-fits (room_of inner) purpose _ (formed-fits purpose literals target place inner h.1)) (omega (arith, sized-Enclosed (written_kind inner)))
-    formed-fits purpose literals target at (kind.Index' p place left q place' right) h =
+    formed-fits purpose literals target at (kind.Index' place p left place' q right) h =
         if_fine-more Is (room_of left + 1 + (room_of right + 1) + 1) _ _
         (lift2-then (Fits Is (room_of left + 1)) (Fits Is (room_of right + 1)) (Fits Is (room_of left + 1 + (room_of right + 1) + 1)) (indexed_values c at) _ _
         (operand_in-fits (room_of left) purpose _ (formed-fits purpose literals None place left h.1))
         (operand_in-fits (room_of right) purpose _ (formed-fits purpose (literals_after literals left) None place' right h.2))
         (λ a b. indexed-fits Is at h.0 c.table.list (room_of left + 1) (room_of right + 1) a b (type_of a) (type_of b)))
         (omega (arith, sized-Index (written_kind left) (written_kind right)))
-    formed-fits purpose literals target at (kind.Call' p place function shape row) h =
+    formed-fits purpose literals target at (kind.Call' place p function shape row) h =
         let commas = size_of (after_commas (written_row row)) in
         if_fine-more Is (5 * commas + 1) _ _
         (call-fits Is at h.0 c (5 * commas) target (called c.scope.declarations function) (row_length row)
@@ -143,43 +145,43 @@ module _ (Is : Place → Type 0) (c : Context) where
         (arguments_formed c purpose literals (parameters_of (called c.scope.declarations function)) row)
         (arguments-fit purpose literals (parameters_of (called c.scope.declarations function)) row h.2))
         (omega (arith, sized-Call (written_kind function) (written_row row), sized-listed (written_row row)))
-    formed-fits purpose literals target at (kind.Member' p place object name) h =
+    formed-fits purpose literals target at (kind.Member' place p object name) h =
         if_fine-more Is (room_of object + 1) _ _
         (lift-then (Fits Is (room_of object)) (Fits Is (room_of object + 1)) (selected c.table.list at name.place name.name) _
         (done-fits (room_of object) purpose _ (formed-fits purpose literals None place object h.1))
         (λ e. selected-fits Is at h.0 c.table.list name.place name.name (room_of object) e))
         (omega (arith, sized-Member (written_kind object) name.name))
-    formed-fits purpose literals target at (kind.Arrow' p place e name) h =
+    formed-fits purpose literals target at (kind.Arrow' place p e name) h =
         if_fine-more Is (room_of e + 1 + 1) _ _
         (lift-then (Fits Is (room_of e + 1)) (Fits Is (room_of e + 1 + 1)) (arrow_on c at name.place name.name) _
         (operand_in-fits (room_of e) purpose _ (formed-fits purpose literals None place e h.1))
         (λ v. selected_through-fits Is at h.0 c.table.list name.place name.name (room_of e + 1) v (type_of v)))
         (omega (arith, sized-Arrow (written_kind e) name.name))
-    formed-fits purpose literals target at (kind.StepAfter' step p place object) h =
+    formed-fits purpose literals target at (kind.StepAfter' step place p object) h =
         if_fine-more Is (room_of object + 2) _ _
         (step-fits at h.0 (step_operator step) Old (room_of object) _ (done-fits (room_of object) purpose _ (formed-fits purpose literals None place object h.1)))
         (omega (arith, sized-StepAfter step (written_kind object)))
-    formed-fits purpose literals target at (kind.StepBefore' step p place object) h =
+    formed-fits purpose literals target at (kind.StepBefore' step place p object) h =
         if_fine-more Is (room_of object + 2) _ _
         (step-fits at h.0 (step_operator step) New (room_of object) _ (done-fits (room_of object) purpose _ (formed-fits purpose literals None place object h.1)))
         (omega arith)
-    formed-fits purpose literals target at (kind.Prefix' operator p place e) h =
+    formed-fits purpose literals target at (kind.Prefix' operator place p e) h =
         if_fine-more Is (room_of e + 3) _ _
         (lift-then (Fits Is (room_of e)) (Fits Is (room_of e + 3)) (prefixed c operator at) _
         (done-fits (room_of e) purpose _ (formed-fits purpose literals None place e h.1))
         (λ v. prefixed-fits at h.0 operator (room_of e) v))
         (omega arith)
-    formed-fits purpose literals target at (kind.SizeOf' p place e) h = if_fine-more Is 1 _ _ (sized-fits at h.0 _) (omega arith)
+    formed-fits purpose literals target at (kind.SizeOf' place p e) h = if_fine-more Is 1 _ _ (sized-fits at h.0 _) (omega arith)
     formed-fits purpose literals target at (kind.SizeOfType' ty shape row) h =
         if_fine-more Is 1 _ _ (sized_type-fits at h _ _) (omega (arith, sized-SizeOfType ty.words.items ty.pointers.items (written_row row)))
-    formed-fits purpose literals target at (kind.Cast' ty shape row p place e) h =
+    formed-fits purpose literals target at (kind.Cast' ty shape row place p e) h =
         if_fine-more Is (room_of e + 2) _ _
         (lift2-then (λ _. Unit {0}) (Fits Is (room_of e)) (Fits Is (room_of e + 2)) (cast_to c at) _ _
         (if_fine-any (cast_type at (row_length row) (base_in c at ty)))
         (done-fits (room_of e) purpose _ (formed-fits purpose literals (given_shape (cast_type at (row_length row) (base_in c at ty))) place e h.1))
         (λ to v _. cast_to-fits at h.0 to (room_of e) v))
         (omega (arith, sized-Cast ty.words.items ty.pointers.items (written_row row) (written_kind e)))
-    formed-fits purpose literals target at (kind.Infix' operator p place left q place' right) h =
+    formed-fits purpose literals target at (kind.Infix' operator place p left place' q right) h =
         let one = operand_in c purpose (formed c purpose literals None place left) in
         if_fine-more Is (room_of left + 1 + (room_of right + 1) + 3) _ _
         (lift2-then (Fits Is (room_of left + 1)) (Fits Is (room_of right + 1)) (Fits Is (room_of left + 1 + (room_of right + 1) + 3)) (combined c.model c.table.list operator at) _ _
@@ -187,7 +189,7 @@ module _ (Is : Place → Type 0) (c : Context) where
         (operand_in-fits (room_of right) (purpose_after operator purpose one) _ (formed-fits (purpose_after operator purpose one) (literals_after literals left) None place' right h.2))
         (λ a b g k. combined-fits Is at h.0 (room_of left + 1) (room_of right + 1) a b g k c.model c.table.list operator))
         (omega (arith, sized-Infix operator (written_kind left) (written_kind right)))
-    formed-fits purpose literals target at (kind.Choice' p place test q place' one r place'' other) h =
+    formed-fits purpose literals target at (kind.Choice' place p test place' q one place'' r other) h =
         let yields = lift (tested at) (operand_in c purpose (formed c purpose literals None place test)) in
         let following = literals_after literals test in
         if_fine-more Is (room_of test + 1 + (room_of one + 1) + (room_of other + 1) + 3) _ _
@@ -199,7 +201,7 @@ module _ (Is : Place → Type 0) (c : Context) where
         (value_in-fits (room_of other) (purpose_if false purpose yields) _ (formed-fits (purpose_if false purpose yields) (literals_after following one) None place'' other h.3))
         (λ t a b g k l. chosen-fits Is at h.0 (room_of one + 1) (room_of other + 1) a b k l c.model (room_of test + 1) t (type_of a) (type_of b) g))
         (omega (arith, sized-Choice (written_kind test) (written_kind one) (written_kind other)))
-    formed-fits purpose literals target at (kind.Assign' operator p place object q place' value) h =
+    formed-fits purpose literals target at (kind.Assign' operator place p object place' q value) h =
         let left = lift (left_side c operator at) (done c purpose (formed c purpose literals None place object)) in
         if_fine-more Is (room_of object + (room_of value + 1) + 2) _ _
         (lift2-then (Fits Is (room_of object)) (Fits Is (room_of value + 1)) (Fits Is (room_of object + (room_of value + 1) + 2)) (stored c operator at) _ _
@@ -209,7 +211,7 @@ module _ (Is : Place → Type 0) (c : Context) where
         (operand_in-fits (room_of value) purpose _ (formed-fits purpose (literals_after literals object) (right_target operator left) place' value h.2))
         (λ o v. stored-fits Is at h.0 c operator (room_of object) (room_of value + 1) o v))
         (omega (arith, sized-Assign operator (written_kind object) (written_kind value)))
-    formed-fits purpose literals target at (kind.Comma' p place first q place' second) h =
+    formed-fits purpose literals target at (kind.Comma' place p first place' q second) h =
         if_fine-more Is (room_of first + 1 + (room_of second + 1) + 1) _ _
         (lift2-then (Fits Is (room_of first + 1)) (Fits Is (room_of second + 1)) (Fits Is (room_of first + 1 + (room_of second + 1) + 1)) (followed at) _ _
         (value_in-fits (room_of first) purpose _ (formed-fits purpose literals None place first h.1))
@@ -220,10 +222,10 @@ module _ (Is : Place → Type 0) (c : Context) where
     -- the values of arguments
     arguments-fit : (purpose : Purpose) (literals : Literals) (types : List Shape) {n : _} (row : Row_of-RawExpr n) → RowAmong Is row → IfFine (arguments_formed c purpose literals types row) (λ vs. RowStandsAmong Is vs × (row_nodes vs + row_count vs ≤ 5 * size_of (after_commas (written_row row))))
     arguments-fit purpose literals types end_of-RawExpr h = (tt, omega arith)
-    arguments-fit purpose literals [] (more_of-RawExpr place k rest) h = (tt, omega arith)
-    arguments-fit purpose literals (ty ∷ types) (more_of-RawExpr place k rest) h =
+    arguments-fit purpose literals [] (more_of-RawExpr place p k rest) h = (tt, omega arith)
+    arguments-fit purpose literals (ty ∷ types) (more_of-RawExpr place p k rest) h =
         let commas = size_of (after_commas (written_row rest)) in
-        if_fine-weaker (λ vs. RowStandsAmong Is vs × (row_nodes vs + row_count vs ≤ (room_of k + 1) + 5 * commas + 1)) (λ vs. RowStandsAmong Is vs × (row_nodes vs + row_count vs ≤ 5 * size_of (after_commas (written_row (more_of-RawExpr place k rest))))) _
+        if_fine-weaker (λ vs. RowStandsAmong Is vs × (row_nodes vs + row_count vs ≤ (room_of k + 1) + 5 * commas + 1)) (λ vs. RowStandsAmong Is vs × (row_nodes vs + row_count vs ≤ 5 * size_of (after_commas (written_row (more_of-RawExpr place p k rest))))) _
         (further-fits (room_of k + 1) (5 * commas) _ _
         (operand_in-fits (room_of k) purpose _ (formed-fits purpose literals (Some ty) place k h.0))
         (arguments-fit purpose (literals_after literals k) types rest h.1))

@@ -21,13 +21,17 @@ use Rattle.cs_ast.specs.declared.typed.operator.Order.TheVariants.{PointerFirst,
 use Rattle.cs_ast.specs.TypedTree.{Typed, Of, Load, Convert, And, Or}
 use Rattle.cs_consts.specs.declared.purpose.Purpose.{Purpose}
 use Rattle.cs_consts.specs.declared.purpose.Purpose.TheVariants.{Run, Constant, Unneeded}
-use Rattle.cs_consts.specs.declared.refusal.TypeCode.TheVariants as code
-use Rattle.cs_consts.specs.Verdicts.{Verdict, Fine, Fault}
-use Rattle.cs_consts.specs.Integers.{type_of, is_integer, in_type, joined, shifted, raised, turned}
-use Rattle.cs_consts.specs.Objects.{is_object, is_void, is_scalar, is_complete, bytes_in, measure_of, measured, held, valued, operand}
-use Rattle.cs_consts.specs.Constants.{is_null, number_in, constant_at, finished}
-use Rattle.cs_consts.specs.Conversions.{null_at, pointed, pointed_from_integer, converted, pointer_cast, recast, Pair, pointers_met}
-use Rattle.cs_consts.specs.Operators.{met, compared_pair, equated, ordered, moved, added, apart, subtracted, tested, denied, both_tested, combined, chosen_pair, alike, chosen, followed}
+use Rattle.cs_scopes.specs.declared.refusal.TypeCode.TheVariants as code
+use Rattle.cs_scopes.specs.Verdicts.{Verdict, Fine, Fault}
+use Rattle.cs_folding.specs.TypedParts.{type_of}
+use Rattle.cs_expressions.specs.Integers.{is_integer, in_type, joined, shifted, raised, turned}
+use Rattle.cs_expressions.specs.Objects.{is_object, measure_of, measured, held, valued, operand}
+use Rattle.cs_types.specs.Kinds.{is_void, is_scalar, is_complete}
+use Rattle.cs_scopes.specs.Sizes.{bytes_in}
+use Rattle.cs_folding.specs.Folding.{is_null, number_in}
+use Rattle.cs_consts.specs.Constants.{constant_at, finished}
+use Rattle.cs_expressions.specs.Conversions.{null_at, pointed, pointed_from_integer, converted, pointer_cast, recast, Pair, pointers_met}
+use Rattle.cs_expressions.specs.Operators.{met, compared_pair, equated, ordered, moved, added, apart, subtracted, tested, denied, both_tested, combined, chosen_pair, alike, chosen, followed}
 use Rattle.cs_well_formed.specs.Nodes.{expression_nodes}
 use Rattle.cs_well_formed.specs.Places.{StandsAmong}
 use Rattle.cs_well_formed.proofs.Verdicts.{IfFine, if_fine-weaker, lift-then, cond-then}

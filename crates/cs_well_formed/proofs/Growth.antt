@@ -12,11 +12,11 @@ use Rattle.cs_types.specs.Shape.{Shape, void, integer, pointer, array, struct}
 use Rattle.cs_ast.specs.declared.typed.operator.Allocator.TheVariants as allocator
 use Rattle.cs_ast.specs.TypedTree.{Typed, Of, Form, Number, Null, Text, Local, Global, Through, Index, Member as MemberOf, Arrow, Load, Address, Decay, Convert, Unary, Not, Binary, Compare, Sum, Difference, And, Or, Choice, Comma, Assign, Update, Move, Call, Allocate, Free, TypedList, NoMore, Further, Initial, Value, Parts, Bytes, Initials, NoPart, Part, Statement, Block, Declare, Run, If, IfElse, While, Do, For, Switch, Goto, Label, Break, Continue, Return, Statements, Empty, Then, count_of}
 use Rattle.cs_ast.specs.TypedProgram.{TypedProgram, Variable, FileObject, Routine}
-use Rattle.cs_consts.specs.declared.context.Context.{Context}
-use Rattle.cs_consts.specs.declared.scope.Callee.{Callee}
-use Rattle.cs_consts.specs.declared.scope.Callee.TheVariants.{Malloc, Calloc, Free as FreeOf, Numbered}
-use Rattle.cs_consts.specs.Meanings.{Signature, Meaning, Typedef, Constant, Global as GlobalName, Local as LocalName, Function, Declaration}
-use Rattle.cs_consts.specs.Integers.{type_of}
+use Rattle.cs_scopes.specs.declared.context.Context.{Context}
+use Rattle.cs_scopes.specs.declared.scope.Callee.{Callee}
+use Rattle.cs_scopes.specs.declared.scope.Callee.TheVariants.{Malloc, Calloc, Free as FreeOf, Numbered}
+use Rattle.cs_scopes.specs.Meanings.{Signature, Meaning, Typedef, Constant, Global as GlobalName, Local as LocalName, Function, Declaration}
+use Rattle.cs_folding.specs.TypedParts.{type_of}
 use Rattle.cs_well_formed.specs.Structs.{NamesStructs}
 use Rattle.cs_well_formed.specs.Expressions.{Setting, TypesAroundAreNamed, IsWell, IsWellForm, AreWell, IsWhole, IsHeld, IsElementPointer, HasMember, AreValuesOf, sizes_of}
 use Rattle.cs_well_formed.specs.Initials.{HasParts, IsWellInitial, AreWellParts, HasConstantValues}

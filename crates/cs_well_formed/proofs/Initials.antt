@@ -15,12 +15,13 @@ use Rattle.cs_ast.specs.declared.raw.declaration.RawInitial.TheVariants as first
 use Rattle.cs_ast.specs.RawView.{written}
 use Rattle.cs_ast.specs.RawDeclarationView.{initial, initials}
 use Rattle.cs_ast.specs.TypedTree.{Typed, Initial, Value, Parts, Bytes, Initials, NoPart, Part}
-use Rattle.cs_consts.specs.declared.context.Context.{Context}
-use Rattle.cs_consts.specs.Verdicts.{Verdict, Fine, Fault, lift}
-use Rattle.cs_consts.specs.Integers.{type_of}
-use Rattle.cs_consts.specs.Conversions.{converted}
-use Rattle.cs_consts.specs.Typing.{Literals, literals_after}
-use Rattle.cs_consts.specs.Doors.{operand_of}
+use Rattle.cs_scopes.specs.declared.context.Context.{Context}
+use Rattle.cs_scopes.specs.Verdicts.{Verdict, Fine, Fault, lift}
+use Rattle.cs_folding.specs.TypedParts.{type_of}
+use Rattle.cs_expressions.specs.Conversions.{converted}
+use Rattle.cs_expressions.specs.Primary.{Literals}
+use Rattle.cs_consts.specs.Typing.{literals_after}
+use Rattle.cs_consts.specs.Roles.{operand_of}
 use Rattle.cs_declarations.specs.Initializers.{Storage, InFile, InFunction, is_character, copies, member_types, part_types, text_of, is_admitted, takes_expression, has_form, have_forms, Reading, Readings, value_read, expression_read, types_or_none, parts_read, one_more, initial_read, items_read, is_braceless, value_held, value_judged, item_judged, before_others, part_judged, parts_judged, initial_judged, stored, limited, kept_with, initial_typed}
 use Rattle.cs_well_formed.specs.Structs.{NamesStructs, MembersName}
 use Rattle.cs_well_formed.specs.Expressions.{Setting, IsWell, IsValue, IsValueOf, IsWhole}
@@ -71,15 +72,15 @@ module _ (s : Setting) (c : Context) (agrees : Agrees s c) where
   abbrev AreReadings : Literals → Option (List Shape) → Readings → Type 0
   AreReadings literals types r = (AreFirst s.program r.1 → AreRead s c.table.list types r.0) × Begins literals r.1
 
-  value-reading : (literals : Literals) (ty : Shape) (e : RawExpr) → NamesStructs s.program.table ty → HasConstants (written e) → IfFine (lift (value_read literals e.kind) (operand_of c literals (Some ty) e)) (IsReading literals ty)
+  value-reading : (literals : Literals) (ty : Shape) (e : RawExpr) → NamesStructs s.program.table ty → HasConstants (written e) → IfFine (lift (value_read literals e.kind.value) (operand_of c literals (Some ty) e)) (IsReading literals ty)
   value-reading literals ty e names fit =
-      lift-then (λ v. AreFirst s.program (literals_after literals e.kind) → IsWellValue s v) (IsReading literals ty) (value_read literals e.kind) (operand_of c literals (Some ty) e)
-      (under (AreFirst s.program (literals_after literals e.kind)) (IsWellValue s) (operand_of c literals (Some ty) e) (λ texts. operand_of-well s c literals e (record { agrees = agrees; constants = fit; texts = texts }) (Some ty) names))
-      (λ v well. (well, literals-begin literals e.kind))
+      lift-then (λ v. AreFirst s.program (literals_after literals e.kind.value) → IsWellValue s v) (IsReading literals ty) (value_read literals e.kind.value) (operand_of c literals (Some ty) e)
+      (under (AreFirst s.program (literals_after literals e.kind.value)) (IsWellValue s) (operand_of c literals (Some ty) e) (λ texts. operand_of-well s c literals e (record { agrees = agrees; constants = fit; texts = texts }) (Some ty) names))
+      (λ v well. (well, literals-begin literals e.kind.value))
 
-  expression-reading : (storage : Storage) (literals : Literals) (ty : Shape) (e : RawExpr) → NamesStructs s.program.table ty → HasConstants (written e) → takes_expression storage ty e.kind ≡ true →
+  expression-reading : (storage : Storage) (literals : Literals) (ty : Shape) (e : RawExpr) → NamesStructs s.program.table ty → HasConstants (written e) → takes_expression storage ty e.kind.value ≡ true →
       IfFine (expression_read c literals ty e) (IsReading literals ty)
-  expression-reading storage literals (array element count) e names fit h = (λ _. text-taken storage element count e.kind h, begins-self literals)
+  expression-reading storage literals (array element count) e names fit h = (λ _. text-taken storage element count e.kind.value h, begins-self literals)
   expression-reading storage literals void e names fit h = value-reading literals void e names fit
   expression-reading storage literals (integer ty) e names fit h = value-reading literals (integer ty) e names fit
   expression-reading storage literals (pointer target) e names fit h = value-reading literals (pointer target) e names fit

@@ -9,7 +9,8 @@ use Rattle.cs_ast.specs.declared.typed.operator.BinOp.{BinOp}
 use Rattle.cs_ast.specs.declared.typed.operator.BinOp.TheVariants.{Shl, Shr}
 use Rattle.cs_ast.specs.declared.typed.operator.UnOp.{UnOp}
 use Rattle.cs_ast.specs.TypedTree.{Typed, Of, Convert}
-use Rattle.cs_consts.specs.Integers.{type_of, is_integer, in_type, joined, shifted, raised, turned}
+use Rattle.cs_folding.specs.TypedParts.{type_of}
+use Rattle.cs_expressions.specs.Integers.{is_integer, in_type, joined, shifted, raised, turned}
 use Rattle.cs_well_formed.specs.Expressions.{Setting, IsWell, IsValueOf, IsIntegerValue, IsRight}
 use Rattle.cs_well_formed.proofs.Verdicts.{IfFine}
 

@@ -7,7 +7,7 @@ use Rattle.cs_types.specs.declared.structs.StructType.{StructType}
 use Rattle.cs_types.specs.Layout.{Layout, padded, side_by_side, offsets, layout_with, member_layouts, members_of, struct_layout, complete_count, layout_of, IsLaidOut}
 use Rattle.cs_types.specs.Members.{Member}
 use Rattle.cs_types.specs.Shape.{Shape, void, integer, pointer, array, struct}
-use Rattle.cs_consts.specs.Objects.{is_complete}
+use Rattle.cs_types.specs.Kinds.{is_complete}
 use Rattle.cs_ast.specs.TypedProgram.{TypedProgram}
 use Rattle.cs_well_formed.specs.Expressions.{IsWhole}
 

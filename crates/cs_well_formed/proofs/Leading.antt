@@ -26,14 +26,14 @@ use Rattle.cs_ast.specs.declared.raw.declaration.RawParameters.TheVariants as pa
 use Rattle.cs_ast.specs.declared.raw.written_type.TypeWord.{TypeWord}
 use Rattle.cs_ast.specs.declared.raw.written_type.TypeWord.TheVariants as word
 use Rattle.cs_ast.specs.TypedProgram.{Variable}
-use Rattle.cs_consts.specs.declared.context.Context.{Context}
-use Rattle.cs_consts.specs.declared.scope.TagMeaning.{TagMeaning}
-use Rattle.cs_consts.specs.declared.scope.TagMeaning.TheVariants as tag
-use Rattle.cs_consts.specs.Meanings.{Meaning, Typedef, Constant, Local, Declaration}
-use Rattle.cs_consts.specs.Verdicts.{Verdict, Fine, lift}
-use Rattle.cs_consts.specs.Scopes.{newest}
-use Rattle.cs_consts.specs.Objects.{is_complete}
-use Rattle.cs_consts.specs.TypeNames.{whole_word, typedef_at, enum_at, tag_place, starred, complete_at}
+use Rattle.cs_scopes.specs.declared.context.Context.{Context}
+use Rattle.cs_scopes.specs.declared.scope.TagMeaning.{TagMeaning}
+use Rattle.cs_scopes.specs.declared.scope.TagMeaning.TheVariants as tag
+use Rattle.cs_scopes.specs.Meanings.{Meaning, Typedef, Constant, Local, Declaration}
+use Rattle.cs_scopes.specs.Verdicts.{Verdict, Fine, lift}
+use Rattle.cs_scopes.specs.Scopes.{newest}
+use Rattle.cs_types.specs.Kinds.{is_complete}
+use Rattle.cs_scopes.specs.TypeNames.{whole_word, typedef_at, enum_at, tag_place, starred, complete_at}
 use Rattle.cs_declarations.specs.Known.{Known, table_of, declarations_of, with_table, with_reading, with_tag, declaring, is_declared_here}
 use Rattle.cs_declarations.specs.Bodies.{Typing, empty_struct, with_struct, with_tagged_struct, tag_in, struct_named, word_type, Laying, nothing_laid, declarator_type, members_declared, with_members, is_int, Counting, constant_added, number_said, constant_declared, constants_declared, with_enum_tag, is_new_enum, enum_body, Opening, is_among, opened, opening_tagged, opening, name_or_none, Body, struct_read, group_declared, first_name, plain_row, row_type, members_read, plain_words, words_type, specs_type, typedef_added, typedefs_added}
 use Rattle.cs_declarations.specs.Objects.{count_given, object_type}

@@ -8,7 +8,8 @@ use Rattle.cs_ast.specs.RawView.{written_kind, written_row}
 use Rattle.cs_ast.specs.RawTree.{Written, WrittenList, Enclosed, Index, Call, Member, Arrow, StepAfter, SizeOfType, Cast, Infix, Choice, Assign, Comma, End, More}
 use Rattle.cs_grammar.specs.Marks.{step_punctuator, infix_punctuator, assign_punctuator}
 use Rattle.cs_grammar.specs.Text.{pointers_text, text, listed, after_commas, bounds_text}
-use Rattle.cs_consts.specs.Typing.{Literals, literals_after, literals_after_row}
+use Rattle.cs_expressions.specs.Primary.{Literals}
+use Rattle.cs_consts.specs.Typing.{literals_after, literals_after_row}
 use Rattle.cs_well_formed.specs.Nodes.{literal_nodes}
 use Rattle.cs_well_formed.specs.Sizes.{size_of}
 use Rattle.cs_well_formed.specs.Bounded.{texts_nodes, TextsGrow, LiteralsAreBounded}
@@ -93,40 +94,40 @@ mutual
     where
       more : texts_nodes (literals ++ bytes ∷ []) ≡ texts_nodes literals + (length bytes + 1)
       more = omega (arith, all_nodes-append literal_nodes literals (bytes ∷ []))
-  literals-grow literals (kind.Parenthesis' p place e) = grows-more literals _ (sized (written_kind e)) _ (literals-grow literals e) (omega (arith, sized-Enclosed (written_kind e)))
-  literals-grow literals (kind.Index' p place left q place' right) =
+  literals-grow literals (kind.Parenthesis' place p e) = grows-more literals _ (sized (written_kind e)) _ (literals-grow literals e) (omega (arith, sized-Enclosed (written_kind e)))
+  literals-grow literals (kind.Index' place p left place' q right) =
       grows-then literals (literals_after literals left) _ (sized (written_kind left)) (sized (written_kind right)) _ (literals-grow literals left) (literals-grow (literals_after literals left) right)
       (omega (arith, sized-Index (written_kind left) (written_kind right)))
-  literals-grow literals (kind.Call' p place function shape row) =
+  literals-grow literals (kind.Call' place p function shape row) =
       grows-more literals _ (size_of (after_commas (written_row row))) _ (row-grows literals row) (omega (arith, sized-Call (written_kind function) (written_row row), sized-listed (written_row row)))
-  literals-grow literals (kind.Member' p place e name) = grows-more literals _ (sized (written_kind e)) _ (literals-grow literals e) (omega (arith, sized-Member (written_kind e) name.name))
-  literals-grow literals (kind.Arrow' p place e name) = grows-more literals _ (sized (written_kind e)) _ (literals-grow literals e) (omega (arith, sized-Arrow (written_kind e) name.name))
-  literals-grow literals (kind.StepAfter' step p place e) = grows-more literals _ (sized (written_kind e)) _ (literals-grow literals e) (omega (arith, sized-StepAfter step (written_kind e)))
-  literals-grow literals (kind.StepBefore' step p place e) = grows-more literals _ (sized (written_kind e)) _ (literals-grow literals e) (omega arith)
-  literals-grow literals (kind.Prefix' operator p place e) = grows-more literals _ (sized (written_kind e)) _ (literals-grow literals e) (omega arith)
-  literals-grow literals (kind.SizeOf' p place e) = grows-more literals _ (sized (written_kind e)) _ (literals-grow literals e) (omega arith)
+  literals-grow literals (kind.Member' place p e name) = grows-more literals _ (sized (written_kind e)) _ (literals-grow literals e) (omega (arith, sized-Member (written_kind e) name.name))
+  literals-grow literals (kind.Arrow' place p e name) = grows-more literals _ (sized (written_kind e)) _ (literals-grow literals e) (omega (arith, sized-Arrow (written_kind e) name.name))
+  literals-grow literals (kind.StepAfter' step place p e) = grows-more literals _ (sized (written_kind e)) _ (literals-grow literals e) (omega (arith, sized-StepAfter step (written_kind e)))
+  literals-grow literals (kind.StepBefore' step place p e) = grows-more literals _ (sized (written_kind e)) _ (literals-grow literals e) (omega arith)
+  literals-grow literals (kind.Prefix' operator place p e) = grows-more literals _ (sized (written_kind e)) _ (literals-grow literals e) (omega arith)
+  literals-grow literals (kind.SizeOf' place p e) = grows-more literals _ (sized (written_kind e)) _ (literals-grow literals e) (omega arith)
   literals-grow literals (kind.SizeOfType' ty shape row) =
       grows-more literals _ (size_of (after_commas (written_row row))) _ (row-grows literals row) (omega (arith, listed-bounds (written_row row), sized-SizeOfType ty.words.items ty.pointers.items (written_row row)))
-  literals-grow literals (kind.Cast' ty shape row p place e) =
+  literals-grow literals (kind.Cast' ty shape row place p e) =
       grows-more literals _ (sized (written_kind e)) _ (literals-grow literals e) (omega (arith, sized-Cast ty.words.items ty.pointers.items (written_row row) (written_kind e)))
-  literals-grow literals (kind.Infix' operator p place left q place' right) =
+  literals-grow literals (kind.Infix' operator place p left place' q right) =
       grows-then literals (literals_after literals left) _ (sized (written_kind left)) (sized (written_kind right)) _ (literals-grow literals left) (literals-grow (literals_after literals left) right)
       (omega (arith, sized-Infix operator (written_kind left) (written_kind right)))
-  literals-grow literals (kind.Choice' p place test q place' one r place'' other) =
+  literals-grow literals (kind.Choice' place p test place' q one place'' r other) =
       let following = literals_after literals test in
       grows-then literals (literals_after following one) _ (sized (written_kind test) + sized (written_kind one)) (sized (written_kind other)) _
       (grows-then literals following (literals_after following one) (sized (written_kind test)) (sized (written_kind one)) _ (literals-grow literals test) (literals-grow following one) (omega arith))
       (literals-grow (literals_after following one) other)
       (omega (arith, sized-Choice (written_kind test) (written_kind one) (written_kind other)))
-  literals-grow literals (kind.Assign' operator p place left q place' right) =
+  literals-grow literals (kind.Assign' operator place p left place' q right) =
       grows-then literals (literals_after literals left) _ (sized (written_kind left)) (sized (written_kind right)) _ (literals-grow literals left) (literals-grow (literals_after literals left) right)
       (omega (arith, sized-Assign operator (written_kind left) (written_kind right)))
-  literals-grow literals (kind.Comma' p place left q place' right) =
+  literals-grow literals (kind.Comma' place p left place' q right) =
       grows-then literals (literals_after literals left) _ (sized (written_kind left)) (sized (written_kind right)) _ (literals-grow literals left) (literals-grow (literals_after literals left) right)
       (omega (arith, sized-Comma (written_kind left) (written_kind right)))
 
   row-grows : (literals : Literals) {n : _} (row : Row_of-RawExpr n) → TextsGrow literals (literals_after_row literals row) (size_of (after_commas (written_row row)))
   row-grows literals end_of-RawExpr = grows-self literals _
-  row-grows literals (more_of-RawExpr place k rest) =
+  row-grows literals (more_of-RawExpr place p k rest) =
       grows-then literals (literals_after literals k) _ (sized (written_kind k)) (size_of (after_commas (written_row rest))) _ (literals-grow literals k) (row-grows (literals_after literals k) rest)
       (omega (arith, sized-commas (written_kind k) (written_row rest)))

@@ -26,15 +26,16 @@ use Rattle.cs_ast.specs.declared.raw.written_type.TypeWord.{TypeWord}
 use Rattle.cs_ast.specs.declared.raw.written_type.TypeWord.TheVariants as word
 use Rattle.cs_ast.specs.declared.raw.written_type.WrittenType.{WrittenType}
 use Rattle.cs_ast.specs.TypedProgram.{Variable}
-use Rattle.cs_consts.specs.declared.context.Context.{Context}
-use Rattle.cs_consts.specs.declared.scope.Tag.{Tag}
-use Rattle.cs_consts.specs.declared.scope.TagMeaning.{TagMeaning}
-use Rattle.cs_consts.specs.declared.scope.TagMeaning.TheVariants as tag
-use Rattle.cs_consts.specs.Meanings.{Meaning, Typedef, Constant, Global, Local, Function, Declaration}
-use Rattle.cs_consts.specs.Verdicts.{Verdict, Fine, Fault, lift}
-use Rattle.cs_consts.specs.Scopes.{newest, tagged}
-use Rattle.cs_consts.specs.Objects.{bytes_in, is_complete}
-use Rattle.cs_consts.specs.TypeNames.{whole_word, typedef_at, struct_at, enum_at, based, type_named, after_stars, tag_place, is_star, starred, is_array_size, array_of, arrayed, complete_at}
+use Rattle.cs_scopes.specs.declared.context.Context.{Context}
+use Rattle.cs_scopes.specs.declared.scope.Tag.{Tag}
+use Rattle.cs_scopes.specs.declared.scope.TagMeaning.{TagMeaning}
+use Rattle.cs_scopes.specs.declared.scope.TagMeaning.TheVariants as tag
+use Rattle.cs_scopes.specs.Meanings.{Meaning, Typedef, Constant, Global, Local, Function, Declaration}
+use Rattle.cs_scopes.specs.Verdicts.{Verdict, Fine, Fault, lift}
+use Rattle.cs_scopes.specs.Scopes.{newest, tagged}
+use Rattle.cs_scopes.specs.Sizes.{bytes_in}
+use Rattle.cs_types.specs.Kinds.{is_complete}
+use Rattle.cs_scopes.specs.TypeNames.{whole_word, typedef_at, struct_at, enum_at, based, type_named, after_stars, tag_place, is_star, starred, is_array_size, array_of, arrayed, complete_at}
 use Rattle.cs_consts.specs.Typing.{castable, cast_type, given_shape, base_in}
 use Rattle.cs_declarations.specs.Known.{Known, table_of, declarations_of, with_tag, declaring, is_declared_here, entered, left}
 use Rattle.cs_declarations.specs.Bodies.{Typing, empty_struct, with_struct, with_tagged_struct, tag_in, struct_named, word_type, Laying, nothing_laid, has_member, placed, placed_if, member_added, declarator_type, member_declared, members_declared, with_members, is_int, Counting, constant_added, number_said, constant_declared, constants_declared, with_enum_tag, is_new_enum, enum_body, Opening, is_among, opening_tagged, opening, name_or_none, Body, struct_read, group_declared, first_name, plain_row, row_type, members_read, plain_words, words_type, specs_type, typedefs_added}

@@ -10,11 +10,12 @@ use Rattle.cs_types.specs.declared.int_type.IntType.TheVariants.{Int}
 use Rattle.cs_ast.specs.declared.place.Place.{Place}
 use Rattle.cs_ast.specs.declared.raw.expression.RawExprKind.{RawExprKind, Row_of-RawExpr, end_of-RawExpr, more_of-RawExpr}
 use Rattle.cs_ast.specs.declared.raw.expression.RawExprKind.TheVariants as kind
-use Rattle.cs_consts.specs.declared.context.Context.{Context}
-use Rattle.cs_consts.specs.Meanings.{Meaning, Typedef, Constant, Global, Local, Function, Declaration}
-use Rattle.cs_consts.specs.Scopes.{newest}
-use Rattle.cs_consts.specs.Calls.{function_in, called}
-use Rattle.cs_consts.specs.Typing.{Literals, literals_after, literals_after_row, named, text_at}
+use Rattle.cs_scopes.specs.declared.context.Context.{Context}
+use Rattle.cs_scopes.specs.Meanings.{Meaning, Typedef, Constant, Global, Local, Function, Declaration}
+use Rattle.cs_scopes.specs.Scopes.{newest}
+use Rattle.cs_expressions.specs.Calls.{function_in, called}
+use Rattle.cs_expressions.specs.Primary.{Literals, named, text_at}
+use Rattle.cs_consts.specs.Typing.{literals_after, literals_after_row}
 use Rattle.cs_ast.specs.TypedProgram.{TypedProgram}
 use Rattle.cs_well_formed.specs.Expressions.{Setting, IsWell}
 use Rattle.cs_well_formed.specs.Agreement.{IsFunction, IsThere, Agrees, AreFirst}
@@ -37,28 +38,28 @@ mutual
   literals-begin literals (kind.Number constant) = begins-self literals
   literals-begin literals (kind.Character value) = begins-self literals
   literals-begin literals (kind.Text bytes) = (bytes ∷ [], refl)
-  literals-begin literals (kind.Parenthesis' p place inner) = literals-begin literals inner
-  literals-begin literals (kind.Index' p place left q place' right) = begins-trans _ _ _ (literals-begin literals left) (literals-begin (literals_after literals left) right)
-  literals-begin literals (kind.Call' p place function shape row) = literals-begin_row literals row
-  literals-begin literals (kind.Member' p place object name) = literals-begin literals object
-  literals-begin literals (kind.Arrow' p place e name) = literals-begin literals e
-  literals-begin literals (kind.StepAfter' step p place object) = literals-begin literals object
-  literals-begin literals (kind.StepBefore' step p place object) = literals-begin literals object
-  literals-begin literals (kind.Prefix' operator p place e) = literals-begin literals e
-  literals-begin literals (kind.SizeOf' p place e) = literals-begin literals e
+  literals-begin literals (kind.Parenthesis' place p inner) = literals-begin literals inner
+  literals-begin literals (kind.Index' place p left place' q right) = begins-trans _ _ _ (literals-begin literals left) (literals-begin (literals_after literals left) right)
+  literals-begin literals (kind.Call' place p function shape row) = literals-begin_row literals row
+  literals-begin literals (kind.Member' place p object name) = literals-begin literals object
+  literals-begin literals (kind.Arrow' place p e name) = literals-begin literals e
+  literals-begin literals (kind.StepAfter' step place p object) = literals-begin literals object
+  literals-begin literals (kind.StepBefore' step place p object) = literals-begin literals object
+  literals-begin literals (kind.Prefix' operator place p e) = literals-begin literals e
+  literals-begin literals (kind.SizeOf' place p e) = literals-begin literals e
   literals-begin literals (kind.SizeOfType' ty shape row) = literals-begin_row literals row
-  literals-begin literals (kind.Cast' ty shape row p place e) = literals-begin literals e
-  literals-begin literals (kind.Infix' operator p place left q place' right) = begins-trans _ _ _ (literals-begin literals left) (literals-begin (literals_after literals left) right)
-  literals-begin literals (kind.Choice' p place test q place' one r place'' other) =
+  literals-begin literals (kind.Cast' ty shape row place p e) = literals-begin literals e
+  literals-begin literals (kind.Infix' operator place p left place' q right) = begins-trans _ _ _ (literals-begin literals left) (literals-begin (literals_after literals left) right)
+  literals-begin literals (kind.Choice' place p test place' q one place'' r other) =
       begins-trans _ _ _ (literals-begin literals test)
       (begins-trans _ _ _ (literals-begin (literals_after literals test) one) (literals-begin (literals_after (literals_after literals test) one) other))
-  literals-begin literals (kind.Assign' operator p place object q place' value) = begins-trans _ _ _ (literals-begin literals object) (literals-begin (literals_after literals object) value)
-  literals-begin literals (kind.Comma' p place first q place' second) = begins-trans _ _ _ (literals-begin literals first) (literals-begin (literals_after literals first) second)
+  literals-begin literals (kind.Assign' operator place p object place' q value) = begins-trans _ _ _ (literals-begin literals object) (literals-begin (literals_after literals object) value)
+  literals-begin literals (kind.Comma' place p first place' q second) = begins-trans _ _ _ (literals-begin literals first) (literals-begin (literals_after literals first) second)
 
   -- the same of expressions in a row
   pub literals-begin_row : (literals : Literals) {n : _} (row : Row_of-RawExpr n) → Begins literals (literals_after_row literals row)
   literals-begin_row literals end_of-RawExpr = begins-self literals
-  literals-begin_row literals (more_of-RawExpr place k rest) = begins-trans _ _ _ (literals-begin literals k) (literals-begin_row (literals_after literals k) rest)
+  literals-begin_row literals (more_of-RawExpr place p k rest) = begins-trans _ _ _ (literals-begin literals k) (literals-begin_row (literals_after literals k) rest)
 
 -- the literals of a part are the first ones of the program, if those of the whole are
 pub first-part : (p : TypedProgram) (some all : Literals) → Begins some all → AreFirst p all → AreFirst p some
@@ -105,7 +106,7 @@ module _ (s : Setting) (c : Context) (agrees : Agrees s c) where
   -- the function that is called is there
   pub called-there : (k : RawExprKind) → IfSome (called c.scope.declarations k) (λ f. IsFunction s.program f.callee f)
   called-there (kind.Name name) = function_in-there (newest name c.scope.declarations) (newest-there name)
-  called-there (kind.Parenthesis' p place inner) = called-there inner
+  called-there (kind.Parenthesis' place p inner) = called-there inner
   called-there other = tt
 
 -- a name

@@ -7,8 +7,8 @@ use Rattle.cs_types.specs.Members.{Member}
 use Rattle.cs_types.specs.Shape.{Shape, void, integer, pointer, array, struct}
 use Rattle.cs_ast.specs.TypedTree.{Typed, Of, Form, Number, Null, Text, Local, Global, Through, Index, Member as MemberOf, Arrow, Load, Address, Decay, Convert, Unary, Not, Binary, Compare, Sum, Difference, And, Or, Choice, Comma, Assign, Update, Move, Call, Allocate, Free, TypedList, NoMore, Further, Initial, Value, Parts, Bytes, Initials, NoPart, Part, Statement, Block, Declare, Run, If, IfElse, While, Do, For, Switch, Goto, Label, Break, Continue, Return, Statements, Empty, Then}
 use Rattle.cs_ast.specs.TypedProgram.{TypedProgram, Variable, FileObject, Routine}
-use Rattle.cs_consts.specs.Calls.{block_of}
-use Rattle.cs_consts.specs.Integers.{type_of}
+use Rattle.cs_expressions.specs.Calls.{block_of}
+use Rattle.cs_folding.specs.TypedParts.{type_of}
 use Rattle.cs_well_formed.specs.Structs.{NamesStructs, ExpressionNames, PartsName, RowNames, InitialNames, InitialsName, StatementNames, StatementsName, HasNamedTypes, TypesAreNamed, AllTypesAreNamed}
 use Rattle.cs_well_formed.specs.Expressions.{Setting, TypesAroundAreNamed, IsWell, IsWellForm, AreWell, IsConverted, HasMember}
 use Rattle.cs_well_formed.specs.Initials.{IsWellInitial, AreWellParts, HasConstantValues}

@@ -15,8 +15,8 @@ use Rattle.cs_types.specs.DataModel.{size_type_of}
 use Rattle.cs_types.specs.Layout.{complete_of}
 use Rattle.cs_types.specs.Shape.{Shape, void, integer, pointer, array, struct}
 use Rattle.cs_ast.specs.declared.token.IntegerConstant.{IntegerConstant}
-use Rattle.cs_consts.specs.Objects.{limited, bytes_in}
-use Rattle.cs_consts.specs.Typing.{has_room, first_with_room, unsigned_types, decimal_types, other_types, constant_type}
+use Rattle.cs_scopes.specs.Sizes.{limited, bytes_in}
+use Rattle.cs_expressions.specs.Primary.{has_room, first_with_room, unsigned_types, decimal_types, other_types, constant_type}
 use Rattle.cs_ast.specs.HeldTokens.{IsHeldConstant}
 
 -- every type holds the numbers to 127

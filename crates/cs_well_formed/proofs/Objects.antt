@@ -8,10 +8,12 @@ use Rattle.cs_types.specs.Members.{Member}
 use Rattle.cs_types.specs.Shape.{Shape, void, integer, pointer, array, struct}
 use Rattle.cs_ast.specs.declared.place.Place.{Place}
 use Rattle.cs_ast.specs.TypedTree.{Typed, Of, Load}
-use Rattle.cs_consts.specs.declared.context.Context.{Context}
-use Rattle.cs_consts.specs.declared.refusal.TypeCode.TheVariants as code
-use Rattle.cs_consts.specs.Verdicts.{Fine, Fault}
-use Rattle.cs_consts.specs.Objects.{is_object, is_void, is_array, is_complete, bytes_in, measure_of, measured, held, valued, operand}
+use Rattle.cs_scopes.specs.declared.context.Context.{Context}
+use Rattle.cs_scopes.specs.declared.refusal.TypeCode.TheVariants as code
+use Rattle.cs_scopes.specs.Verdicts.{Fine, Fault}
+use Rattle.cs_expressions.specs.Objects.{is_object, measure_of, measured, held, valued, operand}
+use Rattle.cs_types.specs.Kinds.{is_void, is_array, is_complete}
+use Rattle.cs_scopes.specs.Sizes.{bytes_in}
 use Rattle.cs_well_formed.specs.Expressions.{Setting, IsWell, IsObject, IsValue, HasType, IsWhole}
 use Rattle.cs_well_formed.specs.Agreement.{Agrees}
 use Rattle.cs_well_formed.proofs.Verdicts.{IfFine, cond-then}

@@ -17,10 +17,10 @@ use Rattle.cs_ast.specs.declared.typed.operator.Direction.TheVariants.{Forward, 
 use Rattle.cs_ast.specs.declared.typed.operator.Order.{Order}
 use Rattle.cs_ast.specs.declared.typed.operator.Order.TheVariants.{PointerFirst, AmountFirst}
 use Rattle.cs_ast.specs.TypedTree.{Typed, Form, And, Or}
-use Rattle.cs_consts.specs.declared.context.Context.{Context}
-use Rattle.cs_consts.specs.Integers.{type_of}
-use Rattle.cs_consts.specs.Objects.{is_scalar, is_complete}
-use Rattle.cs_consts.specs.Operators.{int_at, compared_pair, equated, ordered, moved, added, apart, subtracted, tested, denied, both_tested, combined, chosen_pair, alike, chosen, followed}
+use Rattle.cs_scopes.specs.declared.context.Context.{Context}
+use Rattle.cs_folding.specs.TypedParts.{type_of}
+use Rattle.cs_types.specs.Kinds.{is_scalar, is_complete}
+use Rattle.cs_expressions.specs.Operators.{int_at, compared_pair, equated, ordered, moved, added, apart, subtracted, tested, denied, both_tested, combined, chosen_pair, alike, chosen, followed}
 use Rattle.cs_well_formed.specs.Structs.{NamesStructs}
 use Rattle.cs_well_formed.specs.Expressions.{Setting, TypesAroundAreNamed, IsWell, IsValue, IsValueOf, IsScalar, IsScalarValue}
 use Rattle.cs_well_formed.specs.Agreement.{Agrees}

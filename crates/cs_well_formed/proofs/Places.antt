@@ -10,10 +10,11 @@ use Rattle.cs_ast.specs.declared.place.Place.{Place}
 use Rattle.cs_ast.specs.declared.typed.operator.Order.{Order}
 use Rattle.cs_ast.specs.declared.typed.operator.Order.TheVariants.{PointerFirst, AmountFirst}
 use Rattle.cs_ast.specs.TypedTree.{Typed}
-use Rattle.cs_consts.specs.declared.context.Context.{Context}
-use Rattle.cs_consts.specs.Integers.{type_of, form_of}
-use Rattle.cs_consts.specs.Objects.{is_object, is_void, is_complete}
-use Rattle.cs_consts.specs.Places.{address_of, through, element, indexed, member_named, member_at, member_found, member_in, member_after, struct_number, member_by, selected, selected_through}
+use Rattle.cs_scopes.specs.declared.context.Context.{Context}
+use Rattle.cs_folding.specs.TypedParts.{type_of, form_of}
+use Rattle.cs_expressions.specs.Objects.{is_object}
+use Rattle.cs_types.specs.Kinds.{is_void, is_complete}
+use Rattle.cs_expressions.specs.Places.{address_of, through, element, indexed, member_named, member_at, member_found, member_in, member_after, struct_number, member_by, selected, selected_through}
 use Rattle.cs_well_formed.specs.Expressions.{Setting, IsWell, IsObject, IsValueOf, HasType, HasMember}
 use Rattle.cs_well_formed.specs.Agreement.{Agrees}
 use Rattle.cs_well_formed.proofs.Verdicts.{IfFine, lift-then, cond-then}

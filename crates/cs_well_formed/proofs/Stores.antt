@@ -11,13 +11,15 @@ use Rattle.cs_ast.specs.declared.typed.operator.BinOp.{BinOp}
 use Rattle.cs_ast.specs.declared.typed.operator.BinOp.TheVariants.{Shl, Shr}
 use Rattle.cs_ast.specs.declared.typed.operator.Gives.{Gives}
 use Rattle.cs_ast.specs.TypedTree.{Typed}
-use Rattle.cs_consts.specs.declared.context.Context.{Context}
-use Rattle.cs_consts.specs.Verdicts.{lift}
-use Rattle.cs_consts.specs.Integers.{type_of, form_of, in_type}
-use Rattle.cs_consts.specs.Objects.{is_object, is_array, is_complete}
-use Rattle.cs_consts.specs.Scalars.{has_few_scalars}
-use Rattle.cs_consts.specs.Conversions.{converted}
-use Rattle.cs_consts.specs.Stores.{is_stored_to, assignable, assigned, is_additive, updatable_as, updatable, works_in, taken_in, updated, one_in, stepped}
+use Rattle.cs_scopes.specs.declared.context.Context.{Context}
+use Rattle.cs_scopes.specs.Verdicts.{lift}
+use Rattle.cs_folding.specs.TypedParts.{type_of, form_of}
+use Rattle.cs_expressions.specs.Integers.{in_type}
+use Rattle.cs_expressions.specs.Objects.{is_object}
+use Rattle.cs_types.specs.Kinds.{is_array, is_complete}
+use Rattle.cs_scopes.specs.Scalars.{has_few_scalars}
+use Rattle.cs_expressions.specs.Conversions.{converted}
+use Rattle.cs_expressions.specs.Stores.{is_stored_to, assignable, assigned, is_additive, updatable_as, updatable, works_in, taken_in, updated, one_in, stepped}
 use Rattle.cs_consts.specs.Typing.{is_plain, operator_of, left_side, stored}
 use Rattle.cs_well_formed.specs.Structs.{NamesStructs}
 use Rattle.cs_well_formed.specs.Expressions.{Setting, TypesAroundAreNamed, IsWell, IsObject, IsValue, IsValueOf, HasType, IsWhole, IsHeld, IsRight}

@@ -9,9 +9,9 @@ use Rattle.cs_types.specs.Layout.{members_of}
 use Rattle.cs_types.specs.Members.{Member}
 use Rattle.cs_types.specs.Shape.{Shape, void, integer, pointer, array, struct}
 use Rattle.cs_ast.specs.TypedProgram.{Variable, FileObject, Routine}
-use Rattle.cs_consts.specs.Meanings.{Meaning, Typedef, Constant, Global, Local, Function}
-use Rattle.cs_consts.specs.declared.scope.TagMeaning.{TagMeaning}
-use Rattle.cs_consts.specs.declared.scope.TagMeaning.TheVariants as tag
+use Rattle.cs_scopes.specs.Meanings.{Meaning, Typedef, Constant, Global, Local, Function}
+use Rattle.cs_scopes.specs.declared.scope.TagMeaning.{TagMeaning}
+use Rattle.cs_scopes.specs.declared.scope.TagMeaning.TheVariants as tag
 use Rattle.cs_declarations.specs.LaidOut.{IsOfTable}
 use Rattle.cs_well_formed.specs.Structs.{NamesStructs, MembersName, StructsName, VariablesName, HasNamedTypes}
 use Rattle.cs_well_formed.specs.Agreement.{Keeps, IsNamed}

@@ -17,19 +17,22 @@ use Rattle.cs_ast.specs.declared.typed.operator.Gives.TheVariants.{Old, New}
 use Rattle.cs_ast.specs.declared.raw.written_type.WrittenType.{WrittenType}
 use Rattle.cs_ast.specs.RawView.{written_kind, written_row}
 use Rattle.cs_ast.specs.TypedTree.{Typed, Number, TypedList, NoMore}
-use Rattle.cs_consts.specs.declared.context.Context.{Context}
+use Rattle.cs_scopes.specs.declared.context.Context.{Context}
 use Rattle.cs_consts.specs.declared.purpose.Purpose.{Purpose}
-use Rattle.cs_consts.specs.Verdicts.{Verdict, Fine, Fault, lift, lift2}
-use Rattle.cs_consts.specs.Integers.{type_of, raised}
-use Rattle.cs_consts.specs.Objects.{is_void, valued, operand, measured}
+use Rattle.cs_scopes.specs.Verdicts.{Verdict, Fine, Fault, lift, lift2}
+use Rattle.cs_folding.specs.TypedParts.{type_of}
+use Rattle.cs_expressions.specs.Integers.{raised}
+use Rattle.cs_types.specs.Kinds.{is_void}
+use Rattle.cs_expressions.specs.Objects.{valued, operand, measured}
 use Rattle.cs_consts.specs.Constants.{finished}
-use Rattle.cs_consts.specs.Conversions.{recast}
-use Rattle.cs_consts.specs.Operators.{combined, tested, followed}
-use Rattle.cs_consts.specs.Places.{selected}
-use Rattle.cs_consts.specs.Stores.{updatable, step_operator}
-use Rattle.cs_consts.specs.Scopes.{newest}
-use Rattle.cs_consts.specs.Calls.{called, parameters_of}
-use Rattle.cs_consts.specs.Typing.{Literals, literals_after, literals_after_row, row_length, constant_type, done, value_in, operand_in, purpose_if, purpose_after, is_address, prefixed_value, prefixed, indexed_values, arrow_on, stepped_object, is_plain, left_side, stored, type_in, right_target, cast_type, given_shape, cast_operand, cast_to, chosen_values, measured_type, measured_arrays, base_in, further, formed, arguments_formed}
+use Rattle.cs_expressions.specs.Conversions.{recast}
+use Rattle.cs_expressions.specs.Operators.{combined, tested, followed}
+use Rattle.cs_expressions.specs.Places.{selected}
+use Rattle.cs_expressions.specs.Stores.{updatable, step_operator}
+use Rattle.cs_scopes.specs.Scopes.{newest}
+use Rattle.cs_expressions.specs.Calls.{called, parameters_of}
+use Rattle.cs_expressions.specs.Primary.{Literals, constant_type}
+use Rattle.cs_consts.specs.Typing.{literals_after, literals_after_row, row_length, done, value_in, operand_in, purpose_if, purpose_after, is_address, prefixed_value, prefixed, indexed_values, arrow_on, stepped_object, is_plain, left_side, stored, type_in, right_target, cast_type, given_shape, cast_operand, cast_to, chosen_values, measured_type, measured_arrays, base_in, further, formed, arguments_formed}
 use Rattle.cs_well_formed.specs.Structs.{NamesStructs}
 use Rattle.cs_well_formed.specs.Expressions.{Setting, IsWell, IsWellForm, IsValue, IsScalarValue}
 use Rattle.cs_ast.specs.HeldTokens.{IsHeldConstant}
@@ -156,47 +159,47 @@ module _ (s : Setting) (c : Context) (agrees : Agrees s c) where
     formed-well purpose literals target names at (kind.Number k) fit texts = number-well k fit
     formed-well purpose literals target names at (kind.Character n) fit texts = (Int, refl, character-InRange s.program.model n fit)
     formed-well purpose literals target names at (kind.Text bytes) fit texts = text-well s literals at bytes texts
-    formed-well purpose literals target names at (kind.Parenthesis' p place inner) fit texts = done-well purpose _ (formed-well purpose literals target names place inner fit texts)
-    formed-well purpose literals target names at (kind.Index' p place left q place' right) fit texts =
+    formed-well purpose literals target names at (kind.Parenthesis' place p inner) fit texts = done-well purpose _ (formed-well purpose literals target names place inner fit texts)
+    formed-well purpose literals target names at (kind.Index' place p left place' q right) fit texts =
         lift2-then (IsWellValue s) (IsWellValue s) (IsWell s) (indexed_values c at) _ _
         (operand_in-well purpose _ (formed-well purpose literals None tt place left fit.0 (both-first s literals left right texts)))
         (operand_in-well purpose _ (formed-well purpose (literals_after literals left) None tt place' right fit.1 texts))
         (λ a b h k. indexed-well s c agrees at a b (type_of a) (type_of b) h.0 (h.1, refl) k.0 (k.1, refl))
-    formed-well purpose literals target names at (kind.Call' p place function shape row) fit texts =
+    formed-well purpose literals target names at (kind.Call' place p function shape row) fit texts =
         call-well s c at target (called c.scope.declarations function) (row_length row)
         (operand_in c purpose (formed c purpose literals None place function))
         (arguments_formed c purpose literals (parameters_of (called c.scope.declarations function)) row)
         names agrees.types.program (called-there s c agrees function)
         (arguments-given purpose literals (parameters_of (called c.scope.declarations function)) (parameters_of-named s.program agrees.types.program (called c.scope.declarations function) (called-there s c agrees function)) row fit.1 texts)
-    formed-well purpose literals target names at (kind.Member' p place object name) fit texts =
+    formed-well purpose literals target names at (kind.Member' place p object name) fit texts =
         lift-then (IsWell s) (IsWell s) (selected c.table.list at name.place name.name) _
         (done-well purpose _ (formed-well purpose literals None tt place object fit texts))
         (λ e h. selected-well s c agrees at name.place name.name e h)
-    formed-well purpose literals target names at (kind.Arrow' p place e name) fit texts =
+    formed-well purpose literals target names at (kind.Arrow' place p e name) fit texts =
         lift-then (IsWellValue s) (IsWell s) (arrow_on c at name.place name.name) _
         (operand_in-well purpose _ (formed-well purpose literals None tt place e fit texts))
         (λ v h. selected_through-well s c agrees at name.place name.name v (type_of v) h.0 (h.1, refl))
-    formed-well purpose literals target names at (kind.StepAfter' step p place object) fit texts =
+    formed-well purpose literals target names at (kind.StepAfter' step place p object) fit texts =
         step-well (step_operator step) Old at _ (done-well purpose _ (formed-well purpose literals None tt place object fit texts))
-    formed-well purpose literals target names at (kind.StepBefore' step p place object) fit texts =
+    formed-well purpose literals target names at (kind.StepBefore' step place p object) fit texts =
         step-well (step_operator step) New at _ (done-well purpose _ (formed-well purpose literals None tt place object fit texts))
-    formed-well purpose literals target names at (kind.Prefix' operator p place e) fit texts =
+    formed-well purpose literals target names at (kind.Prefix' operator place p e) fit texts =
         lift-then (IsWell s) (IsWell s) (prefixed c operator at) _ (done-well purpose _ (formed-well purpose literals None tt place e fit texts)) (prefixed-well operator at)
-    formed-well purpose literals target names at (kind.SizeOf' p place e) fit texts = sized-well at _
+    formed-well purpose literals target names at (kind.SizeOf' place p e) fit texts = sized-well at _
     formed-well purpose literals target names at (kind.SizeOfType' ty shape row) fit texts = sized_type-well at _ _
-    formed-well purpose literals target names at (kind.Cast' ty shape row p place e) fit texts =
+    formed-well purpose literals target names at (kind.Cast' ty shape row place p e) fit texts =
         let to = cast_type at (row_length row) (base_in c at ty) in
         let given = given_named at (row_length row) ty in
         let cast_names = given_shape-named (NamesStructs s.program.table) to given in
         lift2-then (NamesStructs s.program.table) (IsWell s) (IsWell s) (cast_to c at) _ _ given
         (done-well purpose _ (formed-well purpose literals (given_shape (cast_type at (row_length row) (base_in c at ty))) cast_names place e fit.1 texts))
         (λ to v n h. cast_to-well at to v n h)
-    formed-well purpose literals target names at (kind.Infix' operator p place left q place' right) fit texts =
+    formed-well purpose literals target names at (kind.Infix' operator place p left place' q right) fit texts =
         let one = operand_in c purpose (formed c purpose literals None place left) in
         infix-well operator at _ _
         (operand_in-well purpose _ (formed-well purpose literals None tt place left fit.0 (both-first s literals left right texts)))
         (operand_in-well (purpose_after operator purpose one) _ (formed-well (purpose_after operator purpose one) (literals_after literals left) None tt place' right fit.1 texts))
-    formed-well purpose literals target names at (kind.Choice' p place test q place' one r place'' other) fit texts =
+    formed-well purpose literals target names at (kind.Choice' place p test place' q one place'' r other) fit texts =
         let yields = lift (tested at) (operand_in c purpose (formed c purpose literals None place test)) in
         let following = literals_after literals test in
         let before = both-first s following one other texts in
@@ -207,7 +210,7 @@ module _ (s : Setting) (c : Context) (agrees : Agrees s c) where
         (value_in-well (purpose_if true purpose yields) _ (formed-well (purpose_if true purpose yields) following None tt place' one fit.1 before))
         (value_in-well (purpose_if false purpose yields) _ (formed-well (purpose_if false purpose yields) (literals_after following one) None tt place'' other fit.2 texts))
         (λ t a b h k l. chosen-well s c.model at t a b (type_of a) (type_of b) (type_of-named s agrees.types a k.0) (type_of-named s agrees.types b l.0) h.0 h.1 k.0 (k.1, refl) l.0 (l.1, refl))
-    formed-well purpose literals target names at (kind.Assign' operator p place object q place' value) fit texts =
+    formed-well purpose literals target names at (kind.Assign' operator place p object place' q value) fit texts =
         let left = lift (left_side c operator at) (done c purpose (formed c purpose literals None place object)) in
         let is_left =
         lift-then (IsWell s) (IsLeft s (is_plain operator)) (left_side c operator at) _
@@ -217,7 +220,7 @@ module _ (s : Setting) (c : Context) (agrees : Agrees s c) where
         lift2-then (IsLeft s (is_plain operator)) (IsWellValue s) (IsWell s) (stored c operator at) _ _ is_left
         (operand_in-well purpose _ (formed-well purpose (literals_after literals object) (right_target operator left) right_names place' value fit.1 texts))
         (λ o v h k. stored-well s c agrees operator at o v h k.0 k.1)
-    formed-well purpose literals target names at (kind.Comma' p place first q place' second) fit texts =
+    formed-well purpose literals target names at (kind.Comma' place p first place' q second) fit texts =
         lift2-then (IsWellValue s) (IsWellValue s) (IsWell s) (followed at) _ _
         (value_in-well purpose _ (formed-well purpose literals None tt place first fit.0 (both-first s literals first second texts)))
         (value_in-well purpose _ (formed-well purpose (literals_after literals first) None tt place' second fit.1 texts))
@@ -231,8 +234,8 @@ module _ (s : Setting) (c : Context) (agrees : Agrees s c) where
         none : (types : List Shape) → length types ≡ 0 → AreGiven s types NoMore
         none [] h = tt
         none (ty ∷ types) h = absurd (omega arith)
-    arguments-given purpose literals [] names (more_of-RawExpr place k rest) fit texts = λ h. absurd (omega (arith, h))
-    arguments-given purpose literals (ty ∷ types) names (more_of-RawExpr place k rest) fit texts =
+    arguments-given purpose literals [] names (more_of-RawExpr place p k rest) fit texts = λ h. absurd (omega (arith, h))
+    arguments-given purpose literals (ty ∷ types) names (more_of-RawExpr place p k rest) fit texts =
         further-given ty types (row_length rest) _ _
         (operand_in-well purpose _ (formed-well purpose literals (Some ty) names.0 place k fit.0 (first-part s.program (literals_after literals k) _ (literals-begin_row (literals_after literals k) rest) texts)))
         (arguments-given purpose (literals_after literals k) types names.1 rest fit.1 texts)

@@ -1,6 +1,6 @@
 -- What holds of what a rule gives, if it gives something: for each rule of the typing of expressions.
 use Rattle.std.proofs.Common.{◌≡◌, Bool, true, false, cond, ◌&&◌, not, refl, subst}
-use Rattle.cs_consts.specs.Verdicts.{Verdict, Fine, Fault, lift, lift2, lift3}
+use Rattle.cs_scopes.specs.Verdicts.{Verdict, Fine, Fault, lift, lift2, lift3}
 
 -- it holds of the value, if there is one
 abbrev pub IfFine : {A : Type 0} → Verdict A → (A → Type 0) → Type 0

@@ -10,12 +10,12 @@ use Rattle.cs_types.specs.Shape.{void, pointer}
 use Rattle.cs_ast.specs.declared.typed.operator.Allocator.{Allocator}
 use Rattle.cs_ast.specs.declared.typed.operator.Allocator.TheVariants as allocator
 use Rattle.cs_ast.specs.TypedProgram.{TypedProgram, Variable, FileObject, Routine}
-use Rattle.cs_consts.specs.declared.context.Context.{Context}
-use Rattle.cs_consts.specs.declared.scope.Tag.{Tag}
-use Rattle.cs_consts.specs.declared.scope.Callee.{Callee}
-use Rattle.cs_consts.specs.declared.scope.Callee.TheVariants.{Malloc, Calloc, Free, Numbered}
-use Rattle.cs_consts.specs.Meanings.{Signature, Meaning, Typedef, Constant, Global, Local, Function, Declaration}
-use Rattle.cs_consts.specs.Typing.{Literals}
+use Rattle.cs_scopes.specs.declared.context.Context.{Context}
+use Rattle.cs_scopes.specs.declared.scope.Tag.{Tag}
+use Rattle.cs_scopes.specs.declared.scope.Callee.{Callee}
+use Rattle.cs_scopes.specs.declared.scope.Callee.TheVariants.{Malloc, Calloc, Free, Numbered}
+use Rattle.cs_scopes.specs.Meanings.{Signature, Meaning, Typedef, Constant, Global, Local, Function, Declaration}
+use Rattle.cs_expressions.specs.Primary.{Literals}
 use Rattle.cs_declarations.specs.LaidOut.{IsOfTable}
 use Rattle.cs_well_formed.specs.Structs.{NamesStructs, StructsName}
 use Rattle.cs_well_formed.specs.Expressions.{Setting, TypesAroundAreNamed, parameter_types, sizes_of}

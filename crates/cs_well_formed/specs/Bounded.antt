@@ -13,11 +13,12 @@ use Rattle.cs_ast.specs.RawDeclarationView.{initial, specs, parameters}
 use Rattle.cs_ast.specs.TypedTree.{Typed, Initial}
 use Rattle.cs_grammar.specs.Text.{text}
 use Rattle.cs_grammar.specs.FileText.{initial_text, specs_text, parameters_text}
-use Rattle.cs_consts.specs.declared.context.Context.{Context}
+use Rattle.cs_scopes.specs.declared.context.Context.{Context}
 use Rattle.cs_consts.specs.declared.purpose.Purpose.{Purpose}
-use Rattle.cs_consts.specs.Verdicts.{Fine}
-use Rattle.cs_consts.specs.Typing.{Literals, literals_after, formed}
-use Rattle.cs_consts.specs.Doors.{operand_of, assigned_value, test_of, selector_of, discarded_value}
+use Rattle.cs_scopes.specs.Verdicts.{Fine}
+use Rattle.cs_expressions.specs.Primary.{Literals}
+use Rattle.cs_consts.specs.Typing.{literals_after, formed}
+use Rattle.cs_consts.specs.Roles.{operand_of, assigned_value, test_of, selector_of, discarded_value}
 use Rattle.cs_declarations.specs.Known.{Known, table_of}
 use Rattle.cs_declarations.specs.Initializers.{Storage, initial_typed}
 use Rattle.cs_declarations.specs.Bodies.{specs_type, typedefs_added}
@@ -45,7 +46,7 @@ pub record IsBoundedInitial (Is : Place → Type 0) (literals following : Litera
 
 -- an expression of this tree
 abbrev pub IsBoundedBy : (Place → Type 0) → Literals → RawExpr → Typed → Type 0
-IsBoundedBy Is literals e v = IsBounded Is literals (literals_after literals e.kind) (size_of (text (written e))) v
+IsBoundedBy Is literals e v = IsBounded Is literals (literals_after literals e.kind.value) (size_of (text (written e))) v
 
 -- an expression, for any purpose and any target
 abbrev pub FormedAreBounded : (Place → Type 0) → Type 0

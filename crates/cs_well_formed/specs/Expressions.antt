@@ -14,9 +14,10 @@ use Rattle.cs_ast.specs.declared.typed.operator.Allocator.{Allocator}
 use Rattle.cs_ast.specs.declared.typed.operator.Allocator.TheVariants.{Malloc, Calloc}
 use Rattle.cs_ast.specs.TypedTree.{Typed, Of, Form, Number, Null, Text, Local, Global, Through, Index, Member as MemberOf, Arrow, Load, Address, Decay, Convert, Unary, Not, Binary, Compare, Sum, Difference, And, Or, Choice, Comma, Assign, Update, Move, Call, Allocate, Free, TypedList, NoMore, Further}
 use Rattle.cs_ast.specs.TypedProgram.{TypedProgram, Variable, FileObject, Routine}
-use Rattle.cs_consts.specs.Objects.{is_object, is_void, is_array, is_complete}
-use Rattle.cs_consts.specs.Integers.{type_of, form_of}
-use Rattle.cs_consts.specs.Calls.{block_of}
+use Rattle.cs_expressions.specs.Objects.{is_object}
+use Rattle.cs_types.specs.Kinds.{is_void, is_array, is_complete}
+use Rattle.cs_folding.specs.TypedParts.{type_of, form_of}
+use Rattle.cs_expressions.specs.Calls.{block_of}
 use Rattle.cs_well_formed.specs.Structs.{NamesStructs, VariablesName, TypesAreNamed}
 
 -- where expressions stand: in a program, in a function with these parameters and locals and so many labels, with this result

@@ -11,11 +11,12 @@ use Rattle.cs_ast.specs.declared.raw.declaration.RawInitial.{RawInitial}
 use Rattle.cs_ast.specs.RawView.{written_kind, written}
 use Rattle.cs_ast.specs.RawDeclarationView.{initial}
 use Rattle.cs_ast.specs.TypedTree.{Typed, Initial}
-use Rattle.cs_consts.specs.declared.context.Context.{Context}
+use Rattle.cs_scopes.specs.declared.context.Context.{Context}
 use Rattle.cs_consts.specs.declared.purpose.Purpose.{Purpose}
-use Rattle.cs_consts.specs.Verdicts.{Fine}
-use Rattle.cs_consts.specs.Typing.{Literals, literals_after, formed}
-use Rattle.cs_consts.specs.Doors.{value_of, operand_of, assigned_value, test_of, selector_of, discarded_value}
+use Rattle.cs_scopes.specs.Verdicts.{Fine}
+use Rattle.cs_expressions.specs.Primary.{Literals}
+use Rattle.cs_consts.specs.Typing.{literals_after, formed}
+use Rattle.cs_consts.specs.Roles.{value_of, operand_of, assigned_value, test_of, selector_of, discarded_value}
 use Rattle.cs_declarations.specs.Initializers.{Storage, InFile, initial_typed}
 use Rattle.cs_well_formed.specs.Structs.{NamesStructs}
 use Rattle.cs_well_formed.specs.Expressions.{Setting, IsWell, IsValue, IsValueOf, IsIntegerValue, IsScalarValue, IsWhole}
@@ -42,27 +43,27 @@ FormedAreWell = (s : Setting) (c : Context) (purpose : Purpose) (literals : Lite
 -- an expression that has to have a value
 abbrev pub OperandsAreWell : Type 0
 OperandsAreWell = (s : Setting) (c : Context) (literals : Literals) (target : Option Shape) (e : RawExpr) (v : Typed) →
-    IsTyped s c literals e.kind → TargetNames s target → operand_of c literals target e ≡ Fine v → IsWell s v × IsValue v
+    IsTyped s c literals e.kind.value → TargetNames s target → operand_of c literals target e ≡ Fine v → IsWell s v × IsValue v
 
 -- an expression whose value goes to a type as if by assignment has that type
 abbrev pub AssignedAreWell : Type 0
 AssignedAreWell = (s : Setting) (c : Context) (literals : Literals) (at : Place) (target : Shape) (e : RawExpr) (v : Typed) →
-    IsTyped s c literals e.kind → NamesStructs s.program.table target → assigned_value c literals at target e ≡ Fine v → IsWell s v × IsValueOf v target
+    IsTyped s c literals e.kind.value → NamesStructs s.program.table target → assigned_value c literals at target e ≡ Fine v → IsWell s v × IsValueOf v target
 
 -- an expression that is tested is an integer or a pointer
 abbrev pub TestsAreWell : Type 0
 TestsAreWell = (s : Setting) (c : Context) (literals : Literals) (at : Place) (e : RawExpr) (v : Typed) →
-    IsTyped s c literals e.kind → test_of c literals at e ≡ Fine v → IsWell s v × IsScalarValue v
+    IsTyped s c literals e.kind.value → test_of c literals at e ≡ Fine v → IsWell s v × IsScalarValue v
 
 -- an expression that a `switch` goes by is an integer
 abbrev pub SelectorsAreWell : Type 0
 SelectorsAreWell = (s : Setting) (c : Context) (literals : Literals) (at : Place) (e : RawExpr) (v : Typed) →
-    IsTyped s c literals e.kind → selector_of c literals at e ≡ Fine v → IsWell s v × IsIntegerValue v
+    IsTyped s c literals e.kind.value → selector_of c literals at e ≡ Fine v → IsWell s v × IsIntegerValue v
 
 -- an expression whose value is dropped
 abbrev pub DiscardedAreWell : Type 0
 DiscardedAreWell = (s : Setting) (c : Context) (literals : Literals) (e : RawExpr) (v : Typed) →
-    IsTyped s c literals e.kind → discarded_value c literals e ≡ Fine v → IsWell s v × IsValue v
+    IsTyped s c literals e.kind.value → discarded_value c literals e ≡ Fine v → IsWell s v × IsValue v
 
 -- the number of a constant expression is one of its type; no text of it becomes a part of the program
 abbrev pub ConstantsAreInRange : Type 0

@@ -7,8 +7,8 @@ use Rattle.cs_ast.specs.declared.raw.declaration.RawDeclarator.{RawDeclarator}
 use Rattle.cs_ast.specs.declared.raw.declaration.RawInit.{RawInit}
 use Rattle.cs_ast.specs.declared.raw.declaration.RawParameters.{RawParameters}
 use Rattle.cs_ast.specs.TypedTree.{Typed, Initial, Statement}
-use Rattle.cs_consts.specs.declared.context.Context.{Context}
-use Rattle.cs_consts.specs.Verdicts.{Fine}
+use Rattle.cs_scopes.specs.declared.context.Context.{Context}
+use Rattle.cs_scopes.specs.Verdicts.{Fine}
 use Rattle.cs_declarations.specs.Known.{Known, table_of}
 use Rattle.cs_declarations.specs.Bodies.{specs_type, typedefs_added}
 use Rattle.cs_declarations.specs.Objects.{object_type}

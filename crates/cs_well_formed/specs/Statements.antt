@@ -8,7 +8,7 @@ use Rattle.cs_types.specs.Shape.{Shape, void, integer}
 use Rattle.cs_ast.specs.declared.typed.statement.Case.{Case}
 use Rattle.cs_ast.specs.TypedTree.{Typed, Statement, Block, Declare, Run, If, IfElse, While, Do, For, Switch, Goto, Label, Break, Continue, Return, Statements, Empty, Then, count_of}
 use Rattle.cs_ast.specs.TypedProgram.{Variable}
-use Rattle.cs_consts.specs.Integers.{type_of}
+use Rattle.cs_folding.specs.TypedParts.{type_of}
 use Rattle.cs_well_formed.specs.Expressions.{Setting, IsWell, IsValue, IsScalarValue, IsIntegerValue, IsValueOf}
 use Rattle.cs_well_formed.specs.Initials.{IsWellInitial}
 

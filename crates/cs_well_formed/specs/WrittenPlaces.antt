@@ -30,30 +30,30 @@ abbrev mutual
   WrittenAmong Is at (kind.Number constant) = Is at
   WrittenAmong Is at (kind.Character value) = Is at
   WrittenAmong Is at (kind.Text bytes) = Is at
-  WrittenAmong Is at (kind.Parenthesis' p place inner) = Is at × WrittenAmong Is place inner
-  WrittenAmong Is at (kind.Index' p place array q place' number) = Is at × WrittenAmong Is place array × WrittenAmong Is place' number
-  WrittenAmong Is at (kind.Call' p place function shape row) = Is at × WrittenAmong Is place function × RowAmong Is row
-  WrittenAmong Is at (kind.Member' p place object name) = Is at × WrittenAmong Is place object
-  WrittenAmong Is at (kind.Arrow' p place pointer name) = Is at × WrittenAmong Is place pointer
-  WrittenAmong Is at (kind.StepAfter' step p place object) = Is at × WrittenAmong Is place object
-  WrittenAmong Is at (kind.StepBefore' step p place object) = Is at × WrittenAmong Is place object
-  WrittenAmong Is at (kind.Prefix' operator p place operand) = Is at × WrittenAmong Is place operand
-  WrittenAmong Is at (kind.SizeOf' p place operand) = Is at × WrittenAmong Is place operand
+  WrittenAmong Is at (kind.Parenthesis' place p inner) = Is at × WrittenAmong Is place inner
+  WrittenAmong Is at (kind.Index' place p array place' q number) = Is at × WrittenAmong Is place array × WrittenAmong Is place' number
+  WrittenAmong Is at (kind.Call' place p function shape row) = Is at × WrittenAmong Is place function × RowAmong Is row
+  WrittenAmong Is at (kind.Member' place p object name) = Is at × WrittenAmong Is place object
+  WrittenAmong Is at (kind.Arrow' place p pointer name) = Is at × WrittenAmong Is place pointer
+  WrittenAmong Is at (kind.StepAfter' step place p object) = Is at × WrittenAmong Is place object
+  WrittenAmong Is at (kind.StepBefore' step place p object) = Is at × WrittenAmong Is place object
+  WrittenAmong Is at (kind.Prefix' operator place p operand) = Is at × WrittenAmong Is place operand
+  WrittenAmong Is at (kind.SizeOf' place p operand) = Is at × WrittenAmong Is place operand
   WrittenAmong Is at (kind.SizeOfType' ty shape row) = Is at
-  WrittenAmong Is at (kind.Cast' ty shape row p place operand) = Is at × WrittenAmong Is place operand
-  WrittenAmong Is at (kind.Infix' operator p place left q place' right) = Is at × WrittenAmong Is place left × WrittenAmong Is place' right
-  WrittenAmong Is at (kind.Choice' p place test q place' one r place'' other) =
+  WrittenAmong Is at (kind.Cast' ty shape row place p operand) = Is at × WrittenAmong Is place operand
+  WrittenAmong Is at (kind.Infix' operator place p left place' q right) = Is at × WrittenAmong Is place left × WrittenAmong Is place' right
+  WrittenAmong Is at (kind.Choice' place p test place' q one place'' r other) =
       Is at × WrittenAmong Is place test × WrittenAmong Is place' one × WrittenAmong Is place'' other
-  WrittenAmong Is at (kind.Assign' operator p place object q place' value) = Is at × WrittenAmong Is place object × WrittenAmong Is place' value
-  WrittenAmong Is at (kind.Comma' p place first q place' second) = Is at × WrittenAmong Is place first × WrittenAmong Is place' second
+  WrittenAmong Is at (kind.Assign' operator place p object place' q value) = Is at × WrittenAmong Is place object × WrittenAmong Is place' value
+  WrittenAmong Is at (kind.Comma' place p first place' q second) = Is at × WrittenAmong Is place first × WrittenAmong Is place' second
 
   -- the same of expressions in a row
   pub RowAmong : {n : _} → (Place → Type 0) → Row_of-RawExpr n → Type 0
   RowAmong Is end_of-RawExpr = Unit {0}
-  RowAmong Is (more_of-RawExpr place first others) = WrittenAmong Is place first × RowAmong Is others
+  RowAmong Is (more_of-RawExpr place p first others) = WrittenAmong Is place first × RowAmong Is others
 
 abbrev pub ExpressionAmong : (Place → Type 0) → RawExpr → Type 0
-ExpressionAmong Is e = WrittenAmong Is e.place e.kind
+ExpressionAmong Is e = WrittenAmong Is e.place e.kind.value
 
 abbrev mutual
   -- the values of an initializer
@@ -87,24 +87,24 @@ abbrev mutual
   SentenceAmong Is at (statement.Block' shape row) = Is at × ItemsAmong Is row
   SentenceAmong Is at statement.Empty = Is at
   SentenceAmong Is at (statement.Run e) = Is at × ExpressionAmong Is e
-  SentenceAmong Is at (statement.If' test p place body) = Is at × ExpressionAmong Is test × SentenceAmong Is place body
-  SentenceAmong Is at (statement.IfElse' test p place body q place' other) =
+  SentenceAmong Is at (statement.If' test place p body) = Is at × ExpressionAmong Is test × SentenceAmong Is place body
+  SentenceAmong Is at (statement.IfElse' test place p body place' q other) =
       Is at × ExpressionAmong Is test × SentenceAmong Is place body × SentenceAmong Is place' other
-  SentenceAmong Is at (statement.While' test p place body) = Is at × ExpressionAmong Is test × SentenceAmong Is place body
-  SentenceAmong Is at (statement.Do' p place body test) = Is at × SentenceAmong Is place body × ExpressionAmong Is test
-  SentenceAmong Is at (statement.For' first test last p place body) =
+  SentenceAmong Is at (statement.While' test place p body) = Is at × ExpressionAmong Is test × SentenceAmong Is place body
+  SentenceAmong Is at (statement.Do' place p body test) = Is at × SentenceAmong Is place body × ExpressionAmong Is test
+  SentenceAmong Is at (statement.For' first test last place p body) =
       Is at × FirstAmong Is first × IfSome test (ExpressionAmong Is) × IfSome last (ExpressionAmong Is) × SentenceAmong Is place body
   SentenceAmong Is at (statement.Switch' value shape row) = Is at × ExpressionAmong Is value × SwitchItemsAmong Is row
   SentenceAmong Is at (statement.Goto label) = Is at
   SentenceAmong Is at statement.Continue = Is at
   SentenceAmong Is at statement.Break = Is at
   SentenceAmong Is at (statement.Return value) = Is at × IfSome value (ExpressionAmong Is)
-  SentenceAmong Is at (statement.Label' name p place body) = Is at × SentenceAmong Is place body
+  SentenceAmong Is at (statement.Label' name place p body) = Is at × SentenceAmong Is place body
 
   -- what stands in a block
   pub ItemAmong : (Place → Type 0) → RawItem → Type 0
   ItemAmong Is (items.TheVariants.Declare s objects) = All (DeclaredAmong Is) objects.items
-  ItemAmong Is (items.TheVariants.Run' place body) = SentenceAmong Is place body
+  ItemAmong Is (items.TheVariants.Run' place p body) = SentenceAmong Is place body
 
   pub ItemsAmong : {n : _} → (Place → Type 0) → statements.Row_of-RawItem n → Type 0
   ItemsAmong Is statements.end_of-RawItem = Unit {0}

@@ -3,12 +3,13 @@
 use crate::scene::scene;
 use crate::words::{integer, words};
 use cs_ast::raw::expression::RawExpr;
-use cs_consts::{TypeRefusal, discarded, value};
+use cs_consts::{discarded, value};
 use cs_expr_parser::{ExprLevel, expression};
 use cs_grammar::TypedefNames;
 use cs_lexer::tokens;
 use cs_limits::{MOST_BYTES, MOST_TOKENS};
 use cs_names::Name;
+use cs_scopes::TypeRefusal;
 use cs_types::DataModel;
 use std::alloc::{AllocError, Global};
 

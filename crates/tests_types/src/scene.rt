@@ -1,9 +1,9 @@
 //! The declarations that the examples go by. `data/gcc.py` has the same in C.
 
-use cs_consts::{
+use cs_names::Name;
+use cs_scopes::{
     Callee, Context, Declaration, Declarations, Function, Meaning, Scope, Tag, TagMeaning, Tags,
 };
-use cs_names::Name;
 use cs_types::{
     CType, DataModel, IntType, Member, Members, StructTable, StructType, Structs, size_type,
 };

@@ -11,10 +11,10 @@ use Rattle.cs_ast.specs.declared.raw.statement.RawStmtKind.TheVariants as raw
 use Rattle.cs_ast.specs.declared.typed.statement.Stmt.{Stmt}
 use Rattle.cs_ast.specs.TypedTree.{While, Do, Label}
 use Rattle.cs_ast.specs.TypedView.{typed, statement}
-use Rattle.cs_consts.specs.Verdicts.{Fine, IsRefused}
-use Rattle.cs_consts.proofs.Lifting.{lift-refused}
-use Rattle.cs_consts.proofs.Numbers.{fits_in_c}
-use Rattle.cs_consts.proofs.Productions.{refused_as}
+use Rattle.cs_scopes.specs.Verdicts.{Fine, IsRefused}
+use Rattle.cs_scopes.proofs.Lifting.{lift-refused}
+use Rattle.cs_folding.proofs.Numbers.{fits_in_c}
+use Rattle.cs_scopes.proofs.Lifting.{refused_as}
 use Rattle.cs_consts.proofs.SingleParts.{lift_is}
 use Rattle.cs_declarations.specs.Answered.{AnswersWith}
 use Rattle.cs_declarations.specs.Known.{mark_of}
@@ -105,14 +105,14 @@ statements::kind_typed-returns-in_err-body-in-If t c =
     let i = inside_of c.args.inside.now in
     let at = c.args.place in
     refused_with (kind_part at) (statement_typed w i at c.args.tree.now) c.from_residual-in_err-body-in-If.result c.statement_typed.new.inside c.in_err-body-in-If.field-0.0 e
-    (if_body_refused w i at c.args.tree.now c.in-If.test c.in-If.body c.in-If.is c.in_ok-test-in-If.test c.tested.new.self c.in_ok-test-in-If.ensures c.deref-in-If.result.now c.deref-in-If.ensures c.in_err-body-in-If.field-0.0 c.in_err-body-in-If.ensures)
+    (if_body_refused w i at c.args.tree.now c.in-If.test c.in-If.body c.in-If.is c.in_ok-test-in-If.test c.tested.new.self c.in_ok-test-in-If.ensures c.in_err-body-in-If.field-0.0 c.in_err-body-in-If.ensures)
 
-pub statements::kind_typed-returns-in_ok-new-in-If : goal.statements::kind_typed-returns-in_ok-new-in-If
-statements::kind_typed-returns-in_ok-new-in-If t c =
+pub statements::kind_typed-returns-in_ok-body-in-If : goal.statements::kind_typed-returns-in_ok-body-in-If
+statements::kind_typed-returns-in_ok-body-in-If t c =
     let w = where_of c.args.at in
     let i = inside_of c.args.inside.now in
     let at = c.args.place in
-    if_reported w i at c.args.tree.now c.in-If.test c.in-If.body c.in-If.is c.in_ok-test-in-If.test c.tested.new.self c.in_ok-test-in-If.ensures c.deref-in-If.result.now c.deref-in-If.ensures c.in_ok-body-in-If.body c.statement_typed.new.inside c.in_ok-new-in-If.field-0 c.in_ok-body-in-If.ensures c.in_ok-new-in-If.ensures.ok
+    if_reported w i at c.args.tree.now c.in-If.test c.in-If.body c.in-If.is c.in_ok-test-in-If.test c.tested.new.self c.in_ok-test-in-If.ensures c.in_ok-body-in-If.body c.statement_typed.new.inside c.in_ok-body-in-If.ensures
 
 pub statements::kind_typed-returns-in_err-test-in-IfElse : goal.statements::kind_typed-returns-in_err-test-in-IfElse
 statements::kind_typed-returns-in_err-test-in-IfElse t c =
@@ -130,7 +130,7 @@ statements::kind_typed-returns-in_err-body-in-IfElse t c =
     let i = inside_of c.args.inside.now in
     let at = c.args.place in
     refused_with (kind_part at) (statement_typed w i at c.args.tree.now) c.from_residual-in_err-body-in-IfElse.result c.statement_typed-in-IfElse.new.inside c.in_err-body-in-IfElse.field-0.0 e
-    (else_body_refused w i at c.args.tree.now c.in-IfElse.test c.in-IfElse.body c.in-IfElse.other c.in-IfElse.is c.in_ok-test-in-IfElse.test c.tested-in-IfElse.new.self c.in_ok-test-in-IfElse.ensures c.deref-in-IfElse.result.now c.deref-in-IfElse.ensures c.in_err-body-in-IfElse.field-0.0 c.in_err-body-in-IfElse.ensures)
+    (else_body_refused w i at c.args.tree.now c.in-IfElse.test c.in-IfElse.body c.in-IfElse.other c.in-IfElse.is c.in_ok-test-in-IfElse.test c.tested-in-IfElse.new.self c.in_ok-test-in-IfElse.ensures c.in_err-body-in-IfElse.field-0.0 c.in_err-body-in-IfElse.ensures)
 
 pub statements::kind_typed-returns-in_err-other-in-IfElse : goal.statements::kind_typed-returns-in_err-other-in-IfElse
 statements::kind_typed-returns-in_err-other-in-IfElse t c =
@@ -139,14 +139,14 @@ statements::kind_typed-returns-in_err-other-in-IfElse t c =
     let i = inside_of c.args.inside.now in
     let at = c.args.place in
     refused_with (kind_part at) (statement_typed w i at c.args.tree.now) c.from_residual-in_err-other-in-IfElse.result c.statement_typed-in-IfElse-2.new.inside c.in_err-other-in-IfElse.field-0.0 e
-    (else_refused w i at c.args.tree.now c.in-IfElse.test c.in-IfElse.body c.in-IfElse.other c.in-IfElse.is c.in_ok-test-in-IfElse.test c.tested-in-IfElse.new.self c.in_ok-test-in-IfElse.ensures c.deref-in-IfElse.result.now c.deref-in-IfElse.ensures c.in_ok-body-in-IfElse.body c.statement_typed-in-IfElse.new.inside c.in_ok-body-in-IfElse.ensures c.deref-in-IfElse-2.result.now c.deref-in-IfElse-2.ensures c.in_err-other-in-IfElse.field-0.0 c.in_err-other-in-IfElse.ensures)
+    (else_refused w i at c.args.tree.now c.in-IfElse.test c.in-IfElse.body c.in-IfElse.other c.in-IfElse.is c.in_ok-test-in-IfElse.test c.tested-in-IfElse.new.self c.in_ok-test-in-IfElse.ensures c.in_ok-body-in-IfElse.body c.statement_typed-in-IfElse.new.inside c.in_ok-body-in-IfElse.ensures c.in_err-other-in-IfElse.field-0.0 c.in_err-other-in-IfElse.ensures)
 
-pub statements::kind_typed-returns-in_ok-new-in-IfElse-2 : goal.statements::kind_typed-returns-in_ok-new-in-IfElse-2
-statements::kind_typed-returns-in_ok-new-in-IfElse-2 t c =
+pub statements::kind_typed-returns-in_ok-other-in-IfElse : goal.statements::kind_typed-returns-in_ok-other-in-IfElse
+statements::kind_typed-returns-in_ok-other-in-IfElse t c =
     let w = where_of c.args.at in
     let i = inside_of c.args.inside.now in
     let at = c.args.place in
-    else_reported w i at c.args.tree.now c.in-IfElse.test c.in-IfElse.body c.in-IfElse.other c.in-IfElse.is c.in_ok-test-in-IfElse.test c.tested-in-IfElse.new.self c.in_ok-test-in-IfElse.ensures c.deref-in-IfElse.result.now c.deref-in-IfElse.ensures c.in_ok-body-in-IfElse.body c.statement_typed-in-IfElse.new.inside c.in_ok-body-in-IfElse.ensures c.deref-in-IfElse-2.result.now c.deref-in-IfElse-2.ensures c.in_ok-other-in-IfElse.other c.statement_typed-in-IfElse-2.new.inside c.in_ok-new-in-IfElse.field-0 c.in_ok-new-in-IfElse-2.field-0 c.in_ok-other-in-IfElse.ensures c.in_ok-new-in-IfElse.ensures.ok c.in_ok-new-in-IfElse-2.ensures.ok
+    else_reported w i at c.args.tree.now c.in-IfElse.test c.in-IfElse.body c.in-IfElse.other c.in-IfElse.is c.in_ok-test-in-IfElse.test c.tested-in-IfElse.new.self c.in_ok-test-in-IfElse.ensures c.in_ok-body-in-IfElse.body c.statement_typed-in-IfElse.new.inside c.in_ok-body-in-IfElse.ensures c.in_ok-other-in-IfElse.other c.statement_typed-in-IfElse-2.new.inside c.in_ok-other-in-IfElse.ensures
 
 pub statements::kind_typed-returns-in-While : goal.statements::kind_typed-returns-in-While
 statements::kind_typed-returns-in-While t c =
@@ -154,7 +154,7 @@ statements::kind_typed-returns-in-While t c =
     let i = inside_of c.args.inside.now in
     let at = c.args.place in
     reported_as w i at c.args.tree.now (raw.While c.in-While.test c.in-While.body) c.while_typed.result c.while_typed.new.inside c.in-While.is
-    (subst (λ (x : RawStmt). AnswersWith (kind_part at) (while_typed w i at c.in-While.test x.place x.kind) c.while_typed.result c.while_typed.new.inside) c.deref-in-While.ensures c.while_typed.ensures)
+    c.while_typed.ensures
 
 pub statements::kind_typed-returns-in-Do : goal.statements::kind_typed-returns-in-Do
 statements::kind_typed-returns-in-Do t c =
@@ -162,7 +162,7 @@ statements::kind_typed-returns-in-Do t c =
     let i = inside_of c.args.inside.now in
     let at = c.args.place in
     reported_as w i at c.args.tree.now (raw.Do c.in-Do.body c.in-Do.test) c.do_typed.result c.do_typed.new.inside c.in-Do.is
-    (subst (λ (x : RawStmt). AnswersWith (kind_part at) (do_typed w i at c.in-Do.test x.place x.kind) c.do_typed.result c.do_typed.new.inside) c.deref-in-Do.ensures c.do_typed.ensures)
+    c.do_typed.ensures
 
 pub statements::kind_typed-returns-in-For : goal.statements::kind_typed-returns-in-For
 statements::kind_typed-returns-in-For t c =
@@ -170,7 +170,7 @@ statements::kind_typed-returns-in-For t c =
     let i = inside_of c.args.inside.now in
     let at = c.args.place in
     reported_as w i at c.args.tree.now (raw.For c.in-For.first c.in-For.test c.in-For.last c.in-For.body) c.for_typed.result c.for_typed.new.inside c.in-For.is
-    (subst (λ (x : RawStmt). AnswersWith (kind_part at) (for_typed w i at c.in-For.first c.in-For.test c.in-For.last x.place x.kind) c.for_typed.result c.for_typed.new.inside) c.deref-in-For.ensures c.for_typed.ensures)
+    c.for_typed.ensures
 
 pub statements::kind_typed-returns-in-Switch : goal.statements::kind_typed-returns-in-Switch
 statements::kind_typed-returns-in-Switch t c =
@@ -187,7 +187,7 @@ statements::kind_typed-returns-in-Label t c =
     let i = inside_of c.args.inside.now in
     let at = c.args.place in
     reported_as w i at c.args.tree.now (raw.Label c.in-Label.name c.in-Label.body) c.labelled.result c.labelled.new.inside c.in-Label.is
-    (subst (λ (x : RawStmt). AnswersWith (kind_part at) (label_typed w i at c.in-Label.name x.place x.kind) c.labelled.result c.labelled.new.inside) c.deref-in-Label.ensures c.labelled.ensures)
+    c.labelled.ensures
 
 pub statements::kind_typed-returns-in-Goto : goal.statements::kind_typed-returns-in-Goto
 statements::kind_typed-returns-in-Goto t c =
@@ -204,7 +204,7 @@ statements::while_typed-returns-in_err-test t c =
     let at = c.args.place in
     let body = c.args.body.now in
     let test = c.args.test.now in
-    refused_with (kind_part at) (while_typed w i at test body.place body.kind) c.from_residual.result c.tested.new.self c.in_err-test.field-0.0 e
+    refused_with (kind_part at) (while_typed w i at test body.place body.kind.value) c.from_residual.result c.tested.new.self c.in_err-test.field-0.0 e
     (while_test_stops w i at test body c.in_err-test.field-0.0 c.in_err-test.ensures)
 
 pub statements::while_typed-returns-in_err-body : goal.statements::while_typed-returns-in_err-body
@@ -215,7 +215,7 @@ statements::while_typed-returns-in_err-body t c =
     let at = c.args.place in
     let body = c.args.body.now in
     let test = c.args.test.now in
-    refused_with (kind_part at) (while_typed w i at test body.place body.kind) c.from_residual-in_err-body.result c.statement_typed.new.inside c.in_err-body.field-0.0 e
+    refused_with (kind_part at) (while_typed w i at test body.place body.kind.value) c.from_residual-in_err-body.result c.statement_typed.new.inside c.in_err-body.field-0.0 e
     (while_body_stops w i at test body (where_of c.in_loop.result) (typed_part c.in_ok-test.test c.tested.new.self) c.in_loop.ensures c.in_ok-test.ensures c.in_err-body.field-0.0 c.in_err-body.ensures)
 
 pub statements::while_typed-returns : goal.statements::while_typed-returns
@@ -227,7 +227,6 @@ statements::while_typed-returns t c =
     let test = c.args.test.now in
     let now = c.statement_typed.new.inside in
     while_taken w i at test body (where_of c.in_loop.result) (typed_part c.in_ok-test.test c.tested.new.self) c.in_loop.ensures c.in_ok-test.ensures (statement_part c.in_ok-body.body now) c.in_ok-body.ensures
-    ∙ ap (λ (s : Stmt). part (inside_of now) (While at (typed c.in_ok-test.test) (statement s))) (sym c.in_ok-new.ensures.ok)
 
 pub statements::do_typed-returns-in_err-body : goal.statements::do_typed-returns-in_err-body
 statements::do_typed-returns-in_err-body t c =
@@ -237,7 +236,7 @@ statements::do_typed-returns-in_err-body t c =
     let at = c.args.place in
     let body = c.args.body.now in
     let test = c.args.test.now in
-    refused_with (kind_part at) (do_typed w i at test body.place body.kind) c.from_residual.result c.statement_typed.new.inside c.in_err-body.field-0.0 e
+    refused_with (kind_part at) (do_typed w i at test body.place body.kind.value) c.from_residual.result c.statement_typed.new.inside c.in_err-body.field-0.0 e
     (do_body_stops w i at test body (where_of c.in_loop.result) c.in_loop.ensures c.in_err-body.field-0.0 c.in_err-body.ensures)
 
 pub statements::do_typed-returns-in_err-test : goal.statements::do_typed-returns-in_err-test
@@ -248,7 +247,7 @@ statements::do_typed-returns-in_err-test t c =
     let at = c.args.place in
     let body = c.args.body.now in
     let test = c.args.test.now in
-    refused_with (kind_part at) (do_typed w i at test body.place body.kind) c.from_residual-in_err-test.result c.tested.new.self c.in_err-test.field-0.0 e
+    refused_with (kind_part at) (do_typed w i at test body.place body.kind.value) c.from_residual-in_err-test.result c.tested.new.self c.in_err-test.field-0.0 e
     (do_test_stops w i at test body (where_of c.in_loop.result) c.in_loop.ensures (statement_part c.in_ok-body.body c.statement_typed.new.inside) c.in_ok-body.ensures c.in_err-test.field-0.0 c.in_err-test.ensures)
 
 pub statements::do_typed-returns : goal.statements::do_typed-returns
@@ -260,7 +259,6 @@ statements::do_typed-returns t c =
     let test = c.args.test.now in
     let now = c.tested.new.self in
     do_taken w i at test body (where_of c.in_loop.result) c.in_loop.ensures (statement_part c.in_ok-body.body c.statement_typed.new.inside) c.in_ok-body.ensures (typed_part c.in_ok-test.test now) c.in_ok-test.ensures
-    ∙ ap (λ (s : Stmt). part (inside_of now) (Do at (statement s) (typed c.in_ok-test.test))) (sym c.in_ok-new.ensures.ok)
 
 pub statements::for_typed-returns-in_err-first : goal.statements::for_typed-returns-in_err-first
 statements::for_typed-returns-in_err-first t c =
@@ -271,8 +269,8 @@ statements::for_typed-returns-in_err-first t c =
     let inner = knowing (known_of c.enter-around.new.self) i in
     let enters : inner ≡ in_block i = ap (λ k. knowing k i) c.enter-around.ensures.entered in
     let body = c.args.body.now in
-    refused_with (kind_part at) (for_typed w i at c.args.first.now c.args.test.now c.args.last.now body.place body.kind) c.from_residual.result c.first_typed.new.inside c.in_err-first.field-0.0 e
-    (for_first_stops w i at c.args.first.now c.args.test.now c.args.last.now body.place body.kind inner enters c.in_err-first.field-0.0 c.in_err-first.ensures)
+    refused_with (kind_part at) (for_typed w i at c.args.first.now c.args.test.now c.args.last.now body.place body.kind.value) c.from_residual.result c.first_typed.new.inside c.in_err-first.field-0.0 e
+    (for_first_stops w i at c.args.first.now c.args.test.now c.args.last.now body.place body.kind.value inner enters c.in_err-first.field-0.0 c.in_err-first.ensures)
 
 pub statements::for_typed-returns-in_err-test : goal.statements::for_typed-returns-in_err-test
 statements::for_typed-returns-in_err-test t c =
@@ -283,8 +281,8 @@ statements::for_typed-returns-in_err-test t c =
     let inner = knowing (known_of c.enter-around.new.self) i in
     let enters : inner ≡ in_block i = ap (λ k. knowing k i) c.enter-around.ensures.entered in
     let body = c.args.body.now in
-    refused_with (kind_part at) (for_typed w i at c.args.first.now c.args.test.now c.args.last.now body.place body.kind) c.from_residual-in_err-test.result c.tested_if.new.self c.in_err-test.field-0.0 e
-    (for_test_stops w i at c.args.first.now c.args.test.now c.args.last.now body.place body.kind inner enters (reported_of c.in_ok-first.first.items c.first_typed.new.inside) c.in_ok-first.ensures c.in_err-test.field-0.0 c.in_err-test.ensures)
+    refused_with (kind_part at) (for_typed w i at c.args.first.now c.args.test.now c.args.last.now body.place body.kind.value) c.from_residual-in_err-test.result c.tested_if.new.self c.in_err-test.field-0.0 e
+    (for_test_stops w i at c.args.first.now c.args.test.now c.args.last.now body.place body.kind.value inner enters (reported_of c.in_ok-first.first.items c.first_typed.new.inside) c.in_ok-first.ensures c.in_err-test.field-0.0 c.in_err-test.ensures)
 
 pub statements::for_typed-returns-in_err-last : goal.statements::for_typed-returns-in_err-last
 statements::for_typed-returns-in_err-last t c =
@@ -295,8 +293,8 @@ statements::for_typed-returns-in_err-last t c =
     let inner = knowing (known_of c.enter-around.new.self) i in
     let enters : inner ≡ in_block i = ap (λ k. knowing k i) c.enter-around.ensures.entered in
     let body = c.args.body.now in
-    refused_with (kind_part at) (for_typed w i at c.args.first.now c.args.test.now c.args.last.now body.place body.kind) c.from_residual-in_err-last.result c.dropped_if.new.self c.in_err-last.field-0.0 e
-    (for_last_stops w i at c.args.first.now c.args.test.now c.args.last.now body.place body.kind inner enters (reported_of c.in_ok-first.first.items c.first_typed.new.inside) c.in_ok-first.ensures (optional_part c.in_ok-test.test c.tested_if.new.self) c.in_ok-test.ensures c.in_err-last.field-0.0 c.in_err-last.ensures)
+    refused_with (kind_part at) (for_typed w i at c.args.first.now c.args.test.now c.args.last.now body.place body.kind.value) c.from_residual-in_err-last.result c.dropped_if.new.self c.in_err-last.field-0.0 e
+    (for_last_stops w i at c.args.first.now c.args.test.now c.args.last.now body.place body.kind.value inner enters (reported_of c.in_ok-first.first.items c.first_typed.new.inside) c.in_ok-first.ensures (optional_part c.in_ok-test.test c.tested_if.new.self) c.in_ok-test.ensures c.in_err-last.field-0.0 c.in_err-last.ensures)
 
 pub statements::for_typed-returns-in_err-body : goal.statements::for_typed-returns-in_err-body
 statements::for_typed-returns-in_err-body t c =
@@ -307,8 +305,8 @@ statements::for_typed-returns-in_err-body t c =
     let inner = knowing (known_of c.enter-around.new.self) i in
     let enters : inner ≡ in_block i = ap (λ k. knowing k i) c.enter-around.ensures.entered in
     let body = c.args.body.now in
-    refused_with (kind_part at) (for_typed w i at c.args.first.now c.args.test.now c.args.last.now body.place body.kind) c.from_residual-in_err-body.result c.statement_typed.new.inside c.in_err-body.field-0.0 e
-    (for_body_stops w i at c.args.first.now c.args.test.now c.args.last.now body.place body.kind inner enters (reported_of c.in_ok-first.first.items c.first_typed.new.inside) c.in_ok-first.ensures (optional_part c.in_ok-test.test c.tested_if.new.self) c.in_ok-test.ensures (optional_part c.in_ok-last.last c.dropped_if.new.self) c.in_ok-last.ensures (where_of c.in_loop.result) c.in_loop.ensures c.in_err-body.field-0.0 c.in_err-body.ensures)
+    refused_with (kind_part at) (for_typed w i at c.args.first.now c.args.test.now c.args.last.now body.place body.kind.value) c.from_residual-in_err-body.result c.statement_typed.new.inside c.in_err-body.field-0.0 e
+    (for_body_stops w i at c.args.first.now c.args.test.now c.args.last.now body.place body.kind.value inner enters (reported_of c.in_ok-first.first.items c.first_typed.new.inside) c.in_ok-first.ensures (optional_part c.in_ok-test.test c.tested_if.new.self) c.in_ok-test.ensures (optional_part c.in_ok-last.last c.dropped_if.new.self) c.in_ok-last.ensures (where_of c.in_loop.result) c.in_loop.ensures c.in_err-body.field-0.0 c.in_err-body.ensures)
 
 pub statements::for_typed-returns : goal.statements::for_typed-returns
 statements::for_typed-returns t c =
@@ -319,9 +317,9 @@ statements::for_typed-returns t c =
     let enters : inner ≡ in_block i = ap (λ k. knowing k i) c.enter-around.ensures.entered in
     let body = c.args.body.now in
     let now = c.statement_typed.new.inside in
-    for_taken w i at c.args.first.now c.args.test.now c.args.last.now body.place body.kind inner enters (reported_of c.in_ok-first.first.items c.first_typed.new.inside) c.in_ok-first.ensures (optional_part c.in_ok-test.test c.tested_if.new.self) c.in_ok-test.ensures (optional_part c.in_ok-last.last c.dropped_if.new.self) c.in_ok-last.ensures (where_of c.in_loop.result) c.in_loop.ensures (statement_part c.in_ok-body.body now) c.in_ok-body.ensures
-    ∙ for_held at c.in_ok-first.first c.in_ok-test.test c.in_ok-last.last c.in_ok-body.body c.in_ok-new.field-0 (knowing (known_of c.leave.new.self) (inside_of now)) _
-    (left_is i now c.leave.new.self (mark c.enter-around.result) c.leave.ensures c.enter-around.ensures.mark) c.in_ok-new.ensures.ok
+    for_taken w i at c.args.first.now c.args.test.now c.args.last.now body.place body.kind.value inner enters (reported_of c.in_ok-first.first.items c.first_typed.new.inside) c.in_ok-first.ensures (optional_part c.in_ok-test.test c.tested_if.new.self) c.in_ok-test.ensures (optional_part c.in_ok-last.last c.dropped_if.new.self) c.in_ok-last.ensures (where_of c.in_loop.result) c.in_loop.ensures (statement_part c.in_ok-body.body now) c.in_ok-body.ensures
+    ∙ for_held at c.in_ok-first.first c.in_ok-test.test c.in_ok-last.last c.in_ok-body.body (knowing (known_of c.leave.new.self) (inside_of now)) _
+    (left_is i now c.leave.new.self (mark c.enter-around.result) c.leave.ensures c.enter-around.ensures.mark)
 
 pub statements::block-returns-in_err-statements : goal.statements::block-returns-in_err-statements
 statements::block-returns-in_err-statements t c =
@@ -372,7 +370,7 @@ statements::item_typed-returns-in_err-statement_typed-in-Run t c =
     let run : RawStmt = c.in-Run.statement in
     refused_with (λ list following. reported_of list.items following) (item_typed w c.args.item.now so_far) c.from_residual.result c.statement_typed.new.inside c.in_err-statement_typed-in-Run.field-0.0 e
     (refused_as c.in_err-statement_typed-in-Run.field-0.0 (ap (λ x. item_typed w x so_far) c.in-Run.is)
-    (lift-refused (telling so_far.statements) (statement_typed w so_far.inside run.place run.kind) c.in_err-statement_typed-in-Run.field-0.0 c.in_err-statement_typed-in-Run.ensures))
+    (lift-refused (telling so_far.statements) (statement_typed w so_far.inside run.place run.kind.value) c.in_err-statement_typed-in-Run.field-0.0 c.in_err-statement_typed-in-Run.ensures))
 
 pub statements::item_typed-returns-in_ok-push-in-Run : goal.statements::item_typed-returns-in_ok-push-in-Run
 statements::item_typed-returns-in_ok-push-in-Run t c =
@@ -382,7 +380,7 @@ statements::item_typed-returns-in_ok-push-in-Run t c =
     let one = c.in_ok-statement_typed-in-Run.field-0 in
     let now = c.statement_typed.new.inside in
     ap (λ x. item_typed w x so_far) c.in-Run.is
-    ∙ lift_is (telling so_far.statements) (statement_typed w so_far.inside run.place run.kind) (statement_part one now) c.in_ok-statement_typed-in-Run.ensures
+    ∙ lift_is (telling so_far.statements) (statement_typed w so_far.inside run.place run.kind.value) (statement_part one now) c.in_ok-statement_typed-in-Run.ensures
     ∙ ap Fine (reported_push c.args.before.items c.push.new.self.items one now c.in_ok-push-in-Run.ensures.items)
 
 pub statements::labelled-returns-in_err-body : goal.statements::labelled-returns-in_err-body
@@ -398,8 +396,8 @@ statements::labelled-returns-in_err-body t c =
     let inner : Inside = record { known = i.known; variables = i.variables; met = c.in_ok-next.next } in
     let met : ℕ → Inside = λ n. record { known = i.known; variables = i.variables; met = n } in
     let meets : inner ≡ meeting i = ap met next in
-    refused_with (kind_part at) (label_typed w i at name body.place body.kind) c.from_residual-in_err-body.result c.statement_typed.new.inside c.in_err-body.field-0.0 e
-    (label_body_stops w i at name body.place body.kind first inner meets c.in_err-body.field-0.0 c.in_err-body.ensures)
+    refused_with (kind_part at) (label_typed w i at name body.place body.kind.value) c.from_residual-in_err-body.result c.statement_typed.new.inside c.in_err-body.field-0.0 e
+    (label_body_stops w i at name body.place body.kind.value first inner meets c.in_err-body.field-0.0 c.in_err-body.ensures)
 
 pub statements::labelled-returns : goal.statements::labelled-returns
 statements::labelled-returns t c =
@@ -414,8 +412,7 @@ statements::labelled-returns t c =
     let met : ℕ → Inside = λ n. record { known = i.known; variables = i.variables; met = n } in
     let meets : inner ≡ meeting i = ap met next in
     let now = c.statement_typed.new.inside in
-    label_taken w i at name body.place body.kind first inner meets (statement_part c.in_ok-body.body now) c.in_ok-body.ensures
-    ∙ ap (λ (s : Stmt). part (inside_of now) (Label at i.met (statement s))) (sym c.in_ok-new.ensures.ok)
+    label_taken w i at name body.place body.kind.value first inner meets (statement_part c.in_ok-body.body now) c.in_ok-body.ensures
 
 pub switches::switch_typed-returns-in_err-selector : goal.switches::switch_typed-returns-in_err-selector
 switches::switch_typed-returns-in_err-selector t c =

@@ -1,6 +1,6 @@
 use Rattle.std.proofs.Common.{sym, ◌∙◌, subst}
 use Rattle.cs_ast.specs.TypedProgram.{typed_program}
-use Rattle.cs_consts.specs.Verdicts.{IsRefused}
+use Rattle.cs_scopes.specs.Verdicts.{IsRefused}
 use Rattle.cs_app.specs.Answers.{model_of}
 use Rattle.cs_app.proofs.TypingLemmas.{same_typing}
 use Rattle.cs_app.proofs.AnswerLemmas.{answers_program, refuses_type}

@@ -16,17 +16,17 @@ use Rattle.cs_ast.specs.RawView.{written, written_kind, written_list}
 use Rattle.cs_ast.specs.RawHeight.{height, highest}
 use Rattle.cs_ast.proofs.HeightsOfNodes.{height-Call, height-SizeOfType, height-Cast}
 use Rattle.cs_consts.proofs.Heights.{height-among}
-use Rattle.cs_consts.specs.Verdicts.{Fine, lift, lift2, IsRefused, Yields, Answers}
-use Rattle.cs_consts.specs.Stores.{updatable, step_operator}
-use Rattle.cs_consts.specs.Operators.{followed}
-use Rattle.cs_consts.specs.Places.{selected}
-use Rattle.cs_consts.specs.TypeNames.{complete_at}
-use Rattle.cs_consts.specs.Meanings.{signature_of}
-use Rattle.cs_consts.specs.Calls.{shape_in, parameters_of}
+use Rattle.cs_scopes.specs.Verdicts.{Fine, lift, lift2, IsRefused, Yields, Answers}
+use Rattle.cs_expressions.specs.Stores.{updatable, step_operator}
+use Rattle.cs_expressions.specs.Operators.{followed}
+use Rattle.cs_expressions.specs.Places.{selected}
+use Rattle.cs_scopes.specs.TypeNames.{complete_at}
+use Rattle.cs_scopes.specs.Meanings.{signature_of}
+use Rattle.cs_expressions.specs.Calls.{shape_in, parameters_of}
 use Rattle.cs_consts.specs.Rows.{expressions_before, numbers_before}
 use Rattle.cs_consts.specs.Typing.{literals_after, literals_after_list, arguments_listed, formed, done, value_in, operand_in, infix_formed, choice_formed, store_formed, cast_formed, call_formed, stepped_object, measured_arrays, measured_type, base_in, numbers_listed, indexed_values, arrow_on, prefixed}
-use Rattle.cs_consts.proofs.Lifting.{lift-refused, lift2-refused-first}
-use Rattle.cs_consts.proofs.Productions.{yields_as, done_stops, done_is, value_stops, value_is, operand_stops, operand_is, infix_left_stops, infix_right_stops, infix_taken, choice_test_stops, choice_tested_stops, choice_one_stops, choice_other_stops, choice_taken, store_object_stops, store_left_stops, store_value_stops, store_taken, cast_type_stops, cast_operand_stops, cast_taken, call_other_stops, call_other, call_admitted_stops, call_arguments_stop, call_taken}
+use Rattle.cs_scopes.proofs.Lifting.{lift-refused, lift2-refused-first, yields_as}
+use Rattle.cs_consts.proofs.Productions.{done_stops, done_is, value_stops, value_is, operand_stops, operand_is, infix_left_stops, infix_right_stops, infix_taken, choice_test_stops, choice_tested_stops, choice_one_stops, choice_other_stops, choice_taken, store_object_stops, store_left_stops, store_value_stops, store_taken, cast_type_stops, cast_operand_stops, cast_taken, call_other_stops, call_other, call_admitted_stops, call_arguments_stop, call_taken}
 use Rattle.cs_consts.proofs.Admitting.{admitted_counts}
 use Rattle.cs_consts.proofs.ProductionRows.{formed-Call, formed-SizeOfType, formed-Cast, literals-Call, literals-SizeOfType}
 use Rattle.cs_consts.proofs.RowsSoFar.{none_before, no_numbers_before, at_place, arguments_turn, arguments_stop, arguments_end, numbers_turn, numbers_stop, numbers_end}
@@ -36,7 +36,7 @@ use Rattle.cs_consts.proofs.typing.+typing.Goals as goal
 pub judged-returns-in_err-value-clause-reported : goal.judged-returns-in_err-value-clause-reported
 judged-returns-in_err-value-clause-reported t c =
     let e : c.from_residual.result ≡ Err c.in_err-value.field-0.0 = search rules in
-    subst (Yields (done c.args.context.now c.args.purpose (formed c.args.context.now c.args.purpose c.args.literals.now.items (shape_in c.args.target) c.args.tree.now.place c.args.tree.now.kind))) (sym e) (done_stops c.args.context.now c.args.purpose _ c.in_err-value.field-0.0 c.in_err-value.ensures.reported)
+    subst (Yields (done c.args.context.now c.args.purpose (formed c.args.context.now c.args.purpose c.args.literals.now.items (shape_in c.args.target) c.args.tree.now.place c.args.tree.now.kind.value))) (sym e) (done_stops c.args.context.now c.args.purpose _ c.in_err-value.field-0.0 c.in_err-value.ensures.reported)
 
 pub judged-returns-clause-reported : goal.judged-returns-clause-reported
 judged-returns-clause-reported t c =
@@ -45,7 +45,7 @@ judged-returns-clause-reported t c =
 pub value_in-returns-in_err-value-clause-reported : goal.value_in-returns-in_err-value-clause-reported
 value_in-returns-in_err-value-clause-reported t c =
     let e : c.from_residual.result ≡ Err c.in_err-value.field-0.0 = search rules in
-    subst (Yields (value_in c.args.context.now c.args.purpose (formed c.args.context.now c.args.purpose c.args.literals.now.items None c.args.tree.now.place c.args.tree.now.kind))) (sym e) (value_stops c.args.context.now c.args.purpose _ c.in_err-value.field-0.0 c.in_err-value.ensures.reported)
+    subst (Yields (value_in c.args.context.now c.args.purpose (formed c.args.context.now c.args.purpose c.args.literals.now.items None c.args.tree.now.place c.args.tree.now.kind.value))) (sym e) (value_stops c.args.context.now c.args.purpose _ c.in_err-value.field-0.0 c.in_err-value.ensures.reported)
 
 pub value_in-returns-clause-reported : goal.value_in-returns-clause-reported
 value_in-returns-clause-reported t c =
@@ -54,7 +54,7 @@ value_in-returns-clause-reported t c =
 pub operand_in-returns-in_err-value-clause-reported : goal.operand_in-returns-in_err-value-clause-reported
 operand_in-returns-in_err-value-clause-reported t c =
     let e : c.from_residual.result ≡ Err c.in_err-value.field-0.0 = search rules in
-    subst (Yields (operand_in c.args.context.now c.args.purpose (formed c.args.context.now c.args.purpose c.args.literals.now.items (shape_in c.args.target) c.args.tree.now.place c.args.tree.now.kind))) (sym e) (operand_stops c.args.context.now c.args.purpose _ c.in_err-value.field-0.0 c.in_err-value.ensures.reported)
+    subst (Yields (operand_in c.args.context.now c.args.purpose (formed c.args.context.now c.args.purpose c.args.literals.now.items (shape_in c.args.target) c.args.tree.now.place c.args.tree.now.kind.value))) (sym e) (operand_stops c.args.context.now c.args.purpose _ c.in_err-value.field-0.0 c.in_err-value.ensures.reported)
 
 pub operand_in-returns-clause-reported : goal.operand_in-returns-clause-reported
 operand_in-returns-clause-reported t c =
@@ -134,16 +134,16 @@ cast-returns-clause-reported t c =
 pub step-returns-in_err-object-clause-reported : goal.step-returns-in_err-object-clause-reported
 step-returns-in_err-object-clause-reported t c =
     let e : c.from_residual.result ≡ Err c.in_err-object.field-0.0 = search rules in
-    subst (Yields (lift (stepped_object c.args.context.now (step_operator c.args.step) c.args.gives c.args.place) (lift (updatable c.args.context.now.table.list (step_operator c.args.step) c.args.place) (done c.args.context.now c.args.purpose (formed c.args.context.now c.args.purpose c.args.literals.now.items None c.args.object.now.place c.args.object.now.kind))))) (sym e) (step_object_stops c.args.context.now c.args.place (step_operator c.args.step) c.args.gives (done c.args.context.now c.args.purpose (formed c.args.context.now c.args.purpose c.args.literals.now.items None c.args.object.now.place c.args.object.now.kind)) c.in_err-object.field-0.0 c.in_err-object.ensures.reported)
+    subst (Yields (lift (stepped_object c.args.context.now (step_operator c.args.step) c.args.gives c.args.place) (lift (updatable c.args.context.now.table.list (step_operator c.args.step) c.args.place) (done c.args.context.now c.args.purpose (formed c.args.context.now c.args.purpose c.args.literals.now.items None c.args.object.now.place c.args.object.now.kind.value))))) (sym e) (step_object_stops c.args.context.now c.args.place (step_operator c.args.step) c.args.gives (done c.args.context.now c.args.purpose (formed c.args.context.now c.args.purpose c.args.literals.now.items None c.args.object.now.place c.args.object.now.kind.value)) c.in_err-object.field-0.0 c.in_err-object.ensures.reported)
 
 pub step-returns-in_err-object-2-clause-reported : goal.step-returns-in_err-object-2-clause-reported
 step-returns-in_err-object-2-clause-reported t c =
     let e : c.from_residual-in_err-object-2.result ≡ Err c.in_err-object-2.field-0.0 = search rules in
-    subst (Yields (lift (stepped_object c.args.context.now (step_operator c.args.step) c.args.gives c.args.place) (lift (updatable c.args.context.now.table.list (step_operator c.args.step) c.args.place) (done c.args.context.now c.args.purpose (formed c.args.context.now c.args.purpose c.args.literals.now.items None c.args.object.now.place c.args.object.now.kind))))) (sym e) (step_updatable_stops c.args.context.now c.args.place (step_operator c.args.step) c.step_operator-operator.result c.args.gives (done c.args.context.now c.args.purpose (formed c.args.context.now c.args.purpose c.args.literals.now.items None c.args.object.now.place c.args.object.now.kind)) (typed c.in_ok-object.object) c.in_err-object-2.field-0.0 c.step_operator-operator.ensures c.in_ok-object.ensures.reported c.in_err-object-2.ensures)
+    subst (Yields (lift (stepped_object c.args.context.now (step_operator c.args.step) c.args.gives c.args.place) (lift (updatable c.args.context.now.table.list (step_operator c.args.step) c.args.place) (done c.args.context.now c.args.purpose (formed c.args.context.now c.args.purpose c.args.literals.now.items None c.args.object.now.place c.args.object.now.kind.value))))) (sym e) (step_updatable_stops c.args.context.now c.args.place (step_operator c.args.step) c.step_operator-operator.result c.args.gives (done c.args.context.now c.args.purpose (formed c.args.context.now c.args.purpose c.args.literals.now.items None c.args.object.now.place c.args.object.now.kind.value)) (typed c.in_ok-object.object) c.in_err-object-2.field-0.0 c.step_operator-operator.ensures c.in_ok-object.ensures.reported c.in_err-object-2.ensures)
 
 pub step-returns-clause-reported : goal.step-returns-clause-reported
 step-returns-clause-reported t c =
-    step_taken c.args.context.now c.args.place (step_operator c.args.step) c.step_operator-operator.result c.args.gives (done c.args.context.now c.args.purpose (formed c.args.context.now c.args.purpose c.args.literals.now.items None c.args.object.now.place c.args.object.now.kind)) (typed c.in_ok-object.object) (typed c.in_ok-object-2.object) c.stepped.result c.step_operator-operator.ensures c.in_ok-object.ensures.reported c.in_ok-object-2.ensures c.stepped.ensures
+    step_taken c.args.context.now c.args.place (step_operator c.args.step) c.step_operator-operator.result c.args.gives (done c.args.context.now c.args.purpose (formed c.args.context.now c.args.purpose c.args.literals.now.items None c.args.object.now.place c.args.object.now.kind.value)) (typed c.in_ok-object.object) (typed c.in_ok-object-2.object) c.stepped.result c.step_operator-operator.ensures c.in_ok-object.ensures.reported c.in_ok-object-2.ensures c.stepped.ensures
 
 pub size_of_type-returns-in_err-base-clause-reported : goal.size_of_type-returns-in_err-base-clause-reported
 size_of_type-returns-in_err-base-clause-reported t c =
@@ -162,7 +162,7 @@ size_of_type-returns-in_err-numbers-clause-reported t c =
 
 pub size_of_type-returns-clause-reported : goal.size_of_type-returns-clause-reported
 size_of_type-returns-clause-reported t c =
-    size_taken c.args.context.now c.args.place (base_in c.args.context.now c.args.place c.args.ty.now) (numbers_listed c.args.context.now c.args.literals.now.items c.args.bounds.now) (shape_of c.in_ok-base.base) (shape_of c.in_ok-base-2.base) c.in_ok-numbers.numbers.items c.measured_arrays.result c.in_ok-base.ensures c.in_ok-base-2.ensures c.in_ok-numbers.ensures.reported (subst (λ ns. Yields (measured_arrays c.args.context.now c.args.place (shape_of c.in_ok-base-2.base) ns) c.measured_arrays.result) c.deref.ensures.value c.measured_arrays.ensures)
+    size_taken c.args.context.now c.args.place (base_in c.args.context.now c.args.place c.args.ty.now) (numbers_listed c.args.context.now c.args.literals.now.items c.args.bounds.now) (shape_of c.in_ok-base.base) (shape_of c.in_ok-base-2.base) c.in_ok-numbers.numbers.items c.measured_arrays.result c.in_ok-base.ensures c.in_ok-base-2.ensures c.in_ok-numbers.ensures.reported c.measured_arrays.ensures
 
 pub call-returns-in_err-operand_in-clause-reported : goal.call-returns-in_err-operand_in-clause-reported
 call-returns-in_err-operand_in-clause-reported t c =
@@ -189,36 +189,36 @@ call-returns-clause-reported t c =
 
 pub formed-returns-in-Infix-clause-reported : goal.formed-returns-in-Infix-clause-reported
 formed-returns-in-Infix-clause-reported t c =
-    subst (λ k. Yields (formed c.args.context.now c.args.purpose c.args.literals.now.items (shape_in c.args.target) c.args.tree.now.place k) c.infix.result) (sym c.in-Infix.is) ((subst (λ x. Yields (infix_formed c.args.context.now c.args.purpose c.args.literals.now.items c.args.tree.now.place c.in-Infix.operator c.in-Infix.left.value x) c.infix.result) c.deref-in-Infix-2.ensures (subst (λ x. Yields (infix_formed c.args.context.now c.args.purpose c.args.literals.now.items c.args.tree.now.place c.in-Infix.operator x c.deref-in-Infix-2.result.now) c.infix.result) c.deref-in-Infix.ensures c.infix.ensures.reported)))
+    subst (λ k. Yields (formed c.args.context.now c.args.purpose c.args.literals.now.items (shape_in c.args.target) c.args.tree.now.place k) c.infix.result) (sym c.in-Infix.is) c.infix.ensures.reported
 
 pub formed-returns-in-Choice-clause-reported : goal.formed-returns-in-Choice-clause-reported
 formed-returns-in-Choice-clause-reported t c =
-    subst (λ k. Yields (formed c.args.context.now c.args.purpose c.args.literals.now.items (shape_in c.args.target) c.args.tree.now.place k) c.select.result) (sym c.in-Choice.is) ((subst (λ x. Yields (choice_formed c.args.context.now c.args.purpose c.args.literals.now.items c.args.tree.now.place c.in-Choice.test.value c.in-Choice.one.value x) c.select.result) c.deref-in-Choice-3.ensures (subst (λ x. Yields (choice_formed c.args.context.now c.args.purpose c.args.literals.now.items c.args.tree.now.place c.in-Choice.test.value x c.deref-in-Choice-3.result.now) c.select.result) c.deref-in-Choice-2.ensures (subst (λ x. Yields (choice_formed c.args.context.now c.args.purpose c.args.literals.now.items c.args.tree.now.place x c.deref-in-Choice-2.result.now c.deref-in-Choice-3.result.now) c.select.result) c.deref-in-Choice.ensures c.select.ensures.reported))))
+    subst (λ k. Yields (formed c.args.context.now c.args.purpose c.args.literals.now.items (shape_in c.args.target) c.args.tree.now.place k) c.select.result) (sym c.in-Choice.is) c.select.ensures.reported
 
 pub formed-returns-in-Assign-clause-reported : goal.formed-returns-in-Assign-clause-reported
 formed-returns-in-Assign-clause-reported t c =
-    subst (λ k. Yields (formed c.args.context.now c.args.purpose c.args.literals.now.items (shape_in c.args.target) c.args.tree.now.place k) c.store.result) (sym c.in-Assign.is) ((subst (λ x. Yields (store_formed c.args.context.now c.args.purpose c.args.literals.now.items c.args.tree.now.place c.in-Assign.operator c.in-Assign.object.value x) c.store.result) c.deref-in-Assign-2.ensures (subst (λ x. Yields (store_formed c.args.context.now c.args.purpose c.args.literals.now.items c.args.tree.now.place c.in-Assign.operator x c.deref-in-Assign-2.result.now) c.store.result) c.deref-in-Assign.ensures c.store.ensures.reported)))
+    subst (λ k. Yields (formed c.args.context.now c.args.purpose c.args.literals.now.items (shape_in c.args.target) c.args.tree.now.place k) c.store.result) (sym c.in-Assign.is) c.store.ensures.reported
 
 pub formed-returns-in-StepAfter-clause-reported : goal.formed-returns-in-StepAfter-clause-reported
 formed-returns-in-StepAfter-clause-reported t c =
-    subst (λ k. Yields (formed c.args.context.now c.args.purpose c.args.literals.now.items (shape_in c.args.target) c.args.tree.now.place k) c.step.result) (sym c.in-StepAfter.is) ((subst (λ x. Yields (lift (stepped_object c.args.context.now (step_operator c.in-StepAfter.by) Old c.args.tree.now.place) (lift (updatable c.args.context.now.table.list (step_operator c.in-StepAfter.by) c.args.tree.now.place) (done c.args.context.now c.args.purpose (formed c.args.context.now c.args.purpose c.args.literals.now.items None x.place x.kind)))) c.step.result) c.deref-in-StepAfter.ensures c.step.ensures.reported))
+    subst (λ k. Yields (formed c.args.context.now c.args.purpose c.args.literals.now.items (shape_in c.args.target) c.args.tree.now.place k) c.step.result) (sym c.in-StepAfter.is) c.step.ensures.reported
 
 pub formed-returns-in-StepBefore-clause-reported : goal.formed-returns-in-StepBefore-clause-reported
 formed-returns-in-StepBefore-clause-reported t c =
-    subst (λ k. Yields (formed c.args.context.now c.args.purpose c.args.literals.now.items (shape_in c.args.target) c.args.tree.now.place k) c.step-in-StepBefore.result) (sym c.in-StepBefore.is) ((subst (λ x. Yields (lift (stepped_object c.args.context.now (step_operator c.in-StepBefore.by) New c.args.tree.now.place) (lift (updatable c.args.context.now.table.list (step_operator c.in-StepBefore.by) c.args.tree.now.place) (done c.args.context.now c.args.purpose (formed c.args.context.now c.args.purpose c.args.literals.now.items None x.place x.kind)))) c.step-in-StepBefore.result) c.deref-in-StepBefore.ensures c.step-in-StepBefore.ensures.reported))
+    subst (λ k. Yields (formed c.args.context.now c.args.purpose c.args.literals.now.items (shape_in c.args.target) c.args.tree.now.place k) c.step-in-StepBefore.result) (sym c.in-StepBefore.is) c.step-in-StepBefore.ensures.reported
 
 pub formed-returns-in-Parenthesis-clause-reported : goal.formed-returns-in-Parenthesis-clause-reported
 formed-returns-in-Parenthesis-clause-reported t c =
-    subst (λ k. Yields (formed c.args.context.now c.args.purpose c.args.literals.now.items (shape_in c.args.target) c.args.tree.now.place k) c.judged.result) (sym c.in-Parenthesis.is) ((subst (λ x. Yields (done c.args.context.now c.args.purpose (formed c.args.context.now c.args.purpose c.args.literals.now.items (shape_in c.args.target) x.place x.kind)) c.judged.result) c.deref.ensures c.judged.ensures.reported))
+    subst (λ k. Yields (formed c.args.context.now c.args.purpose c.args.literals.now.items (shape_in c.args.target) c.args.tree.now.place k) c.judged.result) (sym c.in-Parenthesis.is) c.judged.ensures.reported
 
 pub formed-returns-in-Call-clause-reported : goal.formed-returns-in-Call-clause-reported
 formed-returns-in-Call-clause-reported t c =
-    subst (λ k. Yields (formed c.args.context.now c.args.purpose c.args.literals.now.items (shape_in c.args.target) c.args.tree.now.place k) c.call.result) (sym c.in-Call.is) (yields_as c.call.result (formed-Call c.args.context.now c.args.purpose c.args.literals.now.items (shape_in c.args.target) c.args.tree.now.place c.in-Call.function c.in-Call.arguments) (subst (λ x. Yields (call_formed c.args.context.now c.args.purpose c.args.literals.now.items (shape_in c.args.target) c.args.tree.now.place c.in-Call.function.value x) c.call.result) c.deref-in-Call-2.ensures.value (subst (λ x. Yields (call_formed c.args.context.now c.args.purpose c.args.literals.now.items (shape_in c.args.target) c.args.tree.now.place x c.deref-in-Call-2.result.now) c.call.result) c.deref-in-Call.ensures c.call.ensures.reported)))
+    subst (λ k. Yields (formed c.args.context.now c.args.purpose c.args.literals.now.items (shape_in c.args.target) c.args.tree.now.place k) c.call.result) (sym c.in-Call.is) (yields_as c.call.result (formed-Call c.args.context.now c.args.purpose c.args.literals.now.items (shape_in c.args.target) c.args.tree.now.place c.in-Call.function c.in-Call.arguments) (subst (λ x. Yields (call_formed c.args.context.now c.args.purpose c.args.literals.now.items (shape_in c.args.target) c.args.tree.now.place c.in-Call.function x) c.call.result) c.deref-in-Call.ensures.value c.call.ensures.reported))
 
 pub formed-returns-in-Cast-clause-reported : goal.formed-returns-in-Cast-clause-reported
 formed-returns-in-Cast-clause-reported t c =
     let count : c.len-count.result ≡ length c.in-Cast.bounds.items = omega (arith, c.len-count.ensures, c.in-Cast.bounds.ok.0) in
-    subst (λ k. Yields (formed c.args.context.now c.args.purpose c.args.literals.now.items (shape_in c.args.target) c.args.tree.now.place k) c.cast.result) (sym c.in-Cast.is) (yields_as c.cast.result (formed-Cast c.args.context.now c.args.purpose c.args.literals.now.items (shape_in c.args.target) c.args.tree.now.place c.in-Cast.ty c.in-Cast.bounds c.in-Cast.operand) (subst (λ x. Yields (cast_formed c.args.context.now c.args.purpose c.args.literals.now.items c.args.tree.now.place c.in-Cast.ty (length c.in-Cast.bounds.items) x) c.cast.result) c.deref-in-Cast.ensures (subst (λ x. Yields (cast_formed c.args.context.now c.args.purpose c.args.literals.now.items c.args.tree.now.place c.in-Cast.ty x c.deref-in-Cast.result.now) c.cast.result) count c.cast.ensures.reported)))
+    subst (λ k. Yields (formed c.args.context.now c.args.purpose c.args.literals.now.items (shape_in c.args.target) c.args.tree.now.place k) c.cast.result) (sym c.in-Cast.is) (yields_as c.cast.result (formed-Cast c.args.context.now c.args.purpose c.args.literals.now.items (shape_in c.args.target) c.args.tree.now.place c.in-Cast.ty c.in-Cast.bounds c.in-Cast.operand) ((subst (λ x. Yields (cast_formed c.args.context.now c.args.purpose c.args.literals.now.items c.args.tree.now.place c.in-Cast.ty x c.in-Cast.operand) c.cast.result) count c.cast.ensures.reported)))
 
 pub formed-returns-in-SizeOfType-clause-reported : goal.formed-returns-in-SizeOfType-clause-reported
 formed-returns-in-SizeOfType-clause-reported t c =
@@ -227,52 +227,52 @@ formed-returns-in-SizeOfType-clause-reported t c =
 pub formed-returns-in_err-object-in-Member-clause-reported : goal.formed-returns-in_err-object-in-Member-clause-reported
 formed-returns-in_err-object-in-Member-clause-reported t c =
     let e : c.from_residual-in_err-object-in-Member.result ≡ Err c.in_err-object-in-Member.field-0.0 = search rules in
-    subst (λ k. Yields (formed c.args.context.now c.args.purpose c.args.literals.now.items (shape_in c.args.target) c.args.tree.now.place k) c.from_residual-in_err-object-in-Member.result) (sym c.in-Member.is) (subst (Yields (formed c.args.context.now c.args.purpose c.args.literals.now.items (shape_in c.args.target) c.args.tree.now.place (kind.Member c.in-Member.object c.in-Member.name))) (sym e) (lift-refused (selected c.args.context.now.table.list c.args.tree.now.place c.in-Member.name.place c.in-Member.name.name) _ c.in_err-object-in-Member.field-0.0 (subst (λ x. IsRefused (done c.args.context.now c.args.purpose (formed c.args.context.now c.args.purpose c.args.literals.now.items None x.place x.kind)) c.in_err-object-in-Member.field-0.0) c.deref-in-Member.ensures c.in_err-object-in-Member.ensures.reported)))
+    subst (λ k. Yields (formed c.args.context.now c.args.purpose c.args.literals.now.items (shape_in c.args.target) c.args.tree.now.place k) c.from_residual-in_err-object-in-Member.result) (sym c.in-Member.is) (subst (Yields (formed c.args.context.now c.args.purpose c.args.literals.now.items (shape_in c.args.target) c.args.tree.now.place (kind.Member c.in-Member.object c.in-Member.name))) (sym e) (lift-refused (selected c.args.context.now.table.list c.args.tree.now.place c.in-Member.name.place c.in-Member.name.name) _ c.in_err-object-in-Member.field-0.0 c.in_err-object-in-Member.ensures.reported))
 
 pub formed-returns-in_ok-object-in-Member-clause-reported : goal.formed-returns-in_ok-object-in-Member-clause-reported
 formed-returns-in_ok-object-in-Member-clause-reported t c =
-    subst (λ k. Yields (formed c.args.context.now c.args.purpose c.args.literals.now.items (shape_in c.args.target) c.args.tree.now.place k) c.selected.result) (sym c.in-Member.is) (part_taken (selected c.args.context.now.table.list c.args.tree.now.place c.in-Member.name.place c.in-Member.name.name) _ (typed c.in_ok-object-in-Member.object) c.selected.result (subst (λ x. done c.args.context.now c.args.purpose (formed c.args.context.now c.args.purpose c.args.literals.now.items None x.place x.kind) ≡ Fine (typed c.in_ok-object-in-Member.object)) c.deref-in-Member.ensures c.in_ok-object-in-Member.ensures.reported) c.selected.ensures)
+    subst (λ k. Yields (formed c.args.context.now c.args.purpose c.args.literals.now.items (shape_in c.args.target) c.args.tree.now.place k) c.selected.result) (sym c.in-Member.is) (part_taken (selected c.args.context.now.table.list c.args.tree.now.place c.in-Member.name.place c.in-Member.name.name) _ (typed c.in_ok-object-in-Member.object) c.selected.result c.in_ok-object-in-Member.ensures.reported c.selected.ensures)
 
 pub formed-returns-in_err-value-in-Arrow-clause-reported : goal.formed-returns-in_err-value-in-Arrow-clause-reported
 formed-returns-in_err-value-in-Arrow-clause-reported t c =
     let e : c.from_residual-in_err-value-in-Arrow.result ≡ Err c.in_err-value-in-Arrow.field-0.0 = search rules in
-    subst (λ k. Yields (formed c.args.context.now c.args.purpose c.args.literals.now.items (shape_in c.args.target) c.args.tree.now.place k) c.from_residual-in_err-value-in-Arrow.result) (sym c.in-Arrow.is) (subst (Yields (formed c.args.context.now c.args.purpose c.args.literals.now.items (shape_in c.args.target) c.args.tree.now.place (kind.Arrow c.in-Arrow.value c.in-Arrow.name))) (sym e) (lift-refused (arrow_on c.args.context.now c.args.tree.now.place c.in-Arrow.name.place c.in-Arrow.name.name) _ c.in_err-value-in-Arrow.field-0.0 (subst (λ x. IsRefused (operand_in c.args.context.now c.args.purpose (formed c.args.context.now c.args.purpose c.args.literals.now.items None x.place x.kind)) c.in_err-value-in-Arrow.field-0.0) c.deref-in-Arrow.ensures c.in_err-value-in-Arrow.ensures.reported)))
+    subst (λ k. Yields (formed c.args.context.now c.args.purpose c.args.literals.now.items (shape_in c.args.target) c.args.tree.now.place k) c.from_residual-in_err-value-in-Arrow.result) (sym c.in-Arrow.is) (subst (Yields (formed c.args.context.now c.args.purpose c.args.literals.now.items (shape_in c.args.target) c.args.tree.now.place (kind.Arrow c.in-Arrow.value c.in-Arrow.name))) (sym e) (lift-refused (arrow_on c.args.context.now c.args.tree.now.place c.in-Arrow.name.place c.in-Arrow.name.name) _ c.in_err-value-in-Arrow.field-0.0 c.in_err-value-in-Arrow.ensures.reported))
 
 pub formed-returns-in_ok-value-in-Arrow-clause-reported : goal.formed-returns-in_ok-value-in-Arrow-clause-reported
 formed-returns-in_ok-value-in-Arrow-clause-reported t c =
-    subst (λ k. Yields (formed c.args.context.now c.args.purpose c.args.literals.now.items (shape_in c.args.target) c.args.tree.now.place k) c.selected_through.result) (sym c.in-Arrow.is) (part_taken (arrow_on c.args.context.now c.args.tree.now.place c.in-Arrow.name.place c.in-Arrow.name.name) _ (typed c.in_ok-value-in-Arrow.value) c.selected_through.result (subst (λ x. operand_in c.args.context.now c.args.purpose (formed c.args.context.now c.args.purpose c.args.literals.now.items None x.place x.kind) ≡ Fine (typed c.in_ok-value-in-Arrow.value)) c.deref-in-Arrow.ensures c.in_ok-value-in-Arrow.ensures.reported) c.selected_through.ensures)
+    subst (λ k. Yields (formed c.args.context.now c.args.purpose c.args.literals.now.items (shape_in c.args.target) c.args.tree.now.place k) c.selected_through.result) (sym c.in-Arrow.is) (part_taken (arrow_on c.args.context.now c.args.tree.now.place c.in-Arrow.name.place c.in-Arrow.name.name) _ (typed c.in_ok-value-in-Arrow.value) c.selected_through.result c.in_ok-value-in-Arrow.ensures.reported c.selected_through.ensures)
 
 pub formed-returns-in_err-operand-in-Prefix-clause-reported : goal.formed-returns-in_err-operand-in-Prefix-clause-reported
 formed-returns-in_err-operand-in-Prefix-clause-reported t c =
     let e : c.from_residual-in_err-operand-in-Prefix.result ≡ Err c.in_err-operand-in-Prefix.field-0.0 = search rules in
-    subst (λ k. Yields (formed c.args.context.now c.args.purpose c.args.literals.now.items (shape_in c.args.target) c.args.tree.now.place k) c.from_residual-in_err-operand-in-Prefix.result) (sym c.in-Prefix.is) (subst (Yields (formed c.args.context.now c.args.purpose c.args.literals.now.items (shape_in c.args.target) c.args.tree.now.place (kind.Prefix c.in-Prefix.operator c.in-Prefix.operand))) (sym e) (lift-refused (prefixed c.args.context.now c.in-Prefix.operator c.args.tree.now.place) _ c.in_err-operand-in-Prefix.field-0.0 (subst (λ x. IsRefused (done c.args.context.now c.args.purpose (formed c.args.context.now c.args.purpose c.args.literals.now.items None x.place x.kind)) c.in_err-operand-in-Prefix.field-0.0) c.deref-in-Prefix.ensures c.in_err-operand-in-Prefix.ensures.reported)))
+    subst (λ k. Yields (formed c.args.context.now c.args.purpose c.args.literals.now.items (shape_in c.args.target) c.args.tree.now.place k) c.from_residual-in_err-operand-in-Prefix.result) (sym c.in-Prefix.is) (subst (Yields (formed c.args.context.now c.args.purpose c.args.literals.now.items (shape_in c.args.target) c.args.tree.now.place (kind.Prefix c.in-Prefix.operator c.in-Prefix.operand))) (sym e) (lift-refused (prefixed c.args.context.now c.in-Prefix.operator c.args.tree.now.place) _ c.in_err-operand-in-Prefix.field-0.0 c.in_err-operand-in-Prefix.ensures.reported))
 
 pub formed-returns-in_ok-operand-in-Prefix-clause-reported : goal.formed-returns-in_ok-operand-in-Prefix-clause-reported
 formed-returns-in_ok-operand-in-Prefix-clause-reported t c =
-    subst (λ k. Yields (formed c.args.context.now c.args.purpose c.args.literals.now.items (shape_in c.args.target) c.args.tree.now.place k) c.prefixed.result) (sym c.in-Prefix.is) (part_taken (prefixed c.args.context.now c.in-Prefix.operator c.args.tree.now.place) _ (typed c.in_ok-operand-in-Prefix.operand) c.prefixed.result (subst (λ x. done c.args.context.now c.args.purpose (formed c.args.context.now c.args.purpose c.args.literals.now.items None x.place x.kind) ≡ Fine (typed c.in_ok-operand-in-Prefix.operand)) c.deref-in-Prefix.ensures c.in_ok-operand-in-Prefix.ensures.reported) c.prefixed.ensures)
+    subst (λ k. Yields (formed c.args.context.now c.args.purpose c.args.literals.now.items (shape_in c.args.target) c.args.tree.now.place k) c.prefixed.result) (sym c.in-Prefix.is) (part_taken (prefixed c.args.context.now c.in-Prefix.operator c.args.tree.now.place) _ (typed c.in_ok-operand-in-Prefix.operand) c.prefixed.result c.in_ok-operand-in-Prefix.ensures.reported c.prefixed.ensures)
 
 pub formed-returns-in_err-operand-in-SizeOf-clause-reported : goal.formed-returns-in_err-operand-in-SizeOf-clause-reported
 formed-returns-in_err-operand-in-SizeOf-clause-reported t c =
     let e : c.from_residual-in_err-operand-in-SizeOf.result ≡ Err c.in_err-operand-in-SizeOf.field-0.0 = search rules in
-    subst (λ k. Yields (formed c.args.context.now c.args.purpose c.args.literals.now.items (shape_in c.args.target) c.args.tree.now.place k) c.from_residual-in_err-operand-in-SizeOf.result) (sym c.in-SizeOf.is) (subst (Yields (formed c.args.context.now c.args.purpose c.args.literals.now.items (shape_in c.args.target) c.args.tree.now.place (kind.SizeOf c.in-SizeOf.operand))) (sym e) (lift-refused (measured_type c.args.context.now c.args.tree.now.place) _ c.in_err-operand-in-SizeOf.field-0.0 (subst (λ x. IsRefused (done c.args.context.now Run (formed c.args.context.now Run c.args.literals.now.items None x.place x.kind)) c.in_err-operand-in-SizeOf.field-0.0) c.deref-in-SizeOf.ensures c.in_err-operand-in-SizeOf.ensures.reported)))
+    subst (λ k. Yields (formed c.args.context.now c.args.purpose c.args.literals.now.items (shape_in c.args.target) c.args.tree.now.place k) c.from_residual-in_err-operand-in-SizeOf.result) (sym c.in-SizeOf.is) (subst (Yields (formed c.args.context.now c.args.purpose c.args.literals.now.items (shape_in c.args.target) c.args.tree.now.place (kind.SizeOf c.in-SizeOf.operand))) (sym e) (lift-refused (measured_type c.args.context.now c.args.tree.now.place) _ c.in_err-operand-in-SizeOf.field-0.0 c.in_err-operand-in-SizeOf.ensures.reported))
 
 pub formed-returns-in_ok-operand-in-SizeOf-clause-reported : goal.formed-returns-in_ok-operand-in-SizeOf-clause-reported
 formed-returns-in_ok-operand-in-SizeOf-clause-reported t c =
-    subst (λ k. Yields (formed c.args.context.now c.args.purpose c.args.literals.now.items (shape_in c.args.target) c.args.tree.now.place k) c.measured.result) (sym c.in-SizeOf.is) (part_taken (measured_type c.args.context.now c.args.tree.now.place) _ (typed c.in_ok-operand-in-SizeOf.operand) c.measured.result (subst (λ x. done c.args.context.now Run (formed c.args.context.now Run c.args.literals.now.items None x.place x.kind) ≡ Fine (typed c.in_ok-operand-in-SizeOf.operand)) c.deref-in-SizeOf.ensures c.in_ok-operand-in-SizeOf.ensures.reported) c.measured.ensures)
+    subst (λ k. Yields (formed c.args.context.now c.args.purpose c.args.literals.now.items (shape_in c.args.target) c.args.tree.now.place k) c.measured.result) (sym c.in-SizeOf.is) (part_taken (measured_type c.args.context.now c.args.tree.now.place) _ (typed c.in_ok-operand-in-SizeOf.operand) c.measured.result c.in_ok-operand-in-SizeOf.ensures.reported c.measured.ensures)
 
 pub formed-returns-in_err-array-in-Index-clause-reported : goal.formed-returns-in_err-array-in-Index-clause-reported
 formed-returns-in_err-array-in-Index-clause-reported t c =
     let e : c.from_residual.result ≡ Err c.in_err-array-in-Index.field-0.0 = search rules in
-    subst (λ k. Yields (formed c.args.context.now c.args.purpose c.args.literals.now.items (shape_in c.args.target) c.args.tree.now.place k) c.from_residual.result) (sym c.in-Index.is) (subst (Yields (formed c.args.context.now c.args.purpose c.args.literals.now.items (shape_in c.args.target) c.args.tree.now.place (kind.Index c.in-Index.array c.in-Index.number))) (sym e) (lift2-refused-first (indexed_values c.args.context.now c.args.tree.now.place) _ _ c.in_err-array-in-Index.field-0.0 (subst (λ x. IsRefused (operand_in c.args.context.now c.args.purpose (formed c.args.context.now c.args.purpose c.args.literals.now.items None x.place x.kind)) c.in_err-array-in-Index.field-0.0) c.deref-in-Index.ensures c.in_err-array-in-Index.ensures.reported)))
+    subst (λ k. Yields (formed c.args.context.now c.args.purpose c.args.literals.now.items (shape_in c.args.target) c.args.tree.now.place k) c.from_residual.result) (sym c.in-Index.is) (subst (Yields (formed c.args.context.now c.args.purpose c.args.literals.now.items (shape_in c.args.target) c.args.tree.now.place (kind.Index c.in-Index.array c.in-Index.number))) (sym e) (lift2-refused-first (indexed_values c.args.context.now c.args.tree.now.place) _ _ c.in_err-array-in-Index.field-0.0 c.in_err-array-in-Index.ensures.reported))
 
 pub formed-returns-in_err-number-in-Index-clause-reported : goal.formed-returns-in_err-number-in-Index-clause-reported
 formed-returns-in_err-number-in-Index-clause-reported t c =
     let e : c.from_residual-in_err-number-in-Index.result ≡ Err c.in_err-number-in-Index.field-0.0 = search rules in
-    subst (λ k. Yields (formed c.args.context.now c.args.purpose c.args.literals.now.items (shape_in c.args.target) c.args.tree.now.place k) c.from_residual-in_err-number-in-Index.result) (sym c.in-Index.is) (subst (Yields (formed c.args.context.now c.args.purpose c.args.literals.now.items (shape_in c.args.target) c.args.tree.now.place (kind.Index c.in-Index.array c.in-Index.number))) (sym e) (second_stops (indexed_values c.args.context.now c.args.tree.now.place) (operand_in c.args.context.now c.args.purpose (formed c.args.context.now c.args.purpose c.args.literals.now.items None c.in-Index.array.value.place c.in-Index.array.value.kind)) (operand_in c.args.context.now c.args.purpose (formed c.args.context.now c.args.purpose (literals_after c.args.literals.now.items c.in-Index.array.value.kind) None c.in-Index.number.value.place c.in-Index.number.value.kind)) (typed c.in_ok-array-in-Index.array) c.in_err-number-in-Index.field-0.0 (subst (λ x. operand_in c.args.context.now c.args.purpose (formed c.args.context.now c.args.purpose c.args.literals.now.items None x.place x.kind) ≡ Fine (typed c.in_ok-array-in-Index.array)) c.deref-in-Index.ensures c.in_ok-array-in-Index.ensures.reported) (subst (λ l. IsRefused (operand_in c.args.context.now c.args.purpose (formed c.args.context.now c.args.purpose l None c.in-Index.number.value.place c.in-Index.number.value.kind)) c.in_err-number-in-Index.field-0.0) (c.in_ok-array-in-Index.ensures.texts ∙ ap (λ (x : RawExpr). literals_after c.args.literals.now.items x.kind) c.deref-in-Index.ensures) (subst (λ x. IsRefused (operand_in c.args.context.now c.args.purpose (formed c.args.context.now c.args.purpose c.operand_in.new.literals.items None x.place x.kind)) c.in_err-number-in-Index.field-0.0) c.deref-in-Index-2.ensures c.in_err-number-in-Index.ensures.reported))))
+    subst (λ k. Yields (formed c.args.context.now c.args.purpose c.args.literals.now.items (shape_in c.args.target) c.args.tree.now.place k) c.from_residual-in_err-number-in-Index.result) (sym c.in-Index.is) (subst (Yields (formed c.args.context.now c.args.purpose c.args.literals.now.items (shape_in c.args.target) c.args.tree.now.place (kind.Index c.in-Index.array c.in-Index.number))) (sym e) (second_stops (indexed_values c.args.context.now c.args.tree.now.place) (operand_in c.args.context.now c.args.purpose (formed c.args.context.now c.args.purpose c.args.literals.now.items None c.in-Index.array.place c.in-Index.array.kind.value)) (operand_in c.args.context.now c.args.purpose (formed c.args.context.now c.args.purpose (literals_after c.args.literals.now.items c.in-Index.array.kind.value) None c.in-Index.number.place c.in-Index.number.kind.value)) (typed c.in_ok-array-in-Index.array) c.in_err-number-in-Index.field-0.0 c.in_ok-array-in-Index.ensures.reported (subst (λ l. IsRefused (operand_in c.args.context.now c.args.purpose (formed c.args.context.now c.args.purpose l None c.in-Index.number.place c.in-Index.number.kind.value)) c.in_err-number-in-Index.field-0.0) c.in_ok-array-in-Index.ensures.texts c.in_err-number-in-Index.ensures.reported)))
 
 pub formed-returns-in_ok-number-in-Index-clause-reported : goal.formed-returns-in_ok-number-in-Index-clause-reported
 formed-returns-in_ok-number-in-Index-clause-reported t c =
-    subst (λ k. Yields (formed c.args.context.now c.args.purpose c.args.literals.now.items (shape_in c.args.target) c.args.tree.now.place k) c.indexed.result) (sym c.in-Index.is) (parts_taken (indexed_values c.args.context.now c.args.tree.now.place) (operand_in c.args.context.now c.args.purpose (formed c.args.context.now c.args.purpose c.args.literals.now.items None c.in-Index.array.value.place c.in-Index.array.value.kind)) (operand_in c.args.context.now c.args.purpose (formed c.args.context.now c.args.purpose (literals_after c.args.literals.now.items c.in-Index.array.value.kind) None c.in-Index.number.value.place c.in-Index.number.value.kind)) (typed c.in_ok-array-in-Index.array) (typed c.in_ok-number-in-Index.number) c.indexed.result (subst (λ x. operand_in c.args.context.now c.args.purpose (formed c.args.context.now c.args.purpose c.args.literals.now.items None x.place x.kind) ≡ Fine (typed c.in_ok-array-in-Index.array)) c.deref-in-Index.ensures c.in_ok-array-in-Index.ensures.reported) (subst (λ l. operand_in c.args.context.now c.args.purpose (formed c.args.context.now c.args.purpose l None c.in-Index.number.value.place c.in-Index.number.value.kind) ≡ Fine (typed c.in_ok-number-in-Index.number)) (c.in_ok-array-in-Index.ensures.texts ∙ ap (λ (x : RawExpr). literals_after c.args.literals.now.items x.kind) c.deref-in-Index.ensures) (subst (λ x. operand_in c.args.context.now c.args.purpose (formed c.args.context.now c.args.purpose c.operand_in.new.literals.items None x.place x.kind) ≡ Fine (typed c.in_ok-number-in-Index.number)) c.deref-in-Index-2.ensures c.in_ok-number-in-Index.ensures.reported)) c.indexed.ensures)
+    subst (λ k. Yields (formed c.args.context.now c.args.purpose c.args.literals.now.items (shape_in c.args.target) c.args.tree.now.place k) c.indexed.result) (sym c.in-Index.is) (parts_taken (indexed_values c.args.context.now c.args.tree.now.place) (operand_in c.args.context.now c.args.purpose (formed c.args.context.now c.args.purpose c.args.literals.now.items None c.in-Index.array.place c.in-Index.array.kind.value)) (operand_in c.args.context.now c.args.purpose (formed c.args.context.now c.args.purpose (literals_after c.args.literals.now.items c.in-Index.array.kind.value) None c.in-Index.number.place c.in-Index.number.kind.value)) (typed c.in_ok-array-in-Index.array) (typed c.in_ok-number-in-Index.number) c.indexed.result c.in_ok-array-in-Index.ensures.reported (subst (λ l. operand_in c.args.context.now c.args.purpose (formed c.args.context.now c.args.purpose l None c.in-Index.number.place c.in-Index.number.kind.value) ≡ Fine (typed c.in_ok-number-in-Index.number)) c.in_ok-array-in-Index.ensures.texts c.in_ok-number-in-Index.ensures.reported) c.indexed.ensures)
 
 pub arguments_of-loop-i-init : goal.arguments_of-loop-i-init
 arguments_of-loop-i-init t c =
@@ -298,16 +298,16 @@ call-call_with-requires t c =
 pub formed-returns-in_err-first-in-Comma-clause-reported : goal.formed-returns-in_err-first-in-Comma-clause-reported
 formed-returns-in_err-first-in-Comma-clause-reported t c =
     let e : c.from_residual-in_err-first-in-Comma.result ≡ Err c.in_err-first-in-Comma.field-0.0 = search rules in
-    subst (λ k. Yields (formed c.args.context.now c.args.purpose c.args.literals.now.items (shape_in c.args.target) c.args.tree.now.place k) c.from_residual-in_err-first-in-Comma.result) (sym c.in-Comma.is) (subst (Yields (formed c.args.context.now c.args.purpose c.args.literals.now.items (shape_in c.args.target) c.args.tree.now.place (kind.Comma c.in-Comma.first c.in-Comma.second))) (sym e) (lift2-refused-first (followed c.args.tree.now.place) _ _ c.in_err-first-in-Comma.field-0.0 (subst (λ x. IsRefused (value_in c.args.context.now c.args.purpose (formed c.args.context.now c.args.purpose c.args.literals.now.items None x.place x.kind)) c.in_err-first-in-Comma.field-0.0) c.deref-in-Comma.ensures c.in_err-first-in-Comma.ensures.reported)))
+    subst (λ k. Yields (formed c.args.context.now c.args.purpose c.args.literals.now.items (shape_in c.args.target) c.args.tree.now.place k) c.from_residual-in_err-first-in-Comma.result) (sym c.in-Comma.is) (subst (Yields (formed c.args.context.now c.args.purpose c.args.literals.now.items (shape_in c.args.target) c.args.tree.now.place (kind.Comma c.in-Comma.first c.in-Comma.second))) (sym e) (lift2-refused-first (followed c.args.tree.now.place) _ _ c.in_err-first-in-Comma.field-0.0 c.in_err-first-in-Comma.ensures.reported))
 
 pub formed-returns-in_err-second-in-Comma-clause-reported : goal.formed-returns-in_err-second-in-Comma-clause-reported
 formed-returns-in_err-second-in-Comma-clause-reported t c =
     let e : c.from_residual-in_err-second-in-Comma.result ≡ Err c.in_err-second-in-Comma.field-0.0 = search rules in
-    subst (λ k. Yields (formed c.args.context.now c.args.purpose c.args.literals.now.items (shape_in c.args.target) c.args.tree.now.place k) c.from_residual-in_err-second-in-Comma.result) (sym c.in-Comma.is) (subst (Yields (formed c.args.context.now c.args.purpose c.args.literals.now.items (shape_in c.args.target) c.args.tree.now.place (kind.Comma c.in-Comma.first c.in-Comma.second))) (sym e) (second_stops (followed c.args.tree.now.place) (value_in c.args.context.now c.args.purpose (formed c.args.context.now c.args.purpose c.args.literals.now.items None c.in-Comma.first.value.place c.in-Comma.first.value.kind)) (value_in c.args.context.now c.args.purpose (formed c.args.context.now c.args.purpose (literals_after c.args.literals.now.items c.in-Comma.first.value.kind) None c.in-Comma.second.value.place c.in-Comma.second.value.kind)) (typed c.in_ok-first-in-Comma.first) c.in_err-second-in-Comma.field-0.0 (subst (λ x. value_in c.args.context.now c.args.purpose (formed c.args.context.now c.args.purpose c.args.literals.now.items None x.place x.kind) ≡ Fine (typed c.in_ok-first-in-Comma.first)) c.deref-in-Comma.ensures c.in_ok-first-in-Comma.ensures.reported) (subst (λ l. IsRefused (value_in c.args.context.now c.args.purpose (formed c.args.context.now c.args.purpose l None c.in-Comma.second.value.place c.in-Comma.second.value.kind)) c.in_err-second-in-Comma.field-0.0) (c.in_ok-first-in-Comma.ensures.texts ∙ ap (λ (x : RawExpr). literals_after c.args.literals.now.items x.kind) c.deref-in-Comma.ensures) (subst (λ x. IsRefused (value_in c.args.context.now c.args.purpose (formed c.args.context.now c.args.purpose c.value_in.new.literals.items None x.place x.kind)) c.in_err-second-in-Comma.field-0.0) c.deref-in-Comma-2.ensures c.in_err-second-in-Comma.ensures.reported))))
+    subst (λ k. Yields (formed c.args.context.now c.args.purpose c.args.literals.now.items (shape_in c.args.target) c.args.tree.now.place k) c.from_residual-in_err-second-in-Comma.result) (sym c.in-Comma.is) (subst (Yields (formed c.args.context.now c.args.purpose c.args.literals.now.items (shape_in c.args.target) c.args.tree.now.place (kind.Comma c.in-Comma.first c.in-Comma.second))) (sym e) (second_stops (followed c.args.tree.now.place) (value_in c.args.context.now c.args.purpose (formed c.args.context.now c.args.purpose c.args.literals.now.items None c.in-Comma.first.place c.in-Comma.first.kind.value)) (value_in c.args.context.now c.args.purpose (formed c.args.context.now c.args.purpose (literals_after c.args.literals.now.items c.in-Comma.first.kind.value) None c.in-Comma.second.place c.in-Comma.second.kind.value)) (typed c.in_ok-first-in-Comma.first) c.in_err-second-in-Comma.field-0.0 c.in_ok-first-in-Comma.ensures.reported (subst (λ l. IsRefused (value_in c.args.context.now c.args.purpose (formed c.args.context.now c.args.purpose l None c.in-Comma.second.place c.in-Comma.second.kind.value)) c.in_err-second-in-Comma.field-0.0) c.in_ok-first-in-Comma.ensures.texts c.in_err-second-in-Comma.ensures.reported)))
 
 pub formed-returns-in_ok-second-in-Comma-clause-reported : goal.formed-returns-in_ok-second-in-Comma-clause-reported
 formed-returns-in_ok-second-in-Comma-clause-reported t c =
-    subst (λ k. Yields (formed c.args.context.now c.args.purpose c.args.literals.now.items (shape_in c.args.target) c.args.tree.now.place k) c.followed.result) (sym c.in-Comma.is) (parts_taken (followed c.args.tree.now.place) (value_in c.args.context.now c.args.purpose (formed c.args.context.now c.args.purpose c.args.literals.now.items None c.in-Comma.first.value.place c.in-Comma.first.value.kind)) (value_in c.args.context.now c.args.purpose (formed c.args.context.now c.args.purpose (literals_after c.args.literals.now.items c.in-Comma.first.value.kind) None c.in-Comma.second.value.place c.in-Comma.second.value.kind)) (typed c.in_ok-first-in-Comma.first) (typed c.in_ok-second-in-Comma.second) c.followed.result (subst (λ x. value_in c.args.context.now c.args.purpose (formed c.args.context.now c.args.purpose c.args.literals.now.items None x.place x.kind) ≡ Fine (typed c.in_ok-first-in-Comma.first)) c.deref-in-Comma.ensures c.in_ok-first-in-Comma.ensures.reported) (subst (λ l. value_in c.args.context.now c.args.purpose (formed c.args.context.now c.args.purpose l None c.in-Comma.second.value.place c.in-Comma.second.value.kind) ≡ Fine (typed c.in_ok-second-in-Comma.second)) (c.in_ok-first-in-Comma.ensures.texts ∙ ap (λ (x : RawExpr). literals_after c.args.literals.now.items x.kind) c.deref-in-Comma.ensures) (subst (λ x. value_in c.args.context.now c.args.purpose (formed c.args.context.now c.args.purpose c.value_in.new.literals.items None x.place x.kind) ≡ Fine (typed c.in_ok-second-in-Comma.second)) c.deref-in-Comma-2.ensures c.in_ok-second-in-Comma.ensures.reported)) c.followed.ensures)
+    subst (λ k. Yields (formed c.args.context.now c.args.purpose c.args.literals.now.items (shape_in c.args.target) c.args.tree.now.place k) c.followed.result) (sym c.in-Comma.is) (parts_taken (followed c.args.tree.now.place) (value_in c.args.context.now c.args.purpose (formed c.args.context.now c.args.purpose c.args.literals.now.items None c.in-Comma.first.place c.in-Comma.first.kind.value)) (value_in c.args.context.now c.args.purpose (formed c.args.context.now c.args.purpose (literals_after c.args.literals.now.items c.in-Comma.first.kind.value) None c.in-Comma.second.place c.in-Comma.second.kind.value)) (typed c.in_ok-first-in-Comma.first) (typed c.in_ok-second-in-Comma.second) c.followed.result c.in_ok-first-in-Comma.ensures.reported (subst (λ l. value_in c.args.context.now c.args.purpose (formed c.args.context.now c.args.purpose l None c.in-Comma.second.place c.in-Comma.second.kind.value) ≡ Fine (typed c.in_ok-second-in-Comma.second)) c.in_ok-first-in-Comma.ensures.texts c.in_ok-second-in-Comma.ensures.reported) c.followed.ensures)
 
 pub numbers_of-loop-bound-init : goal.numbers_of-loop-bound-init
 numbers_of-loop-bound-init t c =
@@ -344,7 +344,7 @@ call-arguments_of-requires t c =
 
 pub formed-returns-in-Call-clause-texts : goal.formed-returns-in-Call-clause-texts
 formed-returns-in-Call-clause-texts t c =
-    subst (λ k. OnOk c.call.result (c.call.new.literals.items ≡ literals_after c.args.literals.now.items k)) (sym c.in-Call.is) (subst (λ ls. OnOk c.call.result (c.call.new.literals.items ≡ ls)) (sym (literals-Call c.args.literals.now.items c.in-Call.function c.in-Call.arguments)) (subst (λ l. OnOk c.call.result (c.call.new.literals.items ≡ literals_after_list c.args.literals.now.items l)) c.deref-in-Call-2.ensures.value c.call.ensures.texts))
+    subst (λ k. OnOk c.call.result (c.call.new.literals.items ≡ literals_after c.args.literals.now.items k)) (sym c.in-Call.is) (subst (λ ls. OnOk c.call.result (c.call.new.literals.items ≡ ls)) (sym (literals-Call c.args.literals.now.items c.in-Call.function c.in-Call.arguments)) (subst (λ l. OnOk c.call.result (c.call.new.literals.items ≡ literals_after_list c.args.literals.now.items l)) c.deref-in-Call.ensures.value c.call.ensures.texts))
 
 pub formed-returns-in-SizeOfType-clause-texts : goal.formed-returns-in-SizeOfType-clause-texts
 formed-returns-in-SizeOfType-clause-texts t c =
@@ -353,8 +353,7 @@ formed-returns-in-SizeOfType-clause-texts t c =
 pub formed-call-requires : goal.formed-call-requires
 formed-call-requires t c =
     let e = height-Call c.in-Call.function c.in-Call.arguments c.in-Call.is in
-    let f : height (written c.deref-in-Call.result.now) ≡ height (written c.in-Call.function.value) = ap (λ (x : RawExpr). height (written x)) c.deref-in-Call.ensures in
-    let g : highest (written_list c.deref-in-Call-2.result.now) ≡ highest (written_list c.in-Call.arguments.items) = ap (λ l. highest (written_list l)) c.deref-in-Call-2.ensures.value in
+    let g : highest (written_list c.deref-in-Call.result.now) ≡ highest (written_list c.in-Call.arguments.items) = ap (λ l. highest (written_list l)) c.deref-in-Call.ensures.value in
     grind arith
 
 pub formed-size_of_type-requires : goal.formed-size_of_type-requires
@@ -366,7 +365,6 @@ formed-size_of_type-requires t c =
 pub formed-cast-requires : goal.formed-cast-requires
 formed-cast-requires t c =
     let e = height-Cast c.in-Cast.ty c.in-Cast.bounds c.in-Cast.operand c.in-Cast.is in
-    let f : height (written c.deref-in-Cast.result.now) ≡ height (written c.in-Cast.operand.value) = ap (λ (x : RawExpr). height (written x)) c.deref-in-Cast.ensures in
     grind arith
 
 pub arguments_of-operand_in-requires : goal.arguments_of-operand_in-requires
@@ -381,22 +379,15 @@ numbers_of-judged-requires t c =
 
 pub formed-infix-requires : goal.formed-infix-requires
 formed-infix-requires t c =
-    let e : height (written c.args.tree.now) ≡ 1 + max (height (written c.in-Infix.left.value)) (height (written c.in-Infix.right.value)) = ap (λ k. height (written_kind k)) c.in-Infix.is in
-    let f : height (written c.deref-in-Infix.result.now) ≡ height (written c.in-Infix.left.value) = ap (λ (x : RawExpr). height (written x)) c.deref-in-Infix.ensures in
-    let g : height (written c.deref-in-Infix-2.result.now) ≡ height (written c.in-Infix.right.value) = ap (λ (x : RawExpr). height (written x)) c.deref-in-Infix-2.ensures in
+    let e : height (written c.args.tree.now) ≡ 1 + max (height (written c.in-Infix.left)) (height (written c.in-Infix.right)) = ap (λ k. height (written_kind k)) c.in-Infix.is in
     grind arith
 
 pub formed-select-requires : goal.formed-select-requires
 formed-select-requires t c =
-    let e : height (written c.args.tree.now) ≡ 1 + max (height (written c.in-Choice.test.value)) (max (height (written c.in-Choice.one.value)) (height (written c.in-Choice.other.value))) = ap (λ k. height (written_kind k)) c.in-Choice.is in
-    let f : height (written c.deref-in-Choice.result.now) ≡ height (written c.in-Choice.test.value) = ap (λ (x : RawExpr). height (written x)) c.deref-in-Choice.ensures in
-    let g : height (written c.deref-in-Choice-2.result.now) ≡ height (written c.in-Choice.one.value) = ap (λ (x : RawExpr). height (written x)) c.deref-in-Choice-2.ensures in
-    let h : height (written c.deref-in-Choice-3.result.now) ≡ height (written c.in-Choice.other.value) = ap (λ (x : RawExpr). height (written x)) c.deref-in-Choice-3.ensures in
+    let e : height (written c.args.tree.now) ≡ 1 + max (height (written c.in-Choice.test)) (max (height (written c.in-Choice.one)) (height (written c.in-Choice.other))) = ap (λ k. height (written_kind k)) c.in-Choice.is in
     grind arith
 
 pub formed-store-requires : goal.formed-store-requires
 formed-store-requires t c =
-    let e : height (written c.args.tree.now) ≡ 1 + max (height (written c.in-Assign.object.value)) (height (written c.in-Assign.value.value)) = ap (λ k. height (written_kind k)) c.in-Assign.is in
-    let f : height (written c.deref-in-Assign.result.now) ≡ height (written c.in-Assign.object.value) = ap (λ (x : RawExpr). height (written x)) c.deref-in-Assign.ensures in
-    let g : height (written c.deref-in-Assign-2.result.now) ≡ height (written c.in-Assign.value.value) = ap (λ (x : RawExpr). height (written x)) c.deref-in-Assign-2.ensures in
+    let e : height (written c.args.tree.now) ≡ 1 + max (height (written c.in-Assign.object)) (height (written c.in-Assign.value)) = ap (λ k. height (written_kind k)) c.in-Assign.is in
     grind arith

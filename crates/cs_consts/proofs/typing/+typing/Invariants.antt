@@ -4,7 +4,7 @@ use Rattle.cs_types.specs.declared.ctype.CType.{CType}
 use Rattle.cs_types.specs.Shape.{shape_of}
 use Rattle.cs_ast.specs.RawView.{written, written_list}
 use Rattle.cs_ast.specs.RawHeight.{height, highest}
-use Rattle.cs_consts.specs.Verdicts.{lift}
+use Rattle.cs_scopes.specs.Verdicts.{lift}
 use Rattle.cs_consts.specs.Typing.{literals_after_list, arguments_listed, numbers_listed}
 use Rattle.cs_consts.specs.Rows.{expressions_before, numbers_before}
 use Rattle.cs_consts.proofs.typing.+typing.Given as goal

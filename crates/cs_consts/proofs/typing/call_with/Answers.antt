@@ -2,11 +2,11 @@ use Rattle.std.proofs.Common.{◌≡◌, map, Ok, Err, rules, sym, subst}
 use Rattle.cs_types.specs.declared.ctype.CType.{CType}
 use Rattle.cs_types.specs.Shape.{shape_of}
 use Rattle.cs_ast.specs.TypedView.{typed_list}
-use Rattle.cs_consts.specs.Verdicts.{IsRefused, Yields}
-use Rattle.cs_consts.specs.Meanings.{signature_of}
-use Rattle.cs_consts.specs.Calls.{shape_in, converted_list, call_of}
+use Rattle.cs_scopes.specs.Verdicts.{IsRefused, Yields}
+use Rattle.cs_scopes.specs.Meanings.{signature_of}
+use Rattle.cs_expressions.specs.Calls.{shape_in, converted_list, call_of}
 use Rattle.cs_consts.specs.Typing.{call_with}
-use Rattle.cs_consts.proofs.Lifting.{lift-refused}
+use Rattle.cs_scopes.proofs.Lifting.{lift-refused}
 use Rattle.cs_consts.proofs.typing.call_with.Goals as goal
 
 pub returns-in_err-list : goal.returns-in_err-list

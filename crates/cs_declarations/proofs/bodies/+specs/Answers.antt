@@ -2,9 +2,9 @@ use Rattle.std.proofs.Common.{◌≡◌, Err, Some, OnOk, List, rules, refl, sym
 use Rattle.std.proofs.lemmas.List.{drop_all}
 use Rattle.cs_types.specs.Shape.{shape_of}
 use Rattle.cs_ast.specs.declared.raw.declaration.RawMember.{RawMember}
-use Rattle.cs_consts.specs.Verdicts.{Verdict, Fine, lift, IsRefused, Answers}
-use Rattle.cs_consts.specs.TypeNames.{tag_place, whole_word}
-use Rattle.cs_consts.proofs.Lifting.{lift-fine, lift-refused}
+use Rattle.cs_scopes.specs.Verdicts.{Verdict, Fine, lift, IsRefused, Answers}
+use Rattle.cs_scopes.specs.TypeNames.{tag_place, whole_word}
+use Rattle.cs_scopes.proofs.Lifting.{lift-fine, lift-refused}
 use Rattle.cs_declarations.specs.Answered.{AnswersWith}
 use Rattle.cs_declarations.specs.Bodies.{Typing, Opening, Body, plain_words, word_type, words_type, specs_type, opening, struct_body, enum_body, struct_read, members_of_list, members_declared, group_declared, group_of, first_name, nothing_laid}
 use Rattle.cs_declarations.specs.View.{known_of, typing, opened_as, body, laying}

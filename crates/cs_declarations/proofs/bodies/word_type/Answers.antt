@@ -2,9 +2,9 @@ use Rattle.std.proofs.Common.{◌≡◌, Some, refl, sym, ap, subst, ◌∙◌}
 use Rattle.std.specs.Option.{option_copied}
 use Rattle.cs_types.specs.Shape.{shape_of}
 use Rattle.cs_ast.specs.declared.raw.written_type.TypeWord.TheVariants as word
-use Rattle.cs_consts.specs.Verdicts.{Fine}
-use Rattle.cs_consts.specs.Scopes.{newest, tagged}
-use Rattle.cs_consts.specs.TypeNames.{whole_word, typedef_at, enum_at}
+use Rattle.cs_scopes.specs.Verdicts.{Fine}
+use Rattle.cs_scopes.specs.Scopes.{newest, tagged}
+use Rattle.cs_scopes.specs.TypeNames.{whole_word, typedef_at, enum_at}
 use Rattle.cs_declarations.specs.Answered.{AnswersWith}
 use Rattle.cs_declarations.specs.Bodies.{plain_words, word_type}
 use Rattle.cs_declarations.specs.View.{known_of, typing}

@@ -6,7 +6,7 @@ use Rattle.cs_ast.specs.declared.typed.statement.Initial.TheVariants as held
 use Rattle.cs_ast.specs.TypedTree.{Parts}
 use Rattle.cs_ast.specs.TypedView.{initial_list}
 use Rattle.cs_ast.proofs.TypedRows.{initial-List}
-use Rattle.cs_consts.specs.Verdicts.{Fine, lift, IsRefused}
+use Rattle.cs_scopes.specs.Verdicts.{Fine, lift, IsRefused}
 use Rattle.cs_declarations.specs.Initializers.{part_types, initial_read, list_read}
 use Rattle.cs_declarations.specs.View.{reading, readings, types_of}
 use Rattle.cs_declarations.proofs.PartTypes.{part_is, no_part}

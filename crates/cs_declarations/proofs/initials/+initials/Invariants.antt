@@ -1,6 +1,6 @@
 use Rattle.std.proofs.Common.{◌≡◌, ◌+◌, ◌*◌, drop, length}
 use Rattle.cs_ast.specs.declared.raw.declaration.RawInitial.{size-RawInitial}
-use Rattle.cs_consts.specs.Verdicts.{lift}
+use Rattle.cs_scopes.specs.Verdicts.{lift}
 use Rattle.cs_declarations.specs.Initializers.{list_read}
 use Rattle.cs_declarations.specs.View.{types_of}
 use Rattle.cs_declarations.proofs.ValuesSoFar.{following}

@@ -7,7 +7,7 @@ use Rattle.cs_ast.specs.declared.typed.statement.Initial.TheVariants as held
 use Rattle.cs_ast.specs.TypedTree.{Parts, NoPart}
 use Rattle.cs_ast.specs.TypedView.{initial, initial_list}
 use Rattle.cs_ast.proofs.TypedRows.{initial-List}
-use Rattle.cs_consts.specs.Verdicts.{Fine, Fault}
+use Rattle.cs_scopes.specs.Verdicts.{Fine, Fault}
 use Rattle.cs_declarations.specs.Initializers.{part_types, part_judged, parts_judged}
 use Rattle.cs_declarations.specs.View as view
 use Rattle.cs_declarations.specs.View.{types_of}

@@ -1,7 +1,7 @@
 use Rattle.std.proofs.Common.{◌≡◌, rules, Err, refl, sym, subst}
 use Rattle.cs_types.specs.Shape.{Shape, shape_of}
-use Rattle.cs_consts.specs.declared.context.Context.{Context}
-use Rattle.cs_consts.specs.Verdicts.{Answers}
+use Rattle.cs_scopes.specs.declared.context.Context.{Context}
+use Rattle.cs_scopes.specs.Verdicts.{Answers}
 use Rattle.cs_declarations.specs.Bodies.{member_declared, members_declared}
 use Rattle.cs_declarations.specs.View.{laying}
 use Rattle.cs_declarations.proofs.FoldedSoFar.{GoesOver, part_taken, part_stops}

@@ -2,8 +2,8 @@ use Rattle.std.proofs.Common.{◌≡◌, rules, sym, ap, subst, ◌∙◌, FitsS
 use Rattle.std.specs.Int.{w128}
 use Rattle.std.proofs.lemmas.Int.{to_z-of_z}
 use Rattle.cs_types.specs.Shape.{shape_of}
-use Rattle.cs_consts.specs.Verdicts.{Answers, Fine}
-use Rattle.cs_consts.specs.TypeNames.{array_of}
+use Rattle.cs_scopes.specs.Verdicts.{Answers, Fine}
+use Rattle.cs_scopes.specs.TypeNames.{array_of}
 use Rattle.cs_declarations.specs.Parameters.{array_passed}
 use Rattle.cs_declarations.specs.View.{passed_of}
 use Rattle.cs_declarations.proofs.PassedArrays.{array_as_passed}

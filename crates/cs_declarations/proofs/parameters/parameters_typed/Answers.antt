@@ -1,5 +1,5 @@
 use Rattle.std.proofs.Common.{◌≡◌, rules, Err, refl, sym, subst, ap₂, ◌∙◌}
-use Rattle.cs_consts.specs.Verdicts.{Fine}
+use Rattle.cs_scopes.specs.Verdicts.{Fine}
 use Rattle.cs_declarations.specs.Answered.{AnswersWith}
 use Rattle.cs_declarations.specs.Parameters.{parameter_typed, parameters_after, parameters_typed}
 use Rattle.cs_declarations.specs.View.{known_of, head}

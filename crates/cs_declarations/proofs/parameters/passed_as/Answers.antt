@@ -1,6 +1,6 @@
 use Rattle.std.proofs.Common.{◌≡◌, rules, Err, sym, subst}
 use Rattle.cs_types.specs.Shape.{shape_of}
-use Rattle.cs_consts.specs.Verdicts.{Answers}
+use Rattle.cs_scopes.specs.Verdicts.{Answers}
 use Rattle.cs_declarations.specs.Parameters.{passed}
 use Rattle.cs_declarations.specs.View.{passed_of}
 use Rattle.cs_declarations.proofs.FirstBounds.{passing_stops, passing_goes_on}

@@ -1,6 +1,6 @@
 use Rattle.std.proofs.Common.{◌≡◌, ◌++◌, map, reverse}
 use Rattle.std.specs.Prelude.{vec_len}
-use Rattle.cs_consts.specs.Meanings.{declaration_of}
+use Rattle.cs_scopes.specs.Meanings.{declaration_of}
 use Rattle.cs_declarations.proofs.scopes.declare_each.Given as goal
 
 abbrev pub invariant-loop-declaration : goal.invariant-loop-declaration

@@ -1,5 +1,5 @@
 use Rattle.std.proofs.Common.{◌≡◌, ◌++◌, map, take, reverse, length}
-use Rattle.cs_consts.specs.Meanings.{declaration_of}
+use Rattle.cs_scopes.specs.Meanings.{declaration_of}
 use Rattle.cs_declarations.proofs.scopes.taken_after.Given as goal
 
 abbrev pub invariant-loop-declarations : goal.invariant-loop-declarations

@@ -1,6 +1,6 @@
 use Rattle.std.proofs.Common.{◌≡◌, rules, Err, sym, subst}
 use Rattle.cs_types.specs.Shape.{shape_of}
-use Rattle.cs_consts.specs.Verdicts.{Answers}
+use Rattle.cs_scopes.specs.Verdicts.{Answers}
 use Rattle.cs_declarations.specs.Sizes.{extent_of}
 use Rattle.cs_declarations.specs.View.{extent}
 use Rattle.cs_declarations.proofs.FirstBounds.{extent_stops, extent_goes_on}

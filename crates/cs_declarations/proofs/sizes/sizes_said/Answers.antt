@@ -1,7 +1,7 @@
 use Rattle.std.proofs.Common.{List, Option, ℤ, ◌≡◌, ◌+◌, rules, Err, sym, ap, subst, ◌∙◌}
 use Rattle.std.specs.Prelude.{drop}
 use Rattle.std.proofs.lemmas.List.{drop_all}
-use Rattle.cs_consts.specs.Verdicts.{Answers}
+use Rattle.cs_scopes.specs.Verdicts.{Answers}
 use Rattle.cs_declarations.specs.Sizes.{sizes_said}
 use Rattle.cs_declarations.proofs.SaidSoFar.{following, following-none, following-all, size_taken, size_stops}
 use Rattle.cs_declarations.proofs.sizes.sizes_said.Goals as goal

@@ -2,7 +2,7 @@ use Rattle.std.proofs.Common.{rules, arith, ◌≡◌, ◌+◌, drop, Some, None
 use Rattle.std.specs.Prelude.{slice_get}
 use Rattle.cs_types.specs.Shape.{shape_of}
 use Rattle.cs_ast.specs.TypedView.{initial_list}
-use Rattle.cs_consts.specs.Scalars.{few}
+use Rattle.cs_scopes.specs.Scalars.{few}
 use Rattle.cs_declarations.specs.Initializers.{part_types, together, stored_parts}
 use Rattle.cs_declarations.specs.View.{types_of}
 use Rattle.cs_declarations.proofs.PartTypes.{part_is, no_part}

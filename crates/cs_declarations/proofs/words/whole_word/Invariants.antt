@@ -1,5 +1,5 @@
 use Rattle.std.proofs.Common.{◌≡◌, drop}
-use Rattle.cs_consts.specs.TypeNames.{whole_word}
+use Rattle.cs_scopes.specs.TypeNames.{whole_word}
 use Rattle.cs_declarations.specs.Bodies.{plain_words}
 use Rattle.cs_declarations.proofs.words.whole_word.Given as goal
 

@@ -1,5 +1,5 @@
 use Rattle.std.proofs.Common.{ℕ, List, subst}
-use Rattle.cs_consts.specs.Verdicts.{Answers}
+use Rattle.cs_scopes.specs.Verdicts.{Answers}
 use Rattle.cs_typing.specs.Objects.{Filed}
 use Rattle.cs_typing.specs.Files.{beginning, file_typed}
 use Rattle.cs_typing.specs.View.{filed_of}

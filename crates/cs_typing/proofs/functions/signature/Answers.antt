@@ -4,8 +4,8 @@ use Rattle.cs_types.specs.declared.ctype.CType.{CType}
 use Rattle.cs_types.specs.Shape.{Shape, shape_of}
 use Rattle.cs_ast.specs.declared.typed.program.Local.{Local}
 use Rattle.cs_ast.specs.TypedProgram.{variable}
-use Rattle.cs_consts.specs.declared.scope.Callee.TheVariants.{Numbered}
-use Rattle.cs_consts.specs.Meanings.{Signature}
+use Rattle.cs_scopes.specs.declared.scope.Callee.TheVariants.{Numbered}
+use Rattle.cs_scopes.specs.Meanings.{Signature}
 use Rattle.cs_typing.specs.Functions.{types_of}
 use Rattle.cs_typing.proofs.ParameterTypes.{types_of-variables}
 use Rattle.cs_typing.proofs.functions.signature.Goals as goal

@@ -1,9 +1,9 @@
 use Rattle.std.proofs.Common.{rules, ◌≡◌, [], ◌∷◌, ◌++◌, Err, ap, ◌∙◌}
 use Rattle.cs_ast.specs.declared.typed.statement.Stmt.{Stmt, roll-Stmt}
 use Rattle.cs_ast.specs.declared.typed.statement.StmtKind.TheVariants as held
-use Rattle.cs_consts.specs.Verdicts.{Fine}
-use Rattle.cs_consts.proofs.Lifting.{lift-refused}
-use Rattle.cs_consts.proofs.Productions.{refused_as}
+use Rattle.cs_scopes.specs.Verdicts.{Fine}
+use Rattle.cs_scopes.proofs.Lifting.{lift-refused}
+use Rattle.cs_scopes.proofs.Lifting.{refused_as}
 use Rattle.cs_consts.proofs.SingleParts.{lift_is}
 use Rattle.cs_declarations.proofs.Refusing.{refused_with}
 use Rattle.cs_typing.specs.Statements.{dropped_in, ran_first, first_typed}

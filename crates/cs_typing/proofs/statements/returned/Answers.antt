@@ -1,6 +1,6 @@
 use Rattle.std.proofs.Common.{rules, ◌≡◌, Err, ap, ◌∙◌}
-use Rattle.cs_consts.proofs.Lifting.{lift-refused}
-use Rattle.cs_consts.proofs.Productions.{refused_as}
+use Rattle.cs_scopes.proofs.Lifting.{lift-refused}
+use Rattle.cs_scopes.proofs.Lifting.{refused_as}
 use Rattle.cs_consts.proofs.SingleParts.{lift_is}
 use Rattle.cs_declarations.proofs.Refusing.{refused_with}
 use Rattle.cs_typing.specs.Statements.{returned, value_returned, some_found}

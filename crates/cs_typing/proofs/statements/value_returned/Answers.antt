@@ -1,8 +1,8 @@
 use Rattle.std.proofs.Common.{◌≡◌, Bool, false, cond, refl, sym, ap, ◌∙◌}
 use Rattle.cs_types.specs.Shape.{shape_of}
-use Rattle.cs_consts.specs.declared.refusal.TypeCode.TheVariants.{Return}
-use Rattle.cs_consts.specs.Doors.{assigned_value}
-use Rattle.cs_consts.specs.Verdicts.{Fault, lift}
+use Rattle.cs_scopes.specs.declared.refusal.TypeCode.TheVariants.{Return}
+use Rattle.cs_consts.specs.Roles.{assigned_value}
+use Rattle.cs_scopes.specs.Verdicts.{Fault, lift}
 use Rattle.cs_typing.specs.declared.inside.Inside.{Inside as HeldInside}
 use Rattle.cs_typing.specs.Statements.{part, past, is_void, value_returned}
 use Rattle.cs_typing.specs.View.{inside_of, where_of, typed_part}

@@ -1,7 +1,7 @@
 use Rattle.std.proofs.Common.{◌≡◌, true, false, Some, map, rules}
 use Rattle.cs_types.specs.Shape.{shape_of}
 use Rattle.cs_ast.specs.TypedProgram.{variable}
-use Rattle.cs_consts.specs.Meanings.{Function, signature_of}
+use Rattle.cs_scopes.specs.Meanings.{Function, signature_of}
 use Rattle.cs_declarations.specs.Known.{meaning_here}
 use Rattle.cs_declarations.specs.View.{known_of}
 use Rattle.cs_typing.specs.Functions.{same_types, types_of}

@@ -1,7 +1,7 @@
 use Rattle.std.proofs.Common.{rules, ◌≡◌, Err, subst}
 use Rattle.cs_types.specs.Shape.{shape_of}
-use Rattle.cs_consts.specs.Verdicts.{Fine, IsRefused}
-use Rattle.cs_consts.proofs.Lifting.{lift-refused}
+use Rattle.cs_scopes.specs.Verdicts.{Fine, IsRefused}
+use Rattle.cs_scopes.proofs.Lifting.{lift-refused}
 use Rattle.cs_consts.proofs.SingleParts.{lift_is}
 use Rattle.cs_declarations.specs.Bodies.{specs_type}
 use Rattle.cs_declarations.specs.View.{known_of, typing}

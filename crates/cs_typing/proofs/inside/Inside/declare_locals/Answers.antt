@@ -1,7 +1,7 @@
 use Rattle.std.proofs.Common.{rules, ◌≡◌, Err, ap, ◌∙◌}
 use Rattle.cs_types.specs.Shape.{shape_of}
-use Rattle.cs_consts.specs.Verdicts.{Fine}
-use Rattle.cs_consts.proofs.Lifting.{lift-refused}
+use Rattle.cs_scopes.specs.Verdicts.{Fine}
+use Rattle.cs_scopes.proofs.Lifting.{lift-refused}
 use Rattle.cs_consts.proofs.SingleParts.{lift_is}
 use Rattle.cs_declarations.proofs.FoldedSoFar.{part_taken, part_stops}
 use Rattle.cs_declarations.proofs.Refusing.{refused_with}

@@ -1,5 +1,5 @@
 use Rattle.std.proofs.Common.{refl}
-use Rattle.cs_consts.specs.Doors.{discarded_value}
+use Rattle.cs_consts.specs.Roles.{discarded_value}
 use Rattle.cs_typing.specs.View.{inside_of}
 use Rattle.cs_typing.proofs.StatementsInTurn.{typed_after}
 use Rattle.cs_typing.proofs.inside.Inside.dropped.Goals as goal

@@ -1,5 +1,5 @@
 use Rattle.std.proofs.Common.{refl}
-use Rattle.cs_consts.specs.Doors.{selector_of}
+use Rattle.cs_consts.specs.Roles.{selector_of}
 use Rattle.cs_typing.specs.View.{inside_of}
 use Rattle.cs_typing.proofs.StatementsInTurn.{typed_after}
 use Rattle.cs_typing.proofs.inside.Inside.selected.Goals as goal

@@ -1,5 +1,5 @@
 use Rattle.std.proofs.Common.{refl}
-use Rattle.cs_consts.specs.Doors.{test_of}
+use Rattle.cs_consts.specs.Roles.{test_of}
 use Rattle.cs_typing.specs.View.{inside_of}
 use Rattle.cs_typing.proofs.StatementsInTurn.{typed_after}
 use Rattle.cs_typing.proofs.inside.Inside.tested.Goals as goal

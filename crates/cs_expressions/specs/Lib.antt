@@ -1,0 +1,10 @@
+pub mod Integers
+pub mod Objects
+pub mod Conversions
+pub mod Ways
+pub mod Pairs
+pub mod Operators
+pub mod Places
+pub mod Stores
+pub mod Calls
+pub mod Primary

@@ -1,0 +1,196 @@
+//! Calls (C11 6.5.2.2, 7.22.3).
+ghost use Rattle.std.specs.Prelude.{◌≡◌, IfOk, option_copied, length, map, vec_len};
+ghost use Rattle.std.specs.Option.{option_map};
+ghost use Rattle.cs_types.specs.Shape.{shape_of};
+ghost use Rattle.cs_ast.specs.TypedView.{typed, typed_list};
+ghost use Rattle.cs_scopes.specs.Verdicts.{Yields, Answers};
+ghost use Rattle.cs_scopes.specs.Meanings.{signature_of, meaning_of};
+ghost use Rattle.cs_expressions.specs.Calls.{function_in, called, allocates, is_pointer_target, admitted, block_of, allocated, freed, call_of, lesser, least, converted_list, shape_in};
+
+use crate::conversions::converted;
+use crate::nodes::{allocate, call, free};
+use cs_ast::Place;
+use cs_ast::raw::expression::{RawExpr, RawExprKind};
+use cs_ast::typed::expression::Expr;
+use cs_ast::typed::operator::Allocator;
+use cs_scopes::{Callee, Function, Meaning, Scope, TypeCode, TypeRefusal};
+use cs_types::{CType, DataModel, IntType};
+use std::alloc::{AllocError, Global};
+
+/// The function that is called: its name alone, in parentheses or not.
+pub fn called<'a>(scope: &'a Scope, function: &RawExpr) -> Option<&'a Function>
+    ensures { option_map signature_of (option_copied result) ≡ called scope.now.declarations function.now.kind.value }
+{
+    match &*function.kind {
+        RawExprKind::Name(name) => function_in(scope.declarations.newest(name)),
+        RawExprKind::Parenthesis(inner) => called(scope, inner),
+        _ => None,
+    }
+}
+
+// The function that a name stands for.
+fn function_in(meaning: Option<&Meaning>) -> Option<&Function>
+    ensures { option_map signature_of (option_copied result) ≡ function_in (option_map meaning_of (option_copied meaning.entry)) }
+{
+    match meaning {
+        Some(Meaning::Function(function)) => Some(function),
+        _ => None,
+    }
+}
+
+// Whether the function gives a block of memory.
+fn allocates(callee: Callee) -> bool
+    ensures { result ≡ allocates callee }
+{
+    match callee {
+        Callee::Malloc | Callee::Calloc => true,
+        _ => false,
+    }
+}
+
+// Whether what a call's result goes to is a pointer.
+fn is_pointer_target(target: Option<&CType>) -> bool
+    ensures { result ≡ is_pointer_target (shape_in target.entry) }
+{
+    match target {
+        Some(CType::Pointer(_)) => true,
+        _ => false,
+    }
+}
+
+/// Refuses a call with another number of arguments than parameters, and an allocation whose result goes to no pointer.
+#[tactic(auto, unfolding(crate::specs::Calls::admitted))]
+pub fn admitted(
+    place: Place,
+    target: Option<&CType>,
+    count: usize,
+    function: &Function,
+) -> Result<(), TypeRefusal>
+    ensures { Answers (λ _. signature_of function.now) (admitted place (shape_in target.entry) count (signature_of function.now)) result }
+{
+    if function.parameters.len() != count {
+        return Err(TypeRefusal::Code(TypeCode::ArgumentCount, place));
+    }
+    if allocates(function.callee) && !is_pointer_target(target) {
+        return Err(TypeRefusal::Code(TypeCode::NoTarget, place));
+    }
+    Ok(())
+}
+
+// The lesser of two codes.
+fn lesser(code: TypeCode, other: TypeCode) -> TypeCode
+    ensures { result ≡ lesser code other }
+{
+    if code.number() <= other.number() {
+        code
+    } else {
+        other
+    }
+}
+
+/// The lesser of a code and one that may be there.
+pub fn least(code: TypeCode, other: Option<TypeCode>) -> TypeCode
+    ensures { result ≡ least code other }
+{
+    match other {
+        Some(other) => lesser(code, other),
+        None => code,
+    }
+}
+
+/// The values of arguments, each converted to the type of its parameter. Of those that can't be, the least code is told.
+pub fn converted_list(
+    alloc: Global,
+    model: DataModel,
+    place: Place,
+    types: &[CType],
+    values: Vec<Expr>,
+) -> Result<Vec<Expr>, TypeRefusal>
+    requires { vec_len values ≡ length types.now }
+    ensures { Answers (λ list. typed_list list.items) (converted_list model place (map (λ ty. shape_of ty) types.now) (typed_list values.items)) result }
+{
+    let mut left = values;
+    let mut list = Vec::new(alloc);
+    let mut refused = None;
+    while let Some(value) = left.pop() {
+        match converted(alloc, model, place, value, &types[left.len()]) {
+            Ok(value) => list.push(value)?,
+            Err(TypeRefusal::Code(code, _)) => refused = Some(least(code, refused)),
+            Err(TypeRefusal::Memory) => return Err(TypeRefusal::Memory),
+        }
+    }
+    list.reverse();
+    match refused {
+        Some(code) => Err(TypeRefusal::Code(code, place)),
+        None => Ok(list),
+    }
+}
+
+// The elements of a block after a pointer to a type: after `void *` they are bytes.
+fn block_of(alloc: Global, target: &CType) -> Result<CType, AllocError>
+    ensures { IfOk result (λ made. shape_of made ≡ block_of (shape_of target.now)) }
+{
+    match target {
+        CType::Void => Ok(CType::Int(IntType::UChar)),
+        _ => target.copy(alloc),
+    }
+}
+
+// A block of memory for a pointer.
+fn allocated(
+    alloc: Global,
+    place: Place,
+    allocator: Allocator,
+    arguments: Vec<Expr>,
+    target: Option<&CType>,
+) -> Result<Expr, TypeRefusal>
+    ensures { Yields (allocated place allocator (typed_list arguments.items) (shape_in target.entry)) result }
+{
+    let Some(ty) = target else {
+        return Err(TypeRefusal::Code(TypeCode::NoTarget, place));
+    };
+    let CType::Pointer(element) = ty else {
+        return Err(TypeRefusal::Code(TypeCode::NoTarget, place));
+    };
+    let element = block_of(alloc, element)?;
+    let ty = ty.copy(alloc)?;
+    let made = allocate(alloc, place, ty, allocator, arguments, element)?;
+    Ok(made)
+}
+
+// A call of `free`.
+fn freed(alloc: Global, place: Place, mut arguments: Vec<Expr>) -> Result<Expr, TypeRefusal>
+    ensures { Yields (freed place (typed_list arguments.items)) result }
+{
+    let Some(block) = arguments.pop() else {
+        return Err(TypeRefusal::Code(TypeCode::ArgumentCount, place));
+    };
+    if !arguments.is_empty() {
+        return Err(TypeRefusal::Code(TypeCode::ArgumentCount, place));
+    }
+    let made = free(alloc, place, block)?;
+    Ok(made)
+}
+
+/// A call of a function with its arguments.
+#[tactic(auto, unfolding(crate::specs::Calls::call_of))]
+pub fn call_of(
+    alloc: Global,
+    place: Place,
+    target: Option<&CType>,
+    function: &Function,
+    arguments: Vec<Expr>,
+) -> Result<Expr, TypeRefusal>
+    ensures { Yields (call_of place (shape_in target.entry) (signature_of function.now) (typed_list arguments.items)) result }
+{
+    match function.callee {
+        Callee::Numbered(number) => {
+            let ty = function.result.copy(alloc)?;
+            let made = call(alloc, place, ty, number, arguments)?;
+            Ok(made)
+        }
+        Callee::Malloc => allocated(alloc, place, Allocator::Malloc, arguments, target),
+        Callee::Calloc => allocated(alloc, place, Allocator::Calloc, arguments, target),
+        Callee::Free => freed(alloc, place, arguments),
+    }
+}

@@ -1,0 +1,23 @@
+//! The types and the forms of expressions, made of the types of their operands (C11 6.5).
+#![tactic(auto)]
+
+mod calls;
+mod conversions;
+mod integers;
+mod nodes;
+mod objects;
+mod operators;
+mod places;
+mod primary;
+mod stores;
+mod ways;
+
+pub use calls::{admitted, call_of, called, converted_list, least};
+pub use conversions::{converted, recast};
+pub use integers::{raised, turned};
+pub use nodes::number;
+pub use objects::{measured, operand, valued};
+pub use operators::{chosen, combined, denied, followed, tested};
+pub use places::{address_of, indexed, selected, selected_through, through};
+pub use primary::{constant_type, named, text};
+pub use stores::{assignable, assigned, step_operator, stepped, updatable, updated};

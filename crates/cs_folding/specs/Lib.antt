@@ -1,0 +1,2 @@
+pub mod TypedParts
+pub mod Folding

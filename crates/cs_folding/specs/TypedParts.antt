@@ -1,0 +1,16 @@
+-- The parts of a typed expression.
+use Rattle.cs_types.specs.Shape.{Shape}
+use Rattle.cs_ast.specs.declared.place.Place.{Place}
+use Rattle.cs_ast.specs.TypedTree.{Typed, Of, Form}
+
+-- the type of an expression
+abbrev pub type_of : Typed → Shape
+type_of (Of at ty form) = ty
+
+-- what an expression is
+abbrev pub form_of : Typed → Form
+form_of (Of at ty form) = form
+
+-- the place of an expression
+abbrev pub place_in : Typed → Place
+place_in (Of at ty form) = at

@@ -1,0 +1,7 @@
+//! The numbers of integer constant expressions, which are exact (C11 6.6).
+#![tactic(auto)]
+
+mod arithmetic;
+mod folding;
+
+pub use folding::{is_null, number_in};

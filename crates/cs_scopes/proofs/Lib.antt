@@ -1,0 +1,4 @@
+pub mod Lifting
+pub mod DeclaredNames
+pub mod ScalarCounts
+pub mod ArraySizes

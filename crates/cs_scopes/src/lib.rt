@@ -1,0 +1,23 @@
+//! The declarations in force, the types that words name, and why a file is refused by its types.
+#![tactic(auto)]
+
+mod context;
+mod declarations;
+mod entries;
+mod integer_words;
+mod refusal;
+mod scalars;
+mod scope;
+mod sizes;
+mod type_names;
+
+pub use context::{Context, Scope};
+pub use declarations::{Declarations, Tags};
+pub use integer_words::{IntegerWords, is_word};
+pub use refusal::{TypeCode, TypeRefusal};
+pub use scalars::{few, has_few_scalars, scalars_in};
+pub use scope::{Callee, Declaration, Function, Meaning, Tag, TagMeaning};
+pub use sizes::bytes_in;
+pub use type_names::{
+    array_of, arrayed, complete_at, enum_type, starred, type_named, typedef_type,
+};
