@@ -1,8 +1,11 @@
-use Rattle.std.proofs.Common.{◌≡◌, ap}
+use Rattle.std.proofs.Common.{◌≡◌, ap, ◌∙◌}
 use Rattle.cs_types.specs.Shape.{shape_of}
 use Rattle.cs_ast.specs.TypedTree.{Of}
+use Rattle.cs_ast.specs.TypedView.{form}
 use Rattle.cs_ast.proofs.TypedRows.{form-Allocate}
 use Rattle.cs_expressions.proofs.nodes.allocate.Goals as goal
 
 pub returns : goal.returns
-returns c = ap (Of c.args.place (shape_of c.args.ty)) (form-Allocate c.args.allocator c.args.arguments c.args.element)
+returns c =
+    ap (λ k. Of c.args.place (shape_of c.args.ty) (form k)) c.in_ok-new.ensures.ok
+    ∙ ap (Of c.args.place (shape_of c.args.ty)) (form-Allocate c.args.allocator c.args.arguments c.args.element)
