@@ -36,8 +36,8 @@ lower_choice-returns t c =
 pub lower_expression-returns-in-Through : goal.lower_expression-returns-in-Through
 lower_expression-returns-in-Through t c =
     elim c.in-Through.is [
-      | inl is ↦ if_made c.lower_used.result (λ made h. forms.part (ap form (sym c.deref.ensures ∙ is)) (λ flow it. it) (λ args. args) (λ following. refl) c.in_ok-next.ensures h) c.lower_used.ensures
-      | inr is ↦ if_made c.lower_used.result (λ made h. forms.part (ap form (sym c.deref.ensures ∙ is)) (λ flow it. it) (λ args. args) (λ following. refl) c.in_ok-next.ensures h) c.lower_used.ensures
+      | inl is ↦ if_made c.lower_used-in-Through.result (λ made h. forms.part (ap form (sym c.deref.ensures ∙ is)) (λ flow it. it) (λ args. args) (λ following. refl) c.in_ok-next.ensures h) c.lower_used-in-Through.ensures
+      | inr is ↦ if_made c.lower_used-in-Through.result (λ made h. forms.part (ap form (sym c.deref.ensures ∙ is)) (λ flow it. it) (λ args. args) (λ following. refl) c.in_ok-next.ensures h) c.lower_used-in-Through.ensures
     ]
 
 pub lower_expression-returns-in-Address : goal.lower_expression-returns-in-Address
@@ -57,7 +57,7 @@ lower_expression-returns-in-Not t c =
 pub lower_expression-returns-in-Member : goal.lower_expression-returns-in-Member
 lower_expression-returns-in-Member t c =
     let is : form c.args.e.now.kind.value ≡ Member (typed c.in-Member.a) c.in-Member.field-1 = search rules in
-    if_made c.lower_used-in-Member.result (λ made h. forms.part is (λ flow it. it) (λ args. args) (λ following. refl) c.in_ok-next.ensures h) c.lower_used-in-Member.ensures
+    if_made c.lower_used.result (λ made h. forms.part is (λ flow it. it) (λ args. args) (λ following. refl) c.in_ok-next.ensures h) c.lower_used.ensures
 
 pub lower_expression-returns-in-Arrow : goal.lower_expression-returns-in-Arrow
 lower_expression-returns-in-Arrow t c =
