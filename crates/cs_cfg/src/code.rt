@@ -30,7 +30,7 @@ pub struct Block {
 }
 
 /// A loop head or a label: its place, and its number among those of its function.
-#[derive(Clone, Copy, Debug, PartialEq, Eq)]
+#[derive(Clone, Copy)]
 pub struct CountedPoint {
     pub kind: PointKind,
     pub place: Place,
@@ -53,7 +53,7 @@ pub enum BlockEnd {
 }
 
 /// A case of a `switch` that has a value, and its block.
-#[derive(Clone, Copy, Debug, PartialEq, Eq)]
+#[derive(Clone, Copy)]
 pub struct SwitchCase {
     pub value: i128,
     pub block: u32,
@@ -61,7 +61,7 @@ pub struct SwitchCase {
 
 /// A place in the code: what a block of a function does, counted from 0; the counted point comes first where the block has one, then the
 /// operations, then the end.
-#[derive(Clone, Copy, Debug, PartialEq, Eq)]
+#[derive(Clone, Copy)]
 pub struct Spot {
     pub function: u32,
     pub block: u32,

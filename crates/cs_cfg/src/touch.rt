@@ -9,7 +9,7 @@ use cs_ast::Place;
 use cs_events::PointKind;
 
 /// A control point of some kind, or what happens to the scalar local with a declaration's number, each at its place.
-#[derive(Clone, Copy, Debug, PartialEq, Eq)]
+#[derive(Clone, Copy)]
 pub enum Touch {
     Point(PointKind, Place),
     Load(u32, Place),
