@@ -26,7 +26,7 @@ use cs_run_state::machine::Machine;
 use std::alloc::AllocError;
 
 /// Where a label stands: its counted point and its place.
-#[derive(Clone, Copy, Debug, PartialEq, Eq)]
+#[derive(Clone, Copy)]
 pub struct Landing {
     pub counted_point: u64,
     pub place: Place,

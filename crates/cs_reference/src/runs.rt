@@ -13,7 +13,7 @@ use cs_run_state::{Log, Setting, Stop};
 use std::alloc::{AllocError, Global};
 
 /// A run that has ended: how, and what it has shown, read and touched.
-#[derive(Debug, Drop)]
+#[derive(Drop)]
 pub struct Ended {
     pub outcome: Outcome,
     pub log: Log,

@@ -20,7 +20,7 @@ use cs_run_state::{Stop, Touch};
 use std::alloc::AllocError;
 
 /// A case that was found: its number among those with a value, and the number of the statement that it leads to.
-#[derive(Clone, Copy, Debug, PartialEq, Eq)]
+#[derive(Clone, Copy)]
 pub struct Chosen {
     pub number: u32,
     pub item: u32,

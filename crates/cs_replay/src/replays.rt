@@ -21,7 +21,7 @@ use cs_run_state::{Log, Setting, Stop};
 use std::alloc::{AllocError, Global};
 
 /// A replay that has ended: how, and what the run has shown, read and touched.
-#[derive(Debug, Drop)]
+#[derive(Drop)]
 pub struct Replayed {
     pub outcome: Outcome,
     pub log: Log,

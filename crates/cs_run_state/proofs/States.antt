@@ -24,4 +24,13 @@ pop-pop m = ap (λ stack. with_stack stack m) (twice m.frame.stack)
     twice [] = refl
     twice (x ∷ xs) = refl
 
+-- the machine without its newest operand, and without so many more
+pub pop-many : (n : ℕ) (m : State) → pop_many n (pop m) ≡ pop_many (suc n) m
+pop-many n m = ap (λ stack. with_stack stack m) (following n m.frame.stack)
+  where
+    following : (k : ℕ) (xs : List Operand) → drop k (drop 1 xs) ≡ drop (suc k) xs
+    following zero [] = refl
+    following (suc k) [] = refl
+    following k (x ∷ xs) = refl
+
 pub ruleset states = (reverse-map-push, slice_get-drop)

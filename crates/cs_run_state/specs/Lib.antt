@@ -7,5 +7,4 @@ pub mod FoundView
 pub mod AccessView
 pub mod MachineView
 pub mod Choosing
-pub mod Constants
 pub mod Updates

@@ -12,7 +12,7 @@ use cs_events::{Operation, Wrap};
 use cs_types::{DataModel, IntType, multiply, product_bound, quotient, wrap};
 
 /// The result of an operation, and how its exact result lies to its type.
-#[derive(Clone, Copy, Debug, PartialEq, Eq)]
+#[derive(Clone, Copy)]
 pub struct Computed {
     pub number: i128,
     pub wrap: Wrap,

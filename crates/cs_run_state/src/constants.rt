@@ -1,23 +1,21 @@
 //! What constant expressions give (C11 6.6).
 ghost use Rattle.std.specs.Prelude.{◌≡◌, IfOk};
-ghost use Rattle.cs_types.specs.Shape.{shape_of, integer, void};
+ghost use Rattle.cs_types.specs.Shape.{shape_of, integer};
 ghost use Rattle.cs_types.specs.Layout.{IsLaidOut};
 ghost use Rattle.cs_ast.specs.TypedProgram.{typed_program};
-ghost use Rattle.cs_ast.specs.TypedTree.{Unary, Binary, Compare, And, Or, Choice};
 ghost use Rattle.cs_ast.specs.TypedView.{typed};
 ghost use Rattle.cs_events.specs.Objects.{NumberCell};
 ghost use Rattle.cs_events.specs.Operations as operations;
 ghost use Rattle.cs_meaning.specs.Types as types;
 ghost use Rattle.cs_meaning.specs.Initials as initials;
 ghost use Rattle.cs_run_state.specs.View.{cell_of};
-ghost use Rattle.cs_run_state.specs.Constants.{constant_sum};
 
 use crate::logs::own_result;
 use crate::objects::{Cell, Object, let_go_of_object};
 use crate::operations::{Stride, binary_operation, comparison, conversion, pointer_sum, stride_of};
 use crate::types::size_of;
 use cs_ast::typed::expression::{Expr, ExprKind};
-use cs_ast::typed::operator::{BinOp, CmpOp, Direction, UnOp};
+use cs_ast::typed::operator::{Direction, UnOp};
 use cs_ast::typed::program::Program;
 use cs_events::Operation;
 use cs_types::{CType, DataModel, IntType};
@@ -29,34 +27,69 @@ pub fn constant(program: &Program, e: &Expr) -> Result<Cell, AllocError>
     requires { IsLaidOut program.now.model program.now.table.list }
     ensures { IfOk result (λ cell. cell_of cell ≡ initials.constant (typed_program program.now) (typed e.now)) }
 {
+    let model = program.model;
     match &*e.kind {
         ExprKind::Number(number) => Ok(Cell::Number(*number)),
         ExprKind::Null => Ok(Cell::Null),
         ExprKind::Text(literal) => Ok(Cell::Pointer(Object::Literal(*literal), 0)),
         ExprKind::Global(global) => Ok(Cell::Pointer(Object::Global(*global), 0)),
         ExprKind::Index(array, number, _) => {
+            let number = constant_number(program, number)?;
             let size = size_of(program, &e.ty)?;
-            constant_sum(program, array, number, Direction::Forward, size)
+            let stride = stride_of(&number, Direction::Forward, size)?;
+            moved(model, constant(program, array)?, stride)
         }
         ExprKind::Member(object, offset) => constant(program, object)?.further(*offset),
         ExprKind::Address(object) => constant(program, object),
         ExprKind::Decay(array) => constant(program, array),
-        ExprKind::Convert(value) => converted(program.model, &e.ty, constant(program, value)?),
-        ExprKind::Unary(operator, operand) => constant_unary(program, *operator, &e.ty, operand),
-        ExprKind::Not(operand) => Ok(truth_cell(!constant_truth(program, operand)?)),
+        ExprKind::Convert(value) => converted(model, &e.ty, constant(program, value)?),
+        ExprKind::Unary(operator, operand) => {
+            let number = constant_number(program, operand)?;
+            own_number(
+                model,
+                unary_operation(*operator, integer_of(&e.ty), &number),
+            )
+        }
+        ExprKind::Not(operand) => {
+            let holds = constant_truth(program, operand)?;
+            Ok(truth_cell(!holds))
+        }
         ExprKind::Binary(operator, left, right) => {
-            constant_binary(program, *operator, &e.ty, left, right)
+            let one = constant_number(program, left)?;
+            let other = constant_number(program, right)?;
+            own_number(
+                model,
+                binary_operation(*operator, integer_of(&e.ty), &one, &other),
+            )
         }
         ExprKind::Compare(operator, left, right) => {
-            constant_comparison(program, *operator, left, right)
+            let one = constant_number(program, left)?;
+            let other = constant_number(program, right)?;
+            own_number(model, comparison(*operator, &one, &other))
         }
         ExprKind::Sum(pointer, amount, direction, _) => {
+            let number = constant_number(program, amount)?;
             let size = target_size(program, &e.ty)?;
-            constant_sum(program, pointer, amount, *direction, size)
+            let stride = stride_of(&number, *direction, size)?;
+            moved(model, constant(program, pointer)?, stride)
         }
-        ExprKind::And(left, right) => constant_and(program, left, right),
-        ExprKind::Or(left, right) => constant_or(program, left, right),
-        ExprKind::Choice(test, one, other) => constant_choice(program, test, one, other),
+        ExprKind::And(left, right) => {
+            let one = constant_truth(program, left)?;
+            let other = constant_truth(program, right)?;
+            Ok(truth_cell(one && other))
+        }
+        ExprKind::Or(left, right) => {
+            let one = constant_truth(program, left)?;
+            let other = constant_truth(program, right)?;
+            Ok(truth_cell(one || other))
+        }
+        ExprKind::Choice(test, one, other) => {
+            if constant_truth(program, test)? {
+                constant(program, one)
+            } else {
+                constant(program, other)
+            }
+        }
         ExprKind::Local(_) | ExprKind::Through(_) | ExprKind::Arrow(_, _) => Ok(Cell::Unset),
         ExprKind::Load(_) | ExprKind::Difference(_, _) => Ok(Cell::Unset),
         ExprKind::Comma(_, _) | ExprKind::Assign(_, _) => Ok(Cell::Unset),
@@ -86,125 +119,6 @@ fn constant_truth(program: &Program, e: &Expr) -> Result<bool, AllocError>
 {
     let cell = constant(program, e)?;
     Ok(cell.is_set())
-}
-
-// A pointer moved by a number of elements of so many bytes, in a direction.
-#[cycle(constant)]
-fn constant_sum(
-    program: &Program,
-    pointer: &Expr,
-    amount: &Expr,
-    direction: Direction,
-    size: u64,
-) -> Result<Cell, AllocError>
-    requires { IsLaidOut program.now.model program.now.table.list }
-    ensures { IfOk result (λ cell.
-        cell_of cell ≡ constant_sum (typed_program program.now) (typed pointer.now) (typed amount.now) direction size) }
-{
-    let number = constant_number(program, amount)?;
-    let stride = stride_of(&number, direction, size)?;
-    let base = constant(program, pointer)?;
-    moved(program.model, base, stride)
-}
-
-// An operator of one integer, in a type.
-#[cycle(constant)]
-fn constant_unary(
-    program: &Program,
-    operator: UnOp,
-    ty: &CType,
-    operand: &Expr,
-) -> Result<Cell, AllocError>
-    requires { IsLaidOut program.now.model program.now.table.list }
-    ensures { IfOk result (λ cell.
-        cell_of cell ≡ initials.constant_form (typed_program program.now) (shape_of ty.now) (Unary operator (typed operand.now))) }
-{
-    let number = constant_number(program, operand)?;
-    own_number(
-        program.model,
-        unary_operation(operator, integer_of(ty), &number),
-    )
-}
-
-// An operator of two integers, in a type.
-#[cycle(constant)]
-fn constant_binary(
-    program: &Program,
-    operator: BinOp,
-    ty: &CType,
-    left: &Expr,
-    right: &Expr,
-) -> Result<Cell, AllocError>
-    requires { IsLaidOut program.now.model program.now.table.list }
-    ensures { IfOk result (λ cell.
-        cell_of cell ≡ initials.constant_form (typed_program program.now) (shape_of ty.now) (Binary operator (typed left.now) (typed right.now))) }
-{
-    let one = constant_number(program, left)?;
-    let other = constant_number(program, right)?;
-    own_number(
-        program.model,
-        binary_operation(operator, integer_of(ty), &one, &other),
-    )
-}
-
-// A comparison.
-#[cycle(constant)]
-fn constant_comparison(
-    program: &Program,
-    operator: CmpOp,
-    left: &Expr,
-    right: &Expr,
-) -> Result<Cell, AllocError>
-    requires { IsLaidOut program.now.model program.now.table.list }
-    ensures { IfOk result (λ cell.
-        cell_of cell ≡ initials.constant_form (typed_program program.now) void (Compare operator (typed left.now) (typed right.now))) }
-{
-    let one = constant_number(program, left)?;
-    let other = constant_number(program, right)?;
-    own_number(program.model, comparison(operator, &one, &other))
-}
-
-// `&&`.
-#[cycle(constant)]
-fn constant_and(program: &Program, left: &Expr, right: &Expr) -> Result<Cell, AllocError>
-    requires { IsLaidOut program.now.model program.now.table.list }
-    ensures { IfOk result (λ cell.
-        cell_of cell ≡ initials.constant_form (typed_program program.now) void (And (typed left.now) (typed right.now))) }
-{
-    let one = constant_truth(program, left)?;
-    let other = constant_truth(program, right)?;
-    Ok(truth_cell(one && other))
-}
-
-// `||`.
-#[cycle(constant)]
-fn constant_or(program: &Program, left: &Expr, right: &Expr) -> Result<Cell, AllocError>
-    requires { IsLaidOut program.now.model program.now.table.list }
-    ensures { IfOk result (λ cell.
-        cell_of cell ≡ initials.constant_form (typed_program program.now) void (Or (typed left.now) (typed right.now))) }
-{
-    let one = constant_truth(program, left)?;
-    let other = constant_truth(program, right)?;
-    Ok(truth_cell(one || other))
-}
-
-// `?:`.
-#[cycle(constant)]
-fn constant_choice(
-    program: &Program,
-    test: &Expr,
-    one: &Expr,
-    other: &Expr,
-) -> Result<Cell, AllocError>
-    requires { IsLaidOut program.now.model program.now.table.list }
-    ensures { IfOk result (λ cell.
-        cell_of cell ≡ initials.constant_form (typed_program program.now) void (Choice (typed test.now) (typed one.now) (typed other.now))) }
-{
-    if constant_truth(program, test)? {
-        constant(program, one)
-    } else {
-        constant(program, other)
-    }
 }
 
 /// An operator of one integer.

@@ -39,7 +39,7 @@ pub enum Item<'a> {
 }
 
 /// What is done with an expression.
-#[derive(Clone, Copy, Debug, PartialEq, Eq)]
+#[derive(Clone, Copy)]
 pub enum ExprStep {
     Evaluate,
     /// Evaluate one whose value is dropped or made void.
@@ -53,7 +53,7 @@ pub enum ExprStep {
 }
 
 /// What is done with a statement.
-#[derive(Clone, Copy, Debug, PartialEq, Eq)]
+#[derive(Clone, Copy)]
 pub enum StmtStep {
     Execute,
     /// Go the way that its test, or the value of a `switch`, says.

@@ -35,7 +35,7 @@ pub enum Touch {
 }
 
 /// What a run has shown, read and touched so far, each in order.
-#[derive(Debug, Drop)]
+#[derive(Drop)]
 pub struct Log {
     pub events: Vec<Event>,
     pub read: Vec<Path>,

@@ -13,7 +13,7 @@ use std::alloc::AllocError;
 use std::cmp::Ordering;
 
 /// An object of a run.
-#[derive(Clone, Debug, Drop)]
+#[derive(Drop)]
 pub enum Object {
     /// What an unknown pointer points to, by the pointer's path.
     Start(Path),
@@ -28,7 +28,7 @@ pub enum Object {
 }
 
 /// What a scalar holds.
-#[derive(Clone, Debug, Drop)]
+#[derive(Drop)]
 pub enum Cell {
     Number(i128),
     Null,
@@ -39,7 +39,7 @@ pub enum Cell {
 }
 
 /// What an evaluated expression leaves. A place is the pointer to it.
-#[derive(Debug, Drop)]
+#[derive(Drop)]
 pub enum Operand {
     Scalar(Cell),
     /// The scalars of a struct in order.

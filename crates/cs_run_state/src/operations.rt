@@ -1,15 +1,17 @@
 //! The operations that show, made of the values that they work on.
 ghost use Rattle.std.specs.Prelude.{◌≡◌, ◌+ℤ◌, ◌-ℤ◌, ◌*ℤ◌, neg_ℤ, pos, IfOk};
 ghost use Rattle.cs_types.specs.DataModel.{offset_bound_of};
-ghost use Rattle.cs_meaning.specs.Initials.{directed};
+ghost use Rattle.cs_meaning.specs.Initials.{number_in, directed};
+ghost use Rattle.cs_run_state.specs.View.{cell_of};
 
+use crate::objects::Cell;
 use cs_ast::typed::operator::{BinOp, CmpOp, Direction};
 use cs_events::Operation;
 use cs_types::{DataModel, IntType, offset_bound};
 use std::alloc::AllocError;
 
 /// How far a pointer moves: an amount of elements of so many bytes.
-#[derive(Clone, Copy, Debug, PartialEq, Eq)]
+#[derive(Clone, Copy)]
 pub struct Stride {
     pub amount: i128,
     pub size: u64,
@@ -46,6 +48,13 @@ pub fn comparison(operator: CmpOp, left: &i128, right: &i128) -> Operation
     ensures { result ≡ Operation.Compare operator left.now right.now }
 {
     Operation::Compare(operator, *left, *right)
+}
+
+/// A comparison of two numbers that cells hold.
+pub fn cell_comparison(operator: CmpOp, left: &Cell, right: &Cell) -> Operation
+    ensures { result ≡ Operation.Compare operator (number_in (cell_of left.now)) (number_in (cell_of right.now)) }
+{
+    Operation::Compare(operator, left.number(), right.number())
 }
 
 /// A comparison of two offsets.

@@ -13,7 +13,7 @@ use crate::guessing::numbers_of;
 use crate::logs::{Log, Stop, Touch};
 use crate::objects::{Cell, Operand};
 use crate::operations::{
-    Stride, binary_operation, comparison, conversion, offset_comparison, offset_difference,
+    Stride, binary_operation, cell_comparison, conversion, offset_comparison, offset_difference,
     pointer_sum, stays_above, stays_below,
 };
 use crate::settings::Setting;
@@ -269,8 +269,7 @@ impl Log {
             let number = self.compare_pointers(setting, place, operator, left, right)?;
             Ok(number)
         } else {
-            let (one, other) = (left.number(), right.number());
-            let number = self.ask(setting, place, comparison(operator, &one, &other))?;
+            let number = self.ask(setting, place, cell_comparison(operator, left, right))?;
             Ok(number)
         }
     }

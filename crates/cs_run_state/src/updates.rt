@@ -5,6 +5,7 @@ ghost use Rattle.cs_ast.specs.TypedProgram.{typed_program};
 ghost use Rattle.cs_events.specs.Objects.{NumberCell};
 ghost use Rattle.cs_meaning.specs.Access as loads;
 ghost use Rattle.cs_meaning.specs.Expressions as expressions;
+ghost use Rattle.cs_meaning.specs.Initials.{directed};
 ghost use Rattle.cs_meaning.specs.Machine as machine;
 ghost use Rattle.cs_run_state.specs.AccessView.{access_of};
 ghost use Rattle.cs_run_state.specs.MachineView.{state_of};
@@ -18,7 +19,7 @@ use crate::constants::integer_of;
 use crate::logs::{Log, Stop};
 use crate::machine::Machine;
 use crate::objects::{Cell, Operand, let_go_of_cell, let_go_of_operand};
-use crate::operations::{Stride, stride_of};
+use crate::operations::stride_of;
 use crate::settings::Setting;
 use cs_ast::Place;
 use cs_ast::typed::operator::{BinOp, Direction, Gives};
@@ -133,8 +134,7 @@ impl<'a> Machine<'a> {
         requires { IsLaidOut setting.now.program.now.model setting.now.program.now.table.list }
         ensures { LeadsOrEnds setting.now log.old log.new result (update_act (typed_program setting.now.program.now) place operator (access_of access.entry) works_in gives (state_of self.old)) (state_of self.new) }
     {
-        let (left, right) = self.pop_numbers();
-        let (target, before) = self.pop_stored();
+        let (target, before, left, right) = self.pop_updated();
         let stored = self.store_computed(
             log, setting, place, operator, access, works_in, &target, &left, &right,
         );
@@ -189,10 +189,10 @@ impl<'a> Machine<'a> {
         requires { IsLaidOut setting.now.program.now.model setting.now.program.now.table.list }
         ensures { LeadsOrEnds setting.now log.old log.new result (move_act (typed_program setting.now.program.now) place (access_of access.entry) bytes direction gives (state_of self.old)) (state_of self.new) }
     {
-        let amount = self.pop_number();
-        let stride = stride_of(&amount, direction, bytes)?;
-        let (target, before) = self.pop_stored();
-        let stored = self.store_moved(log, setting, place, access, &target, &before, stride);
+        let (target, before, amount) = self.pop_moved();
+        let stored = self.store_moved(
+            log, setting, place, access, &target, &before, &amount, bytes, direction,
+        );
         let_go_of_cell(target);
         match stored {
             Ok(moved) => {
@@ -215,18 +215,48 @@ impl<'a> Machine<'a> {
         access: Access,
         target: &Cell,
         before: &Operand,
-        stride: Stride,
+        amount: &i128,
+        bytes: u64,
+        direction: Direction,
     ) -> Result<Cell, Stop>
         requires { IsLaidOut setting.now.program.now.model setting.now.program.now.table.list }
-        ensures ok { IfOk result (λ moved. GivesBoth setting.now log.old log.new (stores_moved (typed_program setting.now.program.now) (state_of self.old).memory (state_of self.old).frame.number place (access_of access.entry) (cell_of target.now) (machine.cell_of (operand_of before.now)) stride.amount stride.size) (state_of self.new).memory (cell_of moved)) }
-        ensures err { IfErr result (StopsInBoth setting.now log.old log.new (stores_moved (typed_program setting.now.program.now) (state_of self.old).memory (state_of self.old).frame.number place (access_of access.entry) (cell_of target.now) (machine.cell_of (operand_of before.now)) stride.amount stride.size)) }
+        ensures ok { IfOk result (λ moved. GivesBoth setting.now log.old log.new (stores_moved (typed_program setting.now.program.now) (state_of self.old).memory (state_of self.old).frame.number place (access_of access.entry) (cell_of target.now) (machine.cell_of (operand_of before.now)) (directed direction amount.now) bytes) (state_of self.new).memory (cell_of moved)) }
+        ensures err { IfErr result (StopsInBoth setting.now log.old log.new (stores_moved (typed_program setting.now.program.now) (state_of self.old).memory (state_of self.old).frame.number place (access_of access.entry) (cell_of target.now) (machine.cell_of (operand_of before.now)) (directed direction amount.now) bytes)) }
         ensures state { IfOk result (λ _. state_of self.new ≡ machine.with_memory (state_of self.new).memory (state_of self.old)) }
     {
+        let stride = stride_of(amount, direction, bytes)?;
         let pointer = before.copy()?.into_cell();
         let moved = log.sum(setting, place, pointer, stride)?;
         let operand = Operand::Scalar(moved);
         self.store(log, setting, place, access, target, &operand)?;
         Ok(operand.into_cell())
+    }
+
+    // Takes the place of an update of a pointer, the value before, and the amount.
+    #[tactic(auto, using(crate::proofs::States::states))]
+    fn pop_moved(&mut self) -> (Cell, Operand, i128)
+        ensures target { cell_of result.0 ≡ machine.cell_at (state_of self.old) 2 }
+        ensures before { operand_of result.1 ≡ machine.operand_at (state_of self.old) 1 }
+        ensures amount { result.2 ≡ expressions.number_at (state_of self.old) 0 }
+        ensures state { state_of self.new ≡ machine.pop_many 3 (state_of self.old) }
+    {
+        let amount = self.pop_number();
+        let (target, before) = self.pop_stored();
+        (target, before, amount)
+    }
+
+    // Takes the place of an update of a number, the value before, the same converted, and the right operand.
+    #[tactic(auto, using(crate::proofs::States::states))]
+    fn pop_updated(&mut self) -> (Cell, Operand, i128, i128)
+        ensures target { cell_of result.0 ≡ machine.cell_at (state_of self.old) 3 }
+        ensures before { operand_of result.1 ≡ machine.operand_at (state_of self.old) 2 }
+        ensures left { result.2 ≡ expressions.number_at (state_of self.old) 1 }
+        ensures right { result.3 ≡ expressions.number_at (state_of self.old) 0 }
+        ensures state { state_of self.new ≡ machine.pop_many 4 (state_of self.old) }
+    {
+        let right = self.pop_number();
+        let (target, before, left) = self.pop_moved();
+        (target, before, left, right)
     }
 
     // Takes the place of an assignment, or of an update, and the value above it.

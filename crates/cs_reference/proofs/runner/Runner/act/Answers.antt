@@ -1,4 +1,4 @@
-use Rattle.std.proofs.Common.{sym, subst, arith}
+use Rattle.std.proofs.Common.{sym, ◌∙◌, subst, arith}
 use Rattle.cs_events.specs.Acts.{Act}
 use Rattle.cs_meaning.specs.Machine.{State}
 use Rattle.cs_reference.specs.RunnerView.{program_of, budgets_of, state_in, Performs}
@@ -8,11 +8,11 @@ use Rattle.cs_reference.proofs.runner.Runner.act.Goals as goal
 pub returns-in-Call : goal.returns-in-Call
 returns-in-Call c =
     let run = c.args.self.now in
-    let same = call_act (program_of run) (budgets_of run) c.args.e.now (state_in run) _ _ _ c.in-Call.is (omega (arith, c.len.ensures, c.in-Call.arguments.ok.0)) in
+    let same = call_act (program_of run) (budgets_of run) c.args.e.now (state_in run) _ _ _ (sym c.deref.ensures ∙ c.in-Call.is) (omega (arith, c.len.ensures, c.in-Call.arguments.ok.0)) in
     subst (λ (a : Act State). Performs run c.call.new.self c.call.result a) (sym same) c.call.ensures
 
 pub returns-in-Allocate : goal.returns-in-Allocate
 returns-in-Allocate c =
     let run = c.args.self.now in
-    let same = allocate_act (program_of run) (budgets_of run) c.args.e.now (state_in run) _ _ _ c.in-Allocate.is in
+    let same = allocate_act (program_of run) (budgets_of run) c.args.e.now (state_in run) _ _ _ (sym c.deref.ensures ∙ c.in-Allocate.is) in
     subst (λ (a : Act State). Performs run c.allocate.new.self c.allocate.result a) (sym same) c.allocate.ensures

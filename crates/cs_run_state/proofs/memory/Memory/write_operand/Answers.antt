@@ -1,7 +1,14 @@
+use Rattle.std.proofs.Common.{◌≡◌, OnOk, subst}
+use Rattle.cs_events.specs.Objects as objects
+use Rattle.cs_meaning.specs.Memory.{changed, write_cell}
+use Rattle.cs_run_state.specs.View.{object_of}
+use Rattle.cs_run_state.specs.MemoryView.{memory_of}
 use Rattle.cs_run_state.proofs.memory.Memory.write_operand.Goals as goal
 
-pub returns-in-Scalar-clause-memory : goal.returns-in-Scalar-clause-memory
-returns-in-Scalar-clause-memory c = rw c.in-Scalar.is c.change.ensures.memory
+pub returns-in_ok-cell-in-Scalar-clause-memory : goal.returns-in_ok-cell-in-Scalar-clause-memory
+returns-in_ok-cell-in-Scalar-clause-memory c =
+    rw c.in-Scalar.is
+    (subst (λ (cell : objects.Cell). OnOk c.change.result (memory_of c.change.new.self ≡ changed (write_cell c.args.offset cell) (object_of c.args.object.now) (memory_of c.args.self.now))) c.in_ok-cell-in-Scalar.ensures c.change.ensures.memory)
 
 pub returns-in_ok-offsets-in-Whole-clause-memory : goal.returns-in_ok-offsets-in-Whole-clause-memory
 returns-in_ok-offsets-in-Whole-clause-memory c =
