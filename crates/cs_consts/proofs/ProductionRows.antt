@@ -27,8 +27,8 @@ length-row n (more_of-RawExpr place p k rest) = ap suc (length-row _ rest)
 
 arguments-row : (c : Context) (p : Purpose) (ls : Literals) (types : List Shape) (n : _) (row : Row_of-RawExpr n) → arguments_listed c p ls types (items-the_row-RawExpr n row) ≡ arguments_formed c p ls types row
 arguments-row c p ls types n end_of-RawExpr = refl
-arguments-row c p ls [] n (more_of-RawExpr place p k rest) = refl
-arguments-row c p ls (ty ∷ types) n (more_of-RawExpr place p k rest) = ap (lift2 further _) (arguments-row c p (literals_after ls k) types _ rest)
+arguments-row c p ls [] n (more_of-RawExpr place q k rest) = refl
+arguments-row c p ls (ty ∷ types) n (more_of-RawExpr place q k rest) = ap (lift2 further _) (arguments-row c p (literals_after ls k) types _ rest)
 
 numbers-row : (c : Context) (ls : Literals) (n : _) (row : Row_of-RawExpr n) → numbers_listed c ls (items-the_row-RawExpr n row) ≡ numbers_formed c ls row
 numbers-row c ls n end_of-RawExpr = refl

@@ -22,7 +22,7 @@ use Rattle.cs_expressions.specs.Operators.{combined, tested}
 use Rattle.cs_expressions.specs.Calls.{called, parameters_of, admitted}
 use Rattle.cs_expressions.specs.Primary.{Literals}
 use Rattle.cs_consts.specs.Typing.{literals_after, formed, done, value_in, operand_in, purpose_after, purpose_if, right_target, type_in, is_plain, left_side, stored, infix_formed, choice_formed, chosen_values, store_formed, cast_formed, cast_to, cast_type, base_in, given_shape, call_formed, call_or_not, call_with, no_function, arguments_listed}
-use Rattle.cs_scopes.proofs.Lifting.{lift-fine, lift2-fine, lift3-fine, lift-refused, lift2-refused-first, lift2-refused-second, lift3-refused-first, lift3-refused-second, lift3-refused-third}
+use Rattle.cs_scopes.proofs.Lifting.{lift-fine, lift2-fine, lift3-fine, lift-refused, lift2-refused-first, lift2-refused-second, lift3-refused-first, lift3-refused-second, lift3-refused-third, yields_as, refused_as}
 
 -- the expression for its purpose, and its value
 pub done_stops : (c : Context) (p : Purpose) (v : Verdict Typed) (r : TypeRefusal) → IsRefused v r → IsRefused (done c p v) r

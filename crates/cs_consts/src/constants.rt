@@ -15,7 +15,7 @@ use cs_types::{CType, DataModel, IntType};
 use std::alloc::Global;
 
 /// An expression for its purpose: one of a constant is its number.
-#[tactic(auto, unfolding(cs_consts::specs::Constants::finished))]
+#[tactic(auto, unfolding(crate::specs::Constants::finished))]
 pub fn finished(
     alloc: Global,
     model: DataModel,

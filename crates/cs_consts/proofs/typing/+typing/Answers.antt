@@ -11,7 +11,7 @@ use Rattle.cs_ast.specs.declared.raw.expression.RawExprKind.TheVariants as kind
 use Rattle.cs_ast.specs.declared.raw.expression.RawExpr.{RawExpr}
 use Rattle.cs_ast.specs.declared.typed.operator.Gives.TheVariants.{Old, New}
 use Rattle.cs_consts.specs.declared.purpose.Purpose.TheVariants.{Run}
-use Rattle.cs_ast.specs.TypedView.{typed, typed_list}
+use Rattle.cs_ast.specs.TypedView.{typed, typed_list, form}
 use Rattle.cs_ast.specs.RawView.{written, written_kind, written_list}
 use Rattle.cs_ast.specs.RawHeight.{height, highest}
 use Rattle.cs_ast.proofs.HeightsOfNodes.{height-Call, height-SizeOfType, height-Cast}
@@ -24,7 +24,7 @@ use Rattle.cs_scopes.specs.TypeNames.{complete_at}
 use Rattle.cs_scopes.specs.Meanings.{signature_of}
 use Rattle.cs_expressions.specs.Calls.{shape_in, parameters_of}
 use Rattle.cs_consts.specs.Rows.{expressions_before, numbers_before}
-use Rattle.cs_consts.specs.Typing.{literals_after, literals_after_list, arguments_listed, formed, done, value_in, operand_in, infix_formed, choice_formed, store_formed, cast_formed, call_formed, stepped_object, measured_arrays, measured_type, base_in, numbers_listed, indexed_values, arrow_on, prefixed}
+use Rattle.cs_consts.specs.Typing.{literals_after, literals_after_list, arguments_listed, formed, done, value_in, operand_in, infix_formed, choice_formed, store_formed, cast_formed, call_formed, stepped_object, measured_arrays, measured_type, base_in, numbers_listed, indexed_values, arrow_on, prefixed, number_at}
 use Rattle.cs_scopes.proofs.Lifting.{lift-refused, lift2-refused-first, yields_as}
 use Rattle.cs_consts.proofs.Productions.{done_stops, done_is, value_stops, value_is, operand_stops, operand_is, infix_left_stops, infix_right_stops, infix_taken, choice_test_stops, choice_tested_stops, choice_one_stops, choice_other_stops, choice_taken, store_object_stops, store_left_stops, store_value_stops, store_taken, cast_type_stops, cast_operand_stops, cast_taken, call_other_stops, call_other, call_admitted_stops, call_arguments_stop, call_taken}
 use Rattle.cs_consts.proofs.Admitting.{admitted_counts}
@@ -162,7 +162,7 @@ size_of_type-returns-in_err-numbers-clause-reported t c =
 
 pub size_of_type-returns-clause-reported : goal.size_of_type-returns-clause-reported
 size_of_type-returns-clause-reported t c =
-    size_taken c.args.context.now c.args.place (base_in c.args.context.now c.args.place c.args.ty.now) (numbers_listed c.args.context.now c.args.literals.now.items c.args.bounds.now) (shape_of c.in_ok-base.base) (shape_of c.in_ok-base-2.base) c.in_ok-numbers.numbers.items c.measured_arrays.result c.in_ok-base.ensures c.in_ok-base-2.ensures c.in_ok-numbers.ensures.reported c.measured_arrays.ensures
+    size_taken c.args.context.now c.args.place (base_in c.args.context.now c.args.place c.args.ty.now) (numbers_listed c.args.context.now c.args.literals.now.items c.args.bounds.now) (shape_of c.in_ok-base.base) (shape_of c.in_ok-base-2.base) c.in_ok-numbers.numbers.items c.measured_arrays.result c.in_ok-base.ensures c.in_ok-base-2.ensures c.in_ok-numbers.ensures.reported (subst (λ ns. Yields (measured_arrays c.args.context.now c.args.place (shape_of c.in_ok-base-2.base) ns) c.measured_arrays.result) c.deref.ensures.value c.measured_arrays.ensures)
 
 pub call-returns-in_err-operand_in-clause-reported : goal.call-returns-in_err-operand_in-clause-reported
 call-returns-in_err-operand_in-clause-reported t c =
@@ -189,90 +189,90 @@ call-returns-clause-reported t c =
 
 pub formed-returns-in-Infix-clause-reported : goal.formed-returns-in-Infix-clause-reported
 formed-returns-in-Infix-clause-reported t c =
-    subst (λ k. Yields (formed c.args.context.now c.args.purpose c.args.literals.now.items (shape_in c.args.target) c.args.tree.now.place k) c.infix.result) (sym c.in-Infix.is) c.infix.ensures.reported
+    subst (λ k. Yields (formed c.args.context.now c.args.purpose c.args.literals.now.items (shape_in c.args.target) c.args.tree.now.place k) c.infix.result) (sym c.in-Infix.is ∙ c.deref.ensures) c.infix.ensures.reported
 
 pub formed-returns-in-Choice-clause-reported : goal.formed-returns-in-Choice-clause-reported
 formed-returns-in-Choice-clause-reported t c =
-    subst (λ k. Yields (formed c.args.context.now c.args.purpose c.args.literals.now.items (shape_in c.args.target) c.args.tree.now.place k) c.select.result) (sym c.in-Choice.is) c.select.ensures.reported
+    subst (λ k. Yields (formed c.args.context.now c.args.purpose c.args.literals.now.items (shape_in c.args.target) c.args.tree.now.place k) c.select.result) (sym c.in-Choice.is ∙ c.deref.ensures) c.select.ensures.reported
 
 pub formed-returns-in-Assign-clause-reported : goal.formed-returns-in-Assign-clause-reported
 formed-returns-in-Assign-clause-reported t c =
-    subst (λ k. Yields (formed c.args.context.now c.args.purpose c.args.literals.now.items (shape_in c.args.target) c.args.tree.now.place k) c.store.result) (sym c.in-Assign.is) c.store.ensures.reported
+    subst (λ k. Yields (formed c.args.context.now c.args.purpose c.args.literals.now.items (shape_in c.args.target) c.args.tree.now.place k) c.store.result) (sym c.in-Assign.is ∙ c.deref.ensures) c.store.ensures.reported
 
 pub formed-returns-in-StepAfter-clause-reported : goal.formed-returns-in-StepAfter-clause-reported
 formed-returns-in-StepAfter-clause-reported t c =
-    subst (λ k. Yields (formed c.args.context.now c.args.purpose c.args.literals.now.items (shape_in c.args.target) c.args.tree.now.place k) c.step.result) (sym c.in-StepAfter.is) c.step.ensures.reported
+    subst (λ k. Yields (formed c.args.context.now c.args.purpose c.args.literals.now.items (shape_in c.args.target) c.args.tree.now.place k) c.step.result) (sym c.in-StepAfter.is ∙ c.deref.ensures) c.step.ensures.reported
 
 pub formed-returns-in-StepBefore-clause-reported : goal.formed-returns-in-StepBefore-clause-reported
 formed-returns-in-StepBefore-clause-reported t c =
-    subst (λ k. Yields (formed c.args.context.now c.args.purpose c.args.literals.now.items (shape_in c.args.target) c.args.tree.now.place k) c.step-in-StepBefore.result) (sym c.in-StepBefore.is) c.step-in-StepBefore.ensures.reported
+    subst (λ k. Yields (formed c.args.context.now c.args.purpose c.args.literals.now.items (shape_in c.args.target) c.args.tree.now.place k) c.step-in-StepBefore.result) (sym c.in-StepBefore.is ∙ c.deref.ensures) c.step-in-StepBefore.ensures.reported
 
 pub formed-returns-in-Parenthesis-clause-reported : goal.formed-returns-in-Parenthesis-clause-reported
 formed-returns-in-Parenthesis-clause-reported t c =
-    subst (λ k. Yields (formed c.args.context.now c.args.purpose c.args.literals.now.items (shape_in c.args.target) c.args.tree.now.place k) c.judged.result) (sym c.in-Parenthesis.is) c.judged.ensures.reported
+    subst (λ k. Yields (formed c.args.context.now c.args.purpose c.args.literals.now.items (shape_in c.args.target) c.args.tree.now.place k) c.judged.result) (sym c.in-Parenthesis.is ∙ c.deref.ensures) c.judged.ensures.reported
 
 pub formed-returns-in-Call-clause-reported : goal.formed-returns-in-Call-clause-reported
 formed-returns-in-Call-clause-reported t c =
-    subst (λ k. Yields (formed c.args.context.now c.args.purpose c.args.literals.now.items (shape_in c.args.target) c.args.tree.now.place k) c.call.result) (sym c.in-Call.is) (yields_as c.call.result (formed-Call c.args.context.now c.args.purpose c.args.literals.now.items (shape_in c.args.target) c.args.tree.now.place c.in-Call.function c.in-Call.arguments) (subst (λ x. Yields (call_formed c.args.context.now c.args.purpose c.args.literals.now.items (shape_in c.args.target) c.args.tree.now.place c.in-Call.function x) c.call.result) c.deref-in-Call.ensures.value c.call.ensures.reported))
+    subst (λ k. Yields (formed c.args.context.now c.args.purpose c.args.literals.now.items (shape_in c.args.target) c.args.tree.now.place k) c.call.result) (sym c.in-Call.is ∙ c.deref.ensures) (yields_as c.call.result (formed-Call c.args.context.now c.args.purpose c.args.literals.now.items (shape_in c.args.target) c.args.tree.now.place c.in-Call.function c.in-Call.arguments) (subst (λ x. Yields (call_formed c.args.context.now c.args.purpose c.args.literals.now.items (shape_in c.args.target) c.args.tree.now.place c.in-Call.function x) c.call.result) c.deref-in-Call.ensures.value c.call.ensures.reported))
 
 pub formed-returns-in-Cast-clause-reported : goal.formed-returns-in-Cast-clause-reported
 formed-returns-in-Cast-clause-reported t c =
     let count : c.len-count.result ≡ length c.in-Cast.bounds.items = omega (arith, c.len-count.ensures, c.in-Cast.bounds.ok.0) in
-    subst (λ k. Yields (formed c.args.context.now c.args.purpose c.args.literals.now.items (shape_in c.args.target) c.args.tree.now.place k) c.cast.result) (sym c.in-Cast.is) (yields_as c.cast.result (formed-Cast c.args.context.now c.args.purpose c.args.literals.now.items (shape_in c.args.target) c.args.tree.now.place c.in-Cast.ty c.in-Cast.bounds c.in-Cast.operand) ((subst (λ x. Yields (cast_formed c.args.context.now c.args.purpose c.args.literals.now.items c.args.tree.now.place c.in-Cast.ty x c.in-Cast.operand) c.cast.result) count c.cast.ensures.reported)))
+    subst (λ k. Yields (formed c.args.context.now c.args.purpose c.args.literals.now.items (shape_in c.args.target) c.args.tree.now.place k) c.cast.result) (sym c.in-Cast.is ∙ c.deref.ensures) (yields_as c.cast.result (formed-Cast c.args.context.now c.args.purpose c.args.literals.now.items (shape_in c.args.target) c.args.tree.now.place c.in-Cast.ty c.in-Cast.bounds c.in-Cast.operand) ((subst (λ x. Yields (cast_formed c.args.context.now c.args.purpose c.args.literals.now.items c.args.tree.now.place c.in-Cast.ty x c.in-Cast.operand) c.cast.result) count c.cast.ensures.reported)))
 
 pub formed-returns-in-SizeOfType-clause-reported : goal.formed-returns-in-SizeOfType-clause-reported
 formed-returns-in-SizeOfType-clause-reported t c =
-    subst (λ k. Yields (formed c.args.context.now c.args.purpose c.args.literals.now.items (shape_in c.args.target) c.args.tree.now.place k) c.size_of_type.result) (sym c.in-SizeOfType.is) (yields_as c.size_of_type.result (formed-SizeOfType c.args.context.now c.args.purpose c.args.literals.now.items (shape_in c.args.target) c.args.tree.now.place c.in-SizeOfType.ty c.in-SizeOfType.bounds) (subst (λ x. Yields (lift2 (measured_arrays c.args.context.now c.args.tree.now.place) (lift (complete_at c.args.context.now.table.list c.args.tree.now.place) (base_in c.args.context.now c.args.tree.now.place c.in-SizeOfType.ty)) (numbers_listed c.args.context.now c.args.literals.now.items x)) c.size_of_type.result) c.deref-in-SizeOfType.ensures.value c.size_of_type.ensures.reported))
+    subst (λ k. Yields (formed c.args.context.now c.args.purpose c.args.literals.now.items (shape_in c.args.target) c.args.tree.now.place k) c.size_of_type.result) (sym c.in-SizeOfType.is ∙ c.deref.ensures) (yields_as c.size_of_type.result (formed-SizeOfType c.args.context.now c.args.purpose c.args.literals.now.items (shape_in c.args.target) c.args.tree.now.place c.in-SizeOfType.ty c.in-SizeOfType.bounds) (subst (λ x. Yields (lift2 (measured_arrays c.args.context.now c.args.tree.now.place) (lift (complete_at c.args.context.now.table.list c.args.tree.now.place) (base_in c.args.context.now c.args.tree.now.place c.in-SizeOfType.ty)) (numbers_listed c.args.context.now c.args.literals.now.items x)) c.size_of_type.result) c.deref-in-SizeOfType.ensures.value c.size_of_type.ensures.reported))
 
 pub formed-returns-in_err-object-in-Member-clause-reported : goal.formed-returns-in_err-object-in-Member-clause-reported
 formed-returns-in_err-object-in-Member-clause-reported t c =
     let e : c.from_residual-in_err-object-in-Member.result ≡ Err c.in_err-object-in-Member.field-0.0 = search rules in
-    subst (λ k. Yields (formed c.args.context.now c.args.purpose c.args.literals.now.items (shape_in c.args.target) c.args.tree.now.place k) c.from_residual-in_err-object-in-Member.result) (sym c.in-Member.is) (subst (Yields (formed c.args.context.now c.args.purpose c.args.literals.now.items (shape_in c.args.target) c.args.tree.now.place (kind.Member c.in-Member.object c.in-Member.name))) (sym e) (lift-refused (selected c.args.context.now.table.list c.args.tree.now.place c.in-Member.name.place c.in-Member.name.name) _ c.in_err-object-in-Member.field-0.0 c.in_err-object-in-Member.ensures.reported))
+    subst (λ k. Yields (formed c.args.context.now c.args.purpose c.args.literals.now.items (shape_in c.args.target) c.args.tree.now.place k) c.from_residual-in_err-object-in-Member.result) (sym c.in-Member.is ∙ c.deref.ensures) (subst (Yields (formed c.args.context.now c.args.purpose c.args.literals.now.items (shape_in c.args.target) c.args.tree.now.place (kind.Member c.in-Member.object c.in-Member.name))) (sym e) (lift-refused (selected c.args.context.now.table.list c.args.tree.now.place c.in-Member.name.place c.in-Member.name.name) _ c.in_err-object-in-Member.field-0.0 c.in_err-object-in-Member.ensures.reported))
 
 pub formed-returns-in_ok-object-in-Member-clause-reported : goal.formed-returns-in_ok-object-in-Member-clause-reported
 formed-returns-in_ok-object-in-Member-clause-reported t c =
-    subst (λ k. Yields (formed c.args.context.now c.args.purpose c.args.literals.now.items (shape_in c.args.target) c.args.tree.now.place k) c.selected.result) (sym c.in-Member.is) (part_taken (selected c.args.context.now.table.list c.args.tree.now.place c.in-Member.name.place c.in-Member.name.name) _ (typed c.in_ok-object-in-Member.object) c.selected.result c.in_ok-object-in-Member.ensures.reported c.selected.ensures)
+    subst (λ k. Yields (formed c.args.context.now c.args.purpose c.args.literals.now.items (shape_in c.args.target) c.args.tree.now.place k) c.selected.result) (sym c.in-Member.is ∙ c.deref.ensures) (part_taken (selected c.args.context.now.table.list c.args.tree.now.place c.in-Member.name.place c.in-Member.name.name) _ (typed c.in_ok-object-in-Member.object) c.selected.result c.in_ok-object-in-Member.ensures.reported c.selected.ensures)
 
 pub formed-returns-in_err-value-in-Arrow-clause-reported : goal.formed-returns-in_err-value-in-Arrow-clause-reported
 formed-returns-in_err-value-in-Arrow-clause-reported t c =
     let e : c.from_residual-in_err-value-in-Arrow.result ≡ Err c.in_err-value-in-Arrow.field-0.0 = search rules in
-    subst (λ k. Yields (formed c.args.context.now c.args.purpose c.args.literals.now.items (shape_in c.args.target) c.args.tree.now.place k) c.from_residual-in_err-value-in-Arrow.result) (sym c.in-Arrow.is) (subst (Yields (formed c.args.context.now c.args.purpose c.args.literals.now.items (shape_in c.args.target) c.args.tree.now.place (kind.Arrow c.in-Arrow.value c.in-Arrow.name))) (sym e) (lift-refused (arrow_on c.args.context.now c.args.tree.now.place c.in-Arrow.name.place c.in-Arrow.name.name) _ c.in_err-value-in-Arrow.field-0.0 c.in_err-value-in-Arrow.ensures.reported))
+    subst (λ k. Yields (formed c.args.context.now c.args.purpose c.args.literals.now.items (shape_in c.args.target) c.args.tree.now.place k) c.from_residual-in_err-value-in-Arrow.result) (sym c.in-Arrow.is ∙ c.deref.ensures) (subst (Yields (formed c.args.context.now c.args.purpose c.args.literals.now.items (shape_in c.args.target) c.args.tree.now.place (kind.Arrow c.in-Arrow.value c.in-Arrow.name))) (sym e) (lift-refused (arrow_on c.args.context.now c.args.tree.now.place c.in-Arrow.name.place c.in-Arrow.name.name) _ c.in_err-value-in-Arrow.field-0.0 c.in_err-value-in-Arrow.ensures.reported))
 
 pub formed-returns-in_ok-value-in-Arrow-clause-reported : goal.formed-returns-in_ok-value-in-Arrow-clause-reported
 formed-returns-in_ok-value-in-Arrow-clause-reported t c =
-    subst (λ k. Yields (formed c.args.context.now c.args.purpose c.args.literals.now.items (shape_in c.args.target) c.args.tree.now.place k) c.selected_through.result) (sym c.in-Arrow.is) (part_taken (arrow_on c.args.context.now c.args.tree.now.place c.in-Arrow.name.place c.in-Arrow.name.name) _ (typed c.in_ok-value-in-Arrow.value) c.selected_through.result c.in_ok-value-in-Arrow.ensures.reported c.selected_through.ensures)
+    subst (λ k. Yields (formed c.args.context.now c.args.purpose c.args.literals.now.items (shape_in c.args.target) c.args.tree.now.place k) c.selected_through.result) (sym c.in-Arrow.is ∙ c.deref.ensures) (part_taken (arrow_on c.args.context.now c.args.tree.now.place c.in-Arrow.name.place c.in-Arrow.name.name) _ (typed c.in_ok-value-in-Arrow.value) c.selected_through.result c.in_ok-value-in-Arrow.ensures.reported c.selected_through.ensures)
 
 pub formed-returns-in_err-operand-in-Prefix-clause-reported : goal.formed-returns-in_err-operand-in-Prefix-clause-reported
 formed-returns-in_err-operand-in-Prefix-clause-reported t c =
     let e : c.from_residual-in_err-operand-in-Prefix.result ≡ Err c.in_err-operand-in-Prefix.field-0.0 = search rules in
-    subst (λ k. Yields (formed c.args.context.now c.args.purpose c.args.literals.now.items (shape_in c.args.target) c.args.tree.now.place k) c.from_residual-in_err-operand-in-Prefix.result) (sym c.in-Prefix.is) (subst (Yields (formed c.args.context.now c.args.purpose c.args.literals.now.items (shape_in c.args.target) c.args.tree.now.place (kind.Prefix c.in-Prefix.operator c.in-Prefix.operand))) (sym e) (lift-refused (prefixed c.args.context.now c.in-Prefix.operator c.args.tree.now.place) _ c.in_err-operand-in-Prefix.field-0.0 c.in_err-operand-in-Prefix.ensures.reported))
+    subst (λ k. Yields (formed c.args.context.now c.args.purpose c.args.literals.now.items (shape_in c.args.target) c.args.tree.now.place k) c.from_residual-in_err-operand-in-Prefix.result) (sym c.in-Prefix.is ∙ c.deref.ensures) (subst (Yields (formed c.args.context.now c.args.purpose c.args.literals.now.items (shape_in c.args.target) c.args.tree.now.place (kind.Prefix c.in-Prefix.operator c.in-Prefix.operand))) (sym e) (lift-refused (prefixed c.args.context.now c.in-Prefix.operator c.args.tree.now.place) _ c.in_err-operand-in-Prefix.field-0.0 c.in_err-operand-in-Prefix.ensures.reported))
 
 pub formed-returns-in_ok-operand-in-Prefix-clause-reported : goal.formed-returns-in_ok-operand-in-Prefix-clause-reported
 formed-returns-in_ok-operand-in-Prefix-clause-reported t c =
-    subst (λ k. Yields (formed c.args.context.now c.args.purpose c.args.literals.now.items (shape_in c.args.target) c.args.tree.now.place k) c.prefixed.result) (sym c.in-Prefix.is) (part_taken (prefixed c.args.context.now c.in-Prefix.operator c.args.tree.now.place) _ (typed c.in_ok-operand-in-Prefix.operand) c.prefixed.result c.in_ok-operand-in-Prefix.ensures.reported c.prefixed.ensures)
+    subst (λ k. Yields (formed c.args.context.now c.args.purpose c.args.literals.now.items (shape_in c.args.target) c.args.tree.now.place k) c.prefixed.result) (sym c.in-Prefix.is ∙ c.deref.ensures) (part_taken (prefixed c.args.context.now c.in-Prefix.operator c.args.tree.now.place) _ (typed c.in_ok-operand-in-Prefix.operand) c.prefixed.result c.in_ok-operand-in-Prefix.ensures.reported c.prefixed.ensures)
 
 pub formed-returns-in_err-operand-in-SizeOf-clause-reported : goal.formed-returns-in_err-operand-in-SizeOf-clause-reported
 formed-returns-in_err-operand-in-SizeOf-clause-reported t c =
     let e : c.from_residual-in_err-operand-in-SizeOf.result ≡ Err c.in_err-operand-in-SizeOf.field-0.0 = search rules in
-    subst (λ k. Yields (formed c.args.context.now c.args.purpose c.args.literals.now.items (shape_in c.args.target) c.args.tree.now.place k) c.from_residual-in_err-operand-in-SizeOf.result) (sym c.in-SizeOf.is) (subst (Yields (formed c.args.context.now c.args.purpose c.args.literals.now.items (shape_in c.args.target) c.args.tree.now.place (kind.SizeOf c.in-SizeOf.operand))) (sym e) (lift-refused (measured_type c.args.context.now c.args.tree.now.place) _ c.in_err-operand-in-SizeOf.field-0.0 c.in_err-operand-in-SizeOf.ensures.reported))
+    subst (λ k. Yields (formed c.args.context.now c.args.purpose c.args.literals.now.items (shape_in c.args.target) c.args.tree.now.place k) c.from_residual-in_err-operand-in-SizeOf.result) (sym c.in-SizeOf.is ∙ c.deref.ensures) (subst (Yields (formed c.args.context.now c.args.purpose c.args.literals.now.items (shape_in c.args.target) c.args.tree.now.place (kind.SizeOf c.in-SizeOf.operand))) (sym e) (lift-refused (measured_type c.args.context.now c.args.tree.now.place) _ c.in_err-operand-in-SizeOf.field-0.0 c.in_err-operand-in-SizeOf.ensures.reported))
 
 pub formed-returns-in_ok-operand-in-SizeOf-clause-reported : goal.formed-returns-in_ok-operand-in-SizeOf-clause-reported
 formed-returns-in_ok-operand-in-SizeOf-clause-reported t c =
-    subst (λ k. Yields (formed c.args.context.now c.args.purpose c.args.literals.now.items (shape_in c.args.target) c.args.tree.now.place k) c.measured.result) (sym c.in-SizeOf.is) (part_taken (measured_type c.args.context.now c.args.tree.now.place) _ (typed c.in_ok-operand-in-SizeOf.operand) c.measured.result c.in_ok-operand-in-SizeOf.ensures.reported c.measured.ensures)
+    subst (λ k. Yields (formed c.args.context.now c.args.purpose c.args.literals.now.items (shape_in c.args.target) c.args.tree.now.place k) c.measured.result) (sym c.in-SizeOf.is ∙ c.deref.ensures) (part_taken (measured_type c.args.context.now c.args.tree.now.place) _ (typed c.in_ok-operand-in-SizeOf.operand) c.measured.result c.in_ok-operand-in-SizeOf.ensures.reported c.measured.ensures)
 
 pub formed-returns-in_err-array-in-Index-clause-reported : goal.formed-returns-in_err-array-in-Index-clause-reported
 formed-returns-in_err-array-in-Index-clause-reported t c =
-    let e : c.from_residual.result ≡ Err c.in_err-array-in-Index.field-0.0 = search rules in
-    subst (λ k. Yields (formed c.args.context.now c.args.purpose c.args.literals.now.items (shape_in c.args.target) c.args.tree.now.place k) c.from_residual.result) (sym c.in-Index.is) (subst (Yields (formed c.args.context.now c.args.purpose c.args.literals.now.items (shape_in c.args.target) c.args.tree.now.place (kind.Index c.in-Index.array c.in-Index.number))) (sym e) (lift2-refused-first (indexed_values c.args.context.now c.args.tree.now.place) _ _ c.in_err-array-in-Index.field-0.0 c.in_err-array-in-Index.ensures.reported))
+    let e : c.from_residual-in_err-array-in-Index.result ≡ Err c.in_err-array-in-Index.field-0.0 = search rules in
+    subst (λ k. Yields (formed c.args.context.now c.args.purpose c.args.literals.now.items (shape_in c.args.target) c.args.tree.now.place k) c.from_residual-in_err-array-in-Index.result) (sym c.in-Index.is ∙ c.deref.ensures) (subst (Yields (formed c.args.context.now c.args.purpose c.args.literals.now.items (shape_in c.args.target) c.args.tree.now.place (kind.Index c.in-Index.array c.in-Index.number))) (sym e) (lift2-refused-first (indexed_values c.args.context.now c.args.tree.now.place) _ _ c.in_err-array-in-Index.field-0.0 c.in_err-array-in-Index.ensures.reported))
 
 pub formed-returns-in_err-number-in-Index-clause-reported : goal.formed-returns-in_err-number-in-Index-clause-reported
 formed-returns-in_err-number-in-Index-clause-reported t c =
     let e : c.from_residual-in_err-number-in-Index.result ≡ Err c.in_err-number-in-Index.field-0.0 = search rules in
-    subst (λ k. Yields (formed c.args.context.now c.args.purpose c.args.literals.now.items (shape_in c.args.target) c.args.tree.now.place k) c.from_residual-in_err-number-in-Index.result) (sym c.in-Index.is) (subst (Yields (formed c.args.context.now c.args.purpose c.args.literals.now.items (shape_in c.args.target) c.args.tree.now.place (kind.Index c.in-Index.array c.in-Index.number))) (sym e) (second_stops (indexed_values c.args.context.now c.args.tree.now.place) (operand_in c.args.context.now c.args.purpose (formed c.args.context.now c.args.purpose c.args.literals.now.items None c.in-Index.array.place c.in-Index.array.kind.value)) (operand_in c.args.context.now c.args.purpose (formed c.args.context.now c.args.purpose (literals_after c.args.literals.now.items c.in-Index.array.kind.value) None c.in-Index.number.place c.in-Index.number.kind.value)) (typed c.in_ok-array-in-Index.array) c.in_err-number-in-Index.field-0.0 c.in_ok-array-in-Index.ensures.reported (subst (λ l. IsRefused (operand_in c.args.context.now c.args.purpose (formed c.args.context.now c.args.purpose l None c.in-Index.number.place c.in-Index.number.kind.value)) c.in_err-number-in-Index.field-0.0) c.in_ok-array-in-Index.ensures.texts c.in_err-number-in-Index.ensures.reported)))
+    subst (λ k. Yields (formed c.args.context.now c.args.purpose c.args.literals.now.items (shape_in c.args.target) c.args.tree.now.place k) c.from_residual-in_err-number-in-Index.result) (sym c.in-Index.is ∙ c.deref.ensures) (subst (Yields (formed c.args.context.now c.args.purpose c.args.literals.now.items (shape_in c.args.target) c.args.tree.now.place (kind.Index c.in-Index.array c.in-Index.number))) (sym e) (second_stops (indexed_values c.args.context.now c.args.tree.now.place) (operand_in c.args.context.now c.args.purpose (formed c.args.context.now c.args.purpose c.args.literals.now.items None c.in-Index.array.place c.in-Index.array.kind.value)) (operand_in c.args.context.now c.args.purpose (formed c.args.context.now c.args.purpose (literals_after c.args.literals.now.items c.in-Index.array.kind.value) None c.in-Index.number.place c.in-Index.number.kind.value)) (typed c.in_ok-array-in-Index.array) c.in_err-number-in-Index.field-0.0 c.in_ok-array-in-Index.ensures.reported (subst (λ l. IsRefused (operand_in c.args.context.now c.args.purpose (formed c.args.context.now c.args.purpose l None c.in-Index.number.place c.in-Index.number.kind.value)) c.in_err-number-in-Index.field-0.0) c.in_ok-array-in-Index.ensures.texts c.in_err-number-in-Index.ensures.reported)))
 
 pub formed-returns-in_ok-number-in-Index-clause-reported : goal.formed-returns-in_ok-number-in-Index-clause-reported
 formed-returns-in_ok-number-in-Index-clause-reported t c =
-    subst (λ k. Yields (formed c.args.context.now c.args.purpose c.args.literals.now.items (shape_in c.args.target) c.args.tree.now.place k) c.indexed.result) (sym c.in-Index.is) (parts_taken (indexed_values c.args.context.now c.args.tree.now.place) (operand_in c.args.context.now c.args.purpose (formed c.args.context.now c.args.purpose c.args.literals.now.items None c.in-Index.array.place c.in-Index.array.kind.value)) (operand_in c.args.context.now c.args.purpose (formed c.args.context.now c.args.purpose (literals_after c.args.literals.now.items c.in-Index.array.kind.value) None c.in-Index.number.place c.in-Index.number.kind.value)) (typed c.in_ok-array-in-Index.array) (typed c.in_ok-number-in-Index.number) c.indexed.result c.in_ok-array-in-Index.ensures.reported (subst (λ l. operand_in c.args.context.now c.args.purpose (formed c.args.context.now c.args.purpose l None c.in-Index.number.place c.in-Index.number.kind.value) ≡ Fine (typed c.in_ok-number-in-Index.number)) c.in_ok-array-in-Index.ensures.texts c.in_ok-number-in-Index.ensures.reported) c.indexed.ensures)
+    subst (λ k. Yields (formed c.args.context.now c.args.purpose c.args.literals.now.items (shape_in c.args.target) c.args.tree.now.place k) c.indexed.result) (sym c.in-Index.is ∙ c.deref.ensures) (parts_taken (indexed_values c.args.context.now c.args.tree.now.place) (operand_in c.args.context.now c.args.purpose (formed c.args.context.now c.args.purpose c.args.literals.now.items None c.in-Index.array.place c.in-Index.array.kind.value)) (operand_in c.args.context.now c.args.purpose (formed c.args.context.now c.args.purpose (literals_after c.args.literals.now.items c.in-Index.array.kind.value) None c.in-Index.number.place c.in-Index.number.kind.value)) (typed c.in_ok-array-in-Index.array) (typed c.in_ok-number-in-Index.number) c.indexed.result c.in_ok-array-in-Index.ensures.reported (subst (λ l. operand_in c.args.context.now c.args.purpose (formed c.args.context.now c.args.purpose l None c.in-Index.number.place c.in-Index.number.kind.value) ≡ Fine (typed c.in_ok-number-in-Index.number)) c.in_ok-array-in-Index.ensures.texts c.in_ok-number-in-Index.ensures.reported) c.indexed.ensures)
 
 pub arguments_of-loop-i-init : goal.arguments_of-loop-i-init
 arguments_of-loop-i-init t c =
@@ -298,16 +298,16 @@ call-call_with-requires t c =
 pub formed-returns-in_err-first-in-Comma-clause-reported : goal.formed-returns-in_err-first-in-Comma-clause-reported
 formed-returns-in_err-first-in-Comma-clause-reported t c =
     let e : c.from_residual-in_err-first-in-Comma.result ≡ Err c.in_err-first-in-Comma.field-0.0 = search rules in
-    subst (λ k. Yields (formed c.args.context.now c.args.purpose c.args.literals.now.items (shape_in c.args.target) c.args.tree.now.place k) c.from_residual-in_err-first-in-Comma.result) (sym c.in-Comma.is) (subst (Yields (formed c.args.context.now c.args.purpose c.args.literals.now.items (shape_in c.args.target) c.args.tree.now.place (kind.Comma c.in-Comma.first c.in-Comma.second))) (sym e) (lift2-refused-first (followed c.args.tree.now.place) _ _ c.in_err-first-in-Comma.field-0.0 c.in_err-first-in-Comma.ensures.reported))
+    subst (λ k. Yields (formed c.args.context.now c.args.purpose c.args.literals.now.items (shape_in c.args.target) c.args.tree.now.place k) c.from_residual-in_err-first-in-Comma.result) (sym c.in-Comma.is ∙ c.deref.ensures) (subst (Yields (formed c.args.context.now c.args.purpose c.args.literals.now.items (shape_in c.args.target) c.args.tree.now.place (kind.Comma c.in-Comma.first c.in-Comma.second))) (sym e) (lift2-refused-first (followed c.args.tree.now.place) _ _ c.in_err-first-in-Comma.field-0.0 c.in_err-first-in-Comma.ensures.reported))
 
 pub formed-returns-in_err-second-in-Comma-clause-reported : goal.formed-returns-in_err-second-in-Comma-clause-reported
 formed-returns-in_err-second-in-Comma-clause-reported t c =
     let e : c.from_residual-in_err-second-in-Comma.result ≡ Err c.in_err-second-in-Comma.field-0.0 = search rules in
-    subst (λ k. Yields (formed c.args.context.now c.args.purpose c.args.literals.now.items (shape_in c.args.target) c.args.tree.now.place k) c.from_residual-in_err-second-in-Comma.result) (sym c.in-Comma.is) (subst (Yields (formed c.args.context.now c.args.purpose c.args.literals.now.items (shape_in c.args.target) c.args.tree.now.place (kind.Comma c.in-Comma.first c.in-Comma.second))) (sym e) (second_stops (followed c.args.tree.now.place) (value_in c.args.context.now c.args.purpose (formed c.args.context.now c.args.purpose c.args.literals.now.items None c.in-Comma.first.place c.in-Comma.first.kind.value)) (value_in c.args.context.now c.args.purpose (formed c.args.context.now c.args.purpose (literals_after c.args.literals.now.items c.in-Comma.first.kind.value) None c.in-Comma.second.place c.in-Comma.second.kind.value)) (typed c.in_ok-first-in-Comma.first) c.in_err-second-in-Comma.field-0.0 c.in_ok-first-in-Comma.ensures.reported (subst (λ l. IsRefused (value_in c.args.context.now c.args.purpose (formed c.args.context.now c.args.purpose l None c.in-Comma.second.place c.in-Comma.second.kind.value)) c.in_err-second-in-Comma.field-0.0) c.in_ok-first-in-Comma.ensures.texts c.in_err-second-in-Comma.ensures.reported)))
+    subst (λ k. Yields (formed c.args.context.now c.args.purpose c.args.literals.now.items (shape_in c.args.target) c.args.tree.now.place k) c.from_residual-in_err-second-in-Comma.result) (sym c.in-Comma.is ∙ c.deref.ensures) (subst (Yields (formed c.args.context.now c.args.purpose c.args.literals.now.items (shape_in c.args.target) c.args.tree.now.place (kind.Comma c.in-Comma.first c.in-Comma.second))) (sym e) (second_stops (followed c.args.tree.now.place) (value_in c.args.context.now c.args.purpose (formed c.args.context.now c.args.purpose c.args.literals.now.items None c.in-Comma.first.place c.in-Comma.first.kind.value)) (value_in c.args.context.now c.args.purpose (formed c.args.context.now c.args.purpose (literals_after c.args.literals.now.items c.in-Comma.first.kind.value) None c.in-Comma.second.place c.in-Comma.second.kind.value)) (typed c.in_ok-first-in-Comma.first) c.in_err-second-in-Comma.field-0.0 c.in_ok-first-in-Comma.ensures.reported (subst (λ l. IsRefused (value_in c.args.context.now c.args.purpose (formed c.args.context.now c.args.purpose l None c.in-Comma.second.place c.in-Comma.second.kind.value)) c.in_err-second-in-Comma.field-0.0) c.in_ok-first-in-Comma.ensures.texts c.in_err-second-in-Comma.ensures.reported)))
 
 pub formed-returns-in_ok-second-in-Comma-clause-reported : goal.formed-returns-in_ok-second-in-Comma-clause-reported
 formed-returns-in_ok-second-in-Comma-clause-reported t c =
-    subst (λ k. Yields (formed c.args.context.now c.args.purpose c.args.literals.now.items (shape_in c.args.target) c.args.tree.now.place k) c.followed.result) (sym c.in-Comma.is) (parts_taken (followed c.args.tree.now.place) (value_in c.args.context.now c.args.purpose (formed c.args.context.now c.args.purpose c.args.literals.now.items None c.in-Comma.first.place c.in-Comma.first.kind.value)) (value_in c.args.context.now c.args.purpose (formed c.args.context.now c.args.purpose (literals_after c.args.literals.now.items c.in-Comma.first.kind.value) None c.in-Comma.second.place c.in-Comma.second.kind.value)) (typed c.in_ok-first-in-Comma.first) (typed c.in_ok-second-in-Comma.second) c.followed.result c.in_ok-first-in-Comma.ensures.reported (subst (λ l. value_in c.args.context.now c.args.purpose (formed c.args.context.now c.args.purpose l None c.in-Comma.second.place c.in-Comma.second.kind.value) ≡ Fine (typed c.in_ok-second-in-Comma.second)) c.in_ok-first-in-Comma.ensures.texts c.in_ok-second-in-Comma.ensures.reported) c.followed.ensures)
+    subst (λ k. Yields (formed c.args.context.now c.args.purpose c.args.literals.now.items (shape_in c.args.target) c.args.tree.now.place k) c.followed.result) (sym c.in-Comma.is ∙ c.deref.ensures) (parts_taken (followed c.args.tree.now.place) (value_in c.args.context.now c.args.purpose (formed c.args.context.now c.args.purpose c.args.literals.now.items None c.in-Comma.first.place c.in-Comma.first.kind.value)) (value_in c.args.context.now c.args.purpose (formed c.args.context.now c.args.purpose (literals_after c.args.literals.now.items c.in-Comma.first.kind.value) None c.in-Comma.second.place c.in-Comma.second.kind.value)) (typed c.in_ok-first-in-Comma.first) (typed c.in_ok-second-in-Comma.second) c.followed.result c.in_ok-first-in-Comma.ensures.reported (subst (λ l. value_in c.args.context.now c.args.purpose (formed c.args.context.now c.args.purpose l None c.in-Comma.second.place c.in-Comma.second.kind.value) ≡ Fine (typed c.in_ok-second-in-Comma.second)) c.in_ok-first-in-Comma.ensures.texts c.in_ok-second-in-Comma.ensures.reported) c.followed.ensures)
 
 pub numbers_of-loop-bound-init : goal.numbers_of-loop-bound-init
 numbers_of-loop-bound-init t c =
@@ -326,7 +326,7 @@ numbers_of-loop-bound-preserved t c =
     let fits : FitsSigned w128 c.number_at.result = search rules in
     let pushed : c.push.new.self.items ≡ c.loop-bound.numbers.items ++ c.number_at.result ∷ [] = simp to_z-of_z at c.in_ok-push.ensures.items in
     record {
-      reported = ap (λ l. lift (numbers_before l) (numbers_listed c.args.context.now c.judged.new.literals.items (drop (i + 1) c.args.bounds.now))) pushed ∙ numbers_turn c.args.context.now c.loop-bound.numbers.items (typed c.in_ok-value.value) c.number_at.result (numbers_listed c.args.context.now c.args.literals.now.items c.args.bounds.now) c.bound-item.result (drop i c.args.bounds.now) (drop (i + 1) c.args.bounds.now) c.loop-bound.literals.items c.judged.new.literals.items there c.in_ok-value.ensures.reported c.number_at.ensures c.in_ok-value.ensures.texts c.loop-bound.invariant.reported;
+      reported = ap (λ l. lift (numbers_before l) (numbers_listed c.args.context.now c.judged.new.literals.items (drop (i + 1) c.args.bounds.now))) pushed ∙ numbers_turn c.args.context.now c.loop-bound.numbers.items (typed c.in_ok-value.value) c.number_at.result (numbers_listed c.args.context.now c.args.literals.now.items c.args.bounds.now) c.bound-item.result (drop i c.args.bounds.now) (drop (i + 1) c.args.bounds.now) c.loop-bound.literals.items c.judged.new.literals.items there c.in_ok-value.ensures.reported (ap (λ k. number_at (form k)) (sym c.deref.ensures) ∙ c.number_at.ensures) c.in_ok-value.ensures.texts c.loop-bound.invariant.reported;
       texts = ap (λ l. literals_after_list l (drop (i + 1) c.args.bounds.now)) c.in_ok-value.ensures.texts ∙ ap (literals_after_list c.loop-bound.literals.items) (sym there) ∙ c.loop-bound.invariant.texts;
     }
 
@@ -344,11 +344,11 @@ call-arguments_of-requires t c =
 
 pub formed-returns-in-Call-clause-texts : goal.formed-returns-in-Call-clause-texts
 formed-returns-in-Call-clause-texts t c =
-    subst (λ k. OnOk c.call.result (c.call.new.literals.items ≡ literals_after c.args.literals.now.items k)) (sym c.in-Call.is) (subst (λ ls. OnOk c.call.result (c.call.new.literals.items ≡ ls)) (sym (literals-Call c.args.literals.now.items c.in-Call.function c.in-Call.arguments)) (subst (λ l. OnOk c.call.result (c.call.new.literals.items ≡ literals_after_list c.args.literals.now.items l)) c.deref-in-Call.ensures.value c.call.ensures.texts))
+    subst (λ k. OnOk c.call.result (c.call.new.literals.items ≡ literals_after c.args.literals.now.items k)) (sym c.in-Call.is ∙ c.deref.ensures) (subst (λ ls. OnOk c.call.result (c.call.new.literals.items ≡ ls)) (sym (literals-Call c.args.literals.now.items c.in-Call.function c.in-Call.arguments)) (subst (λ l. OnOk c.call.result (c.call.new.literals.items ≡ literals_after_list c.args.literals.now.items l)) c.deref-in-Call.ensures.value c.call.ensures.texts))
 
 pub formed-returns-in-SizeOfType-clause-texts : goal.formed-returns-in-SizeOfType-clause-texts
 formed-returns-in-SizeOfType-clause-texts t c =
-    subst (λ k. OnOk c.size_of_type.result (c.size_of_type.new.literals.items ≡ literals_after c.args.literals.now.items k)) (sym c.in-SizeOfType.is) (subst (λ ls. OnOk c.size_of_type.result (c.size_of_type.new.literals.items ≡ ls)) (sym (literals-SizeOfType c.args.literals.now.items c.in-SizeOfType.ty c.in-SizeOfType.bounds)) (subst (λ l. OnOk c.size_of_type.result (c.size_of_type.new.literals.items ≡ literals_after_list c.args.literals.now.items l)) c.deref-in-SizeOfType.ensures.value c.size_of_type.ensures.texts))
+    subst (λ k. OnOk c.size_of_type.result (c.size_of_type.new.literals.items ≡ literals_after c.args.literals.now.items k)) (sym c.in-SizeOfType.is ∙ c.deref.ensures) (subst (λ ls. OnOk c.size_of_type.result (c.size_of_type.new.literals.items ≡ ls)) (sym (literals-SizeOfType c.args.literals.now.items c.in-SizeOfType.ty c.in-SizeOfType.bounds)) (subst (λ l. OnOk c.size_of_type.result (c.size_of_type.new.literals.items ≡ literals_after_list c.args.literals.now.items l)) c.deref-in-SizeOfType.ensures.value c.size_of_type.ensures.texts))
 
 pub formed-call-requires : goal.formed-call-requires
 formed-call-requires t c =
@@ -379,15 +379,15 @@ numbers_of-judged-requires t c =
 
 pub formed-infix-requires : goal.formed-infix-requires
 formed-infix-requires t c =
-    let e : height (written c.args.tree.now) ≡ 1 + max (height (written c.in-Infix.left)) (height (written c.in-Infix.right)) = ap (λ k. height (written_kind k)) c.in-Infix.is in
+    let e : height (written c.args.tree.now) ≡ 1 + max (height (written c.in-Infix.left)) (height (written c.in-Infix.right)) = ap (λ k. height (written_kind k)) (sym c.deref.ensures ∙ c.in-Infix.is) in
     grind arith
 
 pub formed-select-requires : goal.formed-select-requires
 formed-select-requires t c =
-    let e : height (written c.args.tree.now) ≡ 1 + max (height (written c.in-Choice.test)) (max (height (written c.in-Choice.one)) (height (written c.in-Choice.other))) = ap (λ k. height (written_kind k)) c.in-Choice.is in
+    let e : height (written c.args.tree.now) ≡ 1 + max (height (written c.in-Choice.test)) (max (height (written c.in-Choice.one)) (height (written c.in-Choice.other))) = ap (λ k. height (written_kind k)) (sym c.deref.ensures ∙ c.in-Choice.is) in
     grind arith
 
 pub formed-store-requires : goal.formed-store-requires
 formed-store-requires t c =
-    let e : height (written c.args.tree.now) ≡ 1 + max (height (written c.in-Assign.object)) (height (written c.in-Assign.value)) = ap (λ k. height (written_kind k)) c.in-Assign.is in
+    let e : height (written c.args.tree.now) ≡ 1 + max (height (written c.in-Assign.object)) (height (written c.in-Assign.value)) = ap (λ k. height (written_kind k)) (sym c.deref.ensures ∙ c.in-Assign.is) in
     grind arith
