@@ -17,7 +17,7 @@ use Rattle.cs_scopes.specs.declared.scope.TagMeaning.TheVariants as tag
 use Rattle.cs_scopes.specs.Verdicts.{Fine, Fault}
 use Rattle.cs_scopes.specs.Sizes.{bytes_in}
 use Rattle.cs_scopes.specs.Scopes.{tagged}
-use Rattle.cs_declarations.specs.Known.{Known, model_of, table_of, with_tag}
+use Rattle.cs_declarations.specs.Environment.{Environment, model_of, table_of, with_tag}
 use Rattle.cs_declarations.specs.Bodies.{Typing, Laying, Opening, Body, empty_struct, with_struct, with_tagged_struct, tag_in, struct_named, is_among, opened, opening_tagged, opening, name_or_none, struct_read}
 use Rattle.cs_declarations.specs.LaidOut.{IsOpen, IsOfTable, AreSound, IsSound}
 use Rattle.cs_declarations.proofs.Alignments.{members-low}
@@ -30,23 +30,23 @@ use Rattle.cs_declarations.proofs.TypeSizes.{bytes_in-HasLayout}
 -- ---- structs after a part of a file
 
 -- they are sound and grew out of those before, and the same bodies are being read
-pub record Following (k : Known) (model : DataModel) (table : List StructType) (tags : List Tag) (reading : List ℕ) : Type 0 where
+pub record Following (k : Environment) (model : DataModel) (table : List StructType) (tags : List Tag) (reading : List ℕ) : Type 0 where
   pub sound : AreSound model table tags reading
   pub grows : Grows (table_of k) table
   pub same_model : model ≡ model_of k
   pub same_reading : reading ≡ k.reading
 
 -- what is known before a part of a file, and after it; by computation it is the same with other declarations, scopes and literals after it
-abbrev pub GoesOn : Known → Known → Type 0
+abbrev pub GoesOn : Environment → Environment → Type 0
 GoesOn k after = Following k (model_of after) (table_of after) after.context.scope.tags after.reading
 
 Grows-trans : (first second third : List StructType) → Grows first second → Grows second third → Grows first third
 Grows-trans first second third g h = record { members = λ number ms e. h.members number ms (g.members number ms e); count = (let one = g.count in let two = h.count in omega arith) }
 
-pub GoesOn-same : (k : Known) → IsSound k → GoesOn k k
+pub GoesOn-same : (k : Environment) → IsSound k → GoesOn k k
 GoesOn-same k h = record { sound = h; grows = record { members = λ number ms e. e; count = omega arith }; same_model = refl; same_reading = refl }
 
-pub GoesOn-trans : (k between after : Known) → GoesOn k between → GoesOn between after → GoesOn k after
+pub GoesOn-trans : (k between after : Environment) → GoesOn k between → GoesOn between after → GoesOn k after
 GoesOn-trans k between after g h = record {
   sound = h.sound;
   grows = Grows-trans (table_of k) (table_of between) (table_of after) g.grows h.grows;
@@ -55,7 +55,7 @@ GoesOn-trans k between after g h = record {
 }
 
 -- members so far stay laid
-pub IsLaying-GoesOn : (k after : Known) → GoesOn k after → (l : Laying) → IsLaying (model_of k) (table_of k) l → IsLaying (model_of after) (table_of after) l
+pub IsLaying-GoesOn : (k after : Environment) → GoesOn k after → (l : Laying) → IsLaying (model_of k) (table_of k) l → IsLaying (model_of after) (table_of after) l
 IsLaying-GoesOn k after g l h =
     subst (λ (model : DataModel). IsLaying model (table_of after) l) (sym g.same_model) (IsLaying-Grows (model_of k) (table_of k) (table_of after) g.grows l h)
 
@@ -64,7 +64,7 @@ pub none-AreSound : (model : DataModel) → AreSound model [] [] []
 none-AreSound model = record { laid_out = λ number laid ms stands has. absurd (cc); tagged = All-nil (λ (t : Tag). IsOfTable [] t.meaning); begun = All-nil (IsOpen []) }
 
 -- a type that objects may have keeps its small sizes
-pub object-Fits : (k after : Known) → IsSound k → GoesOn k after → (shape : Shape) (bytes : ℕ) → bytes_in (model_of k) (table_of k) shape ≡ Some bytes → Fits (model_of after) (table_of after) shape
+pub object-Fits : (k after : Environment) → IsSound k → GoesOn k after → (shape : Shape) (bytes : ℕ) → bytes_in (model_of k) (table_of k) shape ≡ Some bytes → Fits (model_of after) (table_of after) shape
 object-Fits k after sound g shape bytes e =
     let h = bytes_in-HasLayout (model_of k) (table_of k) sound.laid_out shape bytes e in
     record {
@@ -90,7 +90,7 @@ longer before after more (tag.Struct number) h = omega arith
 longer before after more tag.Enum h = tt
 
 -- one more tag
-pub with_tag-GoesOn : (k between : Known) (name : List ℕ) (meaning : TagMeaning) → IsOfTable (table_of between) meaning → GoesOn k between → GoesOn k (with_tag name meaning between)
+pub with_tag-GoesOn : (k between : Environment) (name : List ℕ) (meaning : TagMeaning) → IsOfTable (table_of between) meaning → GoesOn k between → GoesOn k (with_tag name meaning between)
 with_tag-GoesOn k between name meaning of_table g = record {
   sound = record {
     laid_out = g.sound.laid_out;
@@ -103,7 +103,7 @@ with_tag-GoesOn k between name meaning of_table g = record {
 }
 
 -- ---- one more struct
-module _ (k : Known) (name : List ℕ) (sound : IsSound k) where
+module _ (k : Environment) (name : List ℕ) (sound : IsSound k) where
   last_in : length (table_of k) < length (table_of k ++ empty_struct name ∷ [])
   last_in = let e = length-append (table_of k) (empty_struct name ∷ []) in omega arith
 
@@ -127,7 +127,7 @@ module _ (k : Known) (name : List ℕ) (sound : IsSound k) where
   with_tagged_struct-GoesOn = with_tag-GoesOn k (with_struct name k) name (tag.Struct (length (table_of k))) last_in with_struct-GoesOn
 
 -- the struct that a tag names where no body stands after it
-pub struct_named-GoesOn : (at : Place) (name : List ℕ) (k : Known) (meaning : Option TagMeaning) → IsSound k → IfFine (struct_named at name k meaning) (λ (t : Typing). GoesOn k t.1)
+pub struct_named-GoesOn : (at : Place) (name : List ℕ) (k : Environment) (meaning : Option TagMeaning) → IsSound k → IfFine (struct_named at name k meaning) (λ (t : Typing). GoesOn k t.1)
 struct_named-GoesOn at name k (Some (tag.Struct number)) sound = GoesOn-same k sound
 struct_named-GoesOn at name k (Some tag.Enum) sound = tt
 struct_named-GoesOn at name k None sound = with_tagged_struct-GoesOn k name sound
@@ -135,14 +135,14 @@ struct_named-GoesOn at name k None sound = with_tagged_struct-GoesOn k name soun
 -- ---- a struct whose body begins
 
 -- it has no members yet, and is not among those whose bodies are being read
-pub record IsOpened (k : Known) (o : Opening) : Type 0 where
+pub record IsOpened (k : Environment) (o : Opening) : Type 0 where
   pub sound : IsSound o.known
   pub grows : Grows (table_of k) (table_of o.known)
   pub same_model : model_of o.known ≡ model_of k
   pub more_reading : o.known.reading ≡ k.reading ++ o.number ∷ []
   pub apart : All (λ number. number ≢ o.number) k.reading
 
-opened-IsOpened : (k between : Known) (number : ℕ) → GoesOn k between → IsOpen (table_of between) number → All (λ other. other ≢ number) k.reading → IsOpened k (opened number between)
+opened-IsOpened : (k between : Environment) (number : ℕ) → GoesOn k between → IsOpen (table_of between) number → All (λ other. other ≢ number) k.reading → IsOpened k (opened number between)
 opened-IsOpened k between number g is_open apart = record {
   sound = record {
     laid_out = g.sound.laid_out;
@@ -156,7 +156,7 @@ opened-IsOpened k between number g is_open apart = record {
 }
 
 -- a new struct is apart from those that are being read
-new_apart : (k : Known) → IsSound k → All (λ number. number ≢ length (table_of k)) k.reading
+new_apart : (k : Environment) → IsSound k → All (λ number. number ≢ length (table_of k)) k.reading
 new_apart k sound = All-weaker (IsOpen (table_of k)) (λ number. number ≢ length (table_of k)) (λ number h. λ e. (let w = h.within in absurd (omega arith))) k.reading sound.begun
 
 new_open : (table : List StructType) (name : List ℕ) → IsOpen (table ++ empty_struct name ∷ []) (length table)
@@ -180,7 +180,7 @@ none_there : {A : Type 0} (o : Option A) → is_some o ≡ false → o ≡ None
 none_there None h = refl
 none_there (Some x) h = absurd (cc)
 
-opening_tagged-IsOpened : (at : Place) (name : List ℕ) (k : Known) → IsSound k → (meaning : Option TagMeaning) → IfSome meaning (IsOfTable (table_of k)) → IfFine (opening_tagged at name k meaning) (IsOpened k)
+opening_tagged-IsOpened : (at : Place) (name : List ℕ) (k : Environment) → IsSound k → (meaning : Option TagMeaning) → IfSome meaning (IsOfTable (table_of k)) → IfFine (opening_tagged at name k meaning) (IsOpened k)
 opening_tagged-IsOpened at name k sound (Some (tag.Struct number)) within =
     IfFine-cond (is_among number k.reading || is_some (members_of (table_of k) number)) (Fault DeclaredTwice at) (Fine (opened number k)) (IsOpened k)
     (λ twice. tt)
@@ -191,14 +191,14 @@ opening_tagged-IsOpened at name k sound (Some tag.Enum) within = tt
 opening_tagged-IsOpened at name k sound None within =
     opened-IsOpened k (with_tagged_struct name k) (length (table_of k)) (with_tagged_struct-GoesOn k name sound) (new_open (table_of k) name) (new_apart k sound)
 
-pub opening-IsOpened : (at : Place) (name : Option (List ℕ)) (k : Known) → IsSound k → IfFine (opening at name k) (IsOpened k)
+pub opening-IsOpened : (at : Place) (name : Option (List ℕ)) (k : Environment) → IsSound k → IfFine (opening at name k) (IsOpened k)
 opening-IsOpened at (Some name) k sound = opening_tagged-IsOpened at name k sound (tag_in k name) (tagged-IsOfTable (table_of k) name k.context.scope.tags sound.tagged)
 opening-IsOpened at None k sound = opened-IsOpened k (with_struct [] k) (length (table_of k)) (with_struct-GoesOn k [] sound) (new_open (table_of k) []) (new_apart k sound)
 
 -- ---- a struct whose body was read
 
 -- what is known after members, and these members
-abbrev pub IsRead : Known → Body → Type 0
+abbrev pub IsRead : Environment → Body → Type 0
 IsRead k b = GoesOn k b.known × IsLaying (model_of b.known) (table_of b.known) b.laying
 
 All-front : {X : Type 0} (P : X → Type 0) (xs : List X) (x : X) → All P (xs ++ x ∷ []) → All P xs × P x
@@ -213,7 +213,7 @@ padded-few size align few low =
     let most : round_up size align ≤ size + (align - 1) = omega arith in
     omega arith
 
-module _ (k : Known) (o : Opening) (is_opened : IsOpened k o) (name : Option (List ℕ)) (b : Body) (read : IsRead o.known b) where
+module _ (k : Environment) (o : Opening) (is_opened : IsOpened k o) (name : Option (List ℕ)) (b : Body) (read : IsRead o.known b) where
   reads : All (IsOpen (table_of b.known)) k.reading × IsOpen (table_of b.known) o.number
   reads =
       let same : b.known.reading ≡ k.reading ++ o.number ∷ [] = read.0.same_reading ∙ is_opened.more_reading in

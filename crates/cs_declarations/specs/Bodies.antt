@@ -30,37 +30,37 @@ use Rattle.cs_scopes.specs.Scopes.{newest, tagged}
 use Rattle.cs_consts.specs.Roles.{value_of}
 use Rattle.cs_scopes.specs.Sizes.{bytes_in}
 use Rattle.cs_scopes.specs.TypeNames.{is_word, integer_type, whole_word, typedef_at, enum_at, tag_place, starred, complete_at}
-use Rattle.cs_declarations.specs.Known.{Known, model_of, table_of, declarations_of, with_table, with_reading, with_tag, declaring, is_declared_here}
+use Rattle.cs_declarations.specs.Environment.{Environment, model_of, table_of, declarations_of, with_table, with_reading, with_tag, declaring, is_declared_here}
 use Rattle.cs_declarations.specs.Sizes.{sizes_said, bounded, extent_of, filled}
 
 -- a type, with what is known after it
 abbrev pub Typing : Type 0
-Typing = Shape × Known
+Typing = Shape × Environment
 
 -- a struct without its members
 abbrev pub empty_struct : List ℕ → StructType
 empty_struct name = record { tag = name; members = None; size = 0; align = 0 }
 
 -- after one more struct, which has no members yet
-abbrev pub with_struct : List ℕ → Known → Known
+abbrev pub with_struct : List ℕ → Environment → Environment
 with_struct name k = with_table (table_of k ++ empty_struct name ∷ []) k
 
 -- after a new struct with a tag
-abbrev pub with_tagged_struct : List ℕ → Known → Known
+abbrev pub with_tagged_struct : List ℕ → Environment → Environment
 with_tagged_struct name k = with_tag name (tag.Struct (length (table_of k))) (with_struct name k)
 
 -- what a tag stands for
-abbrev pub tag_in : Known → List ℕ → Option TagMeaning
+abbrev pub tag_in : Environment → List ℕ → Option TagMeaning
 tag_in k name = tagged name k.context.scope.tags
 
 -- the struct that a tag names where no body stands after it: the tag may be new (C11 6.7.2.3, paragraph 8)
-abbrev pub struct_named : Place → List ℕ → Known → Option TagMeaning → Verdict Typing
+abbrev pub struct_named : Place → List ℕ → Environment → Option TagMeaning → Verdict Typing
 struct_named at name k (Some (tag.Struct number)) = Fine (struct number, k)
 struct_named at name k (Some tag.Enum) = Fault code.DeclaredTwice at
 struct_named at name k None = Fine (struct (length (table_of k)), with_tagged_struct name k)
 
 -- the type of words without a body, of which one may name a whole type; what asks for it stands at a place
-abbrev pub word_type : Known → Option Place → Place → List TypeWord → Option TypeWord → Verdict Typing
+abbrev pub word_type : Environment → Option Place → Place → List TypeWord → Option TypeWord → Verdict Typing
 word_type k at_tag at all None = Fine (integer (integer_type all), k)
 word_type k at_tag at all (Some (word.Typedef name)) = lift (λ ty. Fine (ty, k)) (typedef_at at (newest name (declarations_of k)))
 word_type k at_tag at all (Some (word.Struct name)) = struct_named (tag_place at at_tag) name k (tag_in k name)
@@ -131,20 +131,20 @@ members_declared c base [] before = Fine before
 members_declared c base (d ∷ ds) before = lift (members_declared c base ds) (member_declared c base d before)
 
 -- the struct with this number has these members (C11 6.7.2.1, paragraph 17)
-abbrev pub with_members : ℕ → List ℕ → Laying → Known → Known
+abbrev pub with_members : ℕ → List ℕ → Laying → Environment → Environment
 with_members number name laying k =
     with_table (slice_set (table_of k) number (record { tag = name; members = Some laying.members; size = round_up laying.size laying.align; align = laying.align })) k
 
 -- a number that `int` holds (C11 6.7.2.2, paragraph 2)
-abbrev pub is_int : Known → ℤ → Bool
+abbrev pub is_int : Environment → ℤ → Bool
 is_int k n = int_le (least_of (model_of k) Int) n && int_le n (greatest_of (model_of k) Int)
 
 -- a constant with its number, which has to be one of int; the next one has one more if it says none
 pub record Counting : Type 0 where
   pub next : ℤ
-  pub known : Known
+  pub known : Environment
 
-abbrev pub constant_added : Place → List ℕ → Known → ℤ → Verdict Counting
+abbrev pub constant_added : Place → List ℕ → Environment → ℤ → Verdict Counting
 constant_added at name k n =
     if is_int k n then Fine (record { next = n +ℤ pos 1; known = declaring name (Constant n) k }) else Fault code.NotConstant at
 
@@ -164,16 +164,16 @@ constants_declared [] so_far = Fine so_far
 constants_declared (e ∷ es) so_far = lift (constants_declared es) (constant_declared e so_far)
 
 -- after the body of an enum, whose tag, if it has one, is known from there on
-abbrev pub with_enum_tag : Option (List ℕ) → Known → Known
+abbrev pub with_enum_tag : Option (List ℕ) → Environment → Environment
 with_enum_tag None k = k
 with_enum_tag (Some name) k = with_tag name tag.Enum k
 
 -- the tag of a body names nothing yet
-abbrev pub is_new_enum : Known → Option (List ℕ) → Bool
+abbrev pub is_new_enum : Environment → Option (List ℕ) → Bool
 is_new_enum k None = true
 is_new_enum k (Some name) = not (is_some (tag_in k name))
 
-abbrev pub enum_body : Known → Place → Option (List ℕ) → List RawEnumerator → Verdict Typing
+abbrev pub enum_body : Environment → Place → Option (List ℕ) → List RawEnumerator → Verdict Typing
 enum_body k at name constants =
     if is_new_enum k name
     then lift (λ (all : Counting). Fine (integer Int, with_enum_tag name all.known)) (constants_declared constants (record { next = pos 0; known = k }))
@@ -182,21 +182,21 @@ enum_body k at name constants =
 -- the struct whose body begins, which is new or has no body yet, not even one that is being read
 pub record Opening : Type 0 where
   pub number : ℕ
-  pub known : Known
+  pub known : Environment
 
 abbrev pub is_among : ℕ → List ℕ → Bool
 is_among n ns = list_any (λ m. nat_eq m n) ns
 
-abbrev pub opened : ℕ → Known → Opening
+abbrev pub opened : ℕ → Environment → Opening
 opened number k = record { number = number; known = with_reading (k.reading ++ number ∷ []) k }
 
-abbrev pub opening_tagged : Place → List ℕ → Known → Option TagMeaning → Verdict Opening
+abbrev pub opening_tagged : Place → List ℕ → Environment → Option TagMeaning → Verdict Opening
 opening_tagged at name k (Some (tag.Struct number)) =
     if is_among number k.reading || is_some (members_of (table_of k) number) then Fault code.DeclaredTwice at else Fine (opened number k)
 opening_tagged at name k (Some tag.Enum) = Fault code.DeclaredTwice at
 opening_tagged at name k None = Fine (opened (length (table_of k)) (with_tagged_struct name k))
 
-abbrev pub opening : Place → Option (List ℕ) → Known → Verdict Opening
+abbrev pub opening : Place → Option (List ℕ) → Environment → Verdict Opening
 opening at (Some name) k = opening_tagged at name k (tag_in k name)
 opening at None k = Fine (opened (length (table_of k)) (with_struct [] k))
 
@@ -208,7 +208,7 @@ name_or_none None = []
 -- members so far with what is known after them
 pub record Body : Type 0 where
   pub laying : Laying
-  pub known : Known
+  pub known : Environment
 
 -- a body that was read: the struct has its members
 abbrev pub struct_read : Opening → List ℕ → Option (List ℕ) → Body → Verdict Typing
@@ -232,7 +232,7 @@ plain_row (words.more_of-SpecWord other others) = plain_row others
 abbrev mutual
   -- the type of words before declarators, some of which may be left to be read, with the place of their tag; what asks for it
   -- stands at a place
-  pub row_type : {n : _} → Known → Option Place → Place → List TypeWord → words.Row_of-SpecWord n → Verdict Typing
+  pub row_type : {n : _} → Environment → Option Place → Place → List TypeWord → words.Row_of-SpecWord n → Verdict Typing
   row_type k at_tag at all words.end_of-SpecWord = word_type k at_tag at all (whole_word all)
   row_type k at_tag at all (words.more_of-SpecWord words.TheVariants.Static others) = row_type k at_tag at all others
   row_type k at_tag at all (words.more_of-SpecWord (words.TheVariants.Plain w) others) = row_type k at_tag at all others
@@ -242,7 +242,7 @@ abbrev mutual
       enum_body k (tag_place at at_tag) name constants.items
 
   -- the members of a body, group by group
-  pub members_read : {n : _} → Known → words.Row_of-RawMember n → Laying → Verdict Body
+  pub members_read : {n : _} → Environment → words.Row_of-RawMember n → Laying → Verdict Body
   members_read k words.end_of-RawMember before = Fine (record { laying = before; known = k })
   members_read k (words.more_of-RawMember shape row tag declarators others) before =
       lift (λ (read : Body). members_read read.known others read.laying)
@@ -260,7 +260,7 @@ is_kind kind (words.TheVariants.Plain w) = is_word kind w
 is_kind kind other = false
 
 -- the type that words before declarators name, with their tag and the place that asks for it
-abbrev pub words_type : Known → Option Place → Place → List TypeWord → List SpecWord → Verdict Typing
+abbrev pub words_type : Environment → Option Place → Place → List TypeWord → List SpecWord → Verdict Typing
 words_type k at_tag at all [] = word_type k at_tag at all (whole_word all)
 words_type k at_tag at all (words.TheVariants.Static ∷ others) = words_type k at_tag at all others
 words_type k at_tag at all (words.TheVariants.Plain w ∷ others) = words_type k at_tag at all others
@@ -269,23 +269,23 @@ words_type k at_tag at all (words.TheVariants.Struct' name shape row ∷ others)
 words_type k at_tag at all (words.TheVariants.Enum name constants comma ∷ others) = enum_body k (tag_place at at_tag) name constants.items
 
 -- the members of a group, after others
-abbrev pub group_of : Known → RawMember → Laying → Verdict Body
+abbrev pub group_of : Environment → RawMember → Laying → Verdict Body
 group_of k group before =
     lift (group_declared group.declarators.items before)
     (words_type k group.specs.tag (first_name group.declarators.items) (plain_words group.specs.words.items) group.specs.words.items)
 
 -- the members of groups, one after another
-abbrev pub members_of_list : Known → List RawMember → Laying → Verdict Body
+abbrev pub members_of_list : Environment → List RawMember → Laying → Verdict Body
 members_of_list k [] before = Fine (record { laying = before; known = k })
 members_of_list k (group ∷ groups) before = lift (λ (read : Body). members_of_list read.known groups read.laying) (group_of k group before)
 
 -- the struct that a body makes complete, at the place of its tag
-abbrev pub struct_body : Known → Place → Option (List ℕ) → List RawMember → Verdict Typing
+abbrev pub struct_body : Environment → Place → Option (List ℕ) → List RawMember → Verdict Typing
 struct_body k at name groups =
     lift (λ (o : Opening). lift (struct_read o k.reading name) (members_of_list o.known groups nothing_laid)) (opening at name k)
 
 -- the type of what stands before declarators (C11 6.7.2)
-abbrev pub specs_type : Known → Place → RawSpecs → Verdict Typing
+abbrev pub specs_type : Environment → Place → RawSpecs → Verdict Typing
 specs_type k at s = words_type k s.tag at (plain_words s.words.items) s.words.items
 
 -- `const` stands among the words
@@ -297,11 +297,11 @@ abbrev pub has_const : RawSpecs → Bool
 has_const s = list_any is_const_word s.words.items
 
 -- a name of a typedef (C11 6.7.8)
-abbrev pub typedef_added : Shape → RawDeclarator → Known → Verdict Known
+abbrev pub typedef_added : Shape → RawDeclarator → Environment → Verdict Environment
 typedef_added base d k =
     if is_declared_here d.name k then Fault code.DeclaredTwice d.place
     else lift (λ ty. Fine (declaring d.name (Typedef ty) k)) (declarator_type k.context base None d)
 
-abbrev pub typedefs_added : Shape → List RawDeclarator → Known → Verdict Known
+abbrev pub typedefs_added : Shape → List RawDeclarator → Environment → Verdict Environment
 typedefs_added base [] k = Fine k
 typedefs_added base (d ∷ ds) k = lift (typedefs_added base ds) (typedef_added base d k)

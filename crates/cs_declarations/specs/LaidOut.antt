@@ -7,7 +7,7 @@ use Rattle.cs_types.specs.Layout.{members_of, IsLaidOut}
 use Rattle.cs_scopes.specs.declared.scope.Tag.{Tag}
 use Rattle.cs_scopes.specs.declared.scope.TagMeaning.{TagMeaning}
 use Rattle.cs_scopes.specs.declared.scope.TagMeaning.TheVariants as tag
-use Rattle.cs_declarations.specs.Known.{Known, model_of, table_of}
+use Rattle.cs_declarations.specs.Environment.{Environment, model_of, table_of}
 
 -- a struct of the table has no members yet
 pub record IsOpen (table : List StructType) (number : ℕ) : Type 0 where
@@ -26,5 +26,5 @@ pub record AreSound (model : DataModel) (table : List StructType) (tags : List T
   pub begun : All (IsOpen table) reading
 
 -- what is known has such structs
-abbrev pub IsSound : Known → Type 0
+abbrev pub IsSound : Environment → Type 0
 IsSound k = AreSound (model_of k) (table_of k) k.context.scope.tags k.reading

@@ -1,4 +1,4 @@
-pub mod Known
+pub mod Environment
 pub mod Sizes
 pub mod Bodies
 pub mod Parameters

@@ -16,7 +16,7 @@ use Rattle.cs_scopes.specs.declared.refusal.TypeCode.TheVariants.{DeclaredTwice,
 use Rattle.cs_scopes.specs.Verdicts.{Verdict, Fine, Fault, lift}
 use Rattle.cs_scopes.specs.Meanings.{Local}
 use Rattle.cs_scopes.specs.TypeNames.{array_of, starred}
-use Rattle.cs_declarations.specs.Known.{Known, declaring, is_declared_here}
+use Rattle.cs_declarations.specs.Environment.{Environment, declaring, is_declared_here}
 use Rattle.cs_declarations.specs.Sizes.{sizes_said, bounded, element_of}
 use Rattle.cs_declarations.specs.Bodies.{Typing, specs_type, has_const}
 
@@ -101,18 +101,18 @@ may_write p ty = is_pointer ty && not (points_to_const p.specs p.pointers.items 
 pub record Head : Type 0 where
   pub variables : List Variable
   pub written : List Bool
-  pub known : Known
+  pub known : Environment
 
 -- after the name of a parameter, if it has one
-abbrev pub naming : Option RawName → ℕ → Shape → Known → Known
+abbrev pub naming : Option RawName → ℕ → Shape → Environment → Environment
 naming None number ty k = k
 naming (Some name) number ty k = declaring name.name (Local number ty) k
 
-abbrev pub is_free_name : Option RawName → Known → Bool
+abbrev pub is_free_name : Option RawName → Environment → Bool
 is_free_name None k = true
 is_free_name (Some name) k = not (is_declared_here name.name k)
 
-abbrev pub with_parameter : RawParameter → Head → Known → Passed → Verdict Head
+abbrev pub with_parameter : RawParameter → Head → Environment → Passed → Verdict Head
 with_parameter p before k found = Fine (record {
   variables = before.variables ++ record { name = name_in p.name; ty = found.ty; block = found.block } ∷ [];
   written = before.written ++ may_write p found.ty ∷ [];
@@ -138,7 +138,7 @@ parameters_after [] before = Fine before
 parameters_after (p ∷ ps) before = lift (parameters_after ps) (parameter_typed p before)
 
 -- what stands between the parentheses of a function's head
-abbrev pub parameters_typed : Known → RawParameters → Verdict Head
+abbrev pub parameters_typed : Environment → RawParameters → Verdict Head
 parameters_typed k parameter_lists.Empty = Fine (record { variables = []; written = []; known = k })
 parameters_typed k parameter_lists.Void = Fine (record { variables = []; written = []; known = k })
 parameters_typed k (parameter_lists.List list) = parameters_after list.items (record { variables = []; written = []; known = k })

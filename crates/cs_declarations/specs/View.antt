@@ -4,14 +4,14 @@ use Rattle.cs_types.specs.declared.ctype.CType.{CType}
 use Rattle.cs_types.specs.Shape.{Shape, shape_of}
 use Rattle.cs_ast.specs.declared.typed.program.Local.{Local}
 use Rattle.cs_ast.specs.TypedProgram.{Variable}
-use Rattle.cs_declarations.specs.declared.known.Known.{Known as Held}
-use Rattle.cs_declarations.specs.declared.known.Mark.{Mark as HeldMark}
+use Rattle.cs_declarations.specs.declared.environment.Environment.{Environment as Held}
+use Rattle.cs_declarations.specs.declared.environment.ScopeSnapshot.{ScopeSnapshot as HeldSnapshot}
 use Rattle.cs_declarations.specs.declared.sizes.Extent.{Extent as HeldExtent}
 use Rattle.cs_declarations.specs.declared.sizes.Extent.TheVariants as held
 use Rattle.cs_declarations.specs.declared.laying.Laying.{Laying as HeldLaying}
 use Rattle.cs_declarations.specs.declared.parameters.Passed.{Passed as HeldPassed}
 use Rattle.cs_declarations.specs.declared.parameters.Head.{Head as HeldHead}
-use Rattle.cs_declarations.specs.Known.{Known, Mark}
+use Rattle.cs_declarations.specs.Environment.{Environment, ScopeSnapshot}
 use Rattle.cs_declarations.specs.Sizes.{Extent, Whole, Unsized}
 use Rattle.cs_declarations.specs.Bodies.{Laying, Counting, Opening, Body}
 use Rattle.cs_declarations.specs.Parameters.{Passed, Head, consts_after, first_of, second_of}
@@ -26,11 +26,11 @@ use Rattle.cs_declarations.specs.declared.constness.Stars.{Stars}
 use Rattle.cs_ast.specs.declared.raw.written_type.PointerWord.{PointerWord}
 use Rattle.cs_types.specs.Members.{Member}
 
-abbrev pub known_of : Held → Known
-known_of k = record { context = k.context; reading = k.reading.items; outer = k.outer; literals = k.literals.items }
+abbrev pub environment_of : Held → Environment
+environment_of k = record { context = k.context; reading = k.reading.items; outer = k.outer; literals = k.literals.items }
 
-abbrev pub mark : HeldMark → Mark
-mark m = record { declarations = m.declarations; outer = m.outer }
+abbrev pub snapshot : HeldSnapshot → ScopeSnapshot
+snapshot m = record { declarations = m.declarations; outer = m.outer }
 
 abbrev pub extent : HeldExtent → Extent
 extent (held.Whole ty) = Whole (shape_of ty)
@@ -46,20 +46,20 @@ abbrev pub variable : Local → Variable
 variable l = record { name = l.name; ty = shape_of l.ty; block = l.block }
 
 -- what a function gives, with what is known after it
-abbrev pub typing : CType → Held → Shape × Known
-typing ty k = (shape_of ty, known_of k)
+abbrev pub typing : CType → Held → Shape × Environment
+typing ty k = (shape_of ty, environment_of k)
 
 abbrev pub counting : ℤ → Held → Counting
-counting next k = record { next = next; known = known_of k }
+counting next k = record { next = next; known = environment_of k }
 
 abbrev pub opened_as : ℕ → Held → Opening
-opened_as number k = record { number = number; known = known_of k }
+opened_as number k = record { number = number; known = environment_of k }
 
 abbrev pub body : HeldLaying → Held → Body
-body l k = record { laying = laying l; known = known_of k }
+body l k = record { laying = laying l; known = environment_of k }
 
 abbrev pub head : HeldHead → Held → Head
-head h k = record { variables = map variable h.parameters.items; written = h.written.items; known = known_of k }
+head h k = record { variables = map variable h.parameters.items; written = h.written.items; known = environment_of k }
 
 -- the last star of some words, and the one before it
 pub record AreLastStars (pointers : List PointerWord) (stars : Stars) : Type 0 where

@@ -4,11 +4,11 @@ ghost use Rattle.cs_types.specs.Shape.{shape_of};
 ghost use Rattle.cs_declarations.specs.Answered.{AnswersWith, Leaves};
 ghost use Rattle.cs_declarations.specs.Bodies.{plain_words, word_type, specs_type, tag_in, struct_named, opening, struct_body, members_of_list, group_of, first_name, nothing_laid};
 ghost use Rattle.cs_declarations.specs.LaidOut.{IsSound};
-ghost use Rattle.cs_declarations.specs.View.{known_of, typing, opened_as, body, laying};
+ghost use Rattle.cs_declarations.specs.View.{environment_of, typing, opened_as, body, laying};
 ghost use Rattle.cs_scopes.specs.TypeNames.{whole_word, tag_place};
 
 use crate::enums::enum_body;
-use crate::known::Known;
+use crate::environment::Environment;
 use crate::laying::{Laying, add_members};
 use crate::words::{integer_type, whole_word};
 use cs_ast::Place;
@@ -23,13 +23,13 @@ use std::alloc::Global;
 #[cycle(specs)]
 pub fn specs_type(
     alloc: Global,
-    known: &mut Known,
+    known: &mut Environment,
     place: Place,
     specs: &RawSpecs,
 ) -> Result<CType, TypeRefusal>
-    ensures reported { AnswersWith typing (specs_type (known_of known.old) place specs.now) result known.new }
+    ensures reported { AnswersWith typing (specs_type (environment_of known.old) place specs.now) result known.new }
     ensures reading { OnOk result (known.new.reading.items ≡ known.old.reading.items) }
-    ensures laid_out { IsSound (known_of known.old) → OnOk result (IsSound (known_of known.new)) }
+    ensures laid_out { IsSound (environment_of known.old) → OnOk result (IsSound (environment_of known.new)) }
 {
     let tag_place = specs.tag.unwrap_or(place);
     for word in &specs.words {
@@ -49,12 +49,12 @@ pub fn specs_type(
 // The type of words without a body.
 fn word_type(
     alloc: Global,
-    known: &mut Known,
+    known: &mut Environment,
     tag: Place,
     place: Place,
     words: &[SpecWord],
 ) -> Result<CType, TypeRefusal>
-    ensures reported { AnswersWith typing (word_type (known_of known.old) (Some tag) place (plain_words words.now) (whole_word (plain_words words.now))) result known.new }
+    ensures reported { AnswersWith typing (word_type (environment_of known.old) (Some tag) place (plain_words words.now) (whole_word (plain_words words.now))) result known.new }
     ensures reading { OnOk result (known.new.reading.items ≡ known.old.reading.items) }
 {
     match whole_word(words) {
@@ -67,8 +67,8 @@ fn word_type(
 }
 
 // The struct that a tag names where no body stands after it: the tag may be new (C11 6.7.2.3, paragraph 8).
-fn struct_named(known: &mut Known, place: Place, name: &Name) -> Result<CType, TypeRefusal>
-    ensures reported { AnswersWith typing (struct_named place name.now (known_of known.old) (tag_in (known_of known.old) name.now)) result known.new }
+fn struct_named(known: &mut Environment, place: Place, name: &Name) -> Result<CType, TypeRefusal>
+    ensures reported { AnswersWith typing (struct_named place name.now (environment_of known.old) (tag_in (environment_of known.old) name.now)) result known.new }
     ensures reading { OnOk result (known.new.reading.items ≡ known.old.reading.items) }
 {
     match known.context.scope.tags.meaning(name) {
@@ -84,11 +84,11 @@ fn struct_named(known: &mut Known, place: Place, name: &Name) -> Result<CType, T
 // The struct whose body begins: its tag is new, or has no body yet, not even one that is being read.
 fn begin_struct(
     alloc: Global,
-    known: &mut Known,
+    known: &mut Environment,
     place: Place,
     tag: &Option<Name>,
 ) -> Result<u32, TypeRefusal>
-    ensures reported { AnswersWith opened_as (opening place tag.now (known_of known.old)) result known.new }
+    ensures reported { AnswersWith opened_as (opening place tag.now (environment_of known.old)) result known.new }
     ensures reading { IfOk result (λ number. known.new.reading.items ≡ known.old.reading.items ++ number ∷ []) }
 {
     let number = match tag {
@@ -107,12 +107,12 @@ fn begin_struct(
 #[cycle(specs)]
 fn struct_body(
     alloc: Global,
-    known: &mut Known,
+    known: &mut Environment,
     place: Place,
     tag: &Option<Name>,
     members: &[RawMember],
 ) -> Result<CType, TypeRefusal>
-    ensures reported { AnswersWith typing (struct_body (known_of known.old) place tag.now members.now) result known.new }
+    ensures reported { AnswersWith typing (struct_body (environment_of known.old) place tag.now members.now) result known.new }
     ensures reading { OnOk result (known.new.reading.items ≡ known.old.reading.items) }
 {
     let number = begin_struct(alloc, known, place, tag)?;
@@ -125,10 +125,10 @@ fn struct_body(
 #[cycle(specs)]
 fn members_read(
     alloc: Global,
-    known: &mut Known,
+    known: &mut Environment,
     groups: &[RawMember],
 ) -> Result<Laying, TypeRefusal>
-    ensures reported { AnswersWith body (members_of_list (known_of known.old) groups.now nothing_laid) result known.new }
+    ensures reported { AnswersWith body (members_of_list (environment_of known.old) groups.now nothing_laid) result known.new }
     ensures reading { OnOk result (known.new.reading.items ≡ known.old.reading.items) }
 {
     let mut so_far = Laying {
@@ -146,11 +146,11 @@ fn members_read(
 #[cycle(specs)]
 fn group_read(
     alloc: Global,
-    known: &mut Known,
+    known: &mut Environment,
     group: &RawMember,
     before: Laying,
 ) -> Result<Laying, TypeRefusal>
-    ensures reported { AnswersWith body (group_of (known_of known.old) group.now (laying before)) result known.new }
+    ensures reported { AnswersWith body (group_of (environment_of known.old) group.now (laying before)) result known.new }
     ensures reading { OnOk result (known.new.reading.items ≡ known.old.reading.items) }
 {
     let place = first_name(&group.declarators);

@@ -3,9 +3,9 @@ ghost use Rattle.std.specs.Prelude.{◌≡◌, pos, OnOk};
 ghost use Rattle.cs_scopes.specs.Verdicts.{Answers};
 ghost use Rattle.cs_declarations.specs.Answered.{AnswersWith};
 ghost use Rattle.cs_declarations.specs.Bodies.{number_said, constant_declared, constants_declared, enum_body};
-ghost use Rattle.cs_declarations.specs.View.{known_of, typing, counting};
+ghost use Rattle.cs_declarations.specs.View.{environment_of, typing, counting};
 
-use crate::known::Known;
+use crate::environment::Environment;
 use cs_ast::Place;
 use cs_ast::raw::declaration::RawEnumerator;
 use cs_ast::raw::expression::RawExpr;
@@ -38,7 +38,7 @@ fn number_said(
 #[tactic(auto, using(cs_scopes::proofs::Lifting::lifts))]
 fn declare_constant(
     alloc: Global,
-    known: &mut Known,
+    known: &mut Environment,
     next: i128,
     constant: &RawEnumerator,
 ) -> Result<i128, TypeRefusal>
@@ -60,7 +60,7 @@ fn declare_constant(
 // Declares constants, each with the number that it says, or with one more than the one before it. Gives the number that comes next.
 fn declare_constants(
     alloc: Global,
-    known: &mut Known,
+    known: &mut Environment,
     constants: &[RawEnumerator],
 ) -> Result<i128, TypeRefusal>
     ensures reported { AnswersWith counting (constants_declared constants.now (counting (pos 0) known.old)) result known.new }
@@ -78,12 +78,12 @@ fn declare_constants(
 #[tactic(auto, using(cs_scopes::proofs::Lifting::lifts))]
 pub fn enum_body(
     alloc: Global,
-    known: &mut Known,
+    known: &mut Environment,
     place: Place,
     tag: &Option<Name>,
     constants: &[RawEnumerator],
 ) -> Result<CType, TypeRefusal>
-    ensures reported { AnswersWith typing (enum_body (known_of known.old) place tag.now constants.now) result known.new }
+    ensures reported { AnswersWith typing (enum_body (environment_of known.old) place tag.now constants.now) result known.new }
     ensures reading { OnOk result (known.new.reading.items ≡ known.old.reading.items) }
 {
     if let Some(name) = tag

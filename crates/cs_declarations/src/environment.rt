@@ -4,11 +4,11 @@ ghost use Rattle.std.specs.Option.{option_map};
 ghost use Rattle.cs_types.specs.Layout.{members_of};
 ghost use Rattle.cs_types.specs.Shape.{shape_of};
 ghost use Rattle.cs_scopes.specs.Meanings.{meaning_of};
-ghost use Rattle.cs_declarations.specs.Known.{table_of, with_reading, with_tag, declaring, is_declared_here, meaning_here, entered, left_to, mark_of};
+ghost use Rattle.cs_declarations.specs.Environment.{table_of, with_reading, with_tag, declaring, is_declared_here, meaning_here, entered, left_to, snapshot_of};
 ghost use Rattle.cs_declarations.specs.Bodies.{with_struct, with_tagged_struct, with_members, name_or_none, tag_in, is_among, typedef_added, typedefs_added};
 ghost use Rattle.cs_declarations.specs.Answered.{Leaves};
 ghost use Rattle.cs_declarations.specs.LaidOut.{IsSound};
-ghost use Rattle.cs_declarations.specs.View.{known_of, mark, laying};
+ghost use Rattle.cs_declarations.specs.View.{environment_of, snapshot, laying};
 
 use crate::laying::{Laying, rounded_up};
 use crate::sizes::declarator_type;
@@ -20,7 +20,7 @@ use std::alloc::{AllocError, Global};
 
 /// The structs, the tags, the declarations in force and the string literals before a point of a file.
 #[derive(Drop)]
-pub struct Known {
+pub struct Environment {
     pub context: Context,
     /// The structs whose bodies are being read, the innermost last.
     pub reading: Vec<u32>,
@@ -31,15 +31,15 @@ pub struct Known {
 
 /// Where a scope began, and where the one around it did.
 #[derive(Clone, Copy)]
-pub struct Mark {
+pub struct ScopeSnapshot {
     pub declarations: usize,
     pub outer: usize,
 }
 
-impl Known {
+impl Environment {
     /// Declares a name in the innermost scope (C11 6.2.1).
     pub fn declare(&mut self, name: &Name, meaning: Meaning) -> Result<(), AllocError>
-        ensures { OnOk result (known_of self.new ≡ declaring name.now (meaning_of meaning) (known_of self.old)) }
+        ensures { OnOk result (environment_of self.new ≡ declaring name.now (meaning_of meaning) (environment_of self.old)) }
     {
         let name = name.copy()?;
         self.context
@@ -50,7 +50,7 @@ impl Known {
 
     /// Whether a name is declared in the innermost scope (C11 6.7, paragraph 3).
     pub fn is_declared_here(&self, name: &Name) -> bool
-        ensures { result ≡ is_declared_here name.now (known_of self.now) }
+        ensures { result ≡ is_declared_here name.now (environment_of self.now) }
     {
         self.context
             .scope
@@ -60,7 +60,7 @@ impl Known {
 
     /// What a name was declared as in the innermost scope.
     pub fn meaning_here(&self, name: &Name) -> Option<&Meaning>
-        ensures { option_map meaning_of (option_copied result) ≡ meaning_here name.now (known_of self.now) }
+        ensures { option_map meaning_of (option_copied result) ≡ meaning_here name.now (environment_of self.now) }
     {
         if self.is_declared_here(name) {
             self.context.scope.declarations.newest(name)
@@ -70,11 +70,11 @@ impl Known {
     }
 
     /// Begins a scope (C11 6.2.1, paragraph 4).
-    pub fn enter(&mut self) -> Mark
-        ensures entered { known_of self.new ≡ entered (known_of self.old) }
-        ensures mark { mark result ≡ mark_of (known_of self.old) }
+    pub fn enter(&mut self) -> ScopeSnapshot
+        ensures entered { environment_of self.new ≡ entered (environment_of self.old) }
+        ensures snapshot { snapshot result ≡ snapshot_of (environment_of self.old) }
     {
-        let around = Mark {
+        let around = ScopeSnapshot {
             declarations: self.context.scope.declarations.len(),
             outer: self.outer,
         };
@@ -83,8 +83,8 @@ impl Known {
     }
 
     /// Ends the scope that began there: what it declared is not in force any longer.
-    pub fn leave(&mut self, around: Mark)
-        ensures { known_of self.new ≡ left_to (mark around) (known_of self.old) }
+    pub fn leave(&mut self, around: ScopeSnapshot)
+        ensures { environment_of self.new ≡ left_to (snapshot around) (environment_of self.old) }
     {
         self.context.scope.declarations.leave(around.declarations);
         self.outer = around.outer;
@@ -92,15 +92,15 @@ impl Known {
 
     // A number of structs.
     fn number_of_structs(&self) -> Result<u32, AllocError>
-        ensures { IfOk result (λ number. number ≡ length (table_of (known_of self.now))) }
+        ensures { IfOk result (λ number. number ≡ length (table_of (environment_of self.now))) }
     {
         u32::try_from(self.context.table.list.as_slice().len()).map_err(|_| AllocError)
     }
 
     /// Adds a struct of this name without members, and gives its number.
     pub fn add_struct(&mut self, name: Name) -> Result<u32, AllocError>
-        ensures number { IfOk result (λ number. number ≡ length (table_of (known_of self.old))) }
-        ensures known { OnOk result (known_of self.new ≡ with_struct name (known_of self.old)) }
+        ensures number { IfOk result (λ number. number ≡ length (table_of (environment_of self.old))) }
+        ensures known { OnOk result (environment_of self.new ≡ with_struct name (environment_of self.old)) }
     {
         let number = self.number_of_structs()?;
         self.context.table.list.push(StructType {
@@ -114,9 +114,9 @@ impl Known {
 
     /// Adds a struct of this tag, which is new, and gives its number.
     pub fn add_tagged_struct(&mut self, tag: &Name) -> Result<u32, AllocError>
-        requires { tag_in (known_of self.old) tag.now ≡ None }
-        ensures number { IfOk result (λ number. number ≡ length (table_of (known_of self.old))) }
-        ensures known { OnOk result (known_of self.new ≡ with_tagged_struct tag.now (known_of self.old)) }
+        requires { tag_in (environment_of self.old) tag.now ≡ None }
+        ensures number { IfOk result (λ number. number ≡ length (table_of (environment_of self.old))) }
+        ensures known { OnOk result (environment_of self.new ≡ with_tagged_struct tag.now (environment_of self.old)) }
     {
         let number = self.add_struct(tag.copy()?)?;
         self.add_tag(tag, TagMeaning::Struct(number))?;
@@ -125,8 +125,8 @@ impl Known {
 
     /// Adds a tag, which is new.
     pub fn add_tag(&mut self, tag: &Name, meaning: TagMeaning) -> Result<(), AllocError>
-        requires { tag_in (known_of self.old) tag.now ≡ None }
-        ensures { OnOk result (known_of self.new ≡ with_tag tag.now meaning (known_of self.old)) }
+        requires { tag_in (environment_of self.old) tag.now ≡ None }
+        ensures { OnOk result (environment_of self.new ≡ with_tag tag.now meaning (environment_of self.old)) }
     {
         let name = tag.copy()?;
         self.context.scope.tags.add(Tag { name, meaning })
@@ -134,14 +134,14 @@ impl Known {
 
     /// Whether a struct has a body, or one of it is being read.
     pub fn has_body(&self, number: u32) -> bool
-        ensures { result ≡ (is_among number (known_of self.now).reading || is_some (members_of (table_of (known_of self.now)) number)) }
+        ensures { result ≡ (is_among number (environment_of self.now).reading || is_some (members_of (table_of (environment_of self.now)) number)) }
     {
         self.is_being_read(number) || members_of(&self.context.table, number).is_some()
     }
 
     // Whether a body of a struct is being read.
     fn is_being_read(&self, number: u32) -> bool
-        ensures { result ≡ is_among number (known_of self.now).reading }
+        ensures { result ≡ is_among number (environment_of self.now).reading }
     {
         self.reading.iter().any(|other| *other == number)
     }
@@ -154,7 +154,7 @@ impl Known {
         tag: &Option<Name>,
         laid: Laying,
     ) -> Result<(), AllocError>
-        ensures { OnOk result (known_of self.new ≡ with_reading (take (length (known_of self.old).reading - 1) (known_of self.old).reading) (with_members number (name_or_none tag.now) (laying laid) (known_of self.old))) }
+        ensures { OnOk result (environment_of self.new ≡ with_reading (take (length (environment_of self.old).reading - 1) (environment_of self.old).reading) (with_members number (name_or_none tag.now) (laying laid) (environment_of self.old))) }
     {
         let size = rounded_up(laid.size, laid.align).ok_or(AllocError)?;
         let complete = StructType {
@@ -179,7 +179,7 @@ impl Known {
         base: &CType,
         declarator: &RawDeclarator,
     ) -> Result<(), TypeRefusal>
-        ensures { Leaves (typedef_added (shape_of base.now) declarator.now (known_of self.old)) result (known_of self.new) }
+        ensures { Leaves (typedef_added (shape_of base.now) declarator.now (environment_of self.old)) result (environment_of self.new) }
     {
         if self.is_declared_here(&declarator.name) {
             return Err(TypeRefusal::Code(TypeCode::DeclaredTwice, declarator.place));
@@ -196,8 +196,8 @@ impl Known {
         base: &CType,
         declarators: &[RawDeclarator],
     ) -> Result<(), TypeRefusal>
-        ensures reported { Leaves (typedefs_added (shape_of base.now) declarators.now (known_of self.old)) result (known_of self.new) }
-        ensures laid_out { IsSound (known_of self.old) → OnOk result (IsSound (known_of self.new)) }
+        ensures reported { Leaves (typedefs_added (shape_of base.now) declarators.now (environment_of self.old)) result (environment_of self.new) }
+        ensures laid_out { IsSound (environment_of self.old) → OnOk result (IsSound (environment_of self.new)) }
     {
         for declarator in declarators {
             self.declare_typedef(alloc, base, declarator)?;

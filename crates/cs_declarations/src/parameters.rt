@@ -5,11 +5,11 @@ ghost use Rattle.cs_scopes.specs.Verdicts.{Answers, Fine};
 ghost use Rattle.cs_declarations.specs.Answered.{AnswersWith, Leaves};
 ghost use Rattle.cs_declarations.specs.LaidOut.{IsSound};
 ghost use Rattle.cs_declarations.specs.Parameters.{place_of, plainly_passed, array_passed, passed, parameter_passed, may_write, is_free_name, with_parameter, parameter_typed, parameters_typed};
-ghost use Rattle.cs_declarations.specs.View.{known_of, passed_of, head};
+ghost use Rattle.cs_declarations.specs.View.{environment_of, passed_of, head};
 
 use crate::bodies::specs_type;
 use crate::constness::points_to_const;
-use crate::known::Known;
+use crate::environment::Environment;
 use crate::sizes::{bounded, element_of, sizes_said};
 use cs_ast::Place;
 use cs_ast::raw::declaration::{RawParameter, RawParameters};
@@ -127,8 +127,8 @@ fn may_write(parameter: &RawParameter, ty: &CType) -> bool
 }
 
 // Whether the parameter has a name that is declared in its scope already.
-fn is_declared(known: &Known, parameter: &RawParameter) -> bool
-    ensures { result ≡ not (is_free_name parameter.now.name (known_of known.now)) }
+fn is_declared(known: &Environment, parameter: &RawParameter) -> bool
+    ensures { result ≡ not (is_free_name parameter.now.name (environment_of known.now)) }
 {
     match &parameter.name {
         Some(name) => known.is_declared_here(&name.name),
@@ -142,7 +142,7 @@ impl Head {
     fn add(
         &mut self,
         alloc: Global,
-        known: &mut Known,
+        known: &mut Environment,
         parameter: &RawParameter,
     ) -> Result<(), TypeRefusal>
         ensures { Leaves (parameter_typed parameter.now (head self.old known.old)) result (head self.new known.new) }
@@ -161,11 +161,11 @@ impl Head {
     fn put(
         &mut self,
         alloc: Global,
-        known: &mut Known,
+        known: &mut Environment,
         parameter: &RawParameter,
         found: Passed,
     ) -> Result<(), AllocError>
-        ensures { OnOk result (with_parameter parameter.now (head self.old known.old) (known_of known.old) (passed_of found) ≡ Fine (head self.new known.new)) }
+        ensures { OnOk result (with_parameter parameter.now (head self.old known.old) (environment_of known.old) (passed_of found) ≡ Fine (head self.new known.new)) }
     {
         self.written.push(may_write(parameter, &found.ty))?;
         let name = match &parameter.name {
@@ -189,11 +189,11 @@ impl Head {
 /// The parameters that stand between a function's parentheses, each known after its declarator.
 pub fn parameters_typed(
     alloc: Global,
-    known: &mut Known,
+    known: &mut Environment,
     parameters: &RawParameters,
 ) -> Result<Head, TypeRefusal>
-    ensures reported { AnswersWith head (parameters_typed (known_of known.old) parameters.now) result known.new }
-    ensures laid_out { IsSound (known_of known.old) → OnOk result (IsSound (known_of known.new)) }
+    ensures reported { AnswersWith head (parameters_typed (environment_of known.old) parameters.now) result known.new }
+    ensures laid_out { IsSound (environment_of known.old) → OnOk result (IsSound (environment_of known.new)) }
 {
     let mut head = Head {
         parameters: Vec::new(alloc),

@@ -1,10 +1,10 @@
 //! The declarations of a scope, apart from the scope: those of a function's parameters become those of its body.
 ghost use Rattle.std.specs.Prelude.{◌≡◌, ◌++◌, map, drop, take, reverse, IfOk, OnOk};
 ghost use Rattle.cs_scopes.specs.Meanings.{declaration_of};
-ghost use Rattle.cs_declarations.specs.Known.{declarations_of, with_declarations, left_to};
-ghost use Rattle.cs_declarations.specs.View.{known_of, mark};
+ghost use Rattle.cs_declarations.specs.Environment.{declarations_of, with_declarations, left_to};
+ghost use Rattle.cs_declarations.specs.View.{environment_of, snapshot};
 
-use crate::known::{Known, Mark};
+use crate::environment::{Environment, ScopeSnapshot};
 use cs_scopes::{Declaration, Declarations};
 use std::alloc::{AllocError, Global};
 
@@ -45,11 +45,11 @@ fn declare_each(declarations: &mut Declarations, list: Vec<Declaration>) -> Resu
     Ok(())
 }
 
-impl Known {
+impl Environment {
     /// Ends the scope that began there, and gives what it declared.
-    pub fn leave_with(&mut self, alloc: Global, around: Mark) -> Result<Inner, AllocError>
-        ensures left { OnOk result (known_of self.new ≡ left_to (mark around) (known_of self.old)) }
-        ensures inner { IfOk result (λ inner. map declaration_of (reverse inner.list.items) ≡ drop around.declarations (declarations_of (known_of self.old))) }
+    pub fn leave_with(&mut self, alloc: Global, around: ScopeSnapshot) -> Result<Inner, AllocError>
+        ensures left { OnOk result (environment_of self.new ≡ left_to (snapshot around) (environment_of self.old)) }
+        ensures inner { IfOk result (λ inner. map declaration_of (reverse inner.list.items) ≡ drop around.declarations (declarations_of (environment_of self.old))) }
     {
         let declarations = &mut self.context.scope.declarations;
         let list = taken_after(alloc, declarations, around.declarations)?;
@@ -59,7 +59,7 @@ impl Known {
 
     /// Declares in the innermost scope what another one declared.
     pub fn declare_all(&mut self, inner: Inner) -> Result<(), AllocError>
-        ensures { OnOk result (known_of self.new ≡ with_declarations (declarations_of (known_of self.old) ++ map declaration_of (reverse inner.list.items)) self.old.outer (known_of self.old)) }
+        ensures { OnOk result (environment_of self.new ≡ with_declarations (declarations_of (environment_of self.old) ++ map declaration_of (reverse inner.list.items)) self.old.outer (environment_of self.old)) }
     {
         declare_each(&mut self.context.scope.declarations, inner.list)
     }

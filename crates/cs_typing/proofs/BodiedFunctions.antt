@@ -11,7 +11,7 @@ use Rattle.cs_ast.specs.declared.typed.statement.StmtKind.TheVariants as kind
 use Rattle.cs_ast.specs.TypedTree.{Statement, Block}
 use Rattle.cs_ast.specs.TypedProgram.{Variable, Routine, variable, routine}
 use Rattle.cs_ast.specs.TypedView.{statement, statement_at}
-use Rattle.cs_typing.specs.Objects.{Reported}
+use Rattle.cs_typing.specs.Objects.{TypedStatements}
 use Rattle.cs_typing.specs.Statements.{in_a_row}
 use Rattle.cs_typing.specs.Functions.{bodied}
 use Rattle.cs_typing.proofs.StatementsInARow.{block-in_a_row}
@@ -42,7 +42,7 @@ with_parts function head body locals held = record {
   written = function.written;
 }
 
-pub routine-bodied : (function : Function) (head : RawFunction) (body : RawBody) (locals : Vec Local Global) (statements : Vec Stmt Global) (held : Box StmtKind Global) (reported : Reported) → held.value ≡ kind.Block statements → reported.inside.variables ≡ map variable locals.items → reported.statements ≡ map statement statements.items → routine (with_parts function head body locals held) ≡ bodied head body reported (routine function)
+pub routine-bodied : (function : Function) (head : RawFunction) (body : RawBody) (locals : Vec Local Global) (statements : Vec Stmt Global) (held : Box StmtKind Global) (reported : TypedStatements) → held.value ≡ kind.Block statements → reported.inside.variables ≡ map variable locals.items → reported.statements ≡ map statement statements.items → routine (with_parts function head body locals held) ≡ bodied head body reported (routine function)
 routine-bodied function head body locals statements held reported is variables row =
     let block : statement_at body.opening held.value ≡ Block body.opening (in_a_row reported.statements) = ap (statement_at body.opening) is ∙ block-in_a_row body.opening statements ∙ ap (λ (ss : List Statement). Block body.opening (in_a_row ss)) (sym row) in
     ap (made function head body (map variable locals.items)) block

@@ -25,10 +25,10 @@ use Rattle.cs_scopes.specs.Meanings.{Meaning, Typedef, Constant, Global, Local, 
 use Rattle.cs_scopes.specs.TypeNames.{starred}
 use Rattle.cs_scopes.specs.Verdicts.{Fine, Fault, lift}
 use Rattle.cs_declarations.specs.Bodies.{specs_type}
-use Rattle.cs_declarations.specs.Known.{Known, meaning_here, entered}
+use Rattle.cs_declarations.specs.Environment.{Environment, meaning_here, entered}
 use Rattle.cs_declarations.specs.Parameters.{Head, place_of, is_free_name, with_parameter, parameter_passed, parameter_typed, parameters_after, parameters_typed}
 use Rattle.cs_typing.specs.Objects.{Filed}
-use Rattle.cs_typing.specs.Statements.{in_a_row, nothing_reported, body_typed}
+use Rattle.cs_typing.specs.Statements.{in_a_row, no_statements, body_typed}
 use Rattle.cs_typing.specs.Functions.{is_result, same_types, types_of, may_be_function, bodiless, number_in, Routed, new_function, function_of, declared_inside, bodied, with_body, at_beginning, where_in, body_added, completed, outside_of, headed, resulted, function_added}
 use Rattle.cs_well_formed.specs.Bounded.{texts_nodes}
 use Rattle.cs_well_formed.specs.Nodes.{statements_nodes, routine_nodes}
@@ -70,7 +70,7 @@ parameters-more (p ∷ ps) before =
 abbrev FewVariables : RawParameters → Head → Type 0
 FewVariables raw head = length head.variables ≤ suc (size_of (parameters_text (parameters raw)))
 
-few-variables : (k : Known) (raw : RawParameters) → IfFine (parameters_typed k raw) (FewVariables raw)
+few-variables : (k : Environment) (raw : RawParameters) → IfFine (parameters_typed k raw) (FewVariables raw)
 few-variables k parameter_lists.Empty = omega arith
 few-variables k parameter_lists.Void = omega arith
 few-variables k (parameter_lists.List list) =
@@ -127,8 +127,8 @@ module _ (Is : Place → Type 0) (room : ℕ) where
       let following = punctuator_text punctuator.CloseBrace rest in
       let begun = at_beginning f variables inner in
       let inside = weight begun + 24 * text_size (items_text (items_list body.items.items) following) in
-      lift-then (HasRoom Is inside (text_size following)) (After rest) (with_body d body number f) (body_typed (where_in result body) body.items.items (nothing_reported begun))
-      (body-fits Is inside (where_in result body) body.items.items (nothing_reported begun) following (recursion_from_All (ItemAmong Is) body.items.items among.inside) (tt, omega arith))
+      lift-then (HasRoom Is inside (text_size following)) (After rest) (with_body d body number f) (body_typed (where_in result body) body.items.items (no_statements begun))
+      (body-fits Is inside (where_in result body) body.items.items (no_statements begun) following (recursion_from_All (ItemAmong Is) body.items.items among.inside) (tt, omega arith))
       (λ reported g. record {
         globals = h.globals;
         routines = changed-All (bodied d body reported) (RoutineStandsAmong Is) number f.routines (λ x _ _. record { at = here; closes = among.closing; body = (among.opening, g.0) }) h.routines;

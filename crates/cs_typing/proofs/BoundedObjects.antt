@@ -18,7 +18,7 @@ use Rattle.cs_scopes.specs.declared.refusal.TypeCode.TheVariants.{DeclaredTwice}
 use Rattle.cs_scopes.specs.Meanings.{Meaning, Typedef, Constant, Global, Local, Function}
 use Rattle.cs_scopes.specs.Verdicts.{Fine, Fault}
 use Rattle.cs_declarations.specs.Initializers.{InFile}
-use Rattle.cs_declarations.specs.Known.{Known, meaning_here}
+use Rattle.cs_declarations.specs.Environment.{Environment, meaning_here}
 use Rattle.cs_declarations.specs.Objects.{object_type, is_constant_object}
 use Rattle.cs_typing.specs.Objects.{Filed, Object, with_known, is_completed, may_be_object, new_object, object_of, changed, made_constant, holding, with_initial, object_initialized, marked, object_added, objects_added}
 use Rattle.cs_well_formed.specs.Nodes.{initial_nodes, all_nodes, object_nodes, routine_nodes}
@@ -57,7 +57,7 @@ module _ (Is : Place → Type 0) (room : ℕ) where
   fits-less f more less le h = record { globals = h.globals; routines = h.routines; nodes = (let k = h.nodes in omega (arith, le, k)) }
 
   -- after what makes more known
-  pub fits-known : (f : Filed) (k : Known) (more less : ℕ) → nodes_known k + less ≤ nodes_known f.known + more → FiledFits Is room more f → FiledFits Is room less (with_known k f)
+  pub fits-known : (f : Filed) (k : Environment) (more less : ℕ) → nodes_known k + less ≤ nodes_known f.known + more → FiledFits Is room more f → FiledFits Is room less (with_known k f)
   fits-known f k more less le h = record { globals = h.globals; routines = h.routines; nodes = (let n = h.nodes in omega (arith, le, n)) }
 
 module _ (Is : Place → Type 0) (room : ℕ) where

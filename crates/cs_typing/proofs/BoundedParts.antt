@@ -14,7 +14,7 @@ use Rattle.cs_expressions.specs.Primary.{Literals}
 use Rattle.cs_scopes.specs.Verdicts.{Verdict, Fine, Fault}
 use Rattle.cs_declarations.specs.Bodies.{Typing, specs_type, typedefs_added}
 use Rattle.cs_declarations.specs.Initializers.{Storage, Reading, initial_typed}
-use Rattle.cs_declarations.specs.Known.{Known}
+use Rattle.cs_declarations.specs.Environment.{Environment}
 use Rattle.cs_declarations.specs.Parameters.{Head, parameters_typed}
 use Rattle.cs_grammar.specs.FileText.{initial_text, specs_text, parameters_text}
 use Rattle.cs_well_formed.specs.Bounded.{IsBoundedBy, IsBoundedInitial, Grows, IsBoundedHead, texts_nodes, known_nodes}
@@ -26,7 +26,7 @@ use Rattle.cs_well_formed.proofs.FittingInitials.{initials_are_bounded}
 use Rattle.cs_well_formed.proofs.Verdicts.{IfFine}
 
 -- the nodes of what is known: string literals, and structs with their members
-abbrev pub nodes_known : Known → ℕ
+abbrev pub nodes_known : Environment → ℕ
 nodes_known k = texts_nodes k.literals + known_nodes k
 
 -- what a verdict gives has what each value has that it is
@@ -54,14 +54,14 @@ module _ (Is : Place → Type 0) (c : Context) (literals : Literals) where
   first-bounded storage at ty raw here among =
       by_value (IsFirst raw) (initial_typed c literals storage at ty raw) (λ r is. initials_are_bounded Is c literals r.1 storage at ty raw r.0 here among is)
 
-module _ (k : Known) where
+module _ (k : Environment) where
   abbrev pub IsTyping : RawSpecs → Typing → Type 0
   IsTyping s ty = Grows k ty.1 (size_of (specs_text (specs s)))
 
   pub words-bounded : (at : Place) (s : RawSpecs) → IfFine (specs_type k at s) (IsTyping s)
   words-bounded at s = by_value (IsTyping s) (specs_type k at s) (λ ty is. words_are_bounded k ty.1 at s ty.0 is)
 
-  abbrev pub AreTypedefs : Known → Type 0
+  abbrev pub AreTypedefs : Environment → Type 0
   AreTypedefs m = Grows k m 0
 
   pub typedefs-bounded : (base : Shape) (names : List RawDeclarator) → IfFine (typedefs_added base names k) AreTypedefs
@@ -74,5 +74,5 @@ module _ (k : Known) where
   parameters-bounded raw = by_value (IsHead raw) (parameters_typed k raw) (λ head is. parameters_are_bounded k raw head is)
 
 -- after a text of some size
-pub grows-by : (k m : Known) (size : ℕ) → Grows k m size → nodes_known m ≤ nodes_known k + 16 * size
+pub grows-by : (k m : Environment) (size : ℕ) → Grows k m size → nodes_known m ≤ nodes_known k + 16 * size
 grows-by k m size g = let same : texts_nodes m.literals ≡ texts_nodes k.literals = ap texts_nodes g.literals in omega (arith, g.structs, same)

@@ -36,10 +36,10 @@ use Rattle.cs_folding.specs.TypedParts.{type_of}
 use Rattle.cs_scopes.specs.Verdicts.{Verdict, Fine, Fault, lift}
 use Rattle.cs_consts.specs.Roles.{value_of, assigned_value, test_of, selector_of, discarded_value}
 use Rattle.cs_declarations.specs.Initializers.{InFunction}
-use Rattle.cs_declarations.specs.Known.{is_declared_here}
+use Rattle.cs_declarations.specs.Environment.{is_declared_here}
 use Rattle.cs_declarations.specs.Objects.{object_type}
-use Rattle.cs_typing.specs.Objects.{Inside, LocalDeclared, Reported, with_local, local_held, local_initialized, local_added, after_local, locals_added}
-use Rattle.cs_typing.specs.Statements.{Where, Part, Switching, in_loop, in_switch, in_a_row, part, past, tested_in, dropped_in, some_found, tested_if, dropped_if, is_void, value_returned, returned, label_number, goto_typed, is_first, meeting, in_block, declared_in, declaration_typed, first_place, nothing_reported, telling, ran_first, first_typed, is_case, case_put, case_added, with_reported, block_made, run_made, if_made, if_else_made, while_made, do_made, for_made, switch_made, return_made, label_made, selected, statement_typed, item_typed, items_typed, switch_item_typed, switch_typed, body_typed}
+use Rattle.cs_typing.specs.Objects.{Inside, LocalDeclared, TypedStatements, with_local, local_held, local_initialized, local_added, after_local, locals_added}
+use Rattle.cs_typing.specs.Statements.{Where, Part, Switching, in_loop, in_switch, in_a_row, part, past, tested_in, dropped_in, some_found, tested_if, dropped_if, is_void, value_returned, returned, label_number, goto_typed, is_first, meeting, in_block, declared_in, declaration_typed, first_place, no_statements, telling, ran_first, first_typed, is_case, case_put, case_added, with_statements, block_made, run_made, if_made, if_else_made, while_made, do_made, for_made, switch_made, return_made, label_made, selected, statement_typed, item_typed, items_typed, switch_item_typed, switch_typed, body_typed}
 use Rattle.cs_well_formed.specs.Bounded.{IsBoundedBy}
 use Rattle.cs_well_formed.specs.Nodes.{expression_nodes, statement_nodes, statements_nodes, nodes_if_any}
 use Rattle.cs_well_formed.specs.Places.{StandsAmong, StatementStandsAmong, StatementsStandAmong}
@@ -138,7 +138,7 @@ module _ (Is : Place → Type 0) where
   -- ---- declarations
 
   -- statements so far, with room for a text of some size after them
-  abbrev pub HasRoom : ℕ → ℕ → Reported → Type 0
+  abbrev pub HasRoom : ℕ → ℕ → TypedStatements → Type 0
   HasRoom room size reported = StatementsStandAmong Is (in_a_row reported.statements) × (weight reported.inside + statements_nodes (in_a_row reported.statements) + 24 * size ≤ room)
 
   -- one more statement
@@ -182,27 +182,27 @@ module _ (Is : Place → Type 0) where
           omega (arith, named, more)
 
   -- a local after statements
-  local-following : (room : ℕ) (base : Shape) (d : RawInit) (so_far : Reported) (rest : Kinds) → DeclaredAmong Is d → HasRoom room (text_size (declared_text (declared d) rest)) so_far → IfFine (lift (after_local so_far.statements) (local_added base d so_far.inside)) (HasRoom room (text_size rest))
+  local-following : (room : ℕ) (base : Shape) (d : RawInit) (so_far : TypedStatements) (rest : Kinds) → DeclaredAmong Is d → HasRoom room (text_size (declared_text (declared d) rest)) so_far → IfFine (lift (after_local so_far.statements) (local_added base d so_far.inside)) (HasRoom room (text_size rest))
   local-following room base d so_far rest among h =
       lift-then (GivesLocal (weight so_far.inside + 24 * text_size (declared_text (declared d) rest)) (text_size rest)) (HasRoom room (text_size rest)) (after_local so_far.statements) _
       (local_added-gives base d so_far.inside rest among)
       (λ one k. yields-one room (text_size rest) so_far.statements so_far.inside one.inside one.statement (text_size (declared_text (declared d) rest)) h k.0 k.1)
 
-  further-locals : (room : ℕ) (base : Shape) (ds : List RawInit) (so_far : Reported) (rest : Kinds) → AllByRecursion (DeclaredAmong Is) ds → HasRoom room (text_size (each_after_comma declared_text (map declared ds) rest)) so_far → IfFine (locals_added base ds so_far) (HasRoom room (text_size rest))
+  further-locals : (room : ℕ) (base : Shape) (ds : List RawInit) (so_far : TypedStatements) (rest : Kinds) → AllByRecursion (DeclaredAmong Is) ds → HasRoom room (text_size (each_after_comma declared_text (map declared ds) rest)) so_far → IfFine (locals_added base ds so_far) (HasRoom room (text_size rest))
   further-locals room base [] so_far rest among h = h
   further-locals room base (d ∷ ds) so_far rest among h =
       let following = each_after_comma declared_text (map declared ds) rest in
       lift-then (HasRoom room (text_size following)) (HasRoom room (text_size rest)) (locals_added base ds) _
       (local-following room base d so_far following among.0 (h.0, (let k = h.1 in omega (arith, k)))) (λ reported k. further-locals room base ds reported rest among.1 k)
 
-  pub locals-room : (room : ℕ) (base : Shape) (ds : List RawInit) (so_far : Reported) (rest : Kinds) → AllByRecursion (DeclaredAmong Is) ds → HasRoom room (text_size (with_commas declared_text (map declared ds) rest)) so_far → IfFine (locals_added base ds so_far) (HasRoom room (text_size rest))
+  pub locals-room : (room : ℕ) (base : Shape) (ds : List RawInit) (so_far : TypedStatements) (rest : Kinds) → AllByRecursion (DeclaredAmong Is) ds → HasRoom room (text_size (with_commas declared_text (map declared ds) rest)) so_far → IfFine (locals_added base ds so_far) (HasRoom room (text_size rest))
   locals-room room base [] so_far rest among h = h
   locals-room room base (d ∷ ds) so_far rest among h =
       let following = each_after_comma declared_text (map declared ds) rest in
       lift-then (HasRoom room (text_size following)) (HasRoom room (text_size rest)) (locals_added base ds) _
       (local-following room base d so_far following among.0 h) (λ reported k. further-locals room base ds reported rest among.1 k)
 
-  declaration-room : (room : ℕ) (s : RawSpecs) (objects : List RawInit) (so_far : Reported) (rest : Kinds) → All (DeclaredAmong Is) objects → HasRoom room (text_size (declaration_text (specs s) (map declared objects) rest)) so_far → IfFine (declaration_typed s objects so_far) (HasRoom room (text_size rest))
+  declaration-room : (room : ℕ) (s : RawSpecs) (objects : List RawInit) (so_far : TypedStatements) (rest : Kinds) → All (DeclaredAmong Is) objects → HasRoom room (text_size (declaration_text (specs s) (map declared objects) rest)) so_far → IfFine (declaration_typed s objects so_far) (HasRoom room (text_size rest))
   declaration-room room s objects so_far rest among h =
       let following = punctuator_text punctuator.Semicolon rest in
       let named = with_commas declared_text (map declared objects) following in
@@ -211,7 +211,7 @@ module _ (Is : Place → Type 0) where
       (words-bounded so_far.inside.known (first_place objects) s)
       (λ ty g.
       let grown = grows-by so_far.inside.known ty.1 _ g in
-      let begun : Reported = record { statements = so_far.statements; inside = record { known = ty.1; variables = so_far.inside.variables; met = so_far.inside.met } } in
+      let begun : TypedStatements = record { statements = so_far.statements; inside = record { known = ty.1; variables = so_far.inside.variables; met = so_far.inside.met } } in
       if_fine-weaker (HasRoom room (text_size following)) (HasRoom room (text_size rest)) (locals_added ty.0 objects begun)
       (locals-room room ty.0 objects begun following (recursion_from_All (DeclaredAmong Is) objects among) (h.0, omega (arith, long, grown, h.1)))
       (λ reported k. (k.0, omega (arith, k.1))))
@@ -230,7 +230,7 @@ module _ (Is : Place → Type 0) where
       let long = size-text (written e) (punctuator_text punctuator.Semicolon rest) in
       lift-then (GivesExpression i (written_length e)) (HasRoom (weight i + 24 * text_size (first_text (first_of (first_part.Run e)) rest)) (text_size rest)) (ran_first e.place) (dropped_in i e) (dropped_in-gives i e among)
       (λ p g. (((stands-at e.place e.kind.value among, g.0), tt), omega (arith, g.1, long)))
-  first-room i (first_part.Declare s objects) rest among = declaration-room _ s objects.items (nothing_reported i) rest among (tt, omega arith)
+  first-room i (first_part.Declare s objects) rest among = declaration-room _ s objects.items (no_statements i) rest among (tt, omega arith)
 
   -- a statement that fits into so much, with something after it
   abbrev pub GivesStatement : ℕ → ℕ → Part Statement → Type 0
@@ -263,8 +263,8 @@ module _ (Is : Place → Type 0) where
     statement-fits w i at (kind.Block' shape row) rest among =
         let following = punctuator_text punctuator.CloseBrace rest in
         let room = weight i + 24 * text_size (items_text (items_row row) following) in
-        lift-then (HasRoom room (text_size following)) (GivesStatement (weight i + 24 * length_of (kind.Block' shape row) rest) (text_size rest)) (block_made at i) (items_typed w row (nothing_reported (in_block i)))
-        (items-fit room w row (nothing_reported (in_block i)) following among.1 (tt, omega arith)) (λ reported g. ((among.0, g.0), (let k = g.1 in omega (arith, k))))
+        lift-then (HasRoom room (text_size following)) (GivesStatement (weight i + 24 * length_of (kind.Block' shape row) rest) (text_size rest)) (block_made at i) (items_typed w row (no_statements (in_block i)))
+        (items-fit room w row (no_statements (in_block i)) following among.1 (tt, omega arith)) (λ reported g. ((among.0, g.0), (let k = g.1 in omega (arith, k))))
     statement-fits w i at kind.Empty rest among = ((among, tt), omega arith)
     statement-fits w i at (kind.Run e) rest among =
         let long = size-text (written e) (punctuator_text punctuator.Semicolon rest) in
@@ -327,7 +327,7 @@ module _ (Is : Place → Type 0) where
         lift-then (GivesExpression i (written_length value)) Whole _ (selected at i value) (selected-gives at i value among.0 among.1)
         (λ v g.
         let room = weight v.inside + 24 * text_size (switch_text (switch_row row) following) in
-        let begun : Switching = record { cases = []; reported = nothing_reported (in_block v.inside) } in
+        let begun : Switching = record { cases = []; reported = no_statements (in_block v.inside) } in
         lift-then (SwitchHasRoom room (text_size following)) Whole (switch_made at i v.found) (switch_typed (in_switch w) (type_of v.found) row begun)
         (switch-fits room (in_switch w) (type_of v.found) row begun following among.2 (tt, omega arith))
         (λ s k. ((among.0, g.0, k.0), (let m = g.1 in let n = k.1 in omega (arith, long, m, n)))))
@@ -348,13 +348,13 @@ module _ (Is : Place → Type 0) where
         (λ b k. ((among.0, k.0), (let m = k.1 in omega (arith, m)))))
         (λ _. tt)
 
-    pub item-fits : (room : ℕ) (w : Where) (one : RawItem) (so_far : Reported) (rest : Kinds) → ItemAmong Is one → HasRoom room (text_size (item_text (item one) rest)) so_far → IfFine (item_typed w one so_far) (HasRoom room (text_size rest))
+    pub item-fits : (room : ℕ) (w : Where) (one : RawItem) (so_far : TypedStatements) (rest : Kinds) → ItemAmong Is one → HasRoom room (text_size (item_text (item one) rest)) so_far → IfFine (item_typed w one so_far) (HasRoom room (text_size rest))
     item-fits room w (items.TheVariants.Declare s objects) so_far rest among h = declaration-room room s objects.items so_far rest among h
     item-fits room w (items.TheVariants.Run' place p body) so_far rest among h =
         lift-then (GivesStatement (weight so_far.inside + 24 * length_of body rest) (text_size rest)) (HasRoom room (text_size rest)) (telling so_far.statements) (statement_typed w so_far.inside place body)
         (statement-fits w so_far.inside place body rest among) (λ p g. yields-one room (text_size rest) so_far.statements so_far.inside p.inside p.found (length_of body rest) h g.0 g.1)
 
-    items-fit : {n : _} → (room : ℕ) (w : Where) (row : kinds.Row_of-RawItem n) (so_far : Reported) (rest : Kinds) → ItemsAmong Is row → HasRoom room (text_size (items_text (items_row row) rest)) so_far → IfFine (items_typed w row so_far) (HasRoom room (text_size rest))
+    items-fit : {n : _} → (room : ℕ) (w : Where) (row : kinds.Row_of-RawItem n) (so_far : TypedStatements) (rest : Kinds) → ItemsAmong Is row → HasRoom room (text_size (items_text (items_row row) rest)) so_far → IfFine (items_typed w row so_far) (HasRoom room (text_size rest))
     items-fit room w kinds.end_of-RawItem so_far rest among h = h
     items-fit room w (kinds.more_of-RawItem first others) so_far rest among h =
         let following = items_text (items_row others) rest in
@@ -370,7 +370,7 @@ module _ (Is : Place → Type 0) where
         case_added-room room (text_size rest) (text_size (switch_item_text (switch_item (switches.TheVariants.Default at)) rest)) at so_far None (omega arith) h
     switch_item-fits room w ty (switches.TheVariants.Item i) so_far rest among h =
         let inner = weight so_far.reported.inside + statements_nodes (in_a_row so_far.reported.statements) + 24 * text_size (item_text (item i) rest) in
-        lift-then (HasRoom inner (text_size rest)) (SwitchHasRoom room (text_size rest)) (with_reported so_far) (item_typed w i so_far.reported) (item-fits inner w i so_far.reported rest among (h.0, omega arith))
+        lift-then (HasRoom inner (text_size rest)) (SwitchHasRoom room (text_size rest)) (with_statements so_far) (item_typed w i so_far.reported) (item-fits inner w i so_far.reported rest among (h.0, omega arith))
         (λ reported g. (g.0, (let k = g.1 in let l = h.1 in omega (arith, k, l))))
 
     switch-fits : {n : _} → (room : ℕ) (w : Where) (ty : Shape) (row : kinds.Row_of-RawSwitchItem n) (so_far : Switching) (rest : Kinds) → SwitchItemsAmong Is row → SwitchHasRoom room (text_size (switch_text (switch_row row) rest)) so_far → IfFine (switch_typed w ty row so_far) (SwitchHasRoom room (text_size rest))
@@ -381,7 +381,7 @@ module _ (Is : Place → Type 0) where
         (λ s g. switch-fits room w ty others s rest among.1 g)
 
   -- the body of a function
-  pub body-fits : (room : ℕ) (w : Where) (list : List RawItem) (so_far : Reported) (rest : Kinds) → AllByRecursion (ItemAmong Is) list → HasRoom room (text_size (items_text (items_list list) rest)) so_far → IfFine (body_typed w list so_far) (HasRoom room (text_size rest))
+  pub body-fits : (room : ℕ) (w : Where) (list : List RawItem) (so_far : TypedStatements) (rest : Kinds) → AllByRecursion (ItemAmong Is) list → HasRoom room (text_size (items_text (items_list list) rest)) so_far → IfFine (body_typed w list so_far) (HasRoom room (text_size rest))
   body-fits room w [] so_far rest among h = h
   body-fits room w (first ∷ others) so_far rest among h =
       let following = items_text (items_list others) rest in

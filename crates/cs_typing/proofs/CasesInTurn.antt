@@ -12,7 +12,7 @@ use Rattle.cs_scopes.specs.Verdicts.{Verdict, Fine, lift, IsRefused}
 use Rattle.cs_scopes.proofs.Lifting.{lift-refused}
 use Rattle.cs_scopes.proofs.Lifting.{refused_as}
 use Rattle.cs_consts.proofs.SingleParts.{lift_is}
-use Rattle.cs_declarations.specs.Known.{model_of}
+use Rattle.cs_declarations.specs.Environment.{model_of}
 use Rattle.cs_declarations.proofs.FoldedSoFar.{GoesOver}
 use Rattle.cs_typing.specs.Statements.{Where, Switching, case_put, case_added, constant_case, wrapped_in, switch_item_typed, switch_list_typed, item_typed, body_typed}
 

@@ -27,7 +27,7 @@ use Rattle.cs_scopes.specs.Meanings.{Meaning, Typedef, Constant, Global, Local, 
 use Rattle.cs_scopes.specs.Verdicts.{Verdict, Fine, lift}
 use Rattle.cs_scopes.specs.Scopes.{newest}
 use Rattle.cs_scopes.specs.TypeNames.{whole_word, typedef_at, enum_at, tag_place, starred, array_of}
-use Rattle.cs_declarations.specs.Known.{Known, table_of, declarations_of, with_tag, declaring, is_declared_here}
+use Rattle.cs_declarations.specs.Environment.{Environment, table_of, declarations_of, with_tag, declaring, is_declared_here}
 use Rattle.cs_declarations.specs.Bodies.{Typing, with_struct, with_tagged_struct, tag_in, struct_named, word_type, Laying, nothing_laid, declarator_type, members_declared, is_int, Counting, constant_added, number_said, constant_declared, constants_declared, with_enum_tag, is_new_enum, enum_body, Opening, is_among, opened, opening_tagged, opening, Body, struct_read, group_declared, first_name, plain_row, row_type, members_read, plain_words, words_type, specs_type, typedefs_added}
 use Rattle.cs_declarations.specs.Sizes.{sizes_said, bounded, element_of}
 use Rattle.cs_declarations.specs.Parameters.{Head, Passed, place_of, name_in, plainly_passed, array_passed, passed, naming, is_free_name, with_parameter, parameter_passed, parameter_typed, parameters_after, parameters_typed}
@@ -56,17 +56,17 @@ IsPlain (Local number ty) = Unit {0}
 IsPlain (Function f) = ⊥
 
 -- what is known after a part: declarations of the same scope stand after those before it, and none is a function
-pub record DeclaresOn (k m : Known) : Type 0 where
+pub record DeclaresOn (k m : Environment) : Type 0 where
   pub more : List Declaration
   pub declarations : declarations_of m ≡ declarations_of k ++ more
   pub plain : All (λ (d : Declaration). IsPlain d.meaning) more
   pub outer : m.outer ≡ k.outer
 
-pub on-starts : (k m : Known) → DeclaresOn k m → Starts (declarations_of k) (declarations_of m)
+pub on-starts : (k m : Environment) → DeclaresOn k m → Starts (declarations_of k) (declarations_of m)
 on-starts k m h = (h.more, h.declarations)
 
 -- where all that was changed are structs, tags, bodies or literals
-pub same-on : (k m : Known) → declarations_of m ≡ declarations_of k → m.outer ≡ k.outer → DeclaresOn k m
+pub same-on : (k m : Environment) → declarations_of m ≡ declarations_of k → m.outer ≡ k.outer → DeclaresOn k m
 same-on k m is outer = record {
   more = [];
   declarations = is ∙ sym (append-nil (declarations_of k));
@@ -74,10 +74,10 @@ same-on k m is outer = record {
   outer = outer;
 }
 
-pub on-self : (k : Known) → DeclaresOn k k
+pub on-self : (k : Environment) → DeclaresOn k k
 on-self k = same-on k k refl refl
 
-pub on-trans : (k m n : Known) → DeclaresOn k m → DeclaresOn m n → DeclaresOn k n
+pub on-trans : (k m n : Environment) → DeclaresOn k m → DeclaresOn m n → DeclaresOn k n
 on-trans k m n h g = record {
   more = h.more ++ g.more;
   declarations = g.declarations ∙ ap (λ ds. ds ++ g.more) h.declarations ∙ append_assoc (declarations_of k) h.more g.more;
@@ -85,7 +85,7 @@ on-trans k m n h g = record {
   outer = g.outer ∙ h.outer;
 }
 
-pub declaring-on : (name : List ℕ) (meaning : Meaning) (k : Known) → IsPlain meaning → DeclaresOn k (declaring name meaning k)
+pub declaring-on : (name : List ℕ) (meaning : Meaning) (k : Environment) → IsPlain meaning → DeclaresOn k (declaring name meaning k)
 declaring-on name meaning k plain = record {
   more = record { name = name; meaning = meaning } ∷ [];
   declarations = refl;
@@ -95,27 +95,27 @@ declaring-on name meaning k plain = record {
 
 -- ---- the words before declarators
 
-abbrev pub TypeDeclaresOn : Known → Typing → Type 0
+abbrev pub TypeDeclaresOn : Environment → Typing → Type 0
 TypeDeclaresOn k r = DeclaresOn k r.1
 
-abbrev CountDeclaresOn : Known → Counting → Type 0
+abbrev CountDeclaresOn : Environment → Counting → Type 0
 CountDeclaresOn k r = DeclaresOn k r.known
 
-abbrev BodyDeclaresOn : Known → Body → Type 0
+abbrev BodyDeclaresOn : Environment → Body → Type 0
 BodyDeclaresOn k b = DeclaresOn k b.known
 
-abbrev OpeningDeclaresOn : Known → Opening → Type 0
+abbrev OpeningDeclaresOn : Environment → Opening → Type 0
 OpeningDeclaresOn k o = DeclaresOn k o.known
 
-struct_named-on : (at : Place) (name : List ℕ) (k : Known) (meaning : Option TagMeaning) → IfFine (struct_named at name k meaning) (TypeDeclaresOn k)
+struct_named-on : (at : Place) (name : List ℕ) (k : Environment) (meaning : Option TagMeaning) → IfFine (struct_named at name k meaning) (TypeDeclaresOn k)
 struct_named-on at name k (Some (tag.Struct number)) = on-self k
 struct_named-on at name k (Some tag.Enum) = tt
 struct_named-on at name k None = same-on k (with_tagged_struct name k) refl refl
 
-same_type-on : (k : Known) (v : Verdict Shape) → IfFine (lift (λ ty. Fine (ty, k)) v) (TypeDeclaresOn k)
+same_type-on : (k : Environment) (v : Verdict Shape) → IfFine (lift (λ ty. Fine (ty, k)) v) (TypeDeclaresOn k)
 same_type-on k v = lift-then (λ _. Unit {0}) (TypeDeclaresOn k) (λ ty. Fine (ty, k)) v (if_fine-any v) (λ _ _. on-self k)
 
-word_type-on : (k : Known) (at_tag : Option Place) (at : Place) (all : List TypeWord) (one : Option TypeWord) → IfFine (word_type k at_tag at all one) (TypeDeclaresOn k)
+word_type-on : (k : Environment) (at_tag : Option Place) (at : Place) (all : List TypeWord) (one : Option TypeWord) → IfFine (word_type k at_tag at all one) (TypeDeclaresOn k)
 word_type-on k at_tag at all None = on-self k
 word_type-on k at_tag at all (Some (word.Typedef name)) = same_type-on k (typedef_at at (newest name (declarations_of k)))
 word_type-on k at_tag at all (Some (word.Struct name)) = struct_named-on (tag_place at at_tag) name k (tag_in k name)
@@ -136,11 +136,11 @@ constants_declared-on (e ∷ es) so_far =
     lift-then (CountDeclaresOn so_far.known) (CountDeclaresOn so_far.known) (constants_declared es) _ (constant_declared-on e so_far)
     (λ r first. if_fine-weaker (CountDeclaresOn r.known) (CountDeclaresOn so_far.known) (constants_declared es r) (constants_declared-on es r) (λ x others. on-trans so_far.known r.known x.known first others))
 
-enum_tag-on : (name : Option (List ℕ)) (k : Known) → DeclaresOn k (with_enum_tag name k)
+enum_tag-on : (name : Option (List ℕ)) (k : Environment) → DeclaresOn k (with_enum_tag name k)
 enum_tag-on None k = on-self k
 enum_tag-on (Some name) k = same-on k (with_tag name tag.Enum k) refl refl
 
-enum_body-on : (k : Known) (at : Place) (name : Option (List ℕ)) (constants : List RawEnumerator) → IfFine (enum_body k at name constants) (TypeDeclaresOn k)
+enum_body-on : (k : Environment) (at : Place) (name : Option (List ℕ)) (constants : List RawEnumerator) → IfFine (enum_body k at name constants) (TypeDeclaresOn k)
 enum_body-on k at name constants =
     cond-then (TypeDeclaresOn k) (is_new_enum k name) _ _
     (λ _. lift-then (CountDeclaresOn k) (TypeDeclaresOn k) (λ (all : Counting). Fine (integer Int, with_enum_tag name all.known)) _
@@ -148,28 +148,28 @@ enum_body-on k at name constants =
     (λ all counted. on-trans k all.known (with_enum_tag name all.known) counted (enum_tag-on name all.known)))
     (λ _. tt)
 
-opening_tagged-on : (at : Place) (name : List ℕ) (k : Known) (meaning : Option TagMeaning) → IfFine (opening_tagged at name k meaning) (OpeningDeclaresOn k)
+opening_tagged-on : (at : Place) (name : List ℕ) (k : Environment) (meaning : Option TagMeaning) → IfFine (opening_tagged at name k meaning) (OpeningDeclaresOn k)
 opening_tagged-on at name k (Some (tag.Struct number)) =
     cond-then (OpeningDeclaresOn k) (is_among number k.reading || is_some (members_of (table_of k) number)) _ _ (λ _. tt)
     (λ _. same-on k (opened number k).known refl refl)
 opening_tagged-on at name k (Some tag.Enum) = tt
 opening_tagged-on at name k None = same-on k (opened (length (table_of k)) (with_tagged_struct name k)).known refl refl
 
-opening-on : (at : Place) (name : Option (List ℕ)) (k : Known) → IfFine (opening at name k) (OpeningDeclaresOn k)
+opening-on : (at : Place) (name : Option (List ℕ)) (k : Environment) → IfFine (opening at name k) (OpeningDeclaresOn k)
 opening-on at (Some name) k = opening_tagged-on at name k (tag_in k name)
 opening-on at None k = same-on k (opened (length (table_of k)) (with_struct [] k)).known refl refl
 
-struct_read-on : (k : Known) (o : Opening) (before : List ℕ) (name : Option (List ℕ)) (v : Verdict Body) → DeclaresOn k o.known → IfFine v (BodyDeclaresOn o.known) → IfFine (lift (struct_read o before name) v) (TypeDeclaresOn k)
+struct_read-on : (k : Environment) (o : Opening) (before : List ℕ) (name : Option (List ℕ)) (v : Verdict Body) → DeclaresOn k o.known → IfFine v (BodyDeclaresOn o.known) → IfFine (lift (struct_read o before name) v) (TypeDeclaresOn k)
 struct_read-on k o before name v h read =
     lift-then (BodyDeclaresOn o.known) (TypeDeclaresOn k) (struct_read o before name) v read
     (λ body inside. let all = on-trans k o.known body.known h inside in record { more = all.more; declarations = all.declarations; plain = all.plain; outer = all.outer })
 
-group_declared-on : (k : Known) (declarators : List RawDeclarator) (before : Laying) (ty : Typing) → DeclaresOn k ty.1 → IfFine (group_declared declarators before ty) (BodyDeclaresOn k)
+group_declared-on : (k : Environment) (declarators : List RawDeclarator) (before : Laying) (ty : Typing) → DeclaresOn k ty.1 → IfFine (group_declared declarators before ty) (BodyDeclaresOn k)
 group_declared-on k declarators before ty h =
     lift-then (λ _. Unit {0}) (BodyDeclaresOn k) (λ laying. Fine (record { laying = laying; known = ty.1 })) _ (if_fine-any (members_declared ty.1.context ty.0 declarators before)) (λ _ _. h)
 
 mutual
-  row_type-on : {n : _} (k : Known) (at_tag : Option Place) (at : Place) (all : List TypeWord) (row : words.Row_of-SpecWord n) → IfFine (row_type k at_tag at all row) (TypeDeclaresOn k)
+  row_type-on : {n : _} (k : Environment) (at_tag : Option Place) (at : Place) (all : List TypeWord) (row : words.Row_of-SpecWord n) → IfFine (row_type k at_tag at all row) (TypeDeclaresOn k)
   row_type-on k at_tag at all words.end_of-SpecWord = word_type-on k at_tag at all (whole_word all)
   row_type-on k at_tag at all (words.more_of-SpecWord words.TheVariants.Static others) = row_type-on k at_tag at all others
   row_type-on k at_tag at all (words.more_of-SpecWord (words.TheVariants.Plain w) others) = row_type-on k at_tag at all others
@@ -178,7 +178,7 @@ mutual
       (λ o h. struct_read-on k o k.reading name _ h (members_read-on o.known row nothing_laid))
   row_type-on k at_tag at all (words.more_of-SpecWord (words.TheVariants.Enum name constants comma) others) = enum_body-on k (tag_place at at_tag) name constants.items
 
-  members_read-on : {n : _} (k : Known) (row : words.Row_of-RawMember n) (before : Laying) → IfFine (members_read k row before) (BodyDeclaresOn k)
+  members_read-on : {n : _} (k : Environment) (row : words.Row_of-RawMember n) (before : Laying) → IfFine (members_read k row before) (BodyDeclaresOn k)
   members_read-on k words.end_of-RawMember before = on-self k
   members_read-on k (words.more_of-RawMember shape row tag declarators others) before =
       lift-then (BodyDeclaresOn k) (BodyDeclaresOn k) (λ (read : Body). members_read read.known others read.laying) _
@@ -187,7 +187,7 @@ mutual
       (λ ty h. group_declared-on k declarators.items before ty h))
       (λ read h. if_fine-weaker (BodyDeclaresOn read.known) (BodyDeclaresOn k) (members_read read.known others read.laying) (members_read-on read.known others read.laying) (λ b inside. on-trans k read.known b.known h inside))
 
-words_type-on : (k : Known) (at_tag : Option Place) (at : Place) (all : List TypeWord) (list : List SpecWord) → IfFine (words_type k at_tag at all list) (TypeDeclaresOn k)
+words_type-on : (k : Environment) (at_tag : Option Place) (at : Place) (all : List TypeWord) (list : List SpecWord) → IfFine (words_type k at_tag at all list) (TypeDeclaresOn k)
 words_type-on k at_tag at all [] = word_type-on k at_tag at all (whole_word all)
 words_type-on k at_tag at all (words.TheVariants.Static ∷ others) = words_type-on k at_tag at all others
 words_type-on k at_tag at all (words.TheVariants.Plain w ∷ others) = words_type-on k at_tag at all others
@@ -197,11 +197,11 @@ words_type-on k at_tag at all (words.TheVariants.Struct' name shape row ∷ othe
 words_type-on k at_tag at all (words.TheVariants.Enum name constants comma ∷ others) = enum_body-on k (tag_place at at_tag) name constants.items
 
 -- after the words before declarators
-pub specs_type-on : (k : Known) (at : Place) (raw : RawSpecs) → IfFine (specs_type k at raw) (TypeDeclaresOn k)
+pub specs_type-on : (k : Environment) (at : Place) (raw : RawSpecs) → IfFine (specs_type k at raw) (TypeDeclaresOn k)
 specs_type-on k at raw = words_type-on k raw.tag at (plain_words raw.words.items) raw.words.items
 
 -- after typedefs
-pub typedefs_added-on : (base : Shape) (ds : List RawDeclarator) (k : Known) → IfFine (typedefs_added base ds k) (DeclaresOn k)
+pub typedefs_added-on : (base : Shape) (ds : List RawDeclarator) (k : Environment) → IfFine (typedefs_added base ds k) (DeclaresOn k)
 typedefs_added-on base [] k = on-self k
 typedefs_added-on base (d ∷ ds) k =
     lift-then (DeclaresOn k) (DeclaresOn k) (typedefs_added base ds) _
@@ -244,7 +244,7 @@ record HeadGrows (before after : Head) : Type 0 where
   written : length before.written ≡ length before.variables → length after.written ≡ length after.variables
   scalars : AreScalars before.variables → AreScalars after.variables
 
-naming-on : (name : Option RawName) (number : ℕ) (ty : Shape) (k : Known) → DeclaresOn k (naming name number ty k)
+naming-on : (name : Option RawName) (number : ℕ) (ty : Shape) (k : Environment) → DeclaresOn k (naming name number ty k)
 naming-on None number ty k = on-self k
 naming-on (Some name) number ty k = declaring-on name.name (Local number ty) k tt
 
@@ -275,15 +275,15 @@ parameters_after-grow (p ∷ ps) before =
     }))
 
 -- after the parameters of a function, which are scalars, each with its mark
-pub record HeadDeclaresOn (k : Known) (head : Head) : Type 0 where
+pub record HeadDeclaresOn (k : Environment) (head : Head) : Type 0 where
   pub known : DeclaresOn k head.known
   pub written : length head.written ≡ length head.variables
   pub scalars : AreScalars head.variables
 
-no-parameter : (k : Known) → HeadDeclaresOn k (record { variables = []; written = []; known = k })
+no-parameter : (k : Environment) → HeadDeclaresOn k (record { variables = []; written = []; known = k })
 no-parameter k = record { known = on-self k; written = refl; scalars = All-nil (λ (v : Variable). IsScalar v.ty) }
 
-pub parameters_typed-on : (k : Known) (raw : RawParameters) → IfFine (parameters_typed k raw) (HeadDeclaresOn k)
+pub parameters_typed-on : (k : Environment) (raw : RawParameters) → IfFine (parameters_typed k raw) (HeadDeclaresOn k)
 parameters_typed-on k parameter_lists.Empty = no-parameter k
 parameters_typed-on k parameter_lists.Void = no-parameter k
 parameters_typed-on k (parameter_lists.List list) =

@@ -12,7 +12,7 @@ use Rattle.cs_scopes.specs.declared.scope.Callee.{Callee}
 use Rattle.cs_scopes.specs.declared.scope.Callee.TheVariants.{Malloc, Calloc, Free, Numbered}
 use Rattle.cs_scopes.specs.Meanings.{Meaning, Typedef, Constant, Global, Local, Function, Declaration}
 use Rattle.cs_scopes.specs.Scopes.{newest}
-use Rattle.cs_declarations.specs.Known.{Known, model_of, table_of, declarations_of}
+use Rattle.cs_declarations.specs.Environment.{Environment, model_of, table_of, declarations_of}
 use Rattle.cs_typing.specs.Objects.{Filed, with_known, changed}
 use Rattle.cs_typing.specs.Functions.{number_in}
 use Rattle.cs_typing.specs.Files.{allocators}
@@ -177,7 +177,7 @@ pub record TypesSoFar (f : Filed) : Type 0 where
   pub routines : All (HasNamedTypes (table_of f.known)) f.routines
 
 -- they do so after what changes no object and no function
-types-following : (f : Filed) (k : Known) → TypesSoFar f → length (table_of f.known) ≤ length (table_of k) → KnownTypesAreNamed k.context → TypesSoFar (with_known k f)
+types-following : (f : Filed) (k : Environment) → TypesSoFar f → length (table_of f.known) ≤ length (table_of k) → KnownTypesAreNamed k.context → TypesSoFar (with_known k f)
 types-following f k types longer named = record {
   known = named;
   globals = globals-longer (table_of f.known) (table_of k) longer f.globals types.globals;
@@ -266,7 +266,7 @@ module _ (p : TypedProgram) where
       All-weaker (λ (d : Declaration). IsThere (outside (with_parts f)) d.meaning) (λ (d : Declaration). IsThere (outside (with_parts g)) d.meaning) (λ d h. there-kept f g globals routines d.meaning h) ds all
 
   -- what is known after words, typedefs and parameters
-  pub record KnownAfter (f : Filed) (k : Known) : Type 0 where
+  pub record KnownAfter (f : Filed) (k : Environment) : Type 0 where
     pub model : model_of k ≡ model_of f.known
     pub literals : k.literals ≡ f.known.literals
     pub table : Keeps (table_of f.known) (table_of k)
@@ -274,10 +274,10 @@ module _ (p : TypedProgram) where
     pub on : DeclaresOn f.known k
     pub declared : All (λ (d : Declaration). IsThere (outside (with_parts f)) d.meaning) (declarations_of f.known) → All (λ (d : Declaration). IsThere (outside (with_parts f)) d.meaning) (declarations_of k)
 
-  pub leads-following : (f : Filed) (k : Known) → Leads (outside (with_parts f)) f.known k → DeclaresOn f.known k → KnownTypesAreNamed k.context → KnownAfter f k
+  pub leads-following : (f : Filed) (k : Environment) → Leads (outside (with_parts f)) f.known k → DeclaresOn f.known k → KnownTypesAreNamed k.context → KnownAfter f k
   leads-following f k leads on named = record { model = leads.model; literals = leads.literals; table = leads.table; named = named; on = on; declared = leads.declarations }
 
-  pub known-adds : (f : Filed) (k : Known) → Kept f → KnownAfter f k → Adds f (with_known k f)
+  pub known-adds : (f : Filed) (k : Environment) → Kept f → KnownAfter f k → Adds f (with_known k f)
   known-adds f k kept h = record {
     order = refl;
     kept = record {

@@ -10,7 +10,7 @@ use Rattle.cs_scopes.specs.declared.refusal.TypeCode.TheVariants.{DeclaredTwice}
 use Rattle.cs_scopes.specs.Meanings.{Meaning, Function, Signature}
 use Rattle.cs_scopes.specs.TypeNames.{starred}
 use Rattle.cs_scopes.specs.Verdicts.{Verdict, Fine, Fault}
-use Rattle.cs_declarations.specs.Known.{meaning_here}
+use Rattle.cs_declarations.specs.Environment.{meaning_here}
 use Rattle.cs_typing.specs.Objects.{Filed}
 use Rattle.cs_typing.specs.Functions.{Routed, same_types, types_of, may_be_function, function_of, function_typed, function_added, resulted}
 

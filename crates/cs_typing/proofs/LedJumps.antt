@@ -26,10 +26,10 @@ use Rattle.cs_folding.specs.TypedParts.{type_of}
 use Rattle.cs_scopes.specs.Verdicts.{Verdict, Fault, lift}
 use Rattle.cs_declarations.specs.Bodies.{specs_type}
 use Rattle.cs_declarations.specs.Initializers.{InFunction, initial_typed}
-use Rattle.cs_declarations.specs.Known.{is_declared_here}
+use Rattle.cs_declarations.specs.Environment.{is_declared_here}
 use Rattle.cs_declarations.specs.Objects.{object_type}
-use Rattle.cs_typing.specs.Objects.{Inside, LocalDeclared, Reported, with_local, local_held, local_initialized, local_added, after_local, locals_added}
-use Rattle.cs_typing.specs.Statements.{Where, Part, Switching, in_loop, in_switch, in_a_row, part, past, tested_in, dropped_in, some_found, tested_if, dropped_if, is_void, value_returned, returned, label_number, goto_typed, is_first, meeting, in_block, declared_in, declaration_typed, first_place, nothing_reported, telling, ran_first, first_typed, case_put, case_added, with_reported, labels_of, labels_of_item, labels_in, labels_of_switch_item, labels_in_switch, labels_of_items, block_made, run_made, if_made, if_else_made, while_made, do_made, for_made, switch_made, return_made, label_made, selected, statement_typed, item_typed, items_typed, switch_item_typed, switch_typed, body_typed}
+use Rattle.cs_typing.specs.Objects.{Inside, LocalDeclared, TypedStatements, with_local, local_held, local_initialized, local_added, after_local, locals_added}
+use Rattle.cs_typing.specs.Statements.{Where, Part, Switching, in_loop, in_switch, in_a_row, part, past, tested_in, dropped_in, some_found, tested_if, dropped_if, is_void, value_returned, returned, label_number, goto_typed, is_first, meeting, in_block, declared_in, declaration_typed, first_place, no_statements, telling, ran_first, first_typed, case_put, case_added, with_statements, labels_of, labels_of_item, labels_in, labels_of_switch_item, labels_in_switch, labels_of_items, block_made, run_made, if_made, if_else_made, while_made, do_made, for_made, switch_made, return_made, label_made, selected, statement_typed, item_typed, items_typed, switch_item_typed, switch_typed, body_typed}
 use Rattle.cs_well_formed.specs.Statements.{label_count, label_counts, AreNumbered, AllAreNumbered, JumpsLead, AllJumpsLead}
 use Rattle.cs_well_formed.proofs.Verdicts.{IfFine, if_fine-any, if_fine-weaker, lift-then, cond-then}
 
@@ -68,7 +68,7 @@ pub record PartIsLed (w : Where) (i : Inside) (n : ℕ) (p : Part Statement) : T
   pub jumps : JumpsLead w.breaks w.continues p.found
 
 -- statements with so many labels more than those before them
-pub record ReportedIsLed (w : Where) (so_far : Reported) (n : ℕ) (reported : Reported) : Type 0 where
+pub record ReportedIsLed (w : Where) (so_far : TypedStatements) (n : ℕ) (reported : TypedStatements) : Type 0 where
   pub count : row_labels reported.statements ≡ row_labels so_far.statements + n
   pub met : reported.inside.met ≡ so_far.inside.met + n
   pub numbered : (first : ℕ) → so_far.inside.met ≡ first + row_labels so_far.statements → AllAreNumbered first (in_a_row so_far.statements) → AllAreNumbered first (in_a_row reported.statements)
@@ -86,7 +86,7 @@ led-following w i j n p same h = record {
   jumps = h.jumps;
 }
 
-none-led : (w : Where) (so_far reported : Reported) → reported.statements ≡ so_far.statements → SameMet so_far.inside reported.inside → ReportedIsLed w so_far 0 reported
+none-led : (w : Where) (so_far reported : TypedStatements) → reported.statements ≡ so_far.statements → SameMet so_far.inside reported.inside → ReportedIsLed w so_far 0 reported
 none-led w so_far reported is same = record {
   count = ap row_labels is ∙ omega arith;
   met = same ∙ omega arith;
@@ -94,7 +94,7 @@ none-led w so_far reported is same = record {
   jumps = λ h. subst (λ ss. AllJumpsLead w.breaks w.continues (in_a_row ss)) (sym is) h;
 }
 
-one-led : (w : Where) (so_far : Reported) (p : Part Statement) (n : ℕ) → PartIsLed w so_far.inside n p → ReportedIsLed w so_far n (record { statements = so_far.statements ++ p.found ∷ []; inside = p.inside })
+one-led : (w : Where) (so_far : TypedStatements) (p : Part Statement) (n : ℕ) → PartIsLed w so_far.inside n p → ReportedIsLed w so_far n (record { statements = so_far.statements ++ p.found ∷ []; inside = p.inside })
 one-led w so_far p n h = record {
   count = count-push so_far.statements p.found ∙ ap (λ k. row_labels so_far.statements + k) h.count;
   met = h.met;
@@ -102,7 +102,7 @@ one-led w so_far p n h = record {
   jumps = λ rows. jumps-push w so_far.statements p.found rows h.jumps;
 }
 
-more-led : (w : Where) (a b c : Reported) (n m : ℕ) → ReportedIsLed w a n b → ReportedIsLed w b m c → ReportedIsLed w a (n + m) c
+more-led : (w : Where) (a b c : TypedStatements) (n m : ℕ) → ReportedIsLed w a n b → ReportedIsLed w b m c → ReportedIsLed w a (n + m) c
 more-led w a b c n m h k = record {
   count = k.count ∙ omega (arith, h.count);
   met = k.met ∙ omega (arith, h.met);
@@ -111,7 +111,7 @@ more-led w a b c n m h k = record {
 }
 
 -- statements whose labels are those of two parts
-names-led : (w : Where) (a c : Reported) (first others : List (List ℕ)) → ReportedIsLed w a (length first + length others) c → ReportedIsLed w a (length (first ++ others)) c
+names-led : (w : Where) (a c : TypedStatements) (first others : List (List ℕ)) → ReportedIsLed w a (length first + length others) c → ReportedIsLed w a (length (first ++ others)) c
 names-led w a c first others h = subst (λ n. ReportedIsLed w a n c) (sym (length-append first others)) h
 
 -- ---- expressions
@@ -164,12 +164,12 @@ local_added-none base d i =
     (local_initialized-none (length i.variables) ty d.declarator.place d.initial (with_local d.declarator.name ty i))
     (λ one h. record { count = h.count; met = h.met; numbered = h.numbered; jumps = h.jumps })))
 
-local-led : (w : Where) (so_far : Reported) (one : LocalDeclared) → HasNone so_far.inside one → ReportedIsLed w so_far 0 (record { statements = so_far.statements ++ one.statement ∷ []; inside = one.inside })
+local-led : (w : Where) (so_far : TypedStatements) (one : LocalDeclared) → HasNone so_far.inside one → ReportedIsLed w so_far 0 (record { statements = so_far.statements ++ one.statement ∷ []; inside = one.inside })
 local-led w so_far one h =
     one-led w so_far (record { found = one.statement; inside = one.inside }) 0
     (record { count = h.count; met = h.met ∙ omega arith; numbered = h.numbered so_far.inside.met; jumps = h.jumps w })
 
-locals_added-led : (w : Where) (base : Shape) (ds : List RawInit) (so_far : Reported) → IfFine (locals_added base ds so_far) (ReportedIsLed w so_far 0)
+locals_added-led : (w : Where) (base : Shape) (ds : List RawInit) (so_far : TypedStatements) → IfFine (locals_added base ds so_far) (ReportedIsLed w so_far 0)
 locals_added-led w base [] so_far = none-led w so_far so_far refl refl
 locals_added-led w base (d ∷ ds) so_far =
     lift-then (ReportedIsLed w so_far 0) (ReportedIsLed w so_far 0) (locals_added base ds) _
@@ -177,20 +177,20 @@ locals_added-led w base (d ∷ ds) so_far =
     (λ reported h. if_fine-weaker (ReportedIsLed w reported 0) (ReportedIsLed w so_far 0) (locals_added base ds reported) (locals_added-led w base ds reported)
     (λ after k. more-led w so_far reported after 0 0 h k))
 
-declaration_typed-led : (w : Where) (s : RawSpecs) (objects : List RawInit) (so_far : Reported) → IfFine (declaration_typed s objects so_far) (ReportedIsLed w so_far 0)
+declaration_typed-led : (w : Where) (s : RawSpecs) (objects : List RawInit) (so_far : TypedStatements) → IfFine (declaration_typed s objects so_far) (ReportedIsLed w so_far 0)
 declaration_typed-led w s objects so_far =
     lift-then (λ _. Unit {0}) (ReportedIsLed w so_far 0) (declared_in s objects so_far) _ (if_fine-any (specs_type so_far.inside.known (first_place objects) s))
-    (λ ty _. let known : Reported = record { statements = so_far.statements; inside = record { known = ty.1; variables = so_far.inside.variables; met = so_far.inside.met } } in
+    (λ ty _. let known : TypedStatements = record { statements = so_far.statements; inside = record { known = ty.1; variables = so_far.inside.variables; met = so_far.inside.met } } in
     if_fine-weaker (ReportedIsLed w known 0) (ReportedIsLed w so_far 0) (locals_added ty.0 objects known) (locals_added-led w ty.0 objects known)
     (λ after h. more-led w so_far known after 0 0 (none-led w so_far known refl refl) h))
 
 -- the first part of a `for` stands outside of the loop
-first_typed-led : (w : Where) (i : Inside) (first : RawFirst) → IfFine (first_typed i first) (ReportedIsLed w (nothing_reported i) 0)
-first_typed-led w i first_part.Empty = none-led w (nothing_reported i) (nothing_reported i) refl refl
+first_typed-led : (w : Where) (i : Inside) (first : RawFirst) → IfFine (first_typed i first) (ReportedIsLed w (no_statements i) 0)
+first_typed-led w i first_part.Empty = none-led w (no_statements i) (no_statements i) refl refl
 first_typed-led w i (first_part.Run e) =
-    lift-then (PartSameMet i) (ReportedIsLed w (nothing_reported i) 0) (ran_first e.place) (dropped_in i e) (dropped_in-same i e)
+    lift-then (PartSameMet i) (ReportedIsLed w (no_statements i) 0) (ran_first e.place) (dropped_in i e) (dropped_in-same i e)
     (λ p same. record { count = refl; met = same ∙ omega arith; numbered = λ _ _ _. (tt, tt); jumps = λ _. (tt, tt) })
-first_typed-led w i (first_part.Declare s objects) = declaration_typed-led w s objects.items (nothing_reported i)
+first_typed-led w i (first_part.Declare s objects) = declaration_typed-led w s objects.items (no_statements i)
 
 -- ---- statements
 
@@ -209,7 +209,7 @@ case_added-led w at so_far value =
 mutual
   pub statement_typed-led : (w : Where) (i : Inside) (at : Place) (k : RawStmtKind) → IfFine (statement_typed w i at k) (PartIsLed w i (length (labels_of k)))
   statement_typed-led w i at (kind.Block' shape row) =
-      lift-then (ReportedIsLed w (nothing_reported (in_block i)) (length (labels_in row))) (PartIsLed w i (length (labels_in row))) (block_made at i) _ (items_typed-led w row (nothing_reported (in_block i)))
+      lift-then (ReportedIsLed w (no_statements (in_block i)) (length (labels_in row))) (PartIsLed w i (length (labels_in row))) (block_made at i) _ (items_typed-led w row (no_statements (in_block i)))
       (λ reported h. record {
         count = h.count ∙ zero-add (length (labels_in row));
         met = h.met;
@@ -250,7 +250,7 @@ mutual
       (λ t same. record { count = h.count; met = same ∙ h.met; numbered = h.numbered; jumps = h.jumps }))
   statement_typed-led w i at (kind.For' first test last place p body) =
       let n = length (labels_of body) in
-      lift-then (ReportedIsLed (no_loop w) (nothing_reported (in_block i)) 0) (PartIsLed w i n) _ (first_typed (in_block i) first) (first_typed-led (no_loop w) (in_block i) first)
+      lift-then (ReportedIsLed (no_loop w) (no_statements (in_block i)) 0) (PartIsLed w i n) _ (first_typed (in_block i) first) (first_typed-led (no_loop w) (in_block i) first)
       (λ f begun. lift-then (PartSameMet f.inside) (PartIsLed w i n) _ (tested_if at f.inside test) (tested_if-same at f.inside test)
       (λ t one. lift-then (PartSameMet t.inside) (PartIsLed w i n) _ (dropped_if t.inside last) (dropped_if-same t.inside last)
       (λ l other. lift-then (PartIsLed (in_loop w) l.inside n) (PartIsLed w i n) (for_made at i f.statements t.found l.found) _ (statement_typed-led (in_loop w) l.inside place body)
@@ -261,7 +261,7 @@ mutual
   statement_typed-led w i at (kind.Switch' value shape row) =
       let n = length (labels_in_switch row) in
       after_same w i n _ (selected at i value) (past-same i value (selector_of i.known.context i.known.literals at value))
-      (λ v same. let begun : Switching = record { cases = []; reported = nothing_reported (in_block v.inside) } in
+      (λ v same. let begun : Switching = record { cases = []; reported = no_statements (in_block v.inside) } in
       lift-then (SwitchIsLed (in_switch w) begun n) (PartIsLed w i n) (switch_made at i v.found) _ (switch_typed-led (in_switch w) (type_of v.found) row begun)
       (λ s h. record {
         count = h.count ∙ zero-add n;
@@ -293,13 +293,13 @@ mutual
       }))
       (λ _. tt)
 
-  item_typed-led : (w : Where) (item : RawItem) (so_far : Reported) → IfFine (item_typed w item so_far) (ReportedIsLed w so_far (length (labels_of_item item)))
+  item_typed-led : (w : Where) (item : RawItem) (so_far : TypedStatements) → IfFine (item_typed w item so_far) (ReportedIsLed w so_far (length (labels_of_item item)))
   item_typed-led w (items.TheVariants.Declare s objects) so_far = declaration_typed-led w s objects.items so_far
   item_typed-led w (items.TheVariants.Run' place p body) so_far =
       lift-then (PartIsLed w so_far.inside (length (labels_of body))) (ReportedIsLed w so_far (length (labels_of body))) (telling so_far.statements) _ (statement_typed-led w so_far.inside place body)
       (λ p h. one-led w so_far p (length (labels_of body)) h)
 
-  items_typed-led : {n : _} → (w : Where) (row : kinds.Row_of-RawItem n) (so_far : Reported) → IfFine (items_typed w row so_far) (ReportedIsLed w so_far (length (labels_in row)))
+  items_typed-led : {n : _} → (w : Where) (row : kinds.Row_of-RawItem n) (so_far : TypedStatements) → IfFine (items_typed w row so_far) (ReportedIsLed w so_far (length (labels_in row)))
   items_typed-led w kinds.end_of-RawItem so_far = none-led w so_far so_far refl refl
   items_typed-led w (kinds.more_of-RawItem first others) so_far =
       lift-then (ReportedIsLed w so_far (length (labels_of_item first))) (ReportedIsLed w so_far (length (labels_of_item first ++ labels_in others))) (items_typed w others) _ (item_typed-led w first so_far)
@@ -311,7 +311,7 @@ mutual
       lift-then (λ _. Unit {0}) (SwitchIsLed w so_far 0) _ _ (if_fine-any (value_of so_far.reported.inside.known.context value)) (λ n _. case_added-led w at so_far _)
   switch_item_typed-led w ty (switches.TheVariants.Default at) so_far = case_added-led w at so_far None
   switch_item_typed-led w ty (switches.TheVariants.Item i) so_far =
-      lift-then (ReportedIsLed w so_far.reported (length (labels_of_item i))) (SwitchIsLed w so_far (length (labels_of_item i))) (with_reported so_far) _ (item_typed-led w i so_far.reported) (λ reported h. h)
+      lift-then (ReportedIsLed w so_far.reported (length (labels_of_item i))) (SwitchIsLed w so_far (length (labels_of_item i))) (with_statements so_far) _ (item_typed-led w i so_far.reported) (λ reported h. h)
 
   switch_typed-led : {n : _} → (w : Where) (ty : Shape) (row : kinds.Row_of-RawSwitchItem n) (so_far : Switching) → IfFine (switch_typed w ty row so_far) (SwitchIsLed w so_far (length (labels_in_switch row)))
   switch_typed-led w ty kinds.end_of-RawSwitchItem so_far = none-led w so_far.reported so_far.reported refl refl
@@ -321,7 +321,7 @@ mutual
       (λ after k. names-led w so_far.reported after.reported (labels_of_switch_item first) (labels_in_switch others) (more-led w so_far.reported s.reported after.reported _ _ h k)))
 
 -- the body of a function
-pub body_typed-led : (w : Where) (list : List RawItem) (so_far : Reported) → IfFine (body_typed w list so_far) (ReportedIsLed w so_far (length (labels_of_items list)))
+pub body_typed-led : (w : Where) (list : List RawItem) (so_far : TypedStatements) → IfFine (body_typed w list so_far) (ReportedIsLed w so_far (length (labels_of_items list)))
 body_typed-led w [] so_far = none-led w so_far so_far refl refl
 body_typed-led w (first ∷ others) so_far =
     lift-then (ReportedIsLed w so_far (length (labels_of_item first))) (ReportedIsLed w so_far (length (labels_of_item first ++ labels_of_items others))) (body_typed w others) _ (item_typed-led w first so_far)

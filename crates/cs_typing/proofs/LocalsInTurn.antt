@@ -8,10 +8,10 @@ use Rattle.cs_scopes.specs.Verdicts.{Verdict, Fine, Fault, lift, IsRefused}
 use Rattle.cs_scopes.proofs.Lifting.{lift-refused}
 use Rattle.cs_scopes.proofs.Lifting.{refused_as}
 use Rattle.cs_consts.proofs.SingleParts.{lift_is}
-use Rattle.cs_declarations.specs.Known.{is_declared_here}
+use Rattle.cs_declarations.specs.Environment.{is_declared_here}
 use Rattle.cs_declarations.specs.Objects.{object_type}
 use Rattle.cs_declarations.proofs.FoldedSoFar.{GoesOver}
-use Rattle.cs_typing.specs.Objects.{Inside, LocalDeclared, Reported, with_local, local_initialized, local_added, after_local, locals_added}
+use Rattle.cs_typing.specs.Objects.{Inside, LocalDeclared, TypedStatements, with_local, local_initialized, local_added, after_local, locals_added}
 
 -- a local whose name is new, after its type
 abbrev local_rest : RawInit → Inside → Shape → Verdict LocalDeclared
@@ -28,7 +28,7 @@ module _ (base : Shape) (d : RawInit) (i : Inside) (new : is_declared_here d.dec
   local_typed ty e = local_new ∙ lift_is (local_rest d i) _ ty e
 
 -- a local after statements
-abbrev pub local_after : Shape → RawInit → Reported → Verdict Reported
+abbrev pub local_after : Shape → RawInit → TypedStatements → Verdict TypedStatements
 local_after base d so_far = lift (after_local so_far.statements) (local_added base d so_far.inside)
 
 pub locals_over : (base : Shape) → GoesOver (locals_added base) (local_after base)

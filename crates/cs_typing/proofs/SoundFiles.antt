@@ -20,7 +20,7 @@ use Rattle.cs_scopes.specs.declared.scope.Callee.TheVariants.{Numbered}
 use Rattle.cs_scopes.specs.Meanings.{Meaning, Function, Global, Declaration}
 use Rattle.cs_scopes.specs.Verdicts.{Verdict, Fine, Fault, lift}
 use Rattle.cs_scopes.specs.TypeNames.{starred}
-use Rattle.cs_declarations.specs.Known.{entered, meaning_here}
+use Rattle.cs_declarations.specs.Environment.{entered, meaning_here}
 use Rattle.cs_declarations.specs.Bodies.{specs_type, typedefs_added}
 use Rattle.cs_declarations.specs.Initializers.{InFile, initial_typed}
 use Rattle.cs_declarations.specs.Objects.{object_type}
@@ -31,7 +31,7 @@ use Rattle.cs_declarations.proofs.SoundParameters.{HeadGoesOn, typedefs_added-Go
 use Rattle.cs_declarations.proofs.SoundStructs.{GoesOn, none-AreSound}
 use Rattle.cs_typing.specs.Objects.{Filed, Object, with_known, is_completed, may_be_object, object_of, object_initialized, marked, object_added, objects_added}
 use Rattle.cs_typing.specs.Order.{order_of}
-use Rattle.cs_typing.specs.Statements.{body_typed, nothing_reported}
+use Rattle.cs_typing.specs.Statements.{body_typed, no_statements}
 use Rattle.cs_typing.specs.Functions.{Routed, same_types, types_of, function_of, may_be_function, where_in, at_beginning, declared_inside, body_added, completed, outside_of, headed, is_result, resulted, function_added}
 use Rattle.cs_typing.specs.Files.{beginning, external_declared, external_typed, specs_of, file_typed, typed_file}
 use Rattle.cs_typing.proofs.SoundStatements.{IsLaidUnder, following, ReportedIsSound, body_typed-sound}
@@ -85,8 +85,8 @@ module _ (m : DataModel) where
 
   body_added-sound : (d : RawFunction) (body : RawBody) (result : Shape) (parameters : List Variable) (inner : List Declaration) (callee : Callee) (f : Filed) → FiledIsSound f → IfFine (body_added d body result parameters inner callee f) FiledIsSound
   body_added-sound d body result parameters inner (Numbered number) f h =
-      IfFine-lift _ (body_typed (where_in result body) body.items.items (nothing_reported (at_beginning f parameters inner))) (ReportedIsSound m) FiledIsSound
-      (body_typed-sound m (where_in result body) body.items.items (nothing_reported (at_beginning f parameters inner)) h) (λ reported g. g)
+      IfFine-lift _ (body_typed (where_in result body) body.items.items (no_statements (at_beginning f parameters inner))) (ReportedIsSound m) FiledIsSound
+      (body_typed-sound m (where_in result body) body.items.items (no_statements (at_beginning f parameters inner)) h) (λ reported g. g)
   body_added-sound d body result parameters inner other f h = h
 
   completed-sound : (d : RawFunction) (body : Option RawBody) (result : Shape) (parameters : List Variable) (inner : List Declaration) (r : Routed) → RoutedIsSound r → IfFine (completed d body result parameters inner r) FiledIsSound

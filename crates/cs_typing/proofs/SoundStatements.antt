@@ -24,18 +24,18 @@ use Rattle.cs_declarations.specs.Bodies.{specs_type}
 use Rattle.cs_declarations.specs.Initializers.{InFunction, initial_typed}
 use Rattle.cs_declarations.specs.LaidOut.{IsSound}
 use Rattle.cs_declarations.specs.Objects.{object_type}
-use Rattle.cs_declarations.specs.Known.{Known, model_of, is_declared_here}
+use Rattle.cs_declarations.specs.Environment.{Environment, model_of, is_declared_here}
 use Rattle.cs_declarations.proofs.FineVerdicts.{IfFine, IfFine-lift, IfFine-lift_any, IfFine-cond}
 use Rattle.cs_declarations.proofs.SoundBodies.{TypeGoesOn, specs_type-GoesOn}
 use Rattle.cs_declarations.proofs.SoundStructs.{GoesOn}
-use Rattle.cs_typing.specs.Objects.{Inside, LocalDeclared, Reported, with_local, local_initialized, local_added, locals_added}
-use Rattle.cs_typing.specs.Statements.{Where, Part, Switching, in_loop, in_switch, part, past, tested_in, dropped_in, tested_if, dropped_if, is_void, value_returned, returned, label_number, goto_typed, is_first, meeting, in_block, declaration_typed, first_place, nothing_reported, first_typed, case_put, case_added, selected, statement_typed, item_typed, items_typed, switch_item_typed, switch_typed, body_typed}
+use Rattle.cs_typing.specs.Objects.{Inside, LocalDeclared, TypedStatements, with_local, local_initialized, local_added, locals_added}
+use Rattle.cs_typing.specs.Statements.{Where, Part, Switching, in_loop, in_switch, part, past, tested_in, dropped_in, tested_if, dropped_if, is_void, value_returned, returned, label_number, goto_typed, is_first, meeting, in_block, declaration_typed, first_place, no_statements, first_typed, case_put, case_added, selected, statement_typed, item_typed, items_typed, switch_item_typed, switch_typed, body_typed}
 
 -- the structs that are known are laid out, under this data model
-abbrev pub IsLaidUnder : DataModel → Known → Type 0
+abbrev pub IsLaidUnder : DataModel → Environment → Type 0
 IsLaidUnder m k = IsSound k × (model_of k ≡ m)
 
-pub following : (m : DataModel) (k after : Known) → IsLaidUnder m k → GoesOn k after → IsLaidUnder m after
+pub following : (m : DataModel) (k after : Environment) → IsLaidUnder m k → GoesOn k after → IsLaidUnder m after
 following m k after h g = (g.sound, g.same_model ∙ h.1)
 
 module _ (m : DataModel) where
@@ -46,7 +46,7 @@ module _ (m : DataModel) where
   abbrev pub PartIsSound : {A : Type 0} → Part A → Type 0
   PartIsSound p = IsLaidUnder m p.inside.known
 
-  abbrev pub ReportedIsSound : Reported → Type 0
+  abbrev pub ReportedIsSound : TypedStatements → Type 0
   ReportedIsSound t = IsLaidUnder m t.inside.known
 
   abbrev LocalIsSound : LocalDeclared → Type 0
@@ -100,14 +100,14 @@ module _ (m : DataModel) where
       (λ new. IfFine-lift_any _ (object_type i.known.context base d) LocalIsSound
       (λ ty. local_initialized-sound (length i.variables) ty d.declarator.place d.initial (with_local d.declarator.name ty i) h))
 
-  pub locals_added-sound : (base : Shape) (ds : List RawInit) (so_far : Reported) → ReportedIsSound so_far → IfFine (locals_added base ds so_far) ReportedIsSound
+  pub locals_added-sound : (base : Shape) (ds : List RawInit) (so_far : TypedStatements) → ReportedIsSound so_far → IfFine (locals_added base ds so_far) ReportedIsSound
   locals_added-sound base [] so_far h = h
   locals_added-sound base (d ∷ ds) so_far h =
       IfFine-lift (locals_added base ds) _ ReportedIsSound ReportedIsSound
       (IfFine-lift _ (local_added base d so_far.inside) LocalIsSound ReportedIsSound (local_added-sound base d so_far.inside h) (λ one g. g))
       (λ reported g. locals_added-sound base ds reported g)
 
-  declaration_typed-sound : (s : RawSpecs) (objects : List RawInit) (so_far : Reported) → ReportedIsSound so_far → IfFine (declaration_typed s objects so_far) ReportedIsSound
+  declaration_typed-sound : (s : RawSpecs) (objects : List RawInit) (so_far : TypedStatements) → ReportedIsSound so_far → IfFine (declaration_typed s objects so_far) ReportedIsSound
   declaration_typed-sound s objects so_far h =
       IfFine-lift _ (specs_type so_far.inside.known (first_place objects) s) (TypeGoesOn so_far.inside.known) ReportedIsSound
       (specs_type-GoesOn so_far.inside.known (first_place objects) s h.0) (λ ty g. locals_added-sound ty.0 objects _ (following m so_far.inside.known ty.1 h g))
@@ -115,7 +115,7 @@ module _ (m : DataModel) where
   first_typed-sound : (i : Inside) (first : RawFirst) → InsideIsSound i → IfFine (first_typed i first) ReportedIsSound
   first_typed-sound i first_part.Empty h = h
   first_typed-sound i (first_part.Run e) h = IfFine-lift _ (dropped_in i e) PartIsSound ReportedIsSound (dropped_in-sound i e h) (λ p g. g)
-  first_typed-sound i (first_part.Declare s objects) h = declaration_typed-sound s objects.items (nothing_reported i) h
+  first_typed-sound i (first_part.Declare s objects) h = declaration_typed-sound s objects.items (no_statements i) h
 
   -- ---- statements
 
@@ -125,7 +125,7 @@ module _ (m : DataModel) where
   mutual
     pub statement_typed-sound : (w : Where) (i : Inside) (at : Place) (k : RawStmtKind) → InsideIsSound i → IfFine (statement_typed w i at k) PartIsSound
     statement_typed-sound w i at (kind.Block' shape row) h =
-        IfFine-lift _ (items_typed w row (nothing_reported (in_block i))) ReportedIsSound PartIsSound (items_typed-sound w row (nothing_reported (in_block i)) h) (λ reported g. g)
+        IfFine-lift _ (items_typed w row (no_statements (in_block i))) ReportedIsSound PartIsSound (items_typed-sound w row (no_statements (in_block i)) h) (λ reported g. g)
     statement_typed-sound w i at kind.Empty h = h
     statement_typed-sound w i at (kind.Run e) h = IfFine-lift _ (dropped_in i e) PartIsSound PartIsSound (dropped_in-sound i e h) (λ p g. g)
     statement_typed-sound w i at (kind.If' test place p body) h =
@@ -148,8 +148,8 @@ module _ (m : DataModel) where
         (λ l g''. IfFine-lift _ (statement_typed (in_loop w) l.inside place body) PartIsSound PartIsSound (statement_typed-sound (in_loop w) l.inside place body g'') (λ b g'''. g'''))))
     statement_typed-sound w i at (kind.Switch' value shape row) h =
         IfFine-lift _ (selected at i value) PartIsSound PartIsSound (selected-sound at i value h)
-        (λ v g. IfFine-lift _ (switch_typed (in_switch w) (type_of v.found) row (record { cases = []; reported = nothing_reported (in_block v.inside) })) SwitchingIsSound PartIsSound
-        (switch_typed-sound (in_switch w) (type_of v.found) row (record { cases = []; reported = nothing_reported (in_block v.inside) }) g) (λ s g'. g'))
+        (λ v g. IfFine-lift _ (switch_typed (in_switch w) (type_of v.found) row (record { cases = []; reported = no_statements (in_block v.inside) })) SwitchingIsSound PartIsSound
+        (switch_typed-sound (in_switch w) (type_of v.found) row (record { cases = []; reported = no_statements (in_block v.inside) }) g) (λ s g'. g'))
     statement_typed-sound w i at (kind.Goto label) h = goto_typed-sound at i (label_number label w.labels) h
     statement_typed-sound w i at kind.Continue h = IfFine-cond w.continues _ (Fault Jump at) PartIsSound (λ yes. h) (λ no. tt)
     statement_typed-sound w i at kind.Break h = IfFine-cond w.breaks _ (Fault Jump at) PartIsSound (λ yes. h) (λ no. tt)
@@ -158,12 +158,12 @@ module _ (m : DataModel) where
         IfFine-cond (is_first i (label_number name w.labels)) _ (Fault Jump at) PartIsSound
         (λ first. IfFine-lift _ (statement_typed w (meeting i) place body) PartIsSound PartIsSound (statement_typed-sound w (meeting i) place body h) (λ b g. g)) (λ other. tt)
 
-    pub item_typed-sound : (w : Where) (item : RawItem) (so_far : Reported) → ReportedIsSound so_far → IfFine (item_typed w item so_far) ReportedIsSound
+    pub item_typed-sound : (w : Where) (item : RawItem) (so_far : TypedStatements) → ReportedIsSound so_far → IfFine (item_typed w item so_far) ReportedIsSound
     item_typed-sound w (items.TheVariants.Declare s objects) so_far h = declaration_typed-sound s objects.items so_far h
     item_typed-sound w (items.TheVariants.Run' place p body) so_far h =
         IfFine-lift _ (statement_typed w so_far.inside place body) PartIsSound ReportedIsSound (statement_typed-sound w so_far.inside place body h) (λ p g. g)
 
-    items_typed-sound : {n : _} → (w : Where) (row : kinds.Row_of-RawItem n) (so_far : Reported) → ReportedIsSound so_far → IfFine (items_typed w row so_far) ReportedIsSound
+    items_typed-sound : {n : _} → (w : Where) (row : kinds.Row_of-RawItem n) (so_far : TypedStatements) → ReportedIsSound so_far → IfFine (items_typed w row so_far) ReportedIsSound
     items_typed-sound w kinds.end_of-RawItem so_far h = h
     items_typed-sound w (kinds.more_of-RawItem first others) so_far h =
         IfFine-lift _ (item_typed w first so_far) ReportedIsSound ReportedIsSound (item_typed-sound w first so_far h) (λ reported g. items_typed-sound w others reported g)
@@ -181,7 +181,7 @@ module _ (m : DataModel) where
         IfFine-lift _ (switch_item_typed w ty first so_far) SwitchingIsSound SwitchingIsSound (switch_item_typed-sound w ty first so_far h) (λ s g. switch_typed-sound w ty others s g)
 
   -- the body of a function
-  pub body_typed-sound : (w : Where) (list : List RawItem) (so_far : Reported) → ReportedIsSound so_far → IfFine (body_typed w list so_far) ReportedIsSound
+  pub body_typed-sound : (w : Where) (list : List RawItem) (so_far : TypedStatements) → ReportedIsSound so_far → IfFine (body_typed w list so_far) ReportedIsSound
   body_typed-sound w [] so_far h = h
   body_typed-sound w (first ∷ others) so_far h =
       IfFine-lift (body_typed w others) (item_typed w first so_far) ReportedIsSound ReportedIsSound (item_typed-sound w first so_far h) (λ reported g. body_typed-sound w others reported g)

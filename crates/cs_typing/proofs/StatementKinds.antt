@@ -23,7 +23,7 @@ use Rattle.cs_declarations.specs.Answered.{AnswersWith}
 use Rattle.cs_typing.specs.declared.inside.Inside.{Inside as HeldInside}
 use Rattle.cs_typing.specs.Objects.{Inside}
 use Rattle.cs_typing.specs.Statements.{Where, in_a_row, part, tested_in, dropped_in, returned, run_made, if_made, if_else_made, return_made, block_typed, statement_typed}
-use Rattle.cs_typing.specs.View.{inside_of, reported_of, typed_part, optional_part, statement_part, kind_part}
+use Rattle.cs_typing.specs.View.{inside_of, typed_statements_of, typed_part, optional_part, statement_part, kind_part}
 use Rattle.cs_typing.proofs.StatementRows.{statement_typed-Block, row-statements}
 use Rattle.cs_typing.proofs.StatementsInTurn.{block_after, block-closed, if_after, else_after, if_else_after}
 
@@ -39,9 +39,9 @@ module _ (w : Where) (i : Inside) (at : Place) (tree : RawStmtKind) where
     pub block_refused : (r : TypeRefusal) → IsRefused (block_typed w i items.items) r → IsRefused (statement_typed w i at tree) r
     block_refused r h = refused_as r block_is (lift-refused (block_after at) (block_typed w i items.items) r h)
 
-    pub block_reported : (list : Vec Stmt Global) (now : HeldInside) → block_typed w i items.items ≡ Fine (reported_of list.items now) → statement_typed w i at tree ≡ Fine (kind_part at (held.Block list) now)
+    pub block_reported : (list : Vec Stmt Global) (now : HeldInside) → block_typed w i items.items ≡ Fine (typed_statements_of list.items now) → statement_typed w i at tree ≡ Fine (kind_part at (held.Block list) now)
     block_reported list now e =
-        block_is ∙ lift_is (block_after at) _ (reported_of list.items now) e
+        block_is ∙ lift_is (block_after at) _ (typed_statements_of list.items now) e
         ∙ ap (λ s. part (inside_of now) s) (ap (Block at) (row-statements list.items) ∙ sym (statement_at-Block at list))
 
   -- an empty statement

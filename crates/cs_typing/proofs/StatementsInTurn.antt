@@ -24,13 +24,13 @@ use Rattle.cs_scopes.proofs.Lifting.{lift-refused}
 use Rattle.cs_scopes.proofs.Lifting.{refused_as}
 use Rattle.cs_consts.proofs.SingleParts.{lift_is}
 use Rattle.cs_declarations.specs.Answered.{AnswersWith}
-use Rattle.cs_declarations.specs.declared.known.Known.{Known as HeldKnown}
-use Rattle.cs_declarations.specs.Known.{Mark, mark_of, left_to, with_literals}
-use Rattle.cs_declarations.specs.View.{known_of}
+use Rattle.cs_declarations.specs.declared.environment.Environment.{Environment as HeldEnvironment}
+use Rattle.cs_declarations.specs.Environment.{ScopeSnapshot, snapshot_of, left_to, with_literals}
+use Rattle.cs_declarations.specs.View.{environment_of}
 use Rattle.cs_typing.specs.declared.inside.Inside.{Inside as HeldInside}
-use Rattle.cs_typing.specs.Objects.{Inside, knowing, Reported}
-use Rattle.cs_typing.specs.Statements.{Where, in_loop, in_switch, in_a_row, Part, part, past, tested_in, tested_if, dropped_if, label_number, in_block, after_block, meeting, is_first, nothing_reported, Switching, no_cases, closed, first_typed, body_typed, block_typed, block_made, if_made, if_else_made, while_made, do_made, for_made, switch_made, label_made, selected, statement_typed, switch_list_typed, switch_whole, while_typed, do_typed, for_typed, label_typed}
-use Rattle.cs_typing.specs.View.{inside_of, reported_of, typed_part, kind_part, kind_at}
+use Rattle.cs_typing.specs.Objects.{Inside, knowing, TypedStatements}
+use Rattle.cs_typing.specs.Statements.{Where, in_loop, in_switch, in_a_row, Part, part, past, tested_in, tested_if, dropped_if, label_number, in_block, after_block, meeting, is_first, no_statements, Switching, no_cases, closed, first_typed, body_typed, block_typed, block_made, if_made, if_else_made, while_made, do_made, for_made, switch_made, label_made, selected, statement_typed, switch_list_typed, switch_whole, while_typed, do_typed, for_typed, label_typed}
+use Rattle.cs_typing.specs.View.{inside_of, typed_statements_of, typed_part, kind_part, kind_at}
 
 -- an expression with the string literals after it
 pub typed_after : (i : Inside) (tree : RawExpr) (v : Verdict Typed) (result : Result Expr TypeRefusal) (literals : Literals) (now : HeldInside) → Yields v result → OnOk result (literals ≡ literals_after i.known.literals tree.kind.value) → inside_of now ≡ knowing (with_literals literals i.known) i → AnswersWith typed_part (lift (part (past tree i)) v) result now
@@ -45,10 +45,10 @@ pub answers_as : {A B C : Type 0} (view : A → B → C) (v w : Verdict C) (resu
 answers_as view v w result changed e h = subst (λ x. AnswersWith view x result changed) (sym e) h
 
 -- a block by what it has, with what is known after it
-abbrev pub block_after : Place → Reported → Verdict (Part Statement)
+abbrev pub block_after : Place → TypedStatements → Verdict (Part Statement)
 block_after at reported = part reported.inside (Block at (in_a_row reported.statements))
 
-pub block-closed : (i : Inside) (at : Place) (v : Verdict Reported) → lift (block_made at i) v ≡ lift (block_after at) (lift (λ reported. Fine (closed i reported)) v)
+pub block-closed : (i : Inside) (at : Place) (v : Verdict TypedStatements) → lift (block_made at i) v ≡ lift (block_after at) (lift (λ reported. Fine (closed i reported)) v)
 unfolding lift
 block-closed i at (Fine reported) = refl
 block-closed i at (Fault code place) = refl
@@ -99,13 +99,13 @@ module _ (w : Where) (i : Inside) (at : Place) (test : RawExpr) (body : RawStmt)
       do_taken t tests = do_entered ∙ lift_is (do_after at test) _ one runs ∙ lift_is (do_made at one.found) _ t tests
 
 -- `for` after its parts
-abbrev for_last : Where → Inside → Place → Place → RawStmtKind → Reported → Part (Option Typed) → Part (Option Typed) → Verdict (Part Statement)
+abbrev for_last : Where → Inside → Place → Place → RawStmtKind → TypedStatements → Part (Option Typed) → Part (Option Typed) → Verdict (Part Statement)
 for_last w i at place body f t l = lift (for_made at i f.statements t.found l.found) (statement_typed (in_loop w) l.inside place body)
 
-abbrev for_test : Where → Inside → Place → Option RawExpr → Place → RawStmtKind → Reported → Part (Option Typed) → Verdict (Part Statement)
+abbrev for_test : Where → Inside → Place → Option RawExpr → Place → RawStmtKind → TypedStatements → Part (Option Typed) → Verdict (Part Statement)
 for_test w i at last place body f t = lift (for_last w i at place body f t) (dropped_if t.inside last)
 
-abbrev for_first : Where → Inside → Place → Option RawExpr → Option RawExpr → Place → RawStmtKind → Reported → Verdict (Part Statement)
+abbrev for_first : Where → Inside → Place → Option RawExpr → Option RawExpr → Place → RawStmtKind → TypedStatements → Verdict (Part Statement)
 for_first w i at test last place body f = lift (for_test w i at last place body f) (tested_if at f.inside test)
 
 module _ (w : Where) (i : Inside) (at : Place) (first : RawFirst) (test last : Option RawExpr) (place : Place) (body : RawStmtKind) (inner : Inside) (enters : inner ≡ in_block i) where
@@ -115,7 +115,7 @@ module _ (w : Where) (i : Inside) (at : Place) (first : RawFirst) (test last : O
   pub for_first_stops : (r : TypeRefusal) → IsRefused (first_typed inner first) r → IsRefused (for_typed w i at first test last place body) r
   for_first_stops r h = refused_as r for_entered (lift-refused (for_first w i at test last place body) _ r h)
 
-  module _ (f : Reported) (begins : first_typed inner first ≡ Fine f) where
+  module _ (f : TypedStatements) (begins : first_typed inner first ≡ Fine f) where
     for_begun : for_typed w i at first test last place body ≡ for_first w i at test last place body f
     for_begun = for_entered ∙ lift_is (for_first w i at test last place body) _ f begins
 
@@ -165,13 +165,13 @@ module _ (w : Where) (i : Inside) (at : Place) (value : RawExpr) (list : List Ra
 
 -- a block
 module _ (w : Where) (i : Inside) (list : List RawItem) (inner : Inside) (enters : inner ≡ in_block i) where
-  block_entered : block_typed w i list ≡ lift (λ reported. Fine (closed i reported)) (body_typed w list (nothing_reported inner))
-  block_entered = ap (λ x. lift (λ reported. Fine (closed i reported)) (body_typed w list (nothing_reported x))) (sym enters)
+  block_entered : block_typed w i list ≡ lift (λ reported. Fine (closed i reported)) (body_typed w list (no_statements inner))
+  block_entered = ap (λ x. lift (λ reported. Fine (closed i reported)) (body_typed w list (no_statements x))) (sym enters)
 
-  pub block_stops : (r : TypeRefusal) → IsRefused (body_typed w list (nothing_reported inner)) r → IsRefused (block_typed w i list) r
+  pub block_stops : (r : TypeRefusal) → IsRefused (body_typed w list (no_statements inner)) r → IsRefused (block_typed w i list) r
   block_stops r h = refused_as r block_entered (lift-refused (λ reported. Fine (closed i reported)) _ r h)
 
-  pub block_taken : (reported : Reported) → body_typed w list (nothing_reported inner) ≡ Fine reported → block_typed w i list ≡ Fine (closed i reported)
+  pub block_taken : (reported : TypedStatements) → body_typed w list (no_statements inner) ≡ Fine reported → block_typed w i list ≡ Fine (closed i reported)
   block_taken reported runs = block_entered ∙ lift_is (λ reported. Fine (closed i reported)) _ reported runs
 
 -- a label, the first of its name
@@ -188,22 +188,22 @@ module _ (w : Where) (i : Inside) (at : Place) (name : List ℕ) (place : Place)
   label_taken one runs = label_met ∙ lift_is (label_made at i.met) _ one runs
 
 -- statements with one more after them
-pub reported_push : (before more : List Stmt) (s : Stmt) (now : HeldInside) → more ≡ before ++ s ∷ [] → record { statements = map statement before ++ statement s ∷ []; inside = inside_of now } ≡ reported_of more now
+pub reported_push : (before more : List Stmt) (s : Stmt) (now : HeldInside) → more ≡ before ++ s ∷ [] → record { statements = map statement before ++ statement s ∷ []; inside = inside_of now } ≡ typed_statements_of more now
 reported_push before more s now is =
-    let made : List Statement → Reported = λ ss. record { statements = ss; inside = inside_of now } in
+    let made : List Statement → TypedStatements = λ ss. record { statements = ss; inside = inside_of now } in
     ap made (sym (map-append statement before (s ∷ [])) ∙ ap (map statement) (sym is))
 
 -- no statements yet
-pub reported_none : (list : List Stmt) (now : HeldInside) → list ≡ [] → nothing_reported (inside_of now) ≡ reported_of list now
-reported_none list now is = ap (λ l. reported_of l now) (sym is)
+pub reported_none : (list : List Stmt) (now : HeldInside) → list ≡ [] → no_statements (inside_of now) ≡ typed_statements_of list now
+reported_none list now is = ap (λ l. typed_statements_of l now) (sym is)
 
 -- after a scope
-pub left_is : (i : Inside) (now : HeldInside) (k : HeldKnown) (m : Mark) → known_of k ≡ left_to m (known_of now.known) → m ≡ mark_of i.known → knowing (known_of k) (inside_of now) ≡ after_block i (inside_of now)
-left_is i now k m leaves is = ap (λ x. knowing x (inside_of now)) (leaves ∙ ap (λ x. left_to x (known_of now.known)) is)
+pub left_is : (i : Inside) (now : HeldInside) (k : HeldEnvironment) (m : ScopeSnapshot) → environment_of k ≡ left_to m (environment_of now.known) → m ≡ snapshot_of i.known → knowing (environment_of k) (inside_of now) ≡ after_block i (inside_of now)
+left_is i now k m leaves is = ap (λ x. knowing x (inside_of now)) (leaves ∙ ap (λ x. left_to x (environment_of now.known)) is)
 
-pub closed_is : (i : Inside) (list : List Stmt) (now : HeldInside) (following : Inside) → following ≡ after_block i (inside_of now) → closed i (reported_of list now) ≡ record { statements = map statement list; inside = following }
+pub closed_is : (i : Inside) (list : List Stmt) (now : HeldInside) (following : Inside) → following ≡ after_block i (inside_of now) → closed i (typed_statements_of list now) ≡ record { statements = map statement list; inside = following }
 closed_is i list now following is =
-    let made : Inside → Reported = λ x. record { statements = map statement list; inside = x } in
+    let made : Inside → TypedStatements = λ x. record { statements = map statement list; inside = x } in
     ap made (sym is)
 
 -- a part of which the inside is known

@@ -17,7 +17,7 @@ use Rattle.cs_scopes.specs.declared.scope.Tag.{Tag}
 use Rattle.cs_scopes.specs.Meanings.{Declaration}
 use Rattle.cs_scopes.specs.Verdicts.{Fine, lift}
 use Rattle.cs_declarations.specs.Bodies.{Typing, specs_type, typedefs_added}
-use Rattle.cs_declarations.specs.Known.{Known, table_of}
+use Rattle.cs_declarations.specs.Environment.{Environment, table_of}
 use Rattle.cs_declarations.specs.LaidOut.{IsOfTable}
 use Rattle.cs_declarations.proofs.FineVerdicts.{IfFine-at}
 use Rattle.cs_typing.specs.Objects.{Filed, with_known}
@@ -52,8 +52,8 @@ module _ (p : TypedProgram) (laid : IsLaidOut p.model p.table) where
   external_declared-adds (external_kind.Type s) f base named kept placed fit = adds-self p f kept
   external_declared-adds (external_kind.Typedef s names) f base named kept placed fit =
       let v = typedefs_added base names.items f.known in
-      lift-then (λ (k : Known). Leads (outside (with_parts p f)) f.known k × (DeclaresOn f.known k × NamedOn f.known k)) (Adds p f) (λ k. Fine (with_known k f)) v
-      (both-fine (Leads (outside (with_parts p f)) f.known) (λ (k : Known). DeclaresOn f.known k × NamedOn f.known k) v (typedefs_added-leads (outside (with_parts p f)) base names.items f.known)
+      lift-then (λ (k : Environment). Leads (outside (with_parts p f)) f.known k × (DeclaresOn f.known k × NamedOn f.known k)) (Adds p f) (λ k. Fine (with_known k f)) v
+      (both-fine (Leads (outside (with_parts p f)) f.known) (λ (k : Environment). DeclaresOn f.known k × NamedOn f.known k) v (typedefs_added-leads (outside (with_parts p f)) base names.items f.known)
       (both-fine (DeclaresOn f.known) (NamedOn f.known) v (typedefs_added-on base names.items f.known) (typedefs_added-named base names.items f.known named kept.types.known)))
       (λ k h. known-adds p f k kept (leads-following p f k h.0 h.1.0 h.1.1.known))
   external_declared-adds (external_kind.Objects s objects) f base named kept placed fit = objects_added-adds p laid s base objects.items f named kept fit

@@ -24,10 +24,10 @@ use Rattle.cs_scopes.specs.Meanings.{Meaning, Typedef, Constant, Global, Local, 
 use Rattle.cs_scopes.specs.Scopes.{newest}
 use Rattle.cs_scopes.specs.TypeNames.{starred}
 use Rattle.cs_scopes.specs.Verdicts.{Verdict, Fine, Fault, lift}
-use Rattle.cs_declarations.specs.Known.{table_of, declarations_of, meaning_here, entered, left}
+use Rattle.cs_declarations.specs.Environment.{table_of, declarations_of, meaning_here, entered, left}
 use Rattle.cs_declarations.specs.Parameters.{Head, parameters_typed}
-use Rattle.cs_typing.specs.Objects.{Filed, Reported, Inside, changed}
-use Rattle.cs_typing.specs.Statements.{in_a_row, nothing_reported, body_typed, labels_of_items}
+use Rattle.cs_typing.specs.Objects.{Filed, TypedStatements, Inside, changed}
+use Rattle.cs_typing.specs.Statements.{in_a_row, no_statements, body_typed, labels_of_items}
 use Rattle.cs_typing.specs.Order.{is_of_library}
 use Rattle.cs_typing.specs.Functions.{is_result, same_types, types_of, has_body, may_be_function, bodiless, numbered, number_in, Routed, new_function, function_of, declared_inside, bodied, with_body, at_beginning, where_in, body_added, completed, outside_of, headed, resulted, function_added}
 use Rattle.cs_typing.specs.Files.{allocators}
@@ -333,9 +333,9 @@ module _ (p : TypedProgram) (laid_out : IsLaidOut p.model p.table) where
   -- ---- bodies
 
   -- a function, in whose scope its parameters are declared, with its body
-  bodied-adds : (f g : Filed) (d : RawFunction) (body : RawBody) (result : Shape) (head : Head) (number : ℕ) (r : Routine) (reported : Reported) → Adds p f g → length (table_of head.known) ≤ length (table_of g.known) → IsHead f head →
+  bodied-adds : (f g : Filed) (d : RawFunction) (body : RawBody) (result : Shape) (head : Head) (number : ℕ) (r : Routine) (reported : TypedStatements) → Adds p f g → length (table_of head.known) ≤ length (table_of g.known) → IsHead f head →
       slice_get g.routines number ≡ Some r → r.returns ≡ result → parameter_types r ≡ types_of head.variables → ItemsHaveConstants body.items.items →
-      body_typed (where_in result body) body.items.items (nothing_reported (at_beginning g head.variables (declared_inside f.known head.known))) ≡ Fine reported → IfFine (with_body d body number g reported) (Adds p g)
+      body_typed (where_in result body) body.items.items (no_statements (at_beginning g head.variables (declared_inside f.known head.known))) ≡ Fine reported → IfFine (with_body d body number g reported) (Adds p g)
   bodied-adds f g d body result head number r reported adds longer h found returns types fit is = record {
     order = refl;
     kept = record {
@@ -381,8 +381,8 @@ module _ (p : TypedProgram) (laid_out : IsLaidOut p.model p.table) where
       after = record { known = left g.known reported.inside.known; globals = g.globals; order = g.order; routines = changed number change g.routines }
 
       -- the body has all labels of the function
-      led : ReportedIsLed (where_in result body) (nothing_reported begun) (length (labels_of_items body.items.items)) reported
-      led = if_fine-at (ReportedIsLed (where_in result body) (nothing_reported begun) (length (labels_of_items body.items.items))) _ reported (body_typed-led (where_in result body) body.items.items (nothing_reported begun)) is
+      led : ReportedIsLed (where_in result body) (no_statements begun) (length (labels_of_items body.items.items)) reported
+      led = if_fine-at (ReportedIsLed (where_in result body) (no_statements begun) (length (labels_of_items body.items.items))) _ reported (body_typed-led (where_in result body) body.items.items (no_statements begun)) is
 
       labels : length (labels_of_items body.items.items) ≤ label_counts (in_a_row reported.statements)
       labels = let all : label_counts (in_a_row reported.statements) ≡ 0 + length (labels_of_items body.items.items) = led.count in omega (arith, all)
@@ -402,8 +402,8 @@ module _ (p : TypedProgram) (laid_out : IsLaidOut p.model p.table) where
         variables = variables-longer (table_of head.known) (table_of g.known) longer head.variables h.named.1;
       }
 
-      yields : Yields s laid_out (nothing_reported begun) reported
-      yields = if_fine-at (Yields s laid_out (nothing_reported begun)) _ reported (body_typed-well s laid_out (where_in result body) body.items.items (nothing_reported begun) (sym returns, labels) begun-knows fit) is
+      yields : Yields s laid_out (no_statements begun) reported
+      yields = if_fine-at (Yields s laid_out (no_statements begun)) _ reported (body_typed-well s laid_out (where_in result body) body.items.items (no_statements begun) (sym returns, labels) begun-knows fit) is
 
       following : Knows s laid_out reported.inside
       following = yields.gives.knows begun-knows
@@ -505,7 +505,7 @@ module _ (p : TypedProgram) (laid_out : IsLaidOut p.model p.table) where
   body_added-adds f d body result head Calloc g adds longer h routed fit = adds-self p g adds.kept
   body_added-adds f d body result head Free g adds longer h routed fit = adds-self p g adds.kept
   body_added-adds f d body result head (Numbered number) g adds longer h routed fit =
-      let v = body_typed (where_in result body) body.items.items (nothing_reported (at_beginning g head.variables (declared_inside f.known head.known))) in
+      let v = body_typed (where_in result body) body.items.items (no_statements (at_beginning g head.variables (declared_inside f.known head.known))) in
       lift-then (λ reported. v ≡ Fine reported) (Adds p g) (with_body d body number g) v (itself v)
       (λ reported is. bodied-adds f g d body result head number routed.0 reported adds longer h routed.1 routed.2 routed.3 fit is)
 

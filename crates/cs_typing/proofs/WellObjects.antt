@@ -16,7 +16,7 @@ use Rattle.cs_scopes.specs.declared.refusal.TypeCode.TheVariants.{DeclaredTwice}
 use Rattle.cs_scopes.specs.Meanings.{Meaning, Typedef, Constant, Global, Local, Function, Declaration}
 use Rattle.cs_scopes.specs.Verdicts.{Fault}
 use Rattle.cs_declarations.specs.Initializers.{InFile, Reading, initial_typed}
-use Rattle.cs_declarations.specs.Known.{table_of, declarations_of, with_literals, meaning_here}
+use Rattle.cs_declarations.specs.Environment.{table_of, declarations_of, with_literals, meaning_here}
 use Rattle.cs_declarations.specs.Objects.{is_constant_object, object_type}
 use Rattle.cs_typing.specs.Objects.{Filed, Object, with_globals, is_completed, may_be_object, new_object, object_of, changed, made_constant, holding, with_initial, object_initialized, marked, object_added, objects_added}
 use Rattle.cs_typing.specs.Files.{allocators}

@@ -31,10 +31,10 @@ use Rattle.cs_consts.specs.Roles.{value_of, assigned_value, test_of, selector_of
 use Rattle.cs_scopes.specs.Meanings.{Declaration, Local}
 use Rattle.cs_declarations.specs.Bodies.{Typing, specs_type}
 use Rattle.cs_declarations.specs.Initializers.{InFunction, Reading, initial_typed}
-use Rattle.cs_declarations.specs.Known.{Known, model_of, table_of, declarations_of, with_literals, is_declared_here}
+use Rattle.cs_declarations.specs.Environment.{Environment, model_of, table_of, declarations_of, with_literals, is_declared_here}
 use Rattle.cs_declarations.specs.Objects.{object_type}
-use Rattle.cs_typing.specs.Objects.{Inside, knowing, LocalDeclared, Reported, with_local, local_held, local_initialized, local_added, after_local, locals_added}
-use Rattle.cs_typing.specs.Statements.{Where, Part, Switching, in_loop, in_switch, in_a_row, part, past, tested_in, dropped_in, some_found, tested_if, dropped_if, is_void, value_returned, returned, label_number, goto_typed, is_first, meeting, in_block, after_block, declared_in, declaration_typed, first_place, nothing_reported, telling, ran_first, first_typed, is_case, case_put, case_added, with_reported, block_made, run_made, if_made, if_else_made, while_made, do_made, for_made, switch_made, return_made, label_made, selected, statement_typed, item_typed, items_typed, switch_item_typed, switch_typed, body_typed, wrapped_in, constant_case}
+use Rattle.cs_typing.specs.Objects.{Inside, knowing, LocalDeclared, TypedStatements, with_local, local_held, local_initialized, local_added, after_local, locals_added}
+use Rattle.cs_typing.specs.Statements.{Where, Part, Switching, in_loop, in_switch, in_a_row, part, past, tested_in, dropped_in, some_found, tested_if, dropped_if, is_void, value_returned, returned, label_number, goto_typed, is_first, meeting, in_block, after_block, declared_in, declaration_typed, first_place, no_statements, telling, ran_first, first_typed, is_case, case_put, case_added, with_statements, block_made, run_made, if_made, if_else_made, while_made, do_made, for_made, switch_made, return_made, label_made, selected, statement_typed, item_typed, items_typed, switch_item_typed, switch_typed, body_typed, wrapped_in, constant_case}
 use Rattle.cs_well_formed.specs.Structs.{NamesStructs, VariablesName}
 use Rattle.cs_well_formed.specs.Expressions.{Setting, TypesAroundAreNamed, IsWell, IsValue, IsValueOf, IsScalarValue, IsIntegerValue, IsWhole}
 use Rattle.cs_well_formed.specs.Initials.{IsWellInitial}
@@ -251,14 +251,14 @@ module _ (s : Setting) (laid_out : IsLaidOut s.program.model s.program.table) wh
   row-push [] last h k = (k, tt)
   row-push (first ∷ statements) last h k = (h.0, row-push statements last h.1 k)
 
-  pub record Yields (so_far reported : Reported) : Type 0 where
+  pub record Yields (so_far reported : TypedStatements) : Type 0 where
     pub gives : Gives so_far.inside reported.inside (Row so_far.statements → Row reported.statements)
     pub longer : length so_far.statements ≤ length reported.statements
 
-  yields-nothing : (so_far : Reported) → Yields so_far so_far
+  yields-nothing : (so_far : TypedStatements) → Yields so_far so_far
   yields-nothing so_far = record { gives = so so_far.inside so_far.inside (nothing so_far.inside) (λ _ row. row); longer = omega arith }
 
-  yields-on : (a b c : Reported) → Yields a b → Yields b c → Yields a c
+  yields-on : (a b c : TypedStatements) → Yields a b → Yields b c → Yields a c
   yields-on a b c h k = record {
     gives = so a.inside c.inside (both a.inside b.inside c.inside h.gives k.gives) (λ r row. r.1 (r.0 row));
     longer = omega (arith, h.longer, k.longer);
@@ -351,7 +351,7 @@ module _ (s : Setting) (laid_out : IsLaidOut s.program.model s.program.table) wh
       (object_type-named i.known.context base d named))
       (λ ty whole. local_initialized-well (length i.variables) ty d.declarator.place d.initial i (with_local d.declarator.name ty i) (with_local-gives d.declarator.name ty i whole.1 knows whole.0) knows fit))
 
-  locals_added-well : (base : Shape) (ds : List RawInit) (so_far : Reported) → NamesStructs (table_of so_far.inside.known) base → Knows so_far.inside → ObjectsHaveConstants ds → IfFine (locals_added base ds so_far) (Yields so_far)
+  locals_added-well : (base : Shape) (ds : List RawInit) (so_far : TypedStatements) → NamesStructs (table_of so_far.inside.known) base → Knows so_far.inside → ObjectsHaveConstants ds → IfFine (locals_added base ds so_far) (Yields so_far)
   locals_added-well base [] so_far named knows fit = yields-nothing so_far
   locals_added-well base (d ∷ ds) so_far named knows fit =
       lift-then (Yields so_far) (Yields so_far) (locals_added base ds) _
@@ -361,7 +361,7 @@ module _ (s : Setting) (laid_out : IsLaidOut s.program.model s.program.table) wh
       (locals_added-well base ds reported (names-longer (table_of so_far.inside.known) (table_of reported.inside.known) h.gives.longer base named) (h.gives.knows knows) fit.1) (λ after k. yields-on so_far reported after h k))
 
   -- after the words of a declaration
-  knowing-gives : (i : Inside) (k : Known) → Leads s i.known k → DeclaresOn i.known k → NamedOn i.known k → Gives i (knowing k i) (Unit {0})
+  knowing-gives : (i : Inside) (k : Environment) → Leads s i.known k → DeclaresOn i.known k → NamedOn i.known k → Gives i (knowing k i) (Unit {0})
   knowing-gives i k leads on named = record {
     knows = λ is. record {
       model = leads.model ∙ is.model;
@@ -381,7 +381,7 @@ module _ (s : Setting) (laid_out : IsLaidOut s.program.model s.program.table) wh
     well = λ has t. tt;
   }
 
-  declaration_typed-well : (words : RawSpecs) (objects : List RawInit) (so_far : Reported) → Knows so_far.inside → ObjectsHaveConstants objects → IfFine (declaration_typed words objects so_far) (Yields so_far)
+  declaration_typed-well : (words : RawSpecs) (objects : List RawInit) (so_far : TypedStatements) → Knows so_far.inside → ObjectsHaveConstants objects → IfFine (declaration_typed words objects so_far) (Yields so_far)
   declaration_typed-well words objects so_far knows fit =
       let typing = specs_type so_far.inside.known (first_place objects) words in
       lift-then (λ (r : Typing). Leads s so_far.inside.known r.1 × (TypeDeclaresOn so_far.inside.known r × TypeNamed so_far.inside.known r)) (Yields so_far) (declared_in words objects so_far) typing
@@ -399,9 +399,9 @@ module _ (s : Setting) (laid_out : IsLaidOut s.program.model s.program.table) wh
   first_typed-well : (i : Inside) (first : RawFirst) → Knows i → FirstHasConstants first → IfFine (first_typed i first) (λ reported. Gives i reported.inside (Row reported.statements))
   first_typed-well i first_part.Empty knows fit = nothing i
   first_typed-well i (first_part.Run e) knows fit =
-      lift-then (GivesPart i IsDropped) (λ (reported : Reported). Gives i reported.inside (Row reported.statements)) (ran_first e.place) (dropped_in i e) (dropped_in-well i e knows fit) (λ p g. so i p.inside g (λ well. (well, tt)))
+      lift-then (GivesPart i IsDropped) (λ (reported : TypedStatements). Gives i reported.inside (Row reported.statements)) (ran_first e.place) (dropped_in i e) (dropped_in-well i e knows fit) (λ p g. so i p.inside g (λ well. (well, tt)))
   first_typed-well i (first_part.Declare words objects) knows fit =
-      if_fine-weaker (Yields (nothing_reported i)) (λ (reported : Reported). Gives i reported.inside (Row reported.statements)) (declaration_typed words objects.items (nothing_reported i)) (declaration_typed-well words objects.items (nothing_reported i) knows fit)
+      if_fine-weaker (Yields (no_statements i)) (λ (reported : TypedStatements). Gives i reported.inside (Row reported.statements)) (declaration_typed words objects.items (no_statements i)) (declaration_typed-well words objects.items (no_statements i) knows fit)
       (λ reported h. so i reported.inside h.gives (λ row. row tt))
 
   -- ---- cases
@@ -445,7 +445,7 @@ module _ (s : Setting) (laid_out : IsLaidOut s.program.model s.program.table) wh
       case_added-well ty at so_far (Some (wrapped_in (model_of so_far.reported.inside.known) ty n))
       (subst (λ m. IsNumberOf m ty (wrapped_in (model_of so_far.reported.inside.known) ty n)) knows.model (wrapped_in-number (model_of so_far.reported.inside.known) ty n))
 
-  with_reported-well : (ty : Shape) (so_far : Switching) (reported : Reported) → Yields so_far.reported reported → IfFine (with_reported so_far reported) (Switches ty so_far)
+  with_reported-well : (ty : Shape) (so_far : Switching) (reported : TypedStatements) → Yields so_far.reported reported → IfFine (with_statements so_far reported) (Switches ty so_far)
   with_reported-well ty so_far reported h = record { reported = h; cases = λ all. record { each = All-weaker Before Following further so_far.cases all.each; apart = all.apart } }
     where
       Before : Case → Type 0
@@ -501,7 +501,7 @@ module _ (s : Setting) (laid_out : IsLaidOut s.program.model s.program.table) wh
   mutual
     pub statement_typed-well : (w : Where) (i : Inside) (at : Place) (k : RawStmtKind) → Fits w → Knows i → StatementHasConstants k → IfFine (statement_typed w i at k) (GivesStatement i)
     statement_typed-well w i at (kind.Block' shape row) fits knows fit =
-        lift-then (Yields (nothing_reported (in_block i))) (GivesStatement i) (block_made at i) _ (items_typed-well w row (nothing_reported (in_block i)) fits (block-knows i knows) fit)
+        lift-then (Yields (no_statements (in_block i))) (GivesStatement i) (block_made at i) _ (items_typed-well w row (no_statements (in_block i)) fits (block-knows i knows) fit)
         (λ reported h. leaving i reported.inside (entering i reported.inside (so (in_block i) reported.inside h.gives (λ row. row tt))))
     statement_typed-well w i at kind.Empty fits knows fit = nothing i
     statement_typed-well w i at (kind.Run e) fits knows fit =
@@ -526,7 +526,7 @@ module _ (s : Setting) (laid_out : IsLaidOut s.program.model s.program.table) wh
         (λ b g. lift-then (GivesPart b.inside IsTest) (GivesStatement i) (do_made at b.found) (tested_in at b.inside test) (tested_in-well at b.inside test (g.knows knows) fit.1)
         (λ t h. so i t.inside (both i b.inside t.inside g h) (λ r. (r.1.0, r.1.1, r.0))))
     statement_typed-well w i at (kind.For' first test last place p body) fits knows fit =
-        lift-then (λ (f : Reported). Gives (in_block i) f.inside (Row f.statements)) (GivesStatement i) _ (first_typed (in_block i) first) (first_typed-well (in_block i) first (block-knows i knows) fit.0)
+        lift-then (λ (f : TypedStatements). Gives (in_block i) f.inside (Row f.statements)) (GivesStatement i) _ (first_typed (in_block i) first) (first_typed-well (in_block i) first (block-knows i knows) fit.0)
         (λ f g. lift-then (GivesPart f.inside (IsTestIfAny s)) (GivesStatement i) _ (tested_if at f.inside test) (tested_if-well at f.inside test (g.knows (block-knows i knows)) fit.1)
         (λ t h.
         let tested = both (in_block i) f.inside t.inside g h in
@@ -537,7 +537,7 @@ module _ (s : Setting) (laid_out : IsLaidOut s.program.model s.program.table) wh
         (λ b m. leaving i b.inside (entering i b.inside (so (in_block i) b.inside (both (in_block i) l.inside b.inside front m) (λ r. (r.0.0.0, r.0.0.1, r.0.1, r.1))))))))
     statement_typed-well w i at (kind.Switch' value shape row) fits knows fit =
         lift-then (GivesPart i (λ v. IsWell s v × IsIntegerValue v)) (GivesStatement i) _ (selected at i value) (selected-well at i value knows fit.0)
-        (λ v g. let begun : Switching = record { cases = []; reported = nothing_reported (in_block v.inside) } in
+        (λ v g. let begun : Switching = record { cases = []; reported = no_statements (in_block v.inside) } in
         lift-then (Switches (type_of v.found) begun) (GivesStatement i) (switch_made at i v.found) _ (switch_typed-well (in_switch w) (type_of v.found) row begun fits (block-knows v.inside (g.knows knows)) fit.1)
         (λ all h.
         let cases = subst (λ n. AreCases s.program.model (type_of v.found) n all.cases) (sym (count-length all.reported.statements)) (h.cases (no-cases (type_of v.found))) in
@@ -558,13 +558,13 @@ module _ (s : Setting) (laid_out : IsLaidOut s.program.model s.program.table) wh
         (λ b g. met-one i b.inside (so (meeting i) b.inside g (λ well. (below, well)))))
         (λ _. tt)
 
-    pub item_typed-well : (w : Where) (item : RawItem) (so_far : Reported) → Fits w → Knows so_far.inside → ItemHasConstants item → IfFine (item_typed w item so_far) (Yields so_far)
+    pub item_typed-well : (w : Where) (item : RawItem) (so_far : TypedStatements) → Fits w → Knows so_far.inside → ItemHasConstants item → IfFine (item_typed w item so_far) (Yields so_far)
     item_typed-well w (items.TheVariants.Declare words objects) so_far fits knows fit = declaration_typed-well words objects.items so_far knows fit
     item_typed-well w (items.TheVariants.Run' place p body) so_far fits knows fit =
         lift-then (GivesStatement so_far.inside) (Yields so_far) (telling so_far.statements) _ (statement_typed-well w so_far.inside place body fits knows fit)
         (λ p g. yields-one so_far.statements so_far.inside p.inside p.found g)
 
-    items_typed-well : {n : _} → (w : Where) (row : kinds.Row_of-RawItem n) (so_far : Reported) → Fits w → Knows so_far.inside → RowHasConstants row → IfFine (items_typed w row so_far) (Yields so_far)
+    items_typed-well : {n : _} → (w : Where) (row : kinds.Row_of-RawItem n) (so_far : TypedStatements) → Fits w → Knows so_far.inside → RowHasConstants row → IfFine (items_typed w row so_far) (Yields so_far)
     items_typed-well w kinds.end_of-RawItem so_far fits knows fit = yields-nothing so_far
     items_typed-well w (kinds.more_of-RawItem first others) so_far fits knows fit =
         lift-then (Yields so_far) (Yields so_far) (items_typed w others) _ (item_typed-well w first so_far fits knows fit.0)
@@ -575,7 +575,7 @@ module _ (s : Setting) (laid_out : IsLaidOut s.program.model s.program.table) wh
         lift-then (λ _. Unit {0}) (Switches ty so_far) _ _ (if_fine-any (value_of so_far.reported.inside.known.context value)) (λ n _. constant_case-well ty at so_far n.1 knows)
     switch_item_typed-well w ty (switches.TheVariants.Default at) so_far fits knows fit = case_added-well ty at so_far None tt
     switch_item_typed-well w ty (switches.TheVariants.Item i) so_far fits knows fit =
-        lift-then (Yields so_far.reported) (Switches ty so_far) (with_reported so_far) _ (item_typed-well w i so_far.reported fits knows fit) (λ reported h. with_reported-well ty so_far reported h)
+        lift-then (Yields so_far.reported) (Switches ty so_far) (with_statements so_far) _ (item_typed-well w i so_far.reported fits knows fit) (λ reported h. with_reported-well ty so_far reported h)
 
     switch_typed-well : {n : _} → (w : Where) (ty : Shape) (row : kinds.Row_of-RawSwitchItem n) (so_far : Switching) → Fits w → Knows so_far.reported.inside → SwitchHasConstants row → IfFine (switch_typed w ty row so_far) (Switches ty so_far)
     switch_typed-well w ty kinds.end_of-RawSwitchItem so_far fits knows fit = record { reported = yields-nothing so_far.reported; cases = λ all. all }
@@ -584,7 +584,7 @@ module _ (s : Setting) (laid_out : IsLaidOut s.program.model s.program.table) wh
         (λ next h. if_fine-weaker (Switches ty next) (Switches ty so_far) (switch_typed w ty others next) (switch_typed-well w ty others next fits (h.reported.gives.knows knows) fit.1) (λ after k. switches-on ty so_far next after h k))
 
   -- the body of a function
-  pub body_typed-well : (w : Where) (list : List RawItem) (so_far : Reported) → Fits w → Knows so_far.inside → ItemsHaveConstants list → IfFine (body_typed w list so_far) (Yields so_far)
+  pub body_typed-well : (w : Where) (list : List RawItem) (so_far : TypedStatements) → Fits w → Knows so_far.inside → ItemsHaveConstants list → IfFine (body_typed w list so_far) (Yields so_far)
   body_typed-well w [] so_far fits knows fit = yields-nothing so_far
   body_typed-well w (first ∷ others) so_far fits knows fit =
       lift-then (Yields so_far) (Yields so_far) (body_typed w others) _ (item_typed-well w first so_far fits knows fit.0)

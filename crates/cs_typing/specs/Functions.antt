@@ -14,10 +14,10 @@ use Rattle.cs_scopes.specs.declared.scope.Callee.TheVariants.{Numbered}
 use Rattle.cs_scopes.specs.Verdicts.{Verdict, Fine, Fault, lift}
 use Rattle.cs_scopes.specs.Meanings.{Meaning, Function, Signature, Declaration}
 use Rattle.cs_scopes.specs.TypeNames.{starred}
-use Rattle.cs_declarations.specs.Known.{Known, declarations_of, with_declarations, declaring, meaning_here, entered, left}
+use Rattle.cs_declarations.specs.Environment.{Environment, declarations_of, with_declarations, declaring, meaning_here, entered, left}
 use Rattle.cs_declarations.specs.Parameters.{Head, parameters_typed}
-use Rattle.cs_typing.specs.Objects.{Filed, Inside, Reported, changed, with_known}
-use Rattle.cs_typing.specs.Statements.{Where, in_a_row, nothing_reported, body_typed, labels_of_items}
+use Rattle.cs_typing.specs.Objects.{Filed, Inside, TypedStatements, changed, with_known}
+use Rattle.cs_typing.specs.Statements.{Where, in_a_row, no_statements, body_typed, labels_of_items}
 
 -- a result that a function may have (C11 6.9.1, paragraph 3)
 abbrev pub is_result : Shape → Bool
@@ -87,15 +87,15 @@ function_of f d result parameters written (Some (Function before)) =
 function_of f d result parameters written other = Fine (new_function f d result parameters written)
 
 -- what the scope of parameters declares, around which stand these declarations
-abbrev pub declared_inside : Known → Known → List Declaration
+abbrev pub declared_inside : Environment → Environment → List Declaration
 declared_inside around inside = drop (length (declarations_of around)) (declarations_of inside)
 
 -- the scope of a body: that of its parameters, around which the function itself is known (C11 6.2.1, paragraphs 4 and 7)
-abbrev pub body_scope : Known → List Declaration → Known
+abbrev pub body_scope : Environment → List Declaration → Environment
 body_scope around inner = with_declarations (declarations_of around ++ inner) (length (declarations_of around)) around
 
 -- a function with its body
-abbrev pub bodied : RawFunction → RawBody → Reported → Routine → Routine
+abbrev pub bodied : RawFunction → RawBody → TypedStatements → Routine → Routine
 bodied d body reported r = record {
   name = r.name;
   at = d.place;
@@ -107,7 +107,7 @@ bodied d body reported r = record {
   written = r.written;
 }
 
-abbrev pub with_body : RawFunction → RawBody → ℕ → Filed → Reported → Verdict Filed
+abbrev pub with_body : RawFunction → RawBody → ℕ → Filed → TypedStatements → Verdict Filed
 with_body d body number f reported = Fine (record {
   known = left f.known reported.inside.known;
   globals = f.globals;
@@ -125,7 +125,7 @@ where_in result body = record { returns = result; labels = labels_of_items body.
 -- the body of a function with these parameters, in whose scope so much is declared
 abbrev pub body_added : RawFunction → RawBody → Shape → List Variable → List Declaration → Callee → Filed → Verdict Filed
 body_added d body result parameters inner (Numbered number) f =
-    lift (with_body d body number f) (body_typed (where_in result body) body.items.items (nothing_reported (at_beginning f parameters inner)))
+    lift (with_body d body number f) (body_typed (where_in result body) body.items.items (no_statements (at_beginning f parameters inner)))
 body_added d body result parameters inner other f = Fine f
 
 -- the body, where there is one

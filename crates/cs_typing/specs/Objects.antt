@@ -14,13 +14,13 @@ use Rattle.cs_scopes.specs.Verdicts.{Verdict, Fine, Fault, lift}
 use Rattle.cs_scopes.specs.Meanings.{Meaning, Global, Local}
 use Rattle.cs_types.specs.Kinds.{is_complete}
 use Rattle.cs_scopes.specs.TypeNames.{starred}
-use Rattle.cs_declarations.specs.Known.{Known, with_literals, declaring, is_declared_here, meaning_here}
+use Rattle.cs_declarations.specs.Environment.{Environment, with_literals, declaring, is_declared_here, meaning_here}
 use Rattle.cs_declarations.specs.Initializers.{InFile, InFunction, Reading, initial_typed}
 use Rattle.cs_declarations.specs.Objects.{object_type, is_constant_object}
 
 -- a file so far; its functions stand in the order of the whole file, and those that aren't declared yet are blank
 pub record Filed : Type 0 where
-  pub known : Known
+  pub known : Environment
   pub globals : List FileObject
   pub order : List (List ℕ)
   pub routines : List Routine
@@ -45,7 +45,7 @@ pub record Object : Type 0 where
   pub number : ℕ
   pub filed : Filed
 
-abbrev pub with_known : Known → Filed → Filed
+abbrev pub with_known : Environment → Filed → Filed
 with_known k f = record { known = k; globals = f.globals; order = f.order; routines = f.routines }
 
 abbrev pub with_globals : List FileObject → Filed → Filed
@@ -105,11 +105,11 @@ objects_added s base (d ∷ ds) f = lift (objects_added s base ds) (object_added
 
 -- the inside of a function so far: what is known, its parameters and locals, and how many of its labels were met
 pub record Inside : Type 0 where
-  pub known : Known
+  pub known : Environment
   pub variables : List Variable
   pub met : ℕ
 
-abbrev pub knowing : Known → Inside → Inside
+abbrev pub knowing : Environment → Inside → Inside
 knowing k i = record { known = k; variables = i.variables; met = i.met }
 
 -- a local and the statement that declares it
@@ -141,13 +141,13 @@ local_added base d i =
     else lift (λ ty. local_initialized (length i.variables) ty d.declarator.place d.initial (with_local d.declarator.name ty i)) (object_type i.known.context base d)
 
 -- statements with what is known after them
-pub record Reported : Type 0 where
+pub record TypedStatements : Type 0 where
   pub statements : List Statement
   pub inside : Inside
 
-abbrev pub after_local : List Statement → LocalDeclared → Verdict Reported
+abbrev pub after_local : List Statement → LocalDeclared → Verdict TypedStatements
 after_local before one = Fine (record { statements = before ++ one.statement ∷ []; inside = one.inside })
 
-abbrev pub locals_added : Shape → List RawInit → Reported → Verdict Reported
+abbrev pub locals_added : Shape → List RawInit → TypedStatements → Verdict TypedStatements
 locals_added base [] so_far = Fine so_far
 locals_added base (d ∷ ds) so_far = lift (locals_added base ds) (lift (after_local so_far.statements) (local_added base d so_far.inside))

@@ -25,9 +25,9 @@ use Rattle.cs_scopes.specs.Verdicts.{Verdict, Fine, Fault, lift}
 use Rattle.cs_folding.specs.TypedParts.{type_of}
 use Rattle.cs_consts.specs.Typing.{literals_after}
 use Rattle.cs_consts.specs.Roles.{value_of, assigned_value, test_of, selector_of, discarded_value}
-use Rattle.cs_declarations.specs.Known.{model_of, entered, left, with_literals}
+use Rattle.cs_declarations.specs.Environment.{model_of, entered, left, with_literals}
 use Rattle.cs_declarations.specs.Bodies.{Typing, specs_type}
-use Rattle.cs_typing.specs.Objects.{Inside, knowing, Reported, locals_added}
+use Rattle.cs_typing.specs.Objects.{Inside, knowing, TypedStatements, locals_added}
 
 -- where a statement stands: in a function with this result and these labels; whether a `break` and a `continue` lead somewhere
 pub record Where : Type 0 where
@@ -117,35 +117,35 @@ abbrev pub after_block : Inside → Inside → Inside
 after_block before i = knowing (left before.known i.known) i
 
 -- a declaration of locals in front of which statements stand
-abbrev pub declared_in : RawSpecs → List RawInit → Reported → Typing → Verdict Reported
+abbrev pub declared_in : RawSpecs → List RawInit → TypedStatements → Typing → Verdict TypedStatements
 declared_in s objects so_far ty = locals_added ty.0 objects (record { statements = so_far.statements; inside = knowing ty.1 so_far.inside })
 
 abbrev pub first_place : List RawInit → Place
 first_place [] = record { file = 0; line = 0; column = 0 }
 first_place (d ∷ ds) = d.declarator.place
 
-abbrev pub declaration_typed : RawSpecs → List RawInit → Reported → Verdict Reported
+abbrev pub declaration_typed : RawSpecs → List RawInit → TypedStatements → Verdict TypedStatements
 declaration_typed s objects so_far = lift (declared_in s objects so_far) (specs_type so_far.inside.known (first_place objects) s)
 
-abbrev pub nothing_reported : Inside → Reported
-nothing_reported i = record { statements = []; inside = i }
+abbrev pub no_statements : Inside → TypedStatements
+no_statements i = record { statements = []; inside = i }
 
-abbrev pub telling : List Statement → Part Statement → Verdict Reported
+abbrev pub telling : List Statement → Part Statement → Verdict TypedStatements
 telling before p = Fine (record { statements = before ++ p.found ∷ []; inside = p.inside })
 
 -- the first part of a `for` (C11 6.8.5.3)
-abbrev pub ran_first : Place → Part Typed → Verdict Reported
+abbrev pub ran_first : Place → Part Typed → Verdict TypedStatements
 ran_first at p = Fine (record { statements = Run at p.found ∷ []; inside = p.inside })
 
-abbrev pub first_typed : Inside → RawFirst → Verdict Reported
-first_typed i first_part.Empty = Fine (nothing_reported i)
+abbrev pub first_typed : Inside → RawFirst → Verdict TypedStatements
+first_typed i first_part.Empty = Fine (no_statements i)
 first_typed i (first_part.Run e) = lift (ran_first e.place) (dropped_in i e)
-first_typed i (first_part.Declare s objects) = declaration_typed s objects.items (nothing_reported i)
+first_typed i (first_part.Declare s objects) = declaration_typed s objects.items (no_statements i)
 
 -- what a `switch` has so far: its cases, its statements, and what is known
 pub record Switching : Type 0 where
   pub cases : List Case
-  pub reported : Reported
+  pub reported : TypedStatements
 
 -- the numbers are the same, or both are `default`
 abbrev pub same_value : Option ℤ → Option ℤ → Bool
@@ -165,8 +165,8 @@ abbrev pub case_added : Place → Switching → Option ℤ → Verdict Switching
 case_added at so_far value =
     lift (λ cases. Fine (record { cases = cases; reported = so_far.reported })) (case_put at value (length so_far.reported.statements) so_far.cases)
 
-abbrev pub with_reported : Switching → Reported → Verdict Switching
-with_reported so_far reported = Fine (record { cases = so_far.cases; reported = reported })
+abbrev pub with_statements : Switching → TypedStatements → Verdict Switching
+with_statements so_far reported = Fine (record { cases = so_far.cases; reported = reported })
 
 abbrev mutual
   -- the names of a function's labels in their order
@@ -204,7 +204,7 @@ abbrev mutual
   labels_in_switch (kinds.more_of-RawSwitchItem first others) = labels_of_switch_item first ++ labels_in_switch others
 
 -- what is made of the parts of a statement
-abbrev pub block_made : Place → Inside → Reported → Verdict (Part Statement)
+abbrev pub block_made : Place → Inside → TypedStatements → Verdict (Part Statement)
 block_made at before reported = part (after_block before reported.inside) (Block at (in_a_row reported.statements))
 
 abbrev pub run_made : Place → Part Typed → Verdict (Part Statement)
@@ -249,7 +249,7 @@ abbrev mutual
   -- a statement at a place
   pub statement_typed : Where → Inside → Place → RawStmtKind → Verdict (Part Statement)
   -- C11 6.8.2
-  statement_typed w i at (kind.Block' shape row) = lift (block_made at i) (items_typed w row (nothing_reported (in_block i)))
+  statement_typed w i at (kind.Block' shape row) = lift (block_made at i) (items_typed w row (no_statements (in_block i)))
   -- C11 6.8.3
   statement_typed w i at kind.Empty = part i (Block at Empty)
   statement_typed w i at (kind.Run e) = lift (run_made at) (dropped_in i e)
@@ -267,7 +267,7 @@ abbrev mutual
   statement_typed w i at (kind.Do' place p body test) =
       lift (λ (b : Part Statement). lift (do_made at b.found) (tested_in at b.inside test)) (statement_typed (in_loop w) i place body)
   statement_typed w i at (kind.For' first test last place p body) =
-      lift (λ (f : Reported).
+      lift (λ (f : TypedStatements).
       lift (λ (t : Part (Option Typed)).
       lift (λ (l : Part (Option Typed)).
       lift (for_made at i f.statements t.found l.found) (statement_typed (in_loop w) l.inside place body))
@@ -278,7 +278,7 @@ abbrev mutual
   statement_typed w i at (kind.Switch' value shape row) =
       lift (λ (v : Part Typed).
       lift (switch_made at i v.found)
-      (switch_typed (in_switch w) (type_of v.found) row (record { cases = []; reported = nothing_reported (in_block v.inside) })))
+      (switch_typed (in_switch w) (type_of v.found) row (record { cases = []; reported = no_statements (in_block v.inside) })))
       (selected at i value)
   -- C11 6.8.6
   statement_typed w i at (kind.Goto label) = goto_typed at i (label_number label w.labels)
@@ -290,11 +290,11 @@ abbrev mutual
       if is_first i (label_number name w.labels) then lift (label_made at i.met) (statement_typed w (meeting i) place body) else Fault Jump at
 
   -- what stands in a block, after some statements
-  pub item_typed : Where → RawItem → Reported → Verdict Reported
+  pub item_typed : Where → RawItem → TypedStatements → Verdict TypedStatements
   item_typed w (items.TheVariants.Declare s objects) so_far = declaration_typed s objects.items so_far
   item_typed w (items.TheVariants.Run' place p body) so_far = lift (telling so_far.statements) (statement_typed w so_far.inside place body)
 
-  pub items_typed : {n : _} → Where → kinds.Row_of-RawItem n → Reported → Verdict Reported
+  pub items_typed : {n : _} → Where → kinds.Row_of-RawItem n → TypedStatements → Verdict TypedStatements
   items_typed w kinds.end_of-RawItem so_far = Fine so_far
   items_typed w (kinds.more_of-RawItem first others) so_far = lift (items_typed w others) (item_typed w first so_far)
 
@@ -303,14 +303,14 @@ abbrev mutual
   switch_item_typed w ty (switches.TheVariants.Case at value) so_far =
       lift (λ n. constant_case at so_far ty n.1) (value_of so_far.reported.inside.known.context value)
   switch_item_typed w ty (switches.TheVariants.Default at) so_far = case_added at so_far None
-  switch_item_typed w ty (switches.TheVariants.Item i) so_far = lift (with_reported so_far) (item_typed w i so_far.reported)
+  switch_item_typed w ty (switches.TheVariants.Item i) so_far = lift (with_statements so_far) (item_typed w i so_far.reported)
 
   pub switch_typed : {n : _} → Where → Shape → kinds.Row_of-RawSwitchItem n → Switching → Verdict Switching
   switch_typed w ty kinds.end_of-RawSwitchItem so_far = Fine so_far
   switch_typed w ty (kinds.more_of-RawSwitchItem first others) so_far = lift (switch_typed w ty others) (switch_item_typed w ty first so_far)
 
 -- a block that was read: its scope ends
-abbrev pub closed : Inside → Reported → Reported
+abbrev pub closed : Inside → TypedStatements → TypedStatements
 closed before reported = record { statements = reported.statements; inside = after_block before reported.inside }
 
 -- what stands in a `switch`, as a list
@@ -319,7 +319,7 @@ switch_list_typed w ty [] so_far = Fine so_far
 switch_list_typed w ty (first ∷ others) so_far = lift (switch_list_typed w ty others) (switch_item_typed w ty first so_far)
 
 -- the items of a function's body (C11 6.9.1)
-abbrev pub body_typed : Where → List RawItem → Reported → Verdict Reported
+abbrev pub body_typed : Where → List RawItem → TypedStatements → Verdict TypedStatements
 body_typed w [] so_far = Fine so_far
 body_typed w (first ∷ others) so_far = lift (body_typed w others) (item_typed w first so_far)
 
@@ -332,8 +332,8 @@ labels_of_switch_list [] = []
 labels_of_switch_list (first ∷ others) = labels_of_switch_item first ++ labels_of_switch_list others
 
 -- a block, as a list of items
-abbrev pub block_typed : Where → Inside → List RawItem → Verdict Reported
-block_typed w i list = lift (λ reported. Fine (closed i reported)) (body_typed w list (nothing_reported (in_block i)))
+abbrev pub block_typed : Where → Inside → List RawItem → Verdict TypedStatements
+block_typed w i list = lift (λ reported. Fine (closed i reported)) (body_typed w list (no_statements (in_block i)))
 
 -- `while`
 abbrev pub while_typed : Where → Inside → Place → RawExpr → Place → RawStmtKind → Verdict (Part Statement)
@@ -348,7 +348,7 @@ do_typed w i at test place body =
 -- `for`
 abbrev pub for_typed : Where → Inside → Place → RawFirst → Option RawExpr → Option RawExpr → Place → RawStmtKind → Verdict (Part Statement)
 for_typed w i at first test last place body =
-    lift (λ (f : Reported).
+    lift (λ (f : TypedStatements).
     lift (λ (t : Part (Option Typed)).
     lift (λ (l : Part (Option Typed)).
     lift (for_made at i f.statements t.found l.found) (statement_typed (in_loop w) l.inside place body))
@@ -358,7 +358,7 @@ for_typed w i at first test last place body =
 
 -- a `switch` without cases or statements
 abbrev pub no_cases : Inside → Switching
-no_cases i = record { cases = []; reported = nothing_reported i }
+no_cases i = record { cases = []; reported = no_statements i }
 
 -- `switch`
 abbrev pub switch_whole : Where → Inside → Place → RawExpr → List switches.RawSwitchItem → Verdict (Part Statement)

@@ -8,12 +8,12 @@ use Rattle.cs_ast.specs.declared.typed.statement.StmtKind.{StmtKind}
 use Rattle.cs_ast.specs.declared.place.Place.{Place}
 use Rattle.cs_ast.specs.TypedView.{typed, some_typed, statement, statement_at}
 use Rattle.cs_ast.specs.TypedProgram.{variable, file_object, routine}
-use Rattle.cs_declarations.specs.View.{known_of}
+use Rattle.cs_declarations.specs.View.{environment_of}
 use Rattle.cs_typing.specs.declared.filed.Filed.{Filed as HeldFiled}
 use Rattle.cs_typing.specs.declared.inside.Inside.{Inside as HeldInside}
 use Rattle.cs_typing.specs.declared.inside.Where.{Where as HeldWhere}
 use Rattle.cs_typing.specs.declared.switches.Switched.{Switched}
-use Rattle.cs_typing.specs.Objects.{Filed, Object, Inside, LocalDeclared, Reported}
+use Rattle.cs_typing.specs.Objects.{Filed, Object, Inside, LocalDeclared, TypedStatements}
 use Rattle.cs_scopes.specs.declared.scope.Callee.{Callee}
 use Rattle.cs_scopes.specs.Meanings.{Declaration, declaration_of}
 use Rattle.cs_declarations.specs.declared.scopes.Inner.{Inner}
@@ -21,7 +21,7 @@ use Rattle.cs_typing.specs.Statements.{Where, Part, Switching}
 use Rattle.cs_typing.specs.Functions.{Routed}
 
 abbrev pub filed_of : HeldFiled → Filed
-filed_of f = record { known = known_of f.known; globals = map file_object f.globals.items; order = f.order.keys; routines = map routine f.functions.items }
+filed_of f = record { known = environment_of f.known; globals = map file_object f.globals.items; order = f.order.keys; routines = map routine f.functions.items }
 
 -- a function with the file that has it
 abbrev pub routed_of : Callee → HeldFiled → Routed
@@ -36,11 +36,11 @@ abbrev pub object_of : ℕ → HeldFiled → Object
 object_of number f = record { number = number; filed = filed_of f }
 
 abbrev pub inside_of : HeldInside → Inside
-inside_of i = record { known = known_of i.known; variables = map variable i.locals.items; met = i.met }
+inside_of i = record { known = environment_of i.known; variables = map variable i.locals.items; met = i.met }
 
 -- parts of statements with the inside of the function after them
-abbrev pub reported_of : List Stmt → HeldInside → Reported
-reported_of statements i = record { statements = map statement statements; inside = inside_of i }
+abbrev pub typed_statements_of : List Stmt → HeldInside → TypedStatements
+typed_statements_of statements i = record { statements = map statement statements; inside = inside_of i }
 
 abbrev pub local_of : Stmt → HeldInside → LocalDeclared
 local_of s i = record { statement = statement s; inside = inside_of i }
@@ -63,7 +63,7 @@ kind_part at kind i = kind_at at kind (inside_of i)
 
 -- a `switch` so far
 abbrev pub switching_of : Switched → HeldInside → Switching
-switching_of s i = record { cases = s.cases; reported = reported_of s.statements.items i }
+switching_of s i = record { cases = s.cases; reported = typed_statements_of s.statements.items i }
 
 abbrev pub where_of : HeldWhere → Where
 where_of w = record { returns = shape_of w.returns.now; labels = w.labels.now; breaks = w.breaks; continues = w.continues }

@@ -5,7 +5,7 @@ ghost use Rattle.cs_ast.specs.TypedProgram.{variable, routine};
 ghost use Rattle.cs_scopes.specs.declared.scope.Callee.TheVariants as callee;
 ghost use Rattle.cs_scopes.specs.Verdicts.{Answers};
 ghost use Rattle.cs_ast.specs.TypedView.{statement};
-ghost use Rattle.cs_typing.specs.Objects.{Reported as ReportedOf, changed};
+ghost use Rattle.cs_typing.specs.Objects.{TypedStatements as TypedStatementsOf, changed};
 ghost use Rattle.cs_typing.specs.Functions as functions;
 ghost use Rattle.cs_typing.specs.Functions.{body_added, bodied, function_added};
 ghost use Rattle.cs_typing.specs.View.{filed_of, inner_of};
@@ -34,7 +34,7 @@ fn put_body(
     locals: Vec<Local>,
     statements: Vec<Stmt>,
 ) -> Result<(), AllocError>
-    ensures { (reported : ReportedOf) → reported.inside.variables ≡ map variable locals.items → reported.statements ≡ map statement statements.items → OnOk result (map routine functions.new.items ≡ changed number (bodied head.now body.now reported) (map routine functions.old.items)) }
+    ensures { (reported : TypedStatementsOf) → reported.inside.variables ≡ map variable locals.items → reported.statements ≡ map statement statements.items → OnOk result (map routine functions.new.items ≡ changed number (bodied head.now body.now reported) (map routine functions.old.items)) }
 {
     let block = Box::new(alloc, StmtKind::Block(statements))?;
     if let Some(function) = functions.get_mut(number as usize) {

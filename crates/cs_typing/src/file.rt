@@ -12,7 +12,7 @@ use crate::filed::Filed;
 use crate::order::{blanks, order_of};
 use cs_ast::raw::declaration::RawSpecs;
 use cs_ast::raw::external::{RawExternal, RawExternalKind};
-use cs_declarations::{Known, specs_type};
+use cs_declarations::{Environment, specs_type};
 use cs_names::Name;
 use cs_scopes::{
     Callee, Context, Declaration, Declarations, Function, Meaning, Scope, Tags, TypeRefusal,
@@ -92,7 +92,7 @@ pub fn beginning(
         list: Structs::new(alloc),
     };
     Ok(Filed {
-        known: Known {
+        known: Environment {
             context: Context {
                 model,
                 table,

@@ -4,8 +4,8 @@ ghost use Rattle.cs_types.specs.Shape.{shape_of};
 ghost use Rattle.cs_ast.specs.TypedProgram.{variable, routine};
 ghost use Rattle.cs_scopes.specs.Meanings.{signature_of};
 ghost use Rattle.cs_declarations.specs.Answered.{AnswersWith};
-ghost use Rattle.cs_declarations.specs.Known.{meaning_here};
-ghost use Rattle.cs_declarations.specs.View.{known_of};
+ghost use Rattle.cs_declarations.specs.Environment.{meaning_here};
+ghost use Rattle.cs_declarations.specs.View.{environment_of};
 ghost use Rattle.cs_typing.specs.Functions as functions;
 ghost use Rattle.cs_typing.specs.Objects.{changed};
 ghost use Rattle.cs_typing.specs.Functions.{is_result, same_types, types_of, has_body, may_be_function, number_in, bodiless, numbered};
@@ -127,7 +127,7 @@ impl Filed {
     /// Whether a name may be declared as that of a function with this result, and with a body, if it gets one: it stands for nothing
     /// in the file yet, or for a function with this result, which gets one body at most.
     pub fn may_be_function(&self, name: &Name, with_body: bool, returns: &CType) -> bool
-        ensures { result ≡ may_be_function (filed_of self.now) with_body (shape_of returns.now) (meaning_here name.now (known_of self.now.known)) }
+        ensures { result ≡ may_be_function (filed_of self.now) with_body (shape_of returns.now) (meaning_here name.now (environment_of self.now.known)) }
     {
         match self.known.meaning_here(name) {
             None => true,
@@ -173,7 +173,7 @@ impl Filed {
         returns: &CType,
         parameters: &Head,
     ) -> Result<Callee, TypeRefusal>
-        ensures { AnswersWith routed_of (functions.function_of (filed_of self.old) head.now (shape_of returns.now) (map variable parameters.now.parameters.items) parameters.now.written.items (meaning_here head.now.name (known_of self.old.known))) result self.new }
+        ensures { AnswersWith routed_of (functions.function_of (filed_of self.old) head.now (shape_of returns.now) (map variable parameters.now.parameters.items) parameters.now.written.items (meaning_here head.now.name (environment_of self.old.known))) result self.new }
     {
         match self.known.meaning_here(&head.name) {
             Some(Meaning::Function(before)) => {

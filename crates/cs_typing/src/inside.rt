@@ -4,7 +4,7 @@ ghost use Rattle.cs_types.specs.Shape.{shape_of};
 ghost use Rattle.cs_declarations.specs.Answered.{AnswersWith};
 ghost use Rattle.cs_typing.specs.Objects.{local_added, local_initialized, locals_added, with_local};
 ghost use Rattle.cs_typing.specs.Statements.{in_loop, in_switch, tested_in, dropped_in, selected, tested_if, dropped_if, first_place, declaration_typed};
-ghost use Rattle.cs_typing.specs.View.{inside_of, where_of, typed_part, optional_part, local_of, reported_of};
+ghost use Rattle.cs_typing.specs.View.{inside_of, where_of, typed_part, optional_part, local_of, typed_statements_of};
 
 use crate::labels::Labels;
 use cs_ast::Place;
@@ -14,7 +14,7 @@ use cs_ast::typed::expression::Expr;
 use cs_ast::typed::program::Local;
 use cs_ast::typed::statement::{Stmt, StmtKind};
 use cs_consts::{discarded, selector, test};
-use cs_declarations::{Known, Storage, initial_typed, object_type, specs_type};
+use cs_declarations::{Environment, Storage, initial_typed, object_type, specs_type};
 use cs_names::Name;
 use cs_scopes::{Meaning, TypeCode, TypeRefusal};
 use cs_types::CType;
@@ -23,7 +23,7 @@ use std::alloc::{AllocError, Global};
 /// What is known, the parameters and locals, and how many labels were met.
 #[derive(Drop)]
 pub struct Inside {
-    pub known: Known,
+    pub known: Environment,
     pub locals: Vec<Local>,
     pub met: u32,
 }
@@ -207,7 +207,7 @@ impl Inside {
         objects: &[RawInit],
         before: Vec<Stmt>,
     ) -> Result<Vec<Stmt>, TypeRefusal>
-        ensures { AnswersWith (λ list following. reported_of list.items following) (locals_added (shape_of base.now) objects.now (reported_of before.items self.old)) result self.new }
+        ensures { AnswersWith (λ list following. typed_statements_of list.items following) (locals_added (shape_of base.now) objects.now (typed_statements_of before.items self.old)) result self.new }
     {
         let mut statements = before;
         for declared in objects {
@@ -224,7 +224,7 @@ impl Inside {
         objects: &[RawInit],
         before: Vec<Stmt>,
     ) -> Result<Vec<Stmt>, TypeRefusal>
-        ensures { AnswersWith (λ list following. reported_of list.items following) (declaration_typed specs.now objects.now (reported_of before.items self.old)) result self.new }
+        ensures { AnswersWith (λ list following. typed_statements_of list.items following) (declaration_typed specs.now objects.now (typed_statements_of before.items self.old)) result self.new }
     {
         let base = specs_type(alloc, &mut self.known, first_place(objects), specs)?;
         self.declare_locals(alloc, &base, objects, before)

@@ -3,8 +3,8 @@ ghost use Rattle.std.specs.Prelude.{◌≡◌, Some, IfOk};
 ghost use Rattle.cs_types.specs.Shape.{shape_of};
 ghost use Rattle.cs_ast.specs.TypedView.{initial};
 ghost use Rattle.cs_declarations.specs.Answered.{AnswersWith, Leaves};
-ghost use Rattle.cs_declarations.specs.Known.{meaning_here};
-ghost use Rattle.cs_declarations.specs.View.{known_of};
+ghost use Rattle.cs_declarations.specs.Environment.{meaning_here};
+ghost use Rattle.cs_declarations.specs.View.{environment_of};
 ghost use Rattle.cs_typing.specs.Objects as objects;
 ghost use Rattle.cs_typing.specs.Objects.{is_completed, may_be_object, new_object, with_globals, changed, made_constant, holding, is_initialized, object_initialized, object_added, objects_added};
 ghost use Rattle.cs_typing.specs.View.{filed_of, object_of};
@@ -36,7 +36,7 @@ impl Filed {
     // Whether a name may be declared as an object's, which is initialized there or isn't: it stands for nothing in the file yet, or for
     // an object, which is initialized once and has a complete type.
     fn may_be_object(&self, name: &Name, completed: bool, initializes: bool) -> bool
-        ensures { result ≡ may_be_object (filed_of self.now).globals completed initializes (meaning_here name.now (known_of self.now.known)) }
+        ensures { result ≡ may_be_object (filed_of self.now).globals completed initializes (meaning_here name.now (environment_of self.now.known)) }
     {
         match self.known.meaning_here(name) {
             None => true,
@@ -129,7 +129,7 @@ impl Filed {
         declarator: &RawDeclarator,
         ty: &CType,
     ) -> Result<u32, TypeRefusal>
-        ensures { AnswersWith object_of (objects.object_of (filed_of self.old) declarator.now (meaning_here declarator.now.name (known_of self.old.known)) (shape_of ty.now)) result self.new }
+        ensures { AnswersWith object_of (objects.object_of (filed_of self.old) declarator.now (meaning_here declarator.now.name (environment_of self.old.known)) (shape_of ty.now)) result self.new }
     {
         match self.known.meaning_here(&declarator.name) {
             Some(Meaning::Global(number, before)) => {

@@ -12,7 +12,7 @@ use crate::filed::Filed;
 use cs_ast::raw::external::RawExternal;
 use cs_ast::typed::program::Program;
 use cs_ast::{Token, TokenKind};
-use cs_declarations::Known;
+use cs_declarations::Environment;
 use cs_names::Name;
 use cs_scopes::TypeRefusal;
 use cs_types::DataModel;
@@ -66,7 +66,7 @@ pub fn typed(
         functions,
         ..
     } = typed_file(alloc, model, file)?;
-    let Known {
+    let Environment {
         context,
         literals,
         ..

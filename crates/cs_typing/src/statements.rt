@@ -3,8 +3,8 @@ ghost use Rattle.std.specs.Prelude.{◌≡◌, if◌then◌else◌};
 ghost use Rattle.cs_types.specs.Shape.{shape_of};
 ghost use Rattle.cs_declarations.specs.Answered.{AnswersWith};
 ghost use Rattle.cs_typing.specs.Objects.{Inside as InsideOf};
-ghost use Rattle.cs_typing.specs.Statements.{nothing_reported, statement_typed, while_typed, do_typed, for_typed, first_typed, block_typed, body_typed, item_typed, returned, value_returned, is_void, label_number, goto_typed, label_typed};
-ghost use Rattle.cs_typing.specs.View.{inside_of, where_of, reported_of, statement_part, kind_part, kind_at, typed_part, optional_part};
+ghost use Rattle.cs_typing.specs.Statements.{no_statements, statement_typed, while_typed, do_typed, for_typed, first_typed, block_typed, body_typed, item_typed, returned, value_returned, is_void, label_number, goto_typed, label_typed};
+ghost use Rattle.cs_typing.specs.View.{inside_of, where_of, typed_statements_of, statement_part, kind_part, kind_at, typed_part, optional_part};
 ghost use Rattle.cs_scopes.specs.Verdicts.{Answers, Fine, Fault};
 ghost use Rattle.cs_scopes.specs.declared.refusal.TypeCode.TheVariants.{Jump};
 
@@ -143,7 +143,7 @@ fn first_typed(
     inside: &mut Inside,
     first: &RawFirst,
 ) -> Result<Vec<Stmt>, TypeRefusal>
-    ensures { AnswersWith (λ list following. reported_of list.items following) (first_typed (inside_of inside.old) first.now) result inside.new }
+    ensures { AnswersWith (λ list following. typed_statements_of list.items following) (first_typed (inside_of inside.old) first.now) result inside.new }
 {
     let mut statements = Vec::new(alloc);
     match first {
@@ -168,7 +168,7 @@ fn block(
     at: Where,
     items: &[RawItem],
 ) -> Result<Vec<Stmt>, TypeRefusal>
-    ensures { AnswersWith (λ list following. reported_of list.items following) (block_typed (where_of at.entry) (inside_of inside.old) items.now) result inside.new }
+    ensures { AnswersWith (λ list following. typed_statements_of list.items following) (block_typed (where_of at.entry) (inside_of inside.old) items.now) result inside.new }
 {
     let around = inside.known.enter();
     let statements = items_typed(alloc, inside, at, items)?;
@@ -184,7 +184,7 @@ pub fn items_typed(
     at: Where,
     items: &[RawItem],
 ) -> Result<Vec<Stmt>, TypeRefusal>
-    ensures { AnswersWith (λ list following. reported_of list.items following) (body_typed (where_of at.entry) items.now (nothing_reported (inside_of inside.old))) result inside.new }
+    ensures { AnswersWith (λ list following. typed_statements_of list.items following) (body_typed (where_of at.entry) items.now (no_statements (inside_of inside.old))) result inside.new }
 {
     let mut statements = Vec::new(alloc);
     for item in items {
@@ -202,7 +202,7 @@ pub fn item_typed(
     item: &RawItem,
     before: Vec<Stmt>,
 ) -> Result<Vec<Stmt>, TypeRefusal>
-    ensures { AnswersWith (λ list following. reported_of list.items following) (item_typed (where_of at.entry) item.now (reported_of before.items inside.old)) result inside.new }
+    ensures { AnswersWith (λ list following. typed_statements_of list.items following) (item_typed (where_of at.entry) item.now (typed_statements_of before.items inside.old)) result inside.new }
 {
     match item {
         RawItem::Declare(specs, objects) => inside.declare(alloc, specs, objects, before),

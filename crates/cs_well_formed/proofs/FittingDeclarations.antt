@@ -33,7 +33,7 @@ use Rattle.cs_scopes.specs.Verdicts.{Verdict, Fine, lift}
 use Rattle.cs_scopes.specs.Scopes.{newest}
 use Rattle.cs_scopes.specs.Sizes.{bytes_in}
 use Rattle.cs_scopes.specs.TypeNames.{whole_word, typedef_at, enum_at, tag_place, starred, complete_at}
-use Rattle.cs_declarations.specs.Known.{Known, table_of, declarations_of, declaring, is_declared_here}
+use Rattle.cs_declarations.specs.Environment.{Environment, table_of, declarations_of, declaring, is_declared_here}
 use Rattle.cs_declarations.specs.Bodies.{Typing, empty_struct, with_struct, with_tagged_struct, tag_in, struct_named, word_type, align_in, Laying, nothing_laid, has_member, placed_if, member_added, member_declared, declarator_type, members_declared, is_int, Counting, constant_added, number_said, constant_declared, constants_declared, with_enum_tag, is_new_enum, enum_body, Opening, is_among, opening_tagged, opening, name_or_none, Body, struct_read, group_declared, first_name, plain_row, row_type, members_read, plain_words, words_type, specs_type, typedef_added, typedefs_added}
 use Rattle.cs_declarations.specs.Parameters.{Head, Passed, name_in, may_write, naming, is_free_name, with_parameter, parameter_passed, parameter_typed, parameters_after, parameters_typed}
 use Rattle.cs_well_formed.specs.Nodes.{struct_nodes}
@@ -43,27 +43,27 @@ use Rattle.cs_well_formed.proofs.Verdicts.{IfFine, if_fine-at, if_fine-any, if_f
 use Rattle.cs_well_formed.proofs.TextSizes.{size-pointers, size-declarator, size-with_commas, size-spec, size-specs, size-members, size-parameter, token-some, all_nodes-append, all_nodes-set}
 
 -- what is known after something: no literal more, and so many structs and members more at most
-pub record Adds (count : ℕ) (k m : Known) : Type 0 where
+pub record Adds (count : ℕ) (k m : Environment) : Type 0 where
   pub literals : m.literals ≡ k.literals
   pub structs : known_nodes m ≤ known_nodes k + count
 
-adds-none : (k : Known) → Adds 0 k k
+adds-none : (k : Environment) → Adds 0 k k
 adds-none k = record { literals = refl; structs = omega arith }
 
-adds-more : (a b : ℕ) (k m : Known) → a ≤ b → Adds a k m → Adds b k m
+adds-more : (a b : ℕ) (k m : Environment) → a ≤ b → Adds a k m → Adds b k m
 adds-more a b k m room h = record { literals = h.literals; structs = omega (arith, h.structs) }
 
-adds-then : (a b : ℕ) (k m n : Known) → Adds a k m → Adds b m n → Adds (a + b) k n
+adds-then : (a b : ℕ) (k m n : Environment) → Adds a k m → Adds b m n → Adds (a + b) k n
 adds-then a b k m n h g = record { literals = g.literals ∙ h.literals; structs = omega (arith, h.structs, g.structs) }
 
 -- one more struct
-adds-struct : (name : List ℕ) (k : Known) → Adds 1 k (with_struct name k)
+adds-struct : (name : List ℕ) (k : Environment) → Adds 1 k (with_struct name k)
 adds-struct name k = record { literals = refl; structs = omega (arith, all_nodes-append struct_nodes (table_of k) (empty_struct name ∷ [])) }
 
-adds-tagged : (name : List ℕ) (k : Known) → Adds 1 k (with_tagged_struct name k)
+adds-tagged : (name : List ℕ) (k : Environment) → Adds 1 k (with_tagged_struct name k)
 adds-tagged name k = let one = adds-struct name k in record { literals = refl; structs = one.structs }
 
-abbrev AddsTo : ℕ → Known → Typing → Type 0
+abbrev AddsTo : ℕ → Environment → Typing → Type 0
 AddsTo count k r = Adds count k r.1
 
 -- a word that names a type may make one struct
@@ -80,15 +80,15 @@ whole-counted (word.Typedef name ∷ all) = omega arith
 whole-counted (word.Struct name ∷ all) = omega arith
 whole-counted (word.Enum name ∷ all) = omega arith
 
-same-adds : (count : ℕ) (k : Known) (v : Verdict Shape) → IfFine (lift (λ ty. Fine (ty, k)) v) (AddsTo count k)
+same-adds : (count : ℕ) (k : Environment) (v : Verdict Shape) → IfFine (lift (λ ty. Fine (ty, k)) v) (AddsTo count k)
 same-adds count k v = lift-then (λ _. Unit {0}) (AddsTo count k) (λ ty. Fine (ty, k)) v (if_fine-any v) (λ _ _. adds-more 0 count k k (omega arith) (adds-none k))
 
-struct_named-adds : (at : Place) (name : List ℕ) (k : Known) (meaning : Option TagMeaning) → IfFine (struct_named at name k meaning) (AddsTo 1 k)
+struct_named-adds : (at : Place) (name : List ℕ) (k : Environment) (meaning : Option TagMeaning) → IfFine (struct_named at name k meaning) (AddsTo 1 k)
 struct_named-adds at name k (Some (tag.Struct number)) = adds-more 0 1 k k (omega arith) (adds-none k)
 struct_named-adds at name k (Some tag.Enum) = tt
 struct_named-adds at name k None = adds-tagged name k
 
-word_type-adds : (k : Known) (at_tag : Option Place) (at : Place) (all : List TypeWord) (one : Option TypeWord) → IfFine (word_type k at_tag at all one) (AddsTo (word_count one) k)
+word_type-adds : (k : Environment) (at_tag : Option Place) (at : Place) (all : List TypeWord) (one : Option TypeWord) → IfFine (word_type k at_tag at all one) (AddsTo (word_count one) k)
 word_type-adds k at_tag at all None = adds-none k
 word_type-adds k at_tag at all (Some (word.Typedef name)) = same-adds 1 k (typedef_at at (newest name (declarations_of k)))
 word_type-adds k at_tag at all (Some (word.Struct name)) = struct_named-adds (tag_place at at_tag) name k (tag_in k name)
@@ -98,13 +98,13 @@ word_type-adds k at_tag at all (Some (word.Integer kind)) = adds-more 0 1 k k (o
 word_type-adds k at_tag at all (Some word.Void) = adds-more 0 1 k k (omega arith) (adds-none k)
 
 -- the type of words that have room
-word_type-fits : (k : Known) (at_tag : Option Place) (at : Place) (all : List TypeWord) (size : ℕ) → length all ≤ size → IfFine (word_type k at_tag at all (whole_word all)) (AddsTo (16 * size) k)
+word_type-fits : (k : Environment) (at_tag : Option Place) (at : Place) (all : List TypeWord) (size : ℕ) → length all ≤ size → IfFine (word_type k at_tag at all (whole_word all)) (AddsTo (16 * size) k)
 word_type-fits k at_tag at all size small =
     if_fine-weaker (AddsTo (word_count (whole_word all)) k) (AddsTo (16 * size) k) _ (word_type-adds k at_tag at all (whole_word all))
     (λ r h. adds-more (word_count (whole_word all)) (16 * size) k r.1 (omega (arith, whole-counted all)) h)
 
 -- the constants of an enum make no struct
-abbrev CountsOn : Known → Counting → Type 0
+abbrev CountsOn : Environment → Counting → Type 0
 CountsOn k r = Adds 0 k r.known
 
 constant_declared-adds : (e : RawEnumerator) (so_far : Counting) → IfFine (constant_declared e so_far) (CountsOn so_far.known)
@@ -119,11 +119,11 @@ constants_declared-adds (e ∷ es) so_far =
     lift-then (CountsOn so_far.known) (CountsOn so_far.known) (constants_declared es) _ (constant_declared-adds e so_far)
     (λ r first. if_fine-weaker (CountsOn r.known) (CountsOn so_far.known) (constants_declared es r) (constants_declared-adds es r) (λ x others. adds-then 0 0 so_far.known r.known x.known first others))
 
-enum_tag-adds : (count : ℕ) (k m : Known) (name : Option (List ℕ)) → Adds 0 k m → Adds count k (with_enum_tag name m)
+enum_tag-adds : (count : ℕ) (k m : Environment) (name : Option (List ℕ)) → Adds 0 k m → Adds count k (with_enum_tag name m)
 enum_tag-adds count k m None h = record { literals = h.literals; structs = omega (arith, h.structs) }
 enum_tag-adds count k m (Some name) h = record { literals = h.literals; structs = omega (arith, h.structs) }
 
-enum_body-adds : (count : ℕ) (k : Known) (at : Place) (name : Option (List ℕ)) (constants : List RawEnumerator) → IfFine (enum_body k at name constants) (AddsTo count k)
+enum_body-adds : (count : ℕ) (k : Environment) (at : Place) (name : Option (List ℕ)) (constants : List RawEnumerator) → IfFine (enum_body k at name constants) (AddsTo count k)
 enum_body-adds count k at name constants =
     cond-then (AddsTo count k) (is_new_enum k name) _ _
     (λ _. lift-then (CountsOn k) (AddsTo count k) (λ (all : Counting). Fine (integer Int, with_enum_tag name all.known)) _
@@ -132,16 +132,16 @@ enum_body-adds count k at name constants =
     (λ _. tt)
 
 -- the struct whose body begins
-abbrev OpensOn : Known → Opening → Type 0
+abbrev OpensOn : Environment → Opening → Type 0
 OpensOn k o = Adds 1 k o.known
 
-opening_tagged-adds : (at : Place) (name : List ℕ) (k : Known) (meaning : Option TagMeaning) → IfFine (opening_tagged at name k meaning) (OpensOn k)
+opening_tagged-adds : (at : Place) (name : List ℕ) (k : Environment) (meaning : Option TagMeaning) → IfFine (opening_tagged at name k meaning) (OpensOn k)
 opening_tagged-adds at name k (Some (tag.Struct number)) =
     cond-then (OpensOn k) (is_among number k.reading || is_some (members_of (table_of k) number)) _ _ (λ _. tt) (λ _. record { literals = refl; structs = omega arith })
 opening_tagged-adds at name k (Some tag.Enum) = tt
 opening_tagged-adds at name k None = let one = adds-tagged name k in record { literals = refl; structs = one.structs }
 
-opening-adds : (at : Place) (name : Option (List ℕ)) (k : Known) → IfFine (opening at name k) (OpensOn k)
+opening-adds : (at : Place) (name : Option (List ℕ)) (k : Environment) → IfFine (opening at name k) (OpensOn k)
 opening-adds at (Some name) k = opening_tagged-adds at name k (tag_in k name)
 opening-adds at None k = let one = adds-struct [] k in record { literals = refl; structs = one.structs }
 
@@ -221,11 +221,11 @@ plain_words-room (words.TheVariants.Struct' name shape row ∷ others) = omega (
 plain_words-room (words.TheVariants.Enum name constants comma ∷ others) = omega (arith, sized-specs (spec (words.TheVariants.Enum name constants comma)) (specs_list others), plain_words-room others)
 
 -- members so far, and the structs that their types make known
-record BodyFits (before : Laying) (size : ℕ) (k : Known) (b : Body) : Type 0 where
+record BodyFits (before : Laying) (size : ℕ) (k : Environment) (b : Body) : Type 0 where
   literals : b.known.literals ≡ k.literals
   nodes : known_nodes b.known + length b.laying.members ≤ known_nodes k + length before.members + 16 * size
 
-struct_read-fits : (k : Known) (o : Opening) (reading : List ℕ) (name : Option (List ℕ)) (v : Verdict Body) (inside size : ℕ) → OpensOn k o → IfFine v (BodyFits nothing_laid inside o.known) → inside + 3 ≤ size → IfFine (lift (struct_read o reading name) v) (AddsTo (16 * size) k)
+struct_read-fits : (k : Environment) (o : Opening) (reading : List ℕ) (name : Option (List ℕ)) (v : Verdict Body) (inside size : ℕ) → OpensOn k o → IfFine v (BodyFits nothing_laid inside o.known) → inside + 3 ≤ size → IfFine (lift (struct_read o reading name) v) (AddsTo (16 * size) k)
 struct_read-fits k o reading name v inside size h read room =
     lift-then (BodyFits nothing_laid inside o.known) (AddsTo (16 * size) k) (struct_read o reading name) v read
     (λ body fits. record {
@@ -235,14 +235,14 @@ struct_read-fits k o reading name v inside size h read room =
           omega (arith, all_nodes-set struct_nodes (table_of body.known) o.number laid, fits.nodes, h.structs);
     })
 
-group-fits : (k : Known) (declarators : List RawDeclarator) (before : Laying) (ty : Typing) (size : ℕ) → AddsTo (16 * size) k ty → IfFine (group_declared declarators before ty) (BodyFits before (size + size_of (with_commas declarator_text (map declarator declarators))) k)
+group-fits : (k : Environment) (declarators : List RawDeclarator) (before : Laying) (ty : Typing) (size : ℕ) → AddsTo (16 * size) k ty → IfFine (group_declared declarators before ty) (BodyFits before (size + size_of (with_commas declarator_text (map declarator declarators))) k)
 group-fits k declarators before ty size h =
     lift-then (LaysOn before (length declarators)) (BodyFits before (size + size_of (with_commas declarator_text (map declarator declarators))) k) (λ laying. Fine (record { laying = laying; known = ty.1 })) _
     (members_declared-lay ty.1.context ty.0 declarators before)
     (λ laying laid. record { literals = h.literals; nodes = omega (arith, h.structs, laid, sized-declarators declarators) })
 
 mutual
-  row_type-fits : {n : _} (k : Known) (at_tag : Option Place) (at : Place) (all : List TypeWord) (row : words.Row_of-SpecWord n) (size : ℕ) → length all ≤ size → size_of (specs_text (specs_row row)) ≤ size → IfFine (row_type k at_tag at all row) (AddsTo (16 * size) k)
+  row_type-fits : {n : _} (k : Environment) (at_tag : Option Place) (at : Place) (all : List TypeWord) (row : words.Row_of-SpecWord n) (size : ℕ) → length all ≤ size → size_of (specs_text (specs_row row)) ≤ size → IfFine (row_type k at_tag at all row) (AddsTo (16 * size) k)
   row_type-fits k at_tag at all words.end_of-SpecWord size plain room = word_type-fits k at_tag at all size plain
   row_type-fits k at_tag at all (words.more_of-SpecWord words.TheVariants.Static others) size plain room =
       row_type-fits k at_tag at all others size plain (omega (arith, sized-specs Static (specs_row others)))
@@ -255,7 +255,7 @@ mutual
       (omega (arith, room, sized-body name (members row), sized-specs (StructBody name (members row)) (specs_row others))))
   row_type-fits k at_tag at all (words.more_of-SpecWord (words.TheVariants.Enum name constants comma) others) size plain room = enum_body-adds (16 * size) k (tag_place at at_tag) name constants.items
 
-  members_read-fits : {n : _} (k : Known) (row : words.Row_of-RawMember n) (before : Laying) → IfFine (members_read k row before) (BodyFits before (size_of (members_text (members row))) k)
+  members_read-fits : {n : _} (k : Environment) (row : words.Row_of-RawMember n) (before : Laying) → IfFine (members_read k row before) (BodyFits before (size_of (members_text (members row))) k)
   members_read-fits k words.end_of-RawMember before = record { literals = refl; nodes = omega arith }
   members_read-fits k (words.more_of-RawMember shape row tag declarators others) before =
       let size = size_of (specs_text (specs_row row)) in
@@ -269,7 +269,7 @@ mutual
       (λ read h. if_fine-weaker (BodyFits read.laying rest read.known) (BodyFits before whole k) (members_read read.known others read.laying) (members_read-fits read.known others read.laying)
       (λ b g. record { literals = g.literals ∙ h.literals; nodes = omega (arith, h.nodes, g.nodes, sized-group (specs_row row) (map declarator declarators.items) (members others)) }))
 
-words_type-fits : (k : Known) (at_tag : Option Place) (at : Place) (all : List TypeWord) (list : List SpecWord) (size : ℕ) → length all ≤ size → size_of (specs_text (specs_list list)) ≤ size → IfFine (words_type k at_tag at all list) (AddsTo (16 * size) k)
+words_type-fits : (k : Environment) (at_tag : Option Place) (at : Place) (all : List TypeWord) (list : List SpecWord) (size : ℕ) → length all ≤ size → size_of (specs_text (specs_list list)) ≤ size → IfFine (words_type k at_tag at all list) (AddsTo (16 * size) k)
 words_type-fits k at_tag at all [] size plain room = word_type-fits k at_tag at all size plain
 words_type-fits k at_tag at all (words.TheVariants.Static ∷ others) size plain room =
     words_type-fits k at_tag at all others size plain (omega (arith, sized-specs Static (specs_list others)))
@@ -283,7 +283,7 @@ words_type-fits k at_tag at all (words.TheVariants.Struct' name shape row ∷ ot
 words_type-fits k at_tag at all (words.TheVariants.Enum name constants comma ∷ others) size plain room = enum_body-adds (16 * size) k (tag_place at at_tag) name constants.items
 
 -- the words before declarators
-specs_type-fits : (k : Known) (at : Place) (raw : RawSpecs) → IfFine (specs_type k at raw) (AddsTo (16 * size_of (specs_text (specs raw))) k)
+specs_type-fits : (k : Environment) (at : Place) (raw : RawSpecs) → IfFine (specs_type k at raw) (AddsTo (16 * size_of (specs_text (specs raw))) k)
 specs_type-fits k at raw =
     words_type-fits k raw.tag at (plain_words raw.words.items) raw.words.items (size_of (specs_text (specs raw))) (plain_words-room raw.words.items) (omega arith)
 
@@ -293,12 +293,12 @@ words_are_bounded k m at raw ty is =
     record { literals = h.literals; structs = h.structs }
 
 -- typedefs
-typedef_added-adds : (base : Shape) (d : RawDeclarator) (k : Known) → IfFine (typedef_added base d k) (Adds 0 k)
+typedef_added-adds : (base : Shape) (d : RawDeclarator) (k : Environment) → IfFine (typedef_added base d k) (Adds 0 k)
 typedef_added-adds base d k =
     cond-then (Adds 0 k) (is_declared_here d.name k) _ _ (λ _. tt)
     (λ _. lift-then (λ _. Unit {0}) (Adds 0 k) (λ ty. Fine (declaring d.name (Typedef ty) k)) _ (if_fine-any (declarator_type k.context base None d)) (λ ty _. record { literals = refl; structs = omega arith }))
 
-typedefs_added-adds : (base : Shape) (ds : List RawDeclarator) (k : Known) → IfFine (typedefs_added base ds k) (Adds 0 k)
+typedefs_added-adds : (base : Shape) (ds : List RawDeclarator) (k : Environment) → IfFine (typedefs_added base ds k) (Adds 0 k)
 typedefs_added-adds base [] k = adds-none k
 typedefs_added-adds base (d ∷ ds) k =
     lift-then (Adds 0 k) (Adds 0 k) (typedefs_added base ds) _ (typedef_added-adds base d k)
@@ -314,11 +314,11 @@ record HeadFits (before : Head) (count : ℕ) (after : Head) : Type 0 where
   literals : after.known.literals ≡ before.known.literals
   nodes : length after.variables + length after.written + known_nodes after.known ≤ length before.variables + length before.written + known_nodes before.known + count
 
-naming-adds : (name : Option RawName) (number : ℕ) (ty : Shape) (k : Known) → Adds 0 k (naming name number ty k)
+naming-adds : (name : Option RawName) (number : ℕ) (ty : Shape) (k : Environment) → Adds 0 k (naming name number ty k)
 naming-adds None number ty k = adds-none k
 naming-adds (Some name) number ty k = record { literals = refl; structs = omega arith }
 
-with_parameter-fits : (p : RawParameter) (before : Head) (k : Known) (found : Passed) (count : ℕ) → Adds count before.known k → IfFine (with_parameter p before k found) (HeadFits before (count + 2))
+with_parameter-fits : (p : RawParameter) (before : Head) (k : Environment) (found : Passed) (count : ℕ) → Adds count before.known k → IfFine (with_parameter p before k found) (HeadFits before (count + 2))
 with_parameter-fits p before k found count h =
     let named = naming-adds p.name (length before.variables) found.ty k in
     record {
@@ -354,7 +354,7 @@ sized-parameters : (ps : List RawParameter) → size_of (each_after_comma parame
 sized-parameters [] = omega arith
 sized-parameters (p ∷ ps) = omega (arith, size-parameter (parameter p) (each_after_comma parameter_text (map parameter ps) []))
 
-parameters_typed-fits : (k : Known) (raw : RawParameters) → IfFine (parameters_typed k raw) (λ head. IsBoundedHead k head (size_of (parameters_text (parameters raw))))
+parameters_typed-fits : (k : Environment) (raw : RawParameters) → IfFine (parameters_typed k raw) (λ head. IsBoundedHead k head (size_of (parameters_text (parameters raw))))
 parameters_typed-fits k parameter_lists.Empty = record { literals = refl; nodes = omega arith }
 parameters_typed-fits k parameter_lists.Void = record { literals = refl; nodes = omega arith }
 parameters_typed-fits k (parameter_lists.List list) =

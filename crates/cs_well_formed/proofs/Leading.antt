@@ -34,7 +34,7 @@ use Rattle.cs_scopes.specs.Verdicts.{Verdict, Fine, lift}
 use Rattle.cs_scopes.specs.Scopes.{newest}
 use Rattle.cs_types.specs.Kinds.{is_complete}
 use Rattle.cs_scopes.specs.TypeNames.{whole_word, typedef_at, enum_at, tag_place, starred, complete_at}
-use Rattle.cs_declarations.specs.Known.{Known, table_of, declarations_of, with_table, with_reading, with_tag, declaring, is_declared_here}
+use Rattle.cs_declarations.specs.Environment.{Environment, table_of, declarations_of, with_table, with_reading, with_tag, declaring, is_declared_here}
 use Rattle.cs_declarations.specs.Bodies.{Typing, empty_struct, with_struct, with_tagged_struct, tag_in, struct_named, word_type, Laying, nothing_laid, declarator_type, members_declared, with_members, is_int, Counting, constant_added, number_said, constant_declared, constants_declared, with_enum_tag, is_new_enum, enum_body, Opening, is_among, opened, opening_tagged, opening, name_or_none, Body, struct_read, group_declared, first_name, plain_row, row_type, members_read, plain_words, words_type, specs_type, typedef_added, typedefs_added}
 use Rattle.cs_declarations.specs.Objects.{count_given, object_type}
 use Rattle.cs_declarations.specs.Parameters.{Head, Passed, naming, is_free_name, with_parameter, parameter_passed, parameter_typed, parameters_after, parameters_typed}
@@ -88,10 +88,10 @@ either-false true b h = absurd cc
 either-false false b h = h
 
 module _ (s : Setting) where
-  leads-self : (k : Known) → Leads s k k
+  leads-self : (k : Environment) → Leads s k k
   leads-self k = record { model = refl; literals = refl; table = keeps-self (table_of k); declarations = λ h. h }
 
-  pub leads-trans : (k m n : Known) → Leads s k m → Leads s m n → Leads s k n
+  pub leads-trans : (k m n : Environment) → Leads s k m → Leads s m n → Leads s k n
   leads-trans k m n h g = record {
     model = g.model ∙ h.model;
     literals = g.literals ∙ h.literals;
@@ -99,23 +99,23 @@ module _ (s : Setting) where
     declarations = λ there. g.declarations (h.declarations there);
   }
 
-  leads-table : (k : Known) (table : List StructType) → Keeps (table_of k) table → Leads s k (with_table table k)
+  leads-table : (k : Environment) (table : List StructType) → Keeps (table_of k) table → Leads s k (with_table table k)
   leads-table k table keeps = record { model = refl; literals = refl; table = keeps; declarations = λ h. h }
 
-  leads-struct : (name : List ℕ) (k : Known) → Leads s k (with_struct name k)
+  leads-struct : (name : List ℕ) (k : Environment) → Leads s k (with_struct name k)
   leads-struct name k = leads-table k (table_of k ++ empty_struct name ∷ []) (keeps-append (table_of k) (empty_struct name ∷ []))
 
-  leads-tag : (name : List ℕ) (meaning : TagMeaning) (k : Known) → Leads s k (with_tag name meaning k)
+  leads-tag : (name : List ℕ) (meaning : TagMeaning) (k : Environment) → Leads s k (with_tag name meaning k)
   leads-tag name meaning k = record { model = refl; literals = refl; table = keeps-self (table_of k); declarations = λ h. h }
 
-  leads-reading : (reading : List ℕ) (k : Known) → Leads s k (with_reading reading k)
+  leads-reading : (reading : List ℕ) (k : Environment) → Leads s k (with_reading reading k)
   leads-reading reading k = record { model = refl; literals = refl; table = keeps-self (table_of k); declarations = λ h. h }
 
-  leads-tagged : (name : List ℕ) (k : Known) → Leads s k (with_tagged_struct name k)
+  leads-tagged : (name : List ℕ) (k : Environment) → Leads s k (with_tagged_struct name k)
   leads-tagged name k = leads-trans k (with_struct name k) (with_tagged_struct name k) (leads-struct name k) (leads-tag name (tag.Struct (length (table_of k))) (with_struct name k))
 
   -- after the declaration of what is there
-  pub leads-declaring : (name : List ℕ) (meaning : Meaning) (k : Known) → IsThere s meaning → Leads s k (declaring name meaning k)
+  pub leads-declaring : (name : List ℕ) (meaning : Meaning) (k : Environment) → IsThere s meaning → Leads s k (declaring name meaning k)
   leads-declaring name meaning k there = record {
     model = refl;
     literals = refl;
@@ -124,18 +124,18 @@ module _ (s : Setting) where
   }
 
   -- the type of some words
-  abbrev LeadsTo : Known → Typing → Type 0
+  abbrev LeadsTo : Environment → Typing → Type 0
   LeadsTo k r = Leads s k r.1
 
-  struct_named-leads : (at : Place) (name : List ℕ) (k : Known) (meaning : Option TagMeaning) → IfFine (struct_named at name k meaning) (LeadsTo k)
+  struct_named-leads : (at : Place) (name : List ℕ) (k : Environment) (meaning : Option TagMeaning) → IfFine (struct_named at name k meaning) (LeadsTo k)
   struct_named-leads at name k (Some (tag.Struct number)) = leads-self k
   struct_named-leads at name k (Some tag.Enum) = tt
   struct_named-leads at name k None = leads-tagged name k
 
-  same-leads : (k : Known) (v : Verdict Shape) → IfFine (lift (λ ty. Fine (ty, k)) v) (LeadsTo k)
+  same-leads : (k : Environment) (v : Verdict Shape) → IfFine (lift (λ ty. Fine (ty, k)) v) (LeadsTo k)
   same-leads k v = lift-then (λ _. Unit {0}) (LeadsTo k) (λ ty. Fine (ty, k)) v (if_fine-any v) (λ _ _. leads-self k)
 
-  word_type-leads : (k : Known) (at_tag : Option Place) (at : Place) (all : List TypeWord) (one : Option TypeWord) → IfFine (word_type k at_tag at all one) (LeadsTo k)
+  word_type-leads : (k : Environment) (at_tag : Option Place) (at : Place) (all : List TypeWord) (one : Option TypeWord) → IfFine (word_type k at_tag at all one) (LeadsTo k)
   word_type-leads k at_tag at all None = leads-self k
   word_type-leads k at_tag at all (Some (word.Typedef name)) = same-leads k (typedef_at at (newest name (declarations_of k)))
   word_type-leads k at_tag at all (Some (word.Struct name)) = struct_named-leads (tag_place at at_tag) name k (tag_in k name)
@@ -145,7 +145,7 @@ module _ (s : Setting) where
   word_type-leads k at_tag at all (Some word.Void) = leads-self k
 
   -- the constants of an enum
-  int-InRange : (k : Known) (n : ℤ) → k.context.model ≡ s.program.model → is_int k n ≡ true → InRange s.program.model Int n
+  int-InRange : (k : Environment) (n : ℤ) → k.context.model ≡ s.program.model → is_int k n ≡ true → InRange s.program.model Int n
   int-InRange k n same h =
       let ends = both_true (int_le (least_of k.context.model Int) n) (int_le n (greatest_of k.context.model Int)) h in
       subst (λ m. InRange m Int n) same (record { from_least = from_test (least_of k.context.model Int) n ends.0; to_greatest = from_test n (greatest_of k.context.model Int) ends.1 })
@@ -153,10 +153,10 @@ module _ (s : Setting) where
       from_test : (a b : ℤ) → int_le a b ≡ true → a ≤ℤ b
       from_test a b t = grind (arith, ints)
 
-  abbrev CountsTo : Known → Counting → Type 0
+  abbrev CountsTo : Environment → Counting → Type 0
   CountsTo k r = Leads s k r.known
 
-  constant_added-leads : (at : Place) (name : List ℕ) (k : Known) (n : ℤ) → k.context.model ≡ s.program.model → IfFine (constant_added at name k n) (CountsTo k)
+  constant_added-leads : (at : Place) (name : List ℕ) (k : Environment) (n : ℤ) → k.context.model ≡ s.program.model → IfFine (constant_added at name k n) (CountsTo k)
   constant_added-leads at name k n same = cond-then (CountsTo k) (is_int k n) _ _ (λ h. leads-declaring name (Constant n) k (int-InRange k n same h)) (λ _. tt)
 
   constant_declared-leads : (e : RawEnumerator) (so_far : Counting) → so_far.known.context.model ≡ s.program.model → IfFine (constant_declared e so_far) (CountsTo so_far.known)
@@ -171,11 +171,11 @@ module _ (s : Setting) where
       (λ r first.
       if_fine-weaker (CountsTo r.known) (CountsTo so_far.known) (constants_declared es r) (constants_declared-leads es r (first.model ∙ same)) (λ x others. leads-trans so_far.known r.known x.known first others))
 
-  leads-enum_tag : (name : Option (List ℕ)) (k : Known) → Leads s k (with_enum_tag name k)
+  leads-enum_tag : (name : Option (List ℕ)) (k : Environment) → Leads s k (with_enum_tag name k)
   leads-enum_tag None k = leads-self k
   leads-enum_tag (Some name) k = leads-tag name tag.Enum k
 
-  enum_body-leads : (k : Known) (at : Place) (name : Option (List ℕ)) (constants : List RawEnumerator) → k.context.model ≡ s.program.model → IfFine (enum_body k at name constants) (LeadsTo k)
+  enum_body-leads : (k : Environment) (at : Place) (name : Option (List ℕ)) (constants : List RawEnumerator) → k.context.model ≡ s.program.model → IfFine (enum_body k at name constants) (LeadsTo k)
   enum_body-leads k at name constants same =
       cond-then (LeadsTo k) (is_new_enum k name) _ _
       (λ _. lift-then (CountsTo k) (LeadsTo k) (λ (all : Counting). Fine (integer Int, with_enum_tag name all.known)) _
@@ -184,11 +184,11 @@ module _ (s : Setting) where
       (λ _. tt)
 
   -- the struct whose body begins
-  record IsOpening (k : Known) (o : Opening) : Type 0 where
+  record IsOpening (k : Environment) (o : Opening) : Type 0 where
     known : Leads s k o.known
     is_open : IsOpen (table_of k) o.number
 
-  opening_tagged-opens : (at : Place) (name : List ℕ) (k : Known) (meaning : Option TagMeaning) → IfFine (opening_tagged at name k meaning) (IsOpening k)
+  opening_tagged-opens : (at : Place) (name : List ℕ) (k : Environment) (meaning : Option TagMeaning) → IfFine (opening_tagged at name k meaning) (IsOpening k)
   opening_tagged-opens at name k (Some (tag.Struct number)) =
       cond-then (IsOpening k) (is_among number k.reading || is_some (members_of (table_of k) number)) _ _ (λ _. tt)
       (λ h. record { known = leads-reading (k.reading ++ number ∷ []) k; is_open = none-open (table_of k) number (either-false (is_among number k.reading) (is_some (members_of (table_of k) number)) h) })
@@ -198,7 +198,7 @@ module _ (s : Setting) where
     is_open = last-open (table_of k);
   }
 
-  opening-opens : (at : Place) (name : Option (List ℕ)) (k : Known) → IfFine (opening at name k) (IsOpening k)
+  opening-opens : (at : Place) (name : Option (List ℕ)) (k : Environment) → IfFine (opening at name k) (IsOpening k)
   opening-opens at (Some name) k = opening_tagged-opens at name k (tag_in k name)
   opening-opens at None k = record {
     known = leads-trans k (with_struct [] k) (opened (length (table_of k)) (with_struct [] k)).known (leads-struct [] k) (leads-reading (k.reading ++ length (table_of k) ∷ []) (with_struct [] k));
@@ -206,7 +206,7 @@ module _ (s : Setting) where
   }
 
   -- a struct that is open where its body begins is not one of those that have their members there
-  leads-members : (k m : Known) (number : ℕ) (name before : List ℕ) (laying : Laying) → Leads s k m → IsOpen (table_of k) number → Leads s k (with_reading before (with_members number name laying m))
+  leads-members : (k m : Environment) (number : ℕ) (name before : List ℕ) (laying : Laying) → Leads s k m → IsOpen (table_of k) number → Leads s k (with_reading before (with_members number name laying m))
   leads-members k m number name before laying h is_open = record {
     model = h.model;
     literals = h.literals;
@@ -227,20 +227,20 @@ module _ (s : Setting) where
       kept_there : (n : ℕ) (members : List Member) → members_of (table_of k) n ≡ Some members → members_of (table_of m) n ≡ Some members → members_of (table_of (with_reading before (with_members number name laying m))) n ≡ Some members
       kept_there n members is has = set_there _ n members (is_open n members is) has
 
-  abbrev BodyLeads : Known → Body → Type 0
+  abbrev BodyLeads : Environment → Body → Type 0
   BodyLeads k b = Leads s k b.known
 
-  struct_read-leads : (k : Known) (o : Opening) (before : List ℕ) (name : Option (List ℕ)) (v : Verdict Body) → IsOpening k o → IfFine v (BodyLeads o.known) → IfFine (lift (struct_read o before name) v) (LeadsTo k)
+  struct_read-leads : (k : Environment) (o : Opening) (before : List ℕ) (name : Option (List ℕ)) (v : Verdict Body) → IsOpening k o → IfFine v (BodyLeads o.known) → IfFine (lift (struct_read o before name) v) (LeadsTo k)
   struct_read-leads k o before name v h read =
       lift-then (BodyLeads o.known) (LeadsTo k) (struct_read o before name) v read
       (λ body inside. leads-members k body.known o.number (name_or_none name) before body.laying (leads-trans k o.known body.known h.known inside) h.is_open)
 
-  group_declared-leads : (k : Known) (declarators : List RawDeclarator) (before : Laying) (ty : Typing) → Leads s k ty.1 → IfFine (group_declared declarators before ty) (BodyLeads k)
+  group_declared-leads : (k : Environment) (declarators : List RawDeclarator) (before : Laying) (ty : Typing) → Leads s k ty.1 → IfFine (group_declared declarators before ty) (BodyLeads k)
   group_declared-leads k declarators before ty h =
       lift-then (λ _. Unit {0}) (BodyLeads k) (λ laying. Fine (record { laying = laying; known = ty.1 })) _ (if_fine-any (members_declared ty.1.context ty.0 declarators before)) (λ _ _. h)
 
   mutual
-    row_type-leads : {n : _} (k : Known) (at_tag : Option Place) (at : Place) (all : List TypeWord) (row : words.Row_of-SpecWord n) → k.context.model ≡ s.program.model → IfFine (row_type k at_tag at all row) (LeadsTo k)
+    row_type-leads : {n : _} (k : Environment) (at_tag : Option Place) (at : Place) (all : List TypeWord) (row : words.Row_of-SpecWord n) → k.context.model ≡ s.program.model → IfFine (row_type k at_tag at all row) (LeadsTo k)
     row_type-leads k at_tag at all words.end_of-SpecWord same = word_type-leads k at_tag at all (whole_word all)
     row_type-leads k at_tag at all (words.more_of-SpecWord words.TheVariants.Static others) same = row_type-leads k at_tag at all others same
     row_type-leads k at_tag at all (words.more_of-SpecWord (words.TheVariants.Plain w) others) same = row_type-leads k at_tag at all others same
@@ -249,7 +249,7 @@ module _ (s : Setting) where
         (λ o h. struct_read-leads k o k.reading name _ h (members_read-leads o.known row nothing_laid (h.known.model ∙ same)))
     row_type-leads k at_tag at all (words.more_of-SpecWord (words.TheVariants.Enum name constants comma) others) same = enum_body-leads k (tag_place at at_tag) name constants.items same
 
-    members_read-leads : {n : _} (k : Known) (row : words.Row_of-RawMember n) (before : Laying) → k.context.model ≡ s.program.model → IfFine (members_read k row before) (BodyLeads k)
+    members_read-leads : {n : _} (k : Environment) (row : words.Row_of-RawMember n) (before : Laying) → k.context.model ≡ s.program.model → IfFine (members_read k row before) (BodyLeads k)
     members_read-leads k words.end_of-RawMember before same = leads-self k
     members_read-leads k (words.more_of-RawMember shape row tag declarators others) before same =
         lift-then (BodyLeads k) (BodyLeads k) (λ (read : Body). members_read read.known others read.laying) _
@@ -258,7 +258,7 @@ module _ (s : Setting) where
         (λ ty h. group_declared-leads k declarators.items before ty h))
         (λ read h. if_fine-weaker (BodyLeads read.known) (BodyLeads k) (members_read read.known others read.laying) (members_read-leads read.known others read.laying (h.model ∙ same)) (λ b inside. leads-trans k read.known b.known h inside))
 
-  words_type-leads : (k : Known) (at_tag : Option Place) (at : Place) (all : List TypeWord) (list : List SpecWord) → k.context.model ≡ s.program.model → IfFine (words_type k at_tag at all list) (LeadsTo k)
+  words_type-leads : (k : Environment) (at_tag : Option Place) (at : Place) (all : List TypeWord) (list : List SpecWord) → k.context.model ≡ s.program.model → IfFine (words_type k at_tag at all list) (LeadsTo k)
   words_type-leads k at_tag at all [] same = word_type-leads k at_tag at all (whole_word all)
   words_type-leads k at_tag at all (words.TheVariants.Static ∷ others) same = words_type-leads k at_tag at all others same
   words_type-leads k at_tag at all (words.TheVariants.Plain w ∷ others) same = words_type-leads k at_tag at all others same
@@ -268,16 +268,16 @@ module _ (s : Setting) where
   words_type-leads k at_tag at all (words.TheVariants.Enum name constants comma ∷ others) same = enum_body-leads k (tag_place at at_tag) name constants.items same
 
   -- the words before declarators
-  pub specs_type-leads : (k : Known) (at : Place) (raw : RawSpecs) → k.context.model ≡ s.program.model → IfFine (specs_type k at raw) (LeadsTo k)
+  pub specs_type-leads : (k : Environment) (at : Place) (raw : RawSpecs) → k.context.model ≡ s.program.model → IfFine (specs_type k at raw) (LeadsTo k)
   specs_type-leads k at raw same = words_type-leads k raw.tag at (plain_words raw.words.items) raw.words.items same
 
-  typedef_added-leads : (base : Shape) (d : RawDeclarator) (k : Known) → IfFine (typedef_added base d k) (Leads s k)
+  typedef_added-leads : (base : Shape) (d : RawDeclarator) (k : Environment) → IfFine (typedef_added base d k) (Leads s k)
   typedef_added-leads base d k =
       cond-then (Leads s k) (is_declared_here d.name k) _ _ (λ _. tt)
       (λ _. lift-then (λ _. Unit {0}) (Leads s k) (λ ty. Fine (declaring d.name (Typedef ty) k)) _ (if_fine-any (declarator_type k.context base None d)) (λ ty _. leads-declaring d.name (Typedef ty) k tt))
 
   -- typedefs
-  pub typedefs_added-leads : (base : Shape) (ds : List RawDeclarator) (k : Known) → IfFine (typedefs_added base ds k) (Leads s k)
+  pub typedefs_added-leads : (base : Shape) (ds : List RawDeclarator) (k : Environment) → IfFine (typedefs_added base ds k) (Leads s k)
   typedefs_added-leads base [] k = leads-self k
   typedefs_added-leads base (d ∷ ds) k =
       lift-then (Leads s k) (Leads s k) (typedefs_added base ds) _ (typedef_added-leads base d k)
@@ -303,15 +303,15 @@ module _ (s : Setting) where
     known : AreVariables s after.variables → Leads s before.known after.known
     variables : AreVariables s after.variables → AreVariables s before.variables
 
-  naming-leads : (name : Option RawName) (number : ℕ) (ty : Shape) (k : Known) → IsThere s (Local number ty) → Leads s k (naming name number ty k)
+  naming-leads : (name : Option RawName) (number : ℕ) (ty : Shape) (k : Environment) → IsThere s (Local number ty) → Leads s k (naming name number ty k)
   naming-leads None number ty k there = leads-self s k
   naming-leads (Some name) number ty k there = leads-declaring s name.name (Local number ty) k there
 
-  naming-model : (name : Option RawName) (number : ℕ) (ty : Shape) (k : Known) → (naming name number ty k).context.model ≡ k.context.model
+  naming-model : (name : Option RawName) (number : ℕ) (ty : Shape) (k : Environment) → (naming name number ty k).context.model ≡ k.context.model
   naming-model None number ty k = refl
   naming-model (Some name) number ty k = refl
 
-  with_parameter-leads : (p : RawParameter) (before : Head) (k : Known) (found : Passed) → Leads s before.known k → IfFine (with_parameter p before k found) (HeadLeads before)
+  with_parameter-leads : (p : RawParameter) (before : Head) (k : Environment) (found : Passed) → Leads s before.known k → IfFine (with_parameter p before k found) (HeadLeads before)
   with_parameter-leads p before k found h = record {
     model = naming-model p.name (length before.variables) found.ty k ∙ h.model;
     known = λ are. let at = are (length before.variables) _ (last-variable before.variables _) in leads-trans s before.known k _ h (naming-leads p.name (length before.variables) found.ty k at);
@@ -339,11 +339,11 @@ module _ (s : Setting) where
         variables = λ are. first.variables (others.variables are);
       }))
 
-  abbrev nothing_before : Known → Head
+  abbrev nothing_before : Environment → Head
   nothing_before k = record { variables = []; written = []; known = k }
 
   -- the parameters of a function
-  pub parameters_typed-leads : (k : Known) (raw : RawParameters) → k.context.model ≡ s.program.model → IfFine (parameters_typed k raw) (λ head. AreVariables s head.variables → Leads s k head.known)
+  pub parameters_typed-leads : (k : Environment) (raw : RawParameters) → k.context.model ≡ s.program.model → IfFine (parameters_typed k raw) (λ head. AreVariables s head.variables → Leads s k head.known)
   parameters_typed-leads k parameter_lists.Empty same = λ _. leads-self s k
   parameters_typed-leads k parameter_lists.Void same = λ _. leads-self s k
   parameters_typed-leads k (parameter_lists.List list) same =

@@ -37,7 +37,7 @@ use Rattle.cs_scopes.specs.Sizes.{bytes_in}
 use Rattle.cs_types.specs.Kinds.{is_complete}
 use Rattle.cs_scopes.specs.TypeNames.{whole_word, typedef_at, struct_at, enum_at, based, type_named, after_stars, tag_place, is_star, starred, is_array_size, array_of, arrayed, complete_at}
 use Rattle.cs_consts.specs.Typing.{castable, cast_type, given_shape, base_in}
-use Rattle.cs_declarations.specs.Known.{Known, table_of, declarations_of, with_tag, declaring, is_declared_here, entered, left}
+use Rattle.cs_declarations.specs.Environment.{Environment, table_of, declarations_of, with_tag, declaring, is_declared_here, entered, left}
 use Rattle.cs_declarations.specs.Bodies.{Typing, empty_struct, with_struct, with_tagged_struct, tag_in, struct_named, word_type, Laying, nothing_laid, has_member, placed, placed_if, member_added, declarator_type, member_declared, members_declared, with_members, is_int, Counting, constant_added, number_said, constant_declared, constants_declared, with_enum_tag, is_new_enum, enum_body, Opening, is_among, opening_tagged, opening, name_or_none, Body, struct_read, group_declared, first_name, plain_row, row_type, members_read, plain_words, words_type, specs_type, typedefs_added}
 use Rattle.cs_declarations.specs.LaidOut.{IsOfTable}
 use Rattle.cs_declarations.specs.Sizes.{sizes_said, all_said, bounded, element_of, Extent, Whole, Unsized, outermost, extent_of, filled}
@@ -237,18 +237,18 @@ given_shape-named P (Fault code place) h = tt
 -- ---- what is known after declarations
 
 -- it names structs of its table, which is no shorter than before
-pub record NamedOn (k m : Known) : Type 0 where
+pub record NamedOn (k m : Environment) : Type 0 where
   pub known : KnownTypesAreNamed m.context
   pub longer : length (table_of k) ≤ length (table_of m)
 
-pub named_on-self : (k : Known) → KnownTypesAreNamed k.context → NamedOn k k
+pub named_on-self : (k : Environment) → KnownTypesAreNamed k.context → NamedOn k k
 named_on-self k h = record { known = h; longer = omega arith }
 
-pub named_on-trans : (k m n : Known) → NamedOn k m → NamedOn m n → NamedOn k n
+pub named_on-trans : (k m n : Environment) → NamedOn k m → NamedOn m n → NamedOn k n
 named_on-trans k m n g h = record { known = h.known; longer = omega (arith, g.longer, h.longer) }
 
 -- with one more struct, which has no members yet
-module _ (k : Known) (name : List ℕ) (h : KnownTypesAreNamed k.context) where
+module _ (k : Environment) (name : List ℕ) (h : KnownTypesAreNamed k.context) where
   abbrev longer_table : List StructType
   longer_table = table_of k ++ empty_struct name ∷ []
 
@@ -268,34 +268,34 @@ module _ (k : Known) (name : List ℕ) (h : KnownTypesAreNamed k.context) where
   struct-named : NamedOn k (with_struct name k)
   struct-named = record { known = struct-known; longer = no-shorter }
 
-tag-known : (k : Known) (name : List ℕ) (meaning : TagMeaning) → IsOfTable (table_of k) meaning → KnownTypesAreNamed k.context → KnownTypesAreNamed (with_tag name meaning k).context
+tag-known : (k : Environment) (name : List ℕ) (meaning : TagMeaning) → IsOfTable (table_of k) meaning → KnownTypesAreNamed k.context → KnownTypesAreNamed (with_tag name meaning k).context
 tag-known k name meaning is h = record {
   declarations = h.declarations;
   tags = All-push (λ (t : Tag). IsOfTable (table_of k) t.meaning) k.context.scope.tags (record { name = name; meaning = meaning }) h.tags is;
   members = h.members;
 }
 
-tagged_struct-named : (name : List ℕ) (k : Known) → KnownTypesAreNamed k.context → NamedOn k (with_tagged_struct name k)
+tagged_struct-named : (name : List ℕ) (k : Environment) → KnownTypesAreNamed k.context → NamedOn k (with_tagged_struct name k)
 tagged_struct-named name k h = record {
   known = tag-known (with_struct name k) name (tag.Struct (length (table_of k))) (one-longer k name h) (struct-known k name h);
   longer = no-shorter k name h;
 }
 
-pub declaring-known : (name : List ℕ) (meaning : Meaning) (k : Known) → IsNamed (table_of k) meaning → KnownTypesAreNamed k.context → KnownTypesAreNamed (declaring name meaning k).context
+pub declaring-known : (name : List ℕ) (meaning : Meaning) (k : Environment) → IsNamed (table_of k) meaning → KnownTypesAreNamed k.context → KnownTypesAreNamed (declaring name meaning k).context
 declaring-known name meaning k is h = record {
   declarations = All-push (λ (d : Declaration). IsNamed (table_of k) d.meaning) (declarations_of k) (record { name = name; meaning = meaning }) h.declarations is;
   tags = h.tags;
   members = h.members;
 }
 
-declaring-named : (name : List ℕ) (meaning : Meaning) (k : Known) → IsNamed (table_of k) meaning → KnownTypesAreNamed k.context → NamedOn k (declaring name meaning k)
+declaring-named : (name : List ℕ) (meaning : Meaning) (k : Environment) → IsNamed (table_of k) meaning → KnownTypesAreNamed k.context → NamedOn k (declaring name meaning k)
 declaring-named name meaning k is h = record { known = declaring-known name meaning k is h; longer = omega arith }
 
 -- in a new scope, and after one that ends (C11 6.2.1, paragraph 4)
-pub entered-known : (k : Known) → KnownTypesAreNamed k.context → KnownTypesAreNamed (entered k).context
+pub entered-known : (k : Environment) → KnownTypesAreNamed k.context → KnownTypesAreNamed (entered k).context
 entered-known k h = record { declarations = h.declarations; tags = h.tags; members = h.members }
 
-pub left-known : (before k : Known) → KnownTypesAreNamed k.context → KnownTypesAreNamed (left before k).context
+pub left-known : (before k : Environment) → KnownTypesAreNamed k.context → KnownTypesAreNamed (left before k).context
 left-known before k h = record {
   declarations = All-take (λ (d : Declaration). IsNamed (table_of k) d.meaning) (length (declarations_of before)) (declarations_of k) h.declarations;
   tags = h.tags;
@@ -304,30 +304,30 @@ left-known before k h = record {
 
 -- ---- the words before declarators
 
-abbrev pub TypeNamed : Known → Typing → Type 0
+abbrev pub TypeNamed : Environment → Typing → Type 0
 TypeNamed k r = NamedOn k r.1 × NamesStructs (table_of r.1) r.0
 
-abbrev CountNamed : Known → Counting → Type 0
+abbrev CountNamed : Environment → Counting → Type 0
 CountNamed k r = NamedOn k r.known
 
-abbrev BodyNamed : Known → Body → Type 0
+abbrev BodyNamed : Environment → Body → Type 0
 BodyNamed k b = NamedOn k b.known × MembersName (table_of b.known) b.laying.members
 
-abbrev OpeningNamed : Known → Opening → Type 0
+abbrev OpeningNamed : Environment → Opening → Type 0
 OpeningNamed k o = NamedOn k o.known × (o.number < length (table_of o.known))
 
-tag_in-named : (k : Known) (name : List ℕ) → KnownTypesAreNamed k.context → IfSome (tag_in k name) (IsOfTable (table_of k))
+tag_in-named : (k : Environment) (name : List ℕ) → KnownTypesAreNamed k.context → IfSome (tag_in k name) (IsOfTable (table_of k))
 tag_in-named k name h = tagged-named (table_of k) name k.context.scope.tags h.tags
 
-struct_named-named : (at : Place) (name : List ℕ) (k : Known) (meaning : Option TagMeaning) → KnownTypesAreNamed k.context → IfSome meaning (IsOfTable (table_of k)) → IfFine (struct_named at name k meaning) (TypeNamed k)
+struct_named-named : (at : Place) (name : List ℕ) (k : Environment) (meaning : Option TagMeaning) → KnownTypesAreNamed k.context → IfSome meaning (IsOfTable (table_of k)) → IfFine (struct_named at name k meaning) (TypeNamed k)
 struct_named-named at name k (Some (tag.Struct number)) h is = (named_on-self k h, is)
 struct_named-named at name k (Some tag.Enum) h is = tt
 struct_named-named at name k None h is = (tagged_struct-named name k h, one-longer k name h)
 
-same_type-named : (k : Known) (v : Verdict Shape) → KnownTypesAreNamed k.context → IfFine v (NamesStructs (table_of k)) → IfFine (lift (λ ty. Fine (ty, k)) v) (TypeNamed k)
+same_type-named : (k : Environment) (v : Verdict Shape) → KnownTypesAreNamed k.context → IfFine v (NamesStructs (table_of k)) → IfFine (lift (λ ty. Fine (ty, k)) v) (TypeNamed k)
 same_type-named k v h is = lift-then (NamesStructs (table_of k)) (TypeNamed k) (λ ty. Fine (ty, k)) v is (λ ty n. (named_on-self k h, n))
 
-word_type-named : (k : Known) (at_tag : Option Place) (at : Place) (all : List TypeWord) (one : Option TypeWord) → KnownTypesAreNamed k.context → IfFine (word_type k at_tag at all one) (TypeNamed k)
+word_type-named : (k : Environment) (at_tag : Option Place) (at : Place) (all : List TypeWord) (one : Option TypeWord) → KnownTypesAreNamed k.context → IfFine (word_type k at_tag at all one) (TypeNamed k)
 word_type-named k at_tag at all None h = (named_on-self k h, tt)
 word_type-named k at_tag at all (Some (word.Typedef name)) h =
     same_type-named k (typedef_at at (newest name (declarations_of k))) h (typedef_at-named (table_of k) at (newest name (declarations_of k)) (newest-named (table_of k) name (declarations_of k) h.declarations))
@@ -349,11 +349,11 @@ constants_declared-named (e ∷ es) so_far h =
     lift-then (CountNamed so_far.known) (CountNamed so_far.known) (constants_declared es) _ (constant_declared-named e so_far h)
     (λ r first. if_fine-weaker (CountNamed r.known) (CountNamed so_far.known) (constants_declared es r) (constants_declared-named es r first.known) (λ x others. named_on-trans so_far.known r.known x.known first others))
 
-enum_tag-named : (name : Option (List ℕ)) (k : Known) → KnownTypesAreNamed k.context → NamedOn k (with_enum_tag name k)
+enum_tag-named : (name : Option (List ℕ)) (k : Environment) → KnownTypesAreNamed k.context → NamedOn k (with_enum_tag name k)
 enum_tag-named None k h = named_on-self k h
 enum_tag-named (Some name) k h = record { known = tag-known k name tag.Enum tt h; longer = omega arith }
 
-enum_body-named : (k : Known) (at : Place) (name : Option (List ℕ)) (constants : List RawEnumerator) → KnownTypesAreNamed k.context → IfFine (enum_body k at name constants) (TypeNamed k)
+enum_body-named : (k : Environment) (at : Place) (name : Option (List ℕ)) (constants : List RawEnumerator) → KnownTypesAreNamed k.context → IfFine (enum_body k at name constants) (TypeNamed k)
 enum_body-named k at name constants h =
     cond-then (TypeNamed k) (is_new_enum k name) _ _
     (λ _. lift-then (CountNamed k) (TypeNamed k) (λ (all : Counting). Fine (integer Int, with_enum_tag name all.known)) _
@@ -361,19 +361,19 @@ enum_body-named k at name constants h =
     (λ all counted. (named_on-trans k all.known (with_enum_tag name all.known) counted (enum_tag-named name all.known counted.known), tt)))
     (λ _. tt)
 
-opening_tagged-named : (at : Place) (name : List ℕ) (k : Known) (meaning : Option TagMeaning) → KnownTypesAreNamed k.context → IfSome meaning (IsOfTable (table_of k)) → IfFine (opening_tagged at name k meaning) (OpeningNamed k)
+opening_tagged-named : (at : Place) (name : List ℕ) (k : Environment) (meaning : Option TagMeaning) → KnownTypesAreNamed k.context → IfSome meaning (IsOfTable (table_of k)) → IfFine (opening_tagged at name k meaning) (OpeningNamed k)
 opening_tagged-named at name k (Some (tag.Struct number)) h is =
     cond-then (OpeningNamed k) (is_among number k.reading || is_some (members_of (table_of k) number)) _ _ (λ _. tt)
     (λ _. (record { known = h; longer = omega arith }, is))
 opening_tagged-named at name k (Some tag.Enum) h is = tt
 opening_tagged-named at name k None h is = let one = tagged_struct-named name k h in (record { known = one.known; longer = one.longer }, one-longer k name h)
 
-opening-named : (at : Place) (name : Option (List ℕ)) (k : Known) → KnownTypesAreNamed k.context → IfFine (opening at name k) (OpeningNamed k)
+opening-named : (at : Place) (name : Option (List ℕ)) (k : Environment) → KnownTypesAreNamed k.context → IfFine (opening at name k) (OpeningNamed k)
 opening-named at (Some name) k h = opening_tagged-named at name k (tag_in k name) h (tag_in-named k name h)
 opening-named at None k h = let one = struct-named k [] h in (record { known = one.known; longer = one.longer }, one-longer k [] h)
 
 -- a struct has the members of its body
-struct_read-known : (k : Known) (number : ℕ) (name : List ℕ) (laying : Laying) → MembersName (table_of k) laying.members → KnownTypesAreNamed k.context → NamedOn k (with_members number name laying k)
+struct_read-known : (k : Environment) (number : ℕ) (name : List ℕ) (laying : Laying) → MembersName (table_of k) laying.members → KnownTypesAreNamed k.context → NamedOn k (with_members number name laying k)
 struct_read-known k number name laying named h = record {
   known = record {
     declarations = All-weaker (λ (d : Declaration). IsNamed (table_of k) d.meaning) (λ (d : Declaration). IsNamed after d.meaning) (λ d n. meaning-longer (table_of k) after still d.meaning n) (declarations_of k) h.declarations;
@@ -389,7 +389,7 @@ struct_read-known k number name laying named h = record {
     still : length (table_of k) ≤ length after
     still = let e : length after ≡ length (table_of k) = length-set (table_of k) number _ in omega (arith, e)
 
-struct_read-named : (k : Known) (o : Opening) (before : List ℕ) (name : Option (List ℕ)) (v : Verdict Body) → OpeningNamed k o → IfFine v (BodyNamed o.known) → IfFine (lift (struct_read o before name) v) (TypeNamed k)
+struct_read-named : (k : Environment) (o : Opening) (before : List ℕ) (name : Option (List ℕ)) (v : Verdict Body) → OpeningNamed k o → IfFine v (BodyNamed o.known) → IfFine (lift (struct_read o before name) v) (TypeNamed k)
 struct_read-named k o before name v h read =
     lift-then (BodyNamed o.known) (TypeNamed k) (struct_read o before name) v read
     (λ body inside.
@@ -397,13 +397,13 @@ struct_read-named k o before name v h read =
     let all = named_on-trans k body.known (with_members o.number (name_or_none name) body.laying body.known) (named_on-trans k o.known body.known h.0 inside.0) made in
     (record { known = all.known; longer = all.longer }, omega (arith, h.1, inside.0.longer, made.longer)))
 
-group_declared-named : (k : Known) (declarators : List RawDeclarator) (before : Laying) (ty : Typing) → MembersName (table_of k) before.members → TypeNamed k ty → IfFine (group_declared declarators before ty) (BodyNamed k)
+group_declared-named : (k : Environment) (declarators : List RawDeclarator) (before : Laying) (ty : Typing) → MembersName (table_of k) before.members → TypeNamed k ty → IfFine (group_declared declarators before ty) (BodyNamed k)
 group_declared-named k declarators before ty laying h =
     lift-then (λ (l : Laying). MembersName (table_of ty.1) l.members) (BodyNamed k) (λ laying. Fine (record { laying = laying; known = ty.1 })) _
     (members_declared-named ty.1.context ty.0 declarators before h.1 (members-longer (table_of k) (table_of ty.1) h.0.longer before.members laying)) (λ l n. (h.0, n))
 
 mutual
-  row_type-named : {n : _} (k : Known) (at_tag : Option Place) (at : Place) (all : List TypeWord) (row : words.Row_of-SpecWord n) → KnownTypesAreNamed k.context → IfFine (row_type k at_tag at all row) (TypeNamed k)
+  row_type-named : {n : _} (k : Environment) (at_tag : Option Place) (at : Place) (all : List TypeWord) (row : words.Row_of-SpecWord n) → KnownTypesAreNamed k.context → IfFine (row_type k at_tag at all row) (TypeNamed k)
   row_type-named k at_tag at all words.end_of-SpecWord h = word_type-named k at_tag at all (whole_word all) h
   row_type-named k at_tag at all (words.more_of-SpecWord words.TheVariants.Static others) h = row_type-named k at_tag at all others h
   row_type-named k at_tag at all (words.more_of-SpecWord (words.TheVariants.Plain w) others) h = row_type-named k at_tag at all others h
@@ -412,7 +412,7 @@ mutual
       (λ o g. struct_read-named k o k.reading name _ g (members_read-named o.known row nothing_laid g.0.known (All-nil (λ (m : Member). NamesStructs (table_of o.known) m.ty))))
   row_type-named k at_tag at all (words.more_of-SpecWord (words.TheVariants.Enum name constants comma) others) h = enum_body-named k (tag_place at at_tag) name constants.items h
 
-  members_read-named : {n : _} (k : Known) (row : words.Row_of-RawMember n) (before : Laying) → KnownTypesAreNamed k.context → MembersName (table_of k) before.members → IfFine (members_read k row before) (BodyNamed k)
+  members_read-named : {n : _} (k : Environment) (row : words.Row_of-RawMember n) (before : Laying) → KnownTypesAreNamed k.context → MembersName (table_of k) before.members → IfFine (members_read k row before) (BodyNamed k)
   members_read-named k words.end_of-RawMember before h laying = (named_on-self k h, laying)
   members_read-named k (words.more_of-RawMember shape row tag declarators others) before h laying =
       lift-then (BodyNamed k) (BodyNamed k) (λ (read : Body). members_read read.known others read.laying) _
@@ -422,7 +422,7 @@ mutual
       (λ read g. if_fine-weaker (BodyNamed read.known) (BodyNamed k) (members_read read.known others read.laying)
       (members_read-named read.known others read.laying g.0.known g.1) (λ b inside. (named_on-trans k read.known b.known g.0 inside.0, inside.1)))
 
-words_type-named : (k : Known) (at_tag : Option Place) (at : Place) (all : List TypeWord) (list : List SpecWord) → KnownTypesAreNamed k.context → IfFine (words_type k at_tag at all list) (TypeNamed k)
+words_type-named : (k : Environment) (at_tag : Option Place) (at : Place) (all : List TypeWord) (list : List SpecWord) → KnownTypesAreNamed k.context → IfFine (words_type k at_tag at all list) (TypeNamed k)
 words_type-named k at_tag at all [] h = word_type-named k at_tag at all (whole_word all) h
 words_type-named k at_tag at all (words.TheVariants.Static ∷ others) h = words_type-named k at_tag at all others h
 words_type-named k at_tag at all (words.TheVariants.Plain w ∷ others) h = words_type-named k at_tag at all others h
@@ -432,11 +432,11 @@ words_type-named k at_tag at all (words.TheVariants.Struct' name shape row ∷ o
 words_type-named k at_tag at all (words.TheVariants.Enum name constants comma ∷ others) h = enum_body-named k (tag_place at at_tag) name constants.items h
 
 -- the words before declarators
-pub specs_type-named : (k : Known) (at : Place) (raw : RawSpecs) → KnownTypesAreNamed k.context → IfFine (specs_type k at raw) (TypeNamed k)
+pub specs_type-named : (k : Environment) (at : Place) (raw : RawSpecs) → KnownTypesAreNamed k.context → IfFine (specs_type k at raw) (TypeNamed k)
 specs_type-named k at raw h = words_type-named k raw.tag at (plain_words raw.words.items) raw.words.items h
 
 -- typedefs
-pub typedefs_added-named : (base : Shape) (ds : List RawDeclarator) (k : Known) → NamesStructs (table_of k) base → KnownTypesAreNamed k.context → IfFine (typedefs_added base ds k) (NamedOn k)
+pub typedefs_added-named : (base : Shape) (ds : List RawDeclarator) (k : Environment) → NamesStructs (table_of k) base → KnownTypesAreNamed k.context → IfFine (typedefs_added base ds k) (NamedOn k)
 typedefs_added-named base [] k is h = named_on-self k h
 typedefs_added-named base (d ∷ ds) k is h =
     lift-then (NamedOn k) (NamedOn k) (typedefs_added base ds) _
@@ -446,14 +446,14 @@ typedefs_added-named base (d ∷ ds) k is h =
 
 -- ---- parameters
 
-abbrev pub HeadNamed : Known → Head → Type 0
+abbrev pub HeadNamed : Environment → Head → Type 0
 HeadNamed k head = NamedOn k head.known × VariablesName (table_of head.known) head.variables
 
-naming-known : (name : Option RawName) (number : ℕ) (ty : Shape) (k : Known) → KnownTypesAreNamed k.context → NamedOn k (naming name number ty k)
+naming-known : (name : Option RawName) (number : ℕ) (ty : Shape) (k : Environment) → KnownTypesAreNamed k.context → NamedOn k (naming name number ty k)
 naming-known None number ty k h = named_on-self k h
 naming-known (Some name) number ty k h = declaring-named name.name (Local number ty) k tt h
 
-with_parameter-named : (p : RawParameter) (before : Head) (k : Known) (found : Passed) → VariablesName (table_of before.known) before.variables → NamedOn before.known k → NamesStructs (table_of k) found.ty →
+with_parameter-named : (p : RawParameter) (before : Head) (k : Environment) (found : Passed) → VariablesName (table_of before.known) before.variables → NamedOn before.known k → NamesStructs (table_of k) found.ty →
     IfFine (with_parameter p before k found) (HeadNamed before.known)
 with_parameter-named p before k found variables h is = (
   named_on-trans before.known k after h following,
@@ -462,7 +462,7 @@ with_parameter-named p before k found variables h is = (
       (names-longer (table_of k) (table_of after) following.longer found.ty is),
 )
   where
-    after : Known
+    after : Environment
     after = naming p.name (length before.variables) found.ty k
 
     following : NamedOn k after
@@ -485,7 +485,7 @@ parameters_after-named (p ∷ ps) before variables h =
     (λ after others. (named_on-trans before.known head.known after.known first.0 others.0, others.1)))
 
 -- the parameters of a function
-pub parameters_typed-named : (k : Known) (raw : RawParameters) → KnownTypesAreNamed k.context → IfFine (parameters_typed k raw) (HeadNamed k)
+pub parameters_typed-named : (k : Environment) (raw : RawParameters) → KnownTypesAreNamed k.context → IfFine (parameters_typed k raw) (HeadNamed k)
 parameters_typed-named k parameter_lists.Empty h = (named_on-self k h, All-nil (λ (v : Variable). NamesStructs (table_of k) v.ty))
 parameters_typed-named k parameter_lists.Void h = (named_on-self k h, All-nil (λ (v : Variable). NamesStructs (table_of k) v.ty))
 parameters_typed-named k (parameter_lists.List list) h =

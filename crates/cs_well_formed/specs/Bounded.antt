@@ -19,7 +19,7 @@ use Rattle.cs_scopes.specs.Verdicts.{Fine}
 use Rattle.cs_expressions.specs.Primary.{Literals}
 use Rattle.cs_consts.specs.Typing.{literals_after, formed}
 use Rattle.cs_consts.specs.Roles.{operand_of, assigned_value, test_of, selector_of, discarded_value}
-use Rattle.cs_declarations.specs.Known.{Known, table_of}
+use Rattle.cs_declarations.specs.Environment.{Environment, table_of}
 use Rattle.cs_declarations.specs.Initializers.{Storage, initial_typed}
 use Rattle.cs_declarations.specs.Bodies.{specs_type, typedefs_added}
 use Rattle.cs_declarations.specs.Parameters.{Head, parameters_typed}
@@ -94,26 +94,26 @@ InitialsAreBounded Is =
     Is at → ValuesAmong Is raw → initial_typed c literals storage at ty raw ≡ Fine (found, following) → IsBoundedInitial Is literals following (size_of (initial_text (initial raw))) found
 
 -- the nodes of the structs that are known
-abbrev pub known_nodes : Known → ℕ
+abbrev pub known_nodes : Environment → ℕ
 known_nodes k = all_nodes struct_nodes (table_of k)
 
 -- what is known after a text of some size: no literal more, and so many structs and members more at most
-pub record Grows (k m : Known) (size : ℕ) : Type 0 where
+pub record Grows (k m : Environment) (size : ℕ) : Type 0 where
   pub literals : m.literals ≡ k.literals
   pub structs : known_nodes m ≤ known_nodes k + 16 * size
 
 -- the words before declarators, with the bodies of structs and enums
 abbrev pub WordsAreBounded : Type 0
-WordsAreBounded = (k m : Known) (at : Place) (raw : RawSpecs) (ty : Shape) → specs_type k at raw ≡ Fine (ty, m) → Grows k m (size_of (specs_text (specs raw)))
+WordsAreBounded = (k m : Environment) (at : Place) (raw : RawSpecs) (ty : Shape) → specs_type k at raw ≡ Fine (ty, m) → Grows k m (size_of (specs_text (specs raw)))
 
 -- typedefs make no structs
 abbrev pub TypedefsAreBounded : Type 0
-TypedefsAreBounded = (k m : Known) (base : Shape) (names : List RawDeclarator) → typedefs_added base names k ≡ Fine m → Grows k m 0
+TypedefsAreBounded = (k m : Environment) (base : Shape) (names : List RawDeclarator) → typedefs_added base names k ≡ Fine m → Grows k m 0
 
 -- the parameters of a function, with their marks; a parameter may have no token of its own
-pub record IsBoundedHead (k : Known) (head : Head) (size : ℕ) : Type 0 where
+pub record IsBoundedHead (k : Environment) (head : Head) (size : ℕ) : Type 0 where
   pub literals : head.known.literals ≡ k.literals
   pub nodes : length head.variables + length head.written + known_nodes head.known ≤ known_nodes k + 16 * size + 16
 
 abbrev pub ParametersAreBounded : Type 0
-ParametersAreBounded = (k : Known) (raw : RawParameters) (head : Head) → parameters_typed k raw ≡ Fine head → IsBoundedHead k head (size_of (parameters_text (parameters raw)))
+ParametersAreBounded = (k : Environment) (raw : RawParameters) (head : Head) → parameters_typed k raw ≡ Fine head → IsBoundedHead k head (size_of (parameters_text (parameters raw)))

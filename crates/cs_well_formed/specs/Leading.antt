@@ -11,7 +11,7 @@ use Rattle.cs_ast.specs.TypedProgram.{Variable}
 use Rattle.cs_scopes.specs.declared.context.Context.{Context}
 use Rattle.cs_scopes.specs.Meanings.{Declaration}
 use Rattle.cs_scopes.specs.Verdicts.{Fine}
-use Rattle.cs_declarations.specs.Known.{Known, table_of, declarations_of}
+use Rattle.cs_declarations.specs.Environment.{Environment, table_of, declarations_of}
 use Rattle.cs_declarations.specs.Bodies.{specs_type, typedefs_added}
 use Rattle.cs_declarations.specs.Objects.{object_type}
 use Rattle.cs_declarations.specs.Parameters.{Head, parameters_typed}
@@ -19,7 +19,7 @@ use Rattle.cs_well_formed.specs.Expressions.{Setting, IsWhole}
 use Rattle.cs_well_formed.specs.Agreement.{Keeps, IsThere, Agrees}
 
 -- what is known at a point of a file, and what is known after a part of it
-pub record Leads (s : Setting) (k m : Known) : Type 0 where
+pub record Leads (s : Setting) (k m : Environment) : Type 0 where
   pub model : m.context.model ≡ k.context.model
   pub literals : m.literals ≡ k.literals
   pub table : Keeps (table_of k) (table_of m)
@@ -31,15 +31,15 @@ AreVariables s variables = (number : ℕ) (v : Variable) → slice_get variables
 
 -- the words before declarators, with the bodies of structs and enums
 abbrev pub WordsLead : Type 0
-WordsLead = (s : Setting) (k m : Known) (at : Place) (words : RawSpecs) (ty : Shape) → k.context.model ≡ s.program.model → specs_type k at words ≡ Fine (ty, m) → Leads s k m
+WordsLead = (s : Setting) (k m : Environment) (at : Place) (words : RawSpecs) (ty : Shape) → k.context.model ≡ s.program.model → specs_type k at words ≡ Fine (ty, m) → Leads s k m
 
 -- typedefs
 abbrev pub TypedefsLead : Type 0
-TypedefsLead = (s : Setting) (k m : Known) (base : Shape) (names : List RawDeclarator) → typedefs_added base names k ≡ Fine m → Leads s k m
+TypedefsLead = (s : Setting) (k m : Environment) (base : Shape) (names : List RawDeclarator) → typedefs_added base names k ≡ Fine m → Leads s k m
 
 -- the parameters of a function
 abbrev pub ParametersLead : Type 0
-ParametersLead = (s : Setting) (k : Known) (raw : RawParameters) (head : Head) → k.context.model ≡ s.program.model → AreVariables s head.variables → parameters_typed k raw ≡ Fine head → Leads s k head.known
+ParametersLead = (s : Setting) (k : Environment) (raw : RawParameters) (head : Head) → k.context.model ≡ s.program.model → AreVariables s head.variables → parameters_typed k raw ≡ Fine head → Leads s k head.known
 
 -- the type of a declared object is whole
 abbrev pub ObjectsAreWhole : Type 0

@@ -9,7 +9,7 @@ use Rattle.cs_ast.specs.declared.raw.declaration.RawParameters.{RawParameters}
 use Rattle.cs_ast.specs.TypedTree.{Typed, Initial, Statement}
 use Rattle.cs_scopes.specs.declared.context.Context.{Context}
 use Rattle.cs_scopes.specs.Verdicts.{Fine}
-use Rattle.cs_declarations.specs.Known.{Known, table_of}
+use Rattle.cs_declarations.specs.Environment.{Environment, table_of}
 use Rattle.cs_declarations.specs.Bodies.{specs_type, typedefs_added}
 use Rattle.cs_declarations.specs.Objects.{object_type}
 use Rattle.cs_declarations.specs.Parameters.{Head, parameters_typed}
@@ -31,15 +31,15 @@ StatementsAreNamed = (s : Setting) (b : Statement) → TypesAroundAreNamed s →
 
 -- the type that words name, and all that is known after them
 abbrev pub WordsAreNamed : Type 0
-WordsAreNamed = (k m : Known) (at : Place) (words : RawSpecs) (ty : Shape) → KnownTypesAreNamed k.context → specs_type k at words ≡ Fine (ty, m) → NamesStructs (table_of m) ty × KnownTypesAreNamed m.context
+WordsAreNamed = (k m : Environment) (at : Place) (words : RawSpecs) (ty : Shape) → KnownTypesAreNamed k.context → specs_type k at words ≡ Fine (ty, m) → NamesStructs (table_of m) ty × KnownTypesAreNamed m.context
 
 -- typedefs
 abbrev pub TypedefsAreNamed : Type 0
-TypedefsAreNamed = (k m : Known) (base : Shape) (names : List RawDeclarator) → NamesStructs (table_of k) base → KnownTypesAreNamed k.context → typedefs_added base names k ≡ Fine m → KnownTypesAreNamed m.context
+TypedefsAreNamed = (k m : Environment) (base : Shape) (names : List RawDeclarator) → NamesStructs (table_of k) base → KnownTypesAreNamed k.context → typedefs_added base names k ≡ Fine m → KnownTypesAreNamed m.context
 
 -- the parameters of a function
 abbrev pub ParametersAreNamed : Type 0
-ParametersAreNamed = (k : Known) (raw : RawParameters) (head : Head) → KnownTypesAreNamed k.context → parameters_typed k raw ≡ Fine head → VariablesName (table_of head.known) head.variables × KnownTypesAreNamed head.known.context
+ParametersAreNamed = (k : Environment) (raw : RawParameters) (head : Head) → KnownTypesAreNamed k.context → parameters_typed k raw ≡ Fine head → VariablesName (table_of head.known) head.variables × KnownTypesAreNamed head.known.context
 
 -- the type of a declared object
 abbrev pub ObjectsAreNamed : Type 0

@@ -17,13 +17,13 @@ use Rattle.cs_folding.proofs.Numbers.{fits_in_c}
 use Rattle.cs_scopes.proofs.Lifting.{refused_as}
 use Rattle.cs_consts.proofs.SingleParts.{lift_is}
 use Rattle.cs_declarations.specs.Answered.{AnswersWith}
-use Rattle.cs_declarations.specs.Known.{mark_of}
-use Rattle.cs_declarations.specs.View.{known_of, mark}
+use Rattle.cs_declarations.specs.Environment.{snapshot_of}
+use Rattle.cs_declarations.specs.View.{environment_of, snapshot}
 use Rattle.cs_declarations.proofs.FoldedSoFar.{part_taken, part_stops}
 use Rattle.cs_declarations.proofs.Refusing.{refused_with}
 use Rattle.cs_typing.specs.Objects.{Inside, knowing}
-use Rattle.cs_typing.specs.Statements.{part, past, in_block, meeting, is_first, label_number, nothing_reported, no_cases, telling, with_reported, goto_typed, while_typed, do_typed, for_typed, block_typed, body_typed, item_typed, label_typed, statement_typed, switch_whole, switch_item_typed, switch_list_typed, wrapped_in}
-use Rattle.cs_typing.specs.View.{inside_of, where_of, reported_of, typed_part, optional_part, statement_part, kind_part, switching_of}
+use Rattle.cs_typing.specs.Statements.{part, past, in_block, meeting, is_first, label_number, no_statements, no_cases, telling, with_statements, goto_typed, while_typed, do_typed, for_typed, block_typed, body_typed, item_typed, label_typed, statement_typed, switch_whole, switch_item_typed, switch_list_typed, wrapped_in}
+use Rattle.cs_typing.specs.View.{inside_of, where_of, typed_statements_of, typed_part, optional_part, statement_part, kind_part, switching_of}
 use Rattle.cs_typing.proofs.CasesInTurn.{case_refused, case_taken, constant_refused, constant_is, items_over, switch_over}
 use Rattle.cs_typing.proofs.ConstantNumbers.{value_in_c, small_enough, wrapped_in_c}
 use Rattle.cs_typing.proofs.StatementKinds.{reported_as, block_refused, block_reported, empty_reported, run_refused, run_reported, return_refused, return_reported, if_test_refused, if_body_refused, if_reported, else_test_refused, else_body_refused, else_refused, else_reported, for_held, switch_held}
@@ -48,7 +48,7 @@ statements::kind_typed-returns-in_ok-block-in-Block t c =
     let at = c.args.place in
     let list = c.in_ok-block-in-Block.field-0 in
     block_reported w i at c.args.tree.now c.in-Block.items c.in-Block.is list c.block.new.inside
-    (subst (λ items. block_typed w i items ≡ Fine (reported_of list.items c.block.new.inside)) c.deref.ensures.value c.in_ok-block-in-Block.ensures)
+    (subst (λ items. block_typed w i items ≡ Fine (typed_statements_of list.items c.block.new.inside)) c.deref.ensures.value c.in_ok-block-in-Block.ensures)
 
 pub statements::kind_typed-returns-in-Empty : goal.statements::kind_typed-returns-in-Empty
 statements::kind_typed-returns-in-Empty t c =
@@ -266,7 +266,7 @@ statements::for_typed-returns-in_err-first t c =
     let w = where_of c.args.at in
     let i = inside_of c.args.inside.now in
     let at = c.args.place in
-    let inner = knowing (known_of c.enter-around.new.self) i in
+    let inner = knowing (environment_of c.enter-around.new.self) i in
     let enters : inner ≡ in_block i = ap (λ k. knowing k i) c.enter-around.ensures.entered in
     let body = c.args.body.now in
     refused_with (kind_part at) (for_typed w i at c.args.first.now c.args.test.now c.args.last.now body.place body.kind.value) c.from_residual.result c.first_typed.new.inside c.in_err-first.field-0.0 e
@@ -278,11 +278,11 @@ statements::for_typed-returns-in_err-test t c =
     let w = where_of c.args.at in
     let i = inside_of c.args.inside.now in
     let at = c.args.place in
-    let inner = knowing (known_of c.enter-around.new.self) i in
+    let inner = knowing (environment_of c.enter-around.new.self) i in
     let enters : inner ≡ in_block i = ap (λ k. knowing k i) c.enter-around.ensures.entered in
     let body = c.args.body.now in
     refused_with (kind_part at) (for_typed w i at c.args.first.now c.args.test.now c.args.last.now body.place body.kind.value) c.from_residual-in_err-test.result c.tested_if.new.self c.in_err-test.field-0.0 e
-    (for_test_stops w i at c.args.first.now c.args.test.now c.args.last.now body.place body.kind.value inner enters (reported_of c.in_ok-first.first.items c.first_typed.new.inside) c.in_ok-first.ensures c.in_err-test.field-0.0 c.in_err-test.ensures)
+    (for_test_stops w i at c.args.first.now c.args.test.now c.args.last.now body.place body.kind.value inner enters (typed_statements_of c.in_ok-first.first.items c.first_typed.new.inside) c.in_ok-first.ensures c.in_err-test.field-0.0 c.in_err-test.ensures)
 
 pub statements::for_typed-returns-in_err-last : goal.statements::for_typed-returns-in_err-last
 statements::for_typed-returns-in_err-last t c =
@@ -290,11 +290,11 @@ statements::for_typed-returns-in_err-last t c =
     let w = where_of c.args.at in
     let i = inside_of c.args.inside.now in
     let at = c.args.place in
-    let inner = knowing (known_of c.enter-around.new.self) i in
+    let inner = knowing (environment_of c.enter-around.new.self) i in
     let enters : inner ≡ in_block i = ap (λ k. knowing k i) c.enter-around.ensures.entered in
     let body = c.args.body.now in
     refused_with (kind_part at) (for_typed w i at c.args.first.now c.args.test.now c.args.last.now body.place body.kind.value) c.from_residual-in_err-last.result c.dropped_if.new.self c.in_err-last.field-0.0 e
-    (for_last_stops w i at c.args.first.now c.args.test.now c.args.last.now body.place body.kind.value inner enters (reported_of c.in_ok-first.first.items c.first_typed.new.inside) c.in_ok-first.ensures (optional_part c.in_ok-test.test c.tested_if.new.self) c.in_ok-test.ensures c.in_err-last.field-0.0 c.in_err-last.ensures)
+    (for_last_stops w i at c.args.first.now c.args.test.now c.args.last.now body.place body.kind.value inner enters (typed_statements_of c.in_ok-first.first.items c.first_typed.new.inside) c.in_ok-first.ensures (optional_part c.in_ok-test.test c.tested_if.new.self) c.in_ok-test.ensures c.in_err-last.field-0.0 c.in_err-last.ensures)
 
 pub statements::for_typed-returns-in_err-body : goal.statements::for_typed-returns-in_err-body
 statements::for_typed-returns-in_err-body t c =
@@ -302,24 +302,24 @@ statements::for_typed-returns-in_err-body t c =
     let w = where_of c.args.at in
     let i = inside_of c.args.inside.now in
     let at = c.args.place in
-    let inner = knowing (known_of c.enter-around.new.self) i in
+    let inner = knowing (environment_of c.enter-around.new.self) i in
     let enters : inner ≡ in_block i = ap (λ k. knowing k i) c.enter-around.ensures.entered in
     let body = c.args.body.now in
     refused_with (kind_part at) (for_typed w i at c.args.first.now c.args.test.now c.args.last.now body.place body.kind.value) c.from_residual-in_err-body.result c.statement_typed.new.inside c.in_err-body.field-0.0 e
-    (for_body_stops w i at c.args.first.now c.args.test.now c.args.last.now body.place body.kind.value inner enters (reported_of c.in_ok-first.first.items c.first_typed.new.inside) c.in_ok-first.ensures (optional_part c.in_ok-test.test c.tested_if.new.self) c.in_ok-test.ensures (optional_part c.in_ok-last.last c.dropped_if.new.self) c.in_ok-last.ensures (where_of c.in_loop.result) c.in_loop.ensures c.in_err-body.field-0.0 c.in_err-body.ensures)
+    (for_body_stops w i at c.args.first.now c.args.test.now c.args.last.now body.place body.kind.value inner enters (typed_statements_of c.in_ok-first.first.items c.first_typed.new.inside) c.in_ok-first.ensures (optional_part c.in_ok-test.test c.tested_if.new.self) c.in_ok-test.ensures (optional_part c.in_ok-last.last c.dropped_if.new.self) c.in_ok-last.ensures (where_of c.in_loop.result) c.in_loop.ensures c.in_err-body.field-0.0 c.in_err-body.ensures)
 
 pub statements::for_typed-returns : goal.statements::for_typed-returns
 statements::for_typed-returns t c =
     let w = where_of c.args.at in
     let i = inside_of c.args.inside.now in
     let at = c.args.place in
-    let inner = knowing (known_of c.enter-around.new.self) i in
+    let inner = knowing (environment_of c.enter-around.new.self) i in
     let enters : inner ≡ in_block i = ap (λ k. knowing k i) c.enter-around.ensures.entered in
     let body = c.args.body.now in
     let now = c.statement_typed.new.inside in
-    for_taken w i at c.args.first.now c.args.test.now c.args.last.now body.place body.kind.value inner enters (reported_of c.in_ok-first.first.items c.first_typed.new.inside) c.in_ok-first.ensures (optional_part c.in_ok-test.test c.tested_if.new.self) c.in_ok-test.ensures (optional_part c.in_ok-last.last c.dropped_if.new.self) c.in_ok-last.ensures (where_of c.in_loop.result) c.in_loop.ensures (statement_part c.in_ok-body.body now) c.in_ok-body.ensures
-    ∙ for_held at c.in_ok-first.first c.in_ok-test.test c.in_ok-last.last c.in_ok-body.body (knowing (known_of c.leave.new.self) (inside_of now)) _
-    (left_is i now c.leave.new.self (mark c.enter-around.result) c.leave.ensures c.enter-around.ensures.mark)
+    for_taken w i at c.args.first.now c.args.test.now c.args.last.now body.place body.kind.value inner enters (typed_statements_of c.in_ok-first.first.items c.first_typed.new.inside) c.in_ok-first.ensures (optional_part c.in_ok-test.test c.tested_if.new.self) c.in_ok-test.ensures (optional_part c.in_ok-last.last c.dropped_if.new.self) c.in_ok-last.ensures (where_of c.in_loop.result) c.in_loop.ensures (statement_part c.in_ok-body.body now) c.in_ok-body.ensures
+    ∙ for_held at c.in_ok-first.first c.in_ok-test.test c.in_ok-last.last c.in_ok-body.body (knowing (environment_of c.leave.new.self) (inside_of now)) _
+    (left_is i now c.leave.new.self (snapshot c.enter-around.result) c.leave.ensures c.enter-around.ensures.snapshot)
 
 pub statements::block-returns-in_err-statements : goal.statements::block-returns-in_err-statements
 statements::block-returns-in_err-statements t c =
@@ -327,9 +327,9 @@ statements::block-returns-in_err-statements t c =
     let w = where_of c.args.at in
     let i = inside_of c.args.inside.now in
     let items = c.args.items.now in
-    let inner = knowing (known_of c.enter-around.new.self) i in
+    let inner = knowing (environment_of c.enter-around.new.self) i in
     let enters : inner ≡ in_block i = ap (λ k. knowing k i) c.enter-around.ensures.entered in
-    refused_with (λ list following. reported_of list.items following) (block_typed w i items) c.from_residual.result c.items_typed.new.inside c.in_err-statements.field-0.0 e
+    refused_with (λ list following. typed_statements_of list.items following) (block_typed w i items) c.from_residual.result c.items_typed.new.inside c.in_err-statements.field-0.0 e
     (block_stops w i items inner enters c.in_err-statements.field-0.0 c.in_err-statements.ensures)
 
 pub statements::block-returns : goal.statements::block-returns
@@ -337,12 +337,12 @@ statements::block-returns t c =
     let w = where_of c.args.at in
     let i = inside_of c.args.inside.now in
     let items = c.args.items.now in
-    let inner = knowing (known_of c.enter-around.new.self) i in
+    let inner = knowing (environment_of c.enter-around.new.self) i in
     let enters : inner ≡ in_block i = ap (λ k. knowing k i) c.enter-around.ensures.entered in
     let now = c.items_typed.new.inside in
     let list = c.in_ok-statements.statements.items in
-    block_taken w i items inner enters (reported_of list now) c.in_ok-statements.ensures
-    ∙ ap Fine (closed_is i list now (knowing (known_of c.leave.new.self) (inside_of now)) (left_is i now c.leave.new.self (mark c.enter-around.result) c.leave.ensures c.enter-around.ensures.mark))
+    block_taken w i items inner enters (typed_statements_of list now) c.in_ok-statements.ensures
+    ∙ ap Fine (closed_is i list now (knowing (environment_of c.leave.new.self) (inside_of now)) (left_is i now c.leave.new.self (snapshot c.enter-around.result) c.leave.ensures c.enter-around.ensures.snapshot))
 
 pub statements::items_typed-returns-in_err-statements : goal.statements::items_typed-returns-in_err-statements
 statements::items_typed-returns-in_err-statements t c =
@@ -350,32 +350,32 @@ statements::items_typed-returns-in_err-statements t c =
     let w = where_of c.args.at in
     let i = inside_of c.args.inside.now in
     let items = c.args.items.now in
-    let whole = body_typed w items (nothing_reported i) in
-    refused_with (λ list following. reported_of list.items following) whole c.from_residual.result c.item_typed.new.inside c.in_err-statements.field-0.0 e
-    (part_stops (body_typed w) (item_typed w) (items_over w) items c.loop-item.item-index c.item-item.result whole (reported_of c.loop-item.statements.items c.loop-item.inside) c.in_err-statements.field-0.0 c.loop-item-test.true c.item-item.is c.loop-item.invariant c.in_err-statements.ensures)
+    let whole = body_typed w items (no_statements i) in
+    refused_with (λ list following. typed_statements_of list.items following) whole c.from_residual.result c.item_typed.new.inside c.in_err-statements.field-0.0 e
+    (part_stops (body_typed w) (item_typed w) (items_over w) items c.loop-item.item-index c.item-item.result whole (typed_statements_of c.loop-item.statements.items c.loop-item.inside) c.in_err-statements.field-0.0 c.loop-item-test.true c.item-item.is c.loop-item.invariant c.in_err-statements.ensures)
 
 pub statements::items_typed-loop-item-preserved : goal.statements::items_typed-loop-item-preserved
 statements::items_typed-loop-item-preserved t c =
     let w = where_of c.args.at in
     let i = inside_of c.args.inside.now in
     let items = c.args.items.now in
-    let whole = body_typed w items (nothing_reported i) in
-    part_taken (body_typed w) (item_typed w) (items_over w) items c.loop-item.item-index c.item-item.result whole (reported_of c.loop-item.statements.items c.loop-item.inside) (reported_of c.in_ok-statements.statements.items c.item_typed.new.inside) c.loop-item-test.true c.item-item.is c.loop-item.invariant c.in_ok-statements.ensures
+    let whole = body_typed w items (no_statements i) in
+    part_taken (body_typed w) (item_typed w) (items_over w) items c.loop-item.item-index c.item-item.result whole (typed_statements_of c.loop-item.statements.items c.loop-item.inside) (typed_statements_of c.in_ok-statements.statements.items c.item_typed.new.inside) c.loop-item-test.true c.item-item.is c.loop-item.invariant c.in_ok-statements.ensures
 
 pub statements::item_typed-returns-in_err-statement_typed-in-Run : goal.statements::item_typed-returns-in_err-statement_typed-in-Run
 statements::item_typed-returns-in_err-statement_typed-in-Run t c =
     let e : c.from_residual.result ≡ Err c.in_err-statement_typed-in-Run.field-0.0 = search rules in
     let w = where_of c.args.at in
-    let so_far = reported_of c.args.before.items c.args.inside.now in
+    let so_far = typed_statements_of c.args.before.items c.args.inside.now in
     let run : RawStmt = c.in-Run.statement in
-    refused_with (λ list following. reported_of list.items following) (item_typed w c.args.item.now so_far) c.from_residual.result c.statement_typed.new.inside c.in_err-statement_typed-in-Run.field-0.0 e
+    refused_with (λ list following. typed_statements_of list.items following) (item_typed w c.args.item.now so_far) c.from_residual.result c.statement_typed.new.inside c.in_err-statement_typed-in-Run.field-0.0 e
     (refused_as c.in_err-statement_typed-in-Run.field-0.0 (ap (λ x. item_typed w x so_far) c.in-Run.is)
     (lift-refused (telling so_far.statements) (statement_typed w so_far.inside run.place run.kind.value) c.in_err-statement_typed-in-Run.field-0.0 c.in_err-statement_typed-in-Run.ensures))
 
 pub statements::item_typed-returns-in_ok-push-in-Run : goal.statements::item_typed-returns-in_ok-push-in-Run
 statements::item_typed-returns-in_ok-push-in-Run t c =
     let w = where_of c.args.at in
-    let so_far = reported_of c.args.before.items c.args.inside.now in
+    let so_far = typed_statements_of c.args.before.items c.args.inside.now in
     let run : RawStmt = c.in-Run.statement in
     let one = c.in_ok-statement_typed-in-Run.field-0 in
     let now = c.statement_typed.new.inside in
@@ -435,7 +435,7 @@ switches::switch_typed-returns-in_err-found t c =
     let items = c.args.items.now in
     let selector = c.in_ok-selector.selector in
     let between = c.selected.new.self in
-    let inner = knowing (known_of c.enter-around.new.self) (inside_of between) in
+    let inner = knowing (environment_of c.enter-around.new.self) (inside_of between) in
     let enters : inner ≡ in_block (inside_of between) = ap (λ k. knowing k (inside_of between)) c.enter-around.ensures.entered in
     refused_with (kind_part at) (switch_whole w i at tree items) c.from_residual-in_err-found.result c.switch_items.new.inside c.in_err-found.field-0.0 e
     (switch_items_stop w i at tree items (typed_part selector between) c.in_ok-selector.ensures (where_of c.in_switch.result) inner c.in_switch.ensures enters c.in_err-found.field-0.0 c.in_err-found.ensures)
@@ -449,15 +449,15 @@ switches::switch_typed-returns t c =
     let items = c.args.items.now in
     let selector = c.in_ok-selector.selector in
     let between = c.selected.new.self in
-    let inner = knowing (known_of c.enter-around.new.self) (inside_of between) in
+    let inner = knowing (environment_of c.enter-around.new.self) (inside_of between) in
     let enters : inner ≡ in_block (inside_of between) = ap (λ k. knowing k (inside_of between)) c.enter-around.ensures.entered in
     let now = c.switch_items.new.inside in
     let found = c.in_ok-found.found in
     let same : past tree i ≡ inside_of between = part_inside (past tree i) _ (typed_part selector between) c.in_ok-selector.ensures in
-    let around : mark c.enter-around.result ≡ mark_of i.known = c.enter-around.ensures.mark ∙ ap (λ (x : Inside). mark_of x.known) (sym same) in
+    let around : snapshot c.enter-around.result ≡ snapshot_of i.known = c.enter-around.ensures.snapshot ∙ ap (λ (x : Inside). snapshot_of x.known) (sym same) in
     switch_taken w i at tree items (typed_part selector between) c.in_ok-selector.ensures (where_of c.in_switch.result) inner c.in_switch.ensures enters (switching_of found now) c.in_ok-found.ensures
-    ∙ switch_held at selector found.cases c.into_list.result found.statements (knowing (known_of c.leave.new.self) (inside_of now)) _
-    (left_is i now c.leave.new.self (mark c.enter-around.result) c.leave.ensures around) c.into_list.ensures
+    ∙ switch_held at selector found.cases c.into_list.result found.statements (knowing (environment_of c.leave.new.self) (inside_of now)) _
+    (left_is i now c.leave.new.self (snapshot c.enter-around.result) c.leave.ensures around) c.into_list.ensures
 
 pub switches::switch_items-returns-in_err-so_far : goal.switches::switch_items-returns-in_err-so_far
 switches::switch_items-returns-in_err-so_far t c =
@@ -560,7 +560,7 @@ switches::switch_item-returns-in_err-item_typed-in-Item t c =
     let known = c.args.inside.now.known in
     let so_far = switching_of c.args.before c.args.inside.now in
     refused_with switching_of (switch_item_typed w ty c.args.item.now so_far) c.from_residual-in_err-item_typed-in-Item.result c.item_typed.new.inside c.in_err-item_typed-in-Item.field-0.0 e
-    (refused_as c.in_err-item_typed-in-Item.field-0.0 (ap (λ x. switch_item_typed w ty x so_far) c.in-Item.is) (lift-refused (with_reported so_far) (item_typed w c.in-Item.item so_far.reported) c.in_err-item_typed-in-Item.field-0.0 c.in_err-item_typed-in-Item.ensures))
+    (refused_as c.in_err-item_typed-in-Item.field-0.0 (ap (λ x. switch_item_typed w ty x so_far) c.in-Item.is) (lift-refused (with_statements so_far) (item_typed w c.in-Item.item so_far.reported) c.in_err-item_typed-in-Item.field-0.0 c.in_err-item_typed-in-Item.ensures))
 
 pub switches::switch_item-returns-in_ok-item_typed-in-Item : goal.switches::switch_item-returns-in_ok-item_typed-in-Item
 switches::switch_item-returns-in_ok-item_typed-in-Item t c =
@@ -569,4 +569,4 @@ switches::switch_item-returns-in_ok-item_typed-in-Item t c =
     let known = c.args.inside.now.known in
     let so_far = switching_of c.args.before c.args.inside.now in
     ap (λ x. switch_item_typed w ty x so_far) c.in-Item.is
-    ∙ lift_is (with_reported so_far) (item_typed w c.in-Item.item so_far.reported) (reported_of c.in_ok-item_typed-in-Item.field-0.items c.item_typed.new.inside) c.in_ok-item_typed-in-Item.ensures
+    ∙ lift_is (with_statements so_far) (item_typed w c.in-Item.item so_far.reported) (typed_statements_of c.in_ok-item_typed-in-Item.field-0.items c.item_typed.new.inside) c.in_ok-item_typed-in-Item.ensures

@@ -3,7 +3,7 @@ use Rattle.std.specs.Prelude.{option_copied, is_some}
 use Rattle.cs_types.specs.Shape.{shape_of}
 use Rattle.cs_scopes.specs.TypeNames.{starred}
 use Rattle.cs_scopes.specs.Verdicts.{Answers}
-use Rattle.cs_declarations.specs.Known.{meaning_here}
+use Rattle.cs_declarations.specs.Environment.{meaning_here}
 use Rattle.cs_typing.specs.Functions.{may_be_function}
 use Rattle.cs_typing.specs.View.{filed_of}
 use Rattle.cs_typing.proofs.FunctionAgain.{still_some, result_taken}

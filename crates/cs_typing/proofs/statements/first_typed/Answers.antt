@@ -7,7 +7,7 @@ use Rattle.cs_scopes.proofs.Lifting.{refused_as}
 use Rattle.cs_consts.proofs.SingleParts.{lift_is}
 use Rattle.cs_declarations.proofs.Refusing.{refused_with}
 use Rattle.cs_typing.specs.Statements.{dropped_in, ran_first, first_typed}
-use Rattle.cs_typing.specs.View.{inside_of, reported_of, typed_part}
+use Rattle.cs_typing.specs.View.{inside_of, typed_statements_of, typed_part}
 use Rattle.cs_typing.proofs.StatementsInTurn.{reported_push}
 use Rattle.cs_typing.proofs.statements.first_typed.Goals as goal
 
@@ -15,7 +15,7 @@ pub returns-in_err-dropped-in-Run : goal.returns-in_err-dropped-in-Run
 returns-in_err-dropped-in-Run c =
     let e : c.from_residual.result ≡ Err c.in_err-dropped-in-Run.field-0.0 = search rules in
     let i = inside_of c.args.inside.now in
-    refused_with (λ list following. reported_of list.items following) (first_typed i c.args.first.now) c.from_residual.result c.dropped.new.self c.in_err-dropped-in-Run.field-0.0 e
+    refused_with (λ list following. typed_statements_of list.items following) (first_typed i c.args.first.now) c.from_residual.result c.dropped.new.self c.in_err-dropped-in-Run.field-0.0 e
     (refused_as c.in_err-dropped-in-Run.field-0.0 (ap (first_typed i) c.in-Run.is)
     (lift-refused (ran_first c.in-Run.value.place) (dropped_in i c.in-Run.value) c.in_err-dropped-in-Run.field-0.0 c.in_err-dropped-in-Run.ensures))
 

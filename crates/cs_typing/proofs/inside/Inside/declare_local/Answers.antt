@@ -1,6 +1,6 @@
 use Rattle.std.proofs.Common.{rules, ◌≡◌, false, Err, sym, ap, ◌∙◌}
 use Rattle.cs_types.specs.Shape.{shape_of}
-use Rattle.cs_declarations.specs.Known.{is_declared_here}
+use Rattle.cs_declarations.specs.Environment.{is_declared_here}
 use Rattle.cs_declarations.proofs.Refusing.{refused_with}
 use Rattle.cs_typing.specs.Objects.{with_local, local_initialized, local_added}
 use Rattle.cs_typing.specs.View.{inside_of, local_of}
