@@ -107,8 +107,8 @@ abbrev pub Names : Type 0
 Names = List (List ℕ)
 
 -- the names of locals
-abbrev pub names_of : List objects.Local → Names
-names_of locals = map (λ (local : objects.Local). local.name) locals
+abbrev pub names_of : List objects.SmallLocal → Names
+names_of locals = map (λ (local : objects.SmallLocal). local.name) locals
 
 -- the number of a parameter
 abbrev pub number_of : Names → List ℕ → Option ℕ
