@@ -7,7 +7,7 @@ use cs_ast::Place;
 use cs_events::PointKind;
 
 /// A control point that a run meets.
-#[derive(Clone, Copy, Debug, PartialEq, Eq)]
+#[derive(Clone, Copy)]
 pub struct Met {
     pub kind: PointKind,
     pub place: Place,
@@ -24,7 +24,7 @@ pub fn meets(kind: PointKind, place: Place) -> Next
 }
 
 /// A way out of a control point.
-#[derive(Clone, Copy, Debug, PartialEq, Eq)]
+#[derive(Clone, Copy)]
 pub enum Exit {
     /// The one way there is.
     Onward,
@@ -35,7 +35,7 @@ pub enum Exit {
 }
 
 /// A way out of a control point, and what is met next.
-#[derive(Clone, Copy, Debug, PartialEq, Eq)]
+#[derive(Clone, Copy)]
 pub struct Way {
     pub exit: Exit,
     pub next: Next,

@@ -8,7 +8,7 @@ use cs_cfg::SwitchCase;
 use std::alloc::AllocError;
 
 /// A way out of a `switch`: the number of its case among those with a value, and the block to which it leads.
-#[derive(Clone, Copy, Debug, PartialEq, Eq)]
+#[derive(Clone, Copy)]
 pub struct Way {
     pub number: u32,
     pub block: u32,
