@@ -11,7 +11,7 @@ use Rattle.cs_declarations.proofs.forms.+forms.Goals as goal
 pub has_form-returns-in-Some : goal.has_form-returns-in-Some
 has_form-returns-in-Some t c =
     let parts : part_types c.args.table.now.list (shape_of c.args.ty.now) ≡ Some (types_of c.in-Some.parts) = sym c.in-Some.ensures in
-    c.have_forms.ensures ∙ ap (list_has_forms c.args.table.now.list (view.storage c.args.storage) (types_of c.in-Some.parts)) c.deref.ensures.value
+    c.have_forms.ensures ∙ ap (list_has_forms c.args.table.now.list (view.storage c.args.storage) (types_of c.in-Some.parts)) c.deref-in-Some.ensures.value
     ∙ sym (has_form-List c.args.table.now.list (view.storage c.args.storage) (shape_of c.args.ty.now) (types_of c.in-Some.parts) c.args.written.now c.in-List.items c.in-List.field-1 parts c.in-List.is)
 
 pub have_forms-returns-in_default : goal.have_forms-returns-in_default
