@@ -4,7 +4,7 @@ ghost use Rattle.cs_ast.specs.TypedProgram.{typed_program};
 ghost use Rattle.cs_lexer.specs.Lexing.{Lexes};
 ghost use Rattle.cs_well_formed.specs.Files.{IsFileTree};
 ghost use Rattle.cs_well_formed.specs.Programs.{IsWellFormed};
-ghost use Rattle.cs_app.specs.Trees.{MOST_BYTES, IsOfFile, Parses};
+ghost use Rattle.cs_app.specs.Trees.{IsOfFile, Parses};
 ghost use Rattle.cs_app.specs.Answers.{IsAnalysisAnswer, IsProgramAnswer, IsAnswer, model_of};
 
 use crate::answer::Answer;
@@ -16,6 +16,7 @@ use cs_ast::raw::external::RawExternal;
 use cs_ast::typed::program::Program;
 use cs_decl_parser::parse;
 use cs_lexer::{Lexed, tokens};
+use cs_limits::{MOST_BYTES, MOST_TOKENS};
 use cs_names::Name;
 use cs_small_form::{FormRefusal, functions_of};
 use cs_types::DataModel;
@@ -42,7 +43,7 @@ pub fn answer_to(alloc: Global, command: &Command, file: &[u8]) -> Result<Answer
 
 /// The answer to a file with these tokens.
 fn answer_by_syntax(alloc: Global, command: &Command, lexed: &Lexed) -> Result<Answer, AllocError>
-    requires few { length lexed.now.list.items ≤ 400000 }
+    requires few { length lexed.now.list.items ≤ MOST_TOKENS }
     requires lexed { IsOfFile lexed.now }
     ensures { IfOk result (λ answer. (file : List ℕ) → length file ≤ MOST_BYTES → Lexes file lexed.now
         → IsAnswer command.now file answer.status answer.text.items) }

@@ -10,6 +10,7 @@ use cs_ast::typed::program::Program;
 use cs_decl_parser::parse;
 use cs_grammar::SyntaxRefusal;
 use cs_lexer::{Lexed, tokens};
+use cs_limits::{MOST_BYTES, MOST_TOKENS};
 use cs_types::DataModel;
 use cs_typing::typed;
 use std::alloc::Global;
@@ -28,14 +29,14 @@ pub enum Reported {
 /// Cuts a text into tokens and parses them.
 pub fn front(alloc: Global, text: &str) -> Reported {
     let bytes = text.as_bytes();
-    if bytes.len() > 4_194_304 {
+    if bytes.len() > MOST_BYTES {
         return Reported::NoTokens;
     }
     let Ok(lexed) = tokens(alloc, bytes) else {
         return Reported::NoTokens;
     };
     let list = lexed.list.as_slice();
-    if list.len() > 400_000 {
+    if list.len() > MOST_TOKENS {
         return Reported::NoTokens;
     }
     match parse(alloc, list, lexed.end) {
@@ -49,7 +50,7 @@ pub fn program(alloc: Global, model: DataModel, text: &str) -> Option<Program>
     ensures { IfSome result (λ program. IsWellFormed (typed_program program)) }
 {
     let bytes = text.as_bytes();
-    if bytes.len() > 4_194_304 {
+    if bytes.len() > MOST_BYTES {
         return None;
     }
     match tokens(alloc, bytes) {
@@ -60,7 +61,7 @@ pub fn program(alloc: Global, model: DataModel, text: &str) -> Option<Program>
 
 /// The program that the tokens of a text are.
 fn program_of(alloc: Global, model: DataModel, lexed: &Lexed) -> Option<Program>
-    requires few { length lexed.now.list.items ≤ 400000 }
+    requires few { length lexed.now.list.items ≤ MOST_TOKENS }
     requires lexed { IsOfFile lexed.now }
     ensures { IfSome result (λ program. IsWellFormed (typed_program program)) }
 {
