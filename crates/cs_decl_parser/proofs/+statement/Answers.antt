@@ -131,12 +131,12 @@ statement::statement-returns-in-Unlabelled-clause-parsed t c =
     let f = c.if-limit-least_height.false in
     unlabelled_stops c.args.source.now.names.now c.args.limit c.args.source.now.tokens.now c.args.from c.refuse.result (omega arith) (sym c.form_at-form.ensures.form ∙ c.in-Unlabelled.is) c.refuse.ensures.is
 
-pub statement::statement-returns-in-Empty-clause-parsed : goal.statement::statement-returns-in-Empty-clause-parsed
-statement::statement-returns-in-Empty-clause-parsed t c =
+pub statement::statement-returns-in_ok-leaf-in-Empty-clause-parsed : goal.statement::statement-returns-in_ok-leaf-in-Empty-clause-parsed
+statement::statement-returns-in_ok-leaf-in-Empty-clause-parsed t c =
     let l : least c.form_at-form.result ≡ 1 = ap least c.in-Empty.is in
     let h = c.least_height.ensures in
     let f = c.if-limit-least_height.false in
-    nothing_taken c.args.source.now.names.now c.args.limit c.args.source.now.tokens.now c.args.from c.in_ok-leaf.field-0 (omega arith) (reported_form c.args.source.now.names.now c.args.source.now.tokens.now c.args.from form.Empty (sym c.form_at-form.ensures.form ∙ c.in-Empty.is)) c.in_ok-leaf.ensures.node
+    nothing_taken c.args.source.now.names.now c.args.limit c.args.source.now.tokens.now c.args.from c.in_ok-leaf-in-Empty.field-0 (omega arith) (reported_form c.args.source.now.names.now c.args.source.now.tokens.now c.args.from form.Empty (sym c.form_at-form.ensures.form ∙ c.in-Empty.is)) c.in_ok-leaf-in-Empty.ensures.node
 
 pub statement::statement-returns-in-Goto-clause-parsed : goal.statement::statement-returns-in-Goto-clause-parsed
 statement::statement-returns-in-Goto-clause-parsed t c =
@@ -277,9 +277,9 @@ pub branches::switch_item-returns-clause-parsed : goal.branches::switch_item-ret
 branches::switch_item-returns-clause-parsed t c =
     inside_taken c.args.source.now.names.now c.args.limit c.args.source.now.tokens.now c.args.from c.in_ok-inner.inner _ (no_case (kind_or_end c.args.source.now.tokens.now c.args.from) (λ k. false≢true (sym c.if-is_keyword.false ∙ c.is_keyword.ensures.keyword.1 k)) (λ k. false≢true (sym c.if-is_keyword-2.false ∙ c.is_keyword-2.ensures.keyword.1 k))) c.in_ok-inner.ensures.parsed refl refl refl
 
-pub statement::statement-returns-in-Empty-clause-placed : goal.statement::statement-returns-in-Empty-clause-placed
-statement::statement-returns-in-Empty-clause-placed t c =
-    c.in_ok-leaf.ensures.placed tt
+pub statement::statement-returns-in_ok-leaf-in-Empty-clause-placed : goal.statement::statement-returns-in_ok-leaf-in-Empty-clause-placed
+statement::statement-returns-in_ok-leaf-in-Empty-clause-placed t c =
+    c.in_ok-leaf-in-Empty.ensures.placed tt
 
 pub statement::label-returns-clause-placed : goal.statement::label-returns-clause-placed
 statement::label-returns-clause-placed t c =
