@@ -6,7 +6,7 @@ use Rattle.cs_ast.specs.declared.raw.expression.RawExprKind.{Row_of-RawExpr, end
 use Rattle.cs_ast.specs.declared.raw.expression.RawExprKind.TheVariants as kind
 use Rattle.cs_ast.specs.RawView.{written_kind, written_row}
 use Rattle.cs_ast.specs.RawTree.{Written, WrittenList, Enclosed, Index, Call, Member, Arrow, StepAfter, SizeOfType, Cast, Infix, Choice, Assign, Comma, End, More}
-use Rattle.cs_grammar.specs.Marks.{step_punctuator, infix_punctuator, assign_punctuator}
+use Rattle.cs_grammar.specs.Punctuators.{step_punctuator, infix_punctuator, assign_punctuator}
 use Rattle.cs_grammar.specs.Text.{pointers_text, text, listed, after_commas, bounds_text}
 use Rattle.cs_expressions.specs.Primary.{Literals}
 use Rattle.cs_consts.specs.Typing.{literals_after, literals_after_row}
