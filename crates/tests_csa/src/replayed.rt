@@ -2,11 +2,11 @@
 
 use crate::asked::answered;
 use crate::front::program;
-use cs_small_meaning::{Budgets, Finding, SmallFunction};
 use cs_events::Outcome;
 use cs_small_analysis::analyze;
 use cs_small_form::functions_of;
 use cs_small_machine::run;
+use cs_small_meaning::{Budgets, Finding, SmallFunction};
 use cs_types::DataModel;
 use std::alloc::{AllocError, Global};
 use std::str;
@@ -29,7 +29,11 @@ const REPORTED: [(&str, usize); 6] = [
 ];
 
 /// The words that replay a report of a function.
-fn words_for(alloc: Global, function: &SmallFunction, report: &Finding) -> Result<String, AllocError> {
+fn words_for(
+    alloc: Global,
+    function: &SmallFunction,
+    report: &Finding,
+) -> Result<String, AllocError> {
     let mut words = String::from_str(alloc, "replay ")?;
     words.push_str(str::from_utf8(function.name.as_bytes()).unwrap_or("?"))?;
     for input in &report.run.inputs {
