@@ -7,7 +7,7 @@ ghost use Rattle.cs_meaning.specs.Jumps as jumps;
 ghost use Rattle.cs_meaning.specs.Statements as statements;
 ghost use Rattle.cs_meaning.specs.Steps as steps;
 ghost use Rattle.cs_run_state.specs.MachineView.{state_of, todo_of};
-ghost use Rattle.cs_meaning.specs.CountedPoints.{counted_points, counted_points_in};
+ghost use Rattle.cs_meaning.specs.CountedPoints.{counted_points_in};
 ghost use Rattle.cs_reference.specs.Jumping.{lands_at, label_landing};
 ghost use Rattle.cs_reference.specs.RunnerView.{program_of, budgets_of, state_in, Performs};
 
@@ -112,13 +112,17 @@ fn seek<'a>(
     match &*s.kind {
         StmtKind::Block(statements) => seek_in(label, statements, counted_point, todo),
         StmtKind::If(_, body) => seek(label, body, counted_point, todo),
-        StmtKind::IfElse(_, body, other) => {
-            seek_in_either(label, body, other, counted_point, todo)
-        }
+        StmtKind::IfElse(_, body, other) => match seek(label, body, counted_point, todo)? {
+            Some(found) => Ok(Some(found)),
+            None => {
+                let following = together(counted_point, counted_points(body)?)?;
+                seek(label, other, following, todo)
+            }
+        },
         StmtKind::While(_, body) => seek_after_head(label, body, s, counted_point, todo),
         StmtKind::Do(body, _) => seek_after_head(label, body, s, counted_point, todo),
         StmtKind::For(first, _, _, body) => {
-            seek_in_for(label, first, body, s, counted_point, todo)
+            seek_in_for(label, body, first, s, counted_point, todo)
         }
         StmtKind::Switch(_, _, statements) => {
             seek_in_switch(label, statements, counted_point, todo)
@@ -128,31 +132,6 @@ fn seek<'a>(
         }
         StmtKind::Declare(_, _) | StmtKind::Run(_) | StmtKind::Goto(_) => Ok(None),
         StmtKind::Break | StmtKind::Continue | StmtKind::Return(_) => Ok(None),
-    }
-}
-
-// The same in one statement or another.
-#[cycle(seek)]
-fn seek_in_either<'a>(
-    label: u32,
-    body: &'a Stmt,
-    other: &'a Stmt,
-    counted_point: u64,
-    todo: &mut Vec<Item<'a>>,
-) -> Result<Option<Landing>, AllocError>
-    ensures { IfOk result
-        (lands_at
-        (jumps.first_of_two
-        (jumps.landing label (statement body.now) counted_point (todo_of todo.old.items))
-        (jumps.landing label (statement other.now) (counted_point + counted_points (statement body.now)) (todo_of todo.old.items)))
-        todo.old todo.new) }
-{
-    match seek(label, body, counted_point, todo)? {
-        Some(found) => Ok(Some(found)),
-        None => {
-            let following = together(counted_point, counted_points(body)?)?;
-            seek(label, other, following, todo)
-        }
     }
 }
 
@@ -205,8 +184,8 @@ fn seek_after_head<'a>(
 #[cycle(seek)]
 fn seek_in_for<'a>(
     label: u32,
-    first: &'a [Stmt],
     body: &'a Stmt,
+    first: &'a [Stmt],
     s: &'a Stmt,
     counted_point: u64,
     todo: &mut Vec<Item<'a>>,
