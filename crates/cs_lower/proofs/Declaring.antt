@@ -23,7 +23,7 @@ use Rattle.cs_lower.specs.Allocations.{InitialHasArguments, InitialsHaveArgument
 use Rattle.cs_lower.specs.Building.{Built}
 use Rattle.cs_lower.specs.Expressions.{Uses}
 use Rattle.cs_lower.specs.Statements.{labels_in, StoresPieces, Declares}
-use Rattle.cs_lower.proofs.Built.{nothing_more, grows_on, adds_nothing}
+use Rattle.cs_lower.proofs.Built.{nothing_more, grows_on}
 use Rattle.cs_lower.proofs.Evaluating.{same_after, same_before}
 
 all_have : (some more : List Piece) → PiecesHaveArguments some → PiecesHaveArguments more → PiecesHaveArguments (some ++ more)

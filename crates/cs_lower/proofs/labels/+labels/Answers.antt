@@ -2,7 +2,7 @@ use Rattle.std.proofs.Common.{◌≡◌, ℕ, ◌+◌, rules, sym, ap, subst, �
 use Rattle.std.specs.Prelude.{IfOk}
 use Rattle.std.specs.BTreeMap.{get}
 use Rattle.std.specs.Ordering.{nat_cmp}
-use Rattle.cs_ast.specs.TypedTree.{Statement, While, Do}
+use Rattle.cs_ast.specs.TypedTree.{While, Do}
 use Rattle.cs_ast.specs.TypedView.{typed, some_typed, statement, statement_list}
 use Rattle.cs_meaning.specs.CountedPoints.{counted_points, counted_points_in}
 use Rattle.cs_lower.specs.Labels.{label_in, label_among}

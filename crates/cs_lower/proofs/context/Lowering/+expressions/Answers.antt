@@ -1,7 +1,7 @@
 use Rattle.std.proofs.Common.{◌≡◌, ℕ, ◌+◌, drop, inl, inr, rules, refl, sym, ap, subst, ◌∙◌, arith}
 use Rattle.cs_types.specs.Shape.{shape_of}
 use Rattle.cs_ast.specs.TypedProgram.{typed_program}
-use Rattle.cs_ast.specs.TypedTree.{Through, Index, Member, Arrow, Load, Address, Decay, Convert, Unary, Not, Binary, Compare, Sum, Difference, And, Or, Choice, Comma, Assign, Update, Move, Call, Allocate, Free}
+use Rattle.cs_ast.specs.TypedTree.{Index, Member, Arrow, Convert, Unary, Binary, Compare, Sum, Difference, And, Or, Choice, Comma, Assign, Update, Move, Call, Allocate}
 use Rattle.cs_ast.specs.TypedView.{form, typed, typed_list}
 use Rattle.cs_ast.proofs.TypedRows.{form-Call, form-Allocate}
 use Rattle.cs_lower.specs.Building.{built_of, point_of}
