@@ -150,9 +150,10 @@ fn first_typed(
         RawFirst::Empty => Ok(statements),
         RawFirst::Run(value) => {
             let dropped = inside.dropped(alloc, value)?;
+            let kind = Box::new(alloc, StmtKind::Run(dropped))?;
             statements.push(Stmt {
                 place: value.place,
-                kind: Box::new(alloc, StmtKind::Run(dropped))?,
+                kind,
             })?;
             Ok(statements)
         }

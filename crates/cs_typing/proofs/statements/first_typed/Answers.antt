@@ -1,6 +1,6 @@
-use Rattle.std.proofs.Common.{rules, ◌≡◌, [], ◌∷◌, ◌++◌, Err, ap, ◌∙◌}
+use Rattle.std.proofs.Common.{rules, ◌≡◌, [], ◌∷◌, ◌++◌, Err, sym, ap, ◌∙◌}
+use Rattle.cs_ast.specs.TypedView.{statement_at}
 use Rattle.cs_ast.specs.declared.typed.statement.Stmt.{Stmt, roll-Stmt}
-use Rattle.cs_ast.specs.declared.typed.statement.StmtKind.TheVariants as held
 use Rattle.cs_scopes.specs.Verdicts.{Fine}
 use Rattle.cs_scopes.proofs.Lifting.{lift-refused}
 use Rattle.cs_scopes.proofs.Lifting.{refused_as}
@@ -22,7 +22,9 @@ returns-in_err-dropped-in-Run c =
 pub returns-in_ok-push-in-Run : goal.returns-in_ok-push-in-Run
 returns-in_ok-push-in-Run c =
     let i = inside_of c.args.inside.now in
-    let e = c.in_ok-dropped-in-Run.field-0 in
-    let one : Stmt = roll-Stmt (record { place = c.in-Run.value.place; kind = held.Run e }) in
+    let e = c.in_ok-dropped-in-Run.dropped in
+    let one : Stmt = roll-Stmt (record { place = c.in-Run.value.place; kind = c.in_ok-kind-in-Run.kind }) in
+    let following = inside_of c.dropped.new.self in
     ap (first_typed i) c.in-Run.is ∙ lift_is (ran_first c.in-Run.value.place) (dropped_in i c.in-Run.value) (typed_part e c.dropped.new.self) c.in_ok-dropped-in-Run.ensures
+    ∙ ap (λ f. Fine (record { statements = statement_at c.in-Run.value.place f ∷ []; inside = following })) (sym c.in_ok-kind-in-Run.ensures.ok)
     ∙ ap Fine (reported_push [] c.push.new.self.items one c.dropped.new.self (c.in_ok-push-in-Run.ensures.items ∙ ap (λ l. l ++ one ∷ []) c.new-statements.ensures.items))
