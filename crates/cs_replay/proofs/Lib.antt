@@ -5,6 +5,7 @@ mod LoweredRuns
 mod Blocks
 mod Cutting
 mod Stepping
+mod Passing
 mod Leading
 mod Entering
 mod FrameStates
